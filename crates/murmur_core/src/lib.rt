@@ -1,0 +1,14 @@
+//! MurmurHash3 x86 32-bit, the hash that places an input on the points of a rollout.
+//!
+//! What is proved: [`hash`] is `hash` of `specs/Murmur.antt`, a fold over the list of the whole blocks
+//! of four bytes, then the tail of at most three bytes, then the finish. The definition follows
+//! `MurmurHash3_x86_32` of Austin Appleby's `MurmurHash3.cpp` (SMHasher), whose published vectors are
+//! the tests.
+#![tactic(auto)]
+
+mod murmur3;
+
+pub use murmur3::hash;
+
+#[cfg(test)]
+mod tests;
