@@ -1,0 +1,7 @@
+pub mod Bools
+pub mod Halving
+pub mod Printed
+pub mod Readings
+pub mod Rising
+pub mod Views
+pub mod Writes

@@ -1,0 +1,37 @@
+//! JSON trees whose numbers are whole, their texts, and the places that bytes are written to.
+//!
+//! A [`Tree`] is what flag documents, contexts, rules, requests and plans are read from. What a
+//! contract sees of it is its `Shape` (`specs/Shape.antt`, by `view` of `specs/View.antt`), so two
+//! trees with equal shapes are one and the same value to every crate above.
+//!
+//! What is proved:
+//! - [`read_tree`] and [`read_doc`] give exactly what `tree_of` and `doc_of` of `specs/Reading.antt`
+//!   give of the bytes, each refusal at its place in the order, unless memory runs out. The
+//!   definitions stand over `serde_json`'s own definition of a JSON text (RFC 8259).
+//! - [`print_tree`] gives `text_of` of `specs/Printing.antt`, which reads back as the same tree.
+//! - The readers of a tree, its test for whole numbers, its levels, its copy and its comparison are
+//!   what `specs/Readers.antt` and `specs/Shape.antt` say of its shape.
+//! - An [`Outlet`] shows its bytes and whether a write has failed; [`write_whole`] writes all of the
+//!   bytes, or a front of them and then says so.
+#![tactic(auto)]
+
+mod convert;
+mod equal;
+mod fault;
+mod named;
+mod outlet;
+mod print;
+mod read;
+mod readers;
+mod tree;
+mod whole;
+
+pub use fault::TextFault;
+pub use named::{member_by_halving, position_of};
+pub use outlet::{Outlet, WriteOutlet, write_whole};
+pub use print::print_tree;
+pub use read::{read_doc, read_tree};
+pub use tree::Tree;
+
+#[cfg(test)]
+mod tests;
