@@ -1,0 +1,9 @@
+pub use Rattle.flag_text.specs.Outcome
+pub use Rattle.flag_text.specs.Readers
+pub use Rattle.flag_text.specs.Shape
+pub use Rattle.flag_text.specs.View
+pub mod Canonical
+pub mod Fault
+pub mod Point
+pub mod Reading
+pub mod Rule

@@ -1,0 +1,183 @@
+ghost use Rattle.std.specs.Prelude.{◌<◌, ◌^◌, IsTrue, length};
+ghost use Rattle.std.specs.List.{All};
+
+use super::*;
+use flag_text::read_tree;
+use std::alloc::{AllocError, Global};
+use std::test::Fail;
+
+/// The rule of a text.
+fn rule_of(alloc: Global, text: &[u8]) -> Result<Rule, Fail> {
+    Ok(read_rule(alloc, &read_tree(alloc, text, 1000)?)?)
+}
+
+/// Whether the rule has exactly these entries.
+fn has_entries(rule: &Rule, entries: &[(&str, u64)]) -> bool {
+    rule.entries().len() == entries.len()
+        && rule.entries().iter().zip(entries).all(|(have, want)| have.0.as_str() == want.0
+            && have.1 == want.1)
+}
+
+/// The rule of points that are red at 0 and blue at 1.
+fn red_and_blue(alloc: Global, items: &[u32]) -> Result<Rule, AllocError>
+    requires some { 0 < length items.now }
+    requires few { length items.now < 2 ^ 31 }
+    requires named { All (λ i. i < 2) items.now }
+{
+    let names = [
+        String::from_str(alloc, "red")?,
+        String::from_str(alloc, "blue")?,
+    ];
+    Rule::from_points(alloc, items, &names)
+}
+
+/// Whether each item is 0 or 1.
+fn are_red_or_blue(items: &[u32]) -> bool
+    ensures { IsTrue result → All (λ i. i < 2) items.now }
+{
+    items.iter().all(|i| *i < 2)
+}
+
+#[test]
+fn places_hashes_and_keys(rt: HostRuntime) {
+    for (total, hash, want) in [
+        (10, 0xffff_ffff, 9),
+        (2147483647, 0xffff_ffff, 2147483646),
+        (10, 0x1999_9999, 0),
+        (10, 0x1999_999a, 1),
+        (1, 0xffff_ffff, 0),
+    ] {
+        assert_eq!(rt; scale(total, hash), want, "{hash:08x} at {total}");
+    }
+    for (total, key, want) in [
+        (10, "", 0),
+        (10, "The quick brown fox jumps over the lazy dog", 1),
+        (10, "!", 4),
+        (10, "!Ce", 4),
+        (10, "!C", 6),
+        (10, "test", 7),
+        (10, "Hello, world!", 7),
+        (100, "test", 72),
+        (1, "test", 0),
+    ] {
+        assert_eq!(rt; point(total, key), want, "at {total}");
+    }
+}
+
+#[test]
+fn reads_rules(rt: HostRuntime) -> Result<(), Fail> {
+    let alloc = rt.alloc();
+    let rule = rule_of(alloc, b"[[\"red\",50],[\"blue\",50]]")?;
+    assert_eq!(rt; rule.total(), 100);
+    assert_eq!(rt; rule.choose("test"), "blue");
+    assert!(rt; has_entries(&rule, &[("red", 50), ("blue", 50)]));
+    let rule = rule_of(alloc, b"[[\"on\"]]")?;
+    assert_eq!(rt; rule.choose("test"), "on");
+    assert!(rt; has_entries(&rule, &[("on", 1)]));
+    let rule = rule_of(alloc, b"[[\"a\",0],[\"a\",2147483647]]")?;
+    assert!(rt; has_entries(&rule, &[("a", 0), ("a", 2147483647)]));
+    for (text, number, name) in [
+        (b"[]".as_slice(), 1, "NoWeight"),
+        (b"[[\"a\",0]]".as_slice(), 1, "NoWeight"),
+        (b"[[\"a\",2147483647],[\"b\",1]]".as_slice(), 2, "TooHeavy"),
+        (b"[[\"a\"],\"b\"]".as_slice(), 3, "BadRule"),
+        (b"[[\"a\",0],[]]".as_slice(), 3, "BadRule"),
+        (
+            b"[[\"a\",2147483647],[\"b\",1],null]".as_slice(),
+            3,
+            "BadRule",
+        ),
+        (b"[[\"a\",2147483648]]".as_slice(), 3, "BadRule"),
+        (b"[[\"a\",-1]]".as_slice(), 3, "BadRule"),
+        (b"[[\"a\",\"1\"]]".as_slice(), 3, "BadRule"),
+        (b"[[\"a\",1,1]]".as_slice(), 3, "BadRule"),
+        (b"[[1,1]]".as_slice(), 3, "BadRule"),
+        (b"{\"a\":1}".as_slice(), 3, "BadRule"),
+    ] {
+        match read_rule(alloc, &read_tree(alloc, text, 1000)?) {
+            Ok(_) => assert!(rt; false, "a rule: {text:?}"),
+            Err(fault) => {
+                assert_eq!(rt; fault.number(), number, "{text:?}");
+                assert_eq!(rt; fault.name(), name, "{text:?}");
+            }
+        }
+    }
+    Ok(())
+}
+
+#[test]
+fn finds_entries(rt: HostRuntime) -> Result<(), Fail> {
+    let alloc = rt.alloc();
+    let rule = rule_of(alloc, b"[[\"a\",0],[\"b\",3],[\"c\",0],[\"d\",2]]")?;
+    assert_eq!(rt; rule.total(), 5);
+    for (p, entry, end, name) in [
+        (0, 1, 3, "b"),
+        (2, 1, 3, "b"),
+        (3, 3, 5, "d"),
+        (4, 3, 5, "d"),
+    ] {
+        assert!(rt; p < rule.total());
+        let found = rule.entry_at(p);
+        assert_eq!(rt; found, entry, "at {p}");
+        assert_eq!(rt; rule.end_of(found), end, "at {p}");
+        assert_eq!(rt; rule.entry_name(found), name, "at {p}");
+        assert_eq!(rt; rule.variant_at(p), name, "at {p}");
+    }
+    for (name, total) in [("a", 0), ("b", 3), ("d", 2), ("e", 0)] {
+        assert_eq!(rt; rule.total_of(name), total, "of {name}");
+    }
+    Ok(())
+}
+
+#[test]
+fn refines(rt: HostRuntime) -> Result<(), Fail> {
+    let alloc = rt.alloc();
+    let rule = rule_of(alloc, b"[[\"red\",5],[\"blue\",5]]")?;
+    let fine = rule.refine(alloc, 5)?;
+    assert!(rt; has_entries(&fine, &[("red", 25), ("blue", 25)]));
+    for key in ["", "!", "!C", "test", "Hello, world!"] {
+        assert_eq!(rt; fine.choose(key), rule.choose(key));
+    }
+    let heavy = rule_of(alloc, b"[[\"a\",2147483647]]")?;
+    assert!(rt; matches!(heavy.refine(alloc, 2), Err(RuleFault::TooHeavy)));
+    assert!(rt; heavy.refine(alloc, 1).is_ok());
+    Ok(())
+}
+
+#[test]
+fn merges_points(rt: HostRuntime) -> Result<(), Fail> {
+    let alloc = rt.alloc();
+    let items = [0, 0, 1, 1, 0, 1, 1, 1, 1, 1];
+    assert!(rt; are_red_or_blue(&items));
+    let rule = red_and_blue(alloc, &items)?;
+    assert!(rt; has_entries(&rule, &[("red", 2), ("blue", 2), ("red", 1), ("blue", 5)]));
+    assert_eq!(rt; rule.total_of("red"), 3);
+    assert_eq!(rt; rule.total_of("blue"), 7);
+    assert!(rt; rule.is_canonical());
+    for (text, want) in [
+        (b"[[\"a\",1],[\"b\",2],[\"a\",3]]".as_slice(), true),
+        (b"[[\"a\",1],[\"a\",2]]".as_slice(), false),
+        (b"[[\"a\",1],[\"b\",0]]".as_slice(), false),
+    ] {
+        assert_eq!(rt; rule_of(alloc, text)?.is_canonical(), want, "{text:?}");
+    }
+    Ok(())
+}
+
+// A walk over the entries would take minutes here.
+#[test]
+fn finds_points_among_a_million_entries(rt: HostRuntime) -> Result<(), Fail> {
+    let alloc = rt.alloc();
+    let mut items = Vec::with_capacity(alloc, 1_000_000)?;
+    for i in 0..1_000_000u32 {
+        items.push(i % 2)?;
+    }
+    assert!(rt; items.len() == 1_000_000 && are_red_or_blue(items.as_slice()));
+    let rule = red_and_blue(alloc, items.as_slice())?;
+    assert_eq!(rt; rule.total(), 1_000_000);
+    for p in 0..1_000_000u32 {
+        assert!(rt; p < rule.total());
+        assert_eq!(rt; rule.entry_at(p), p as usize);
+    }
+    Ok(())
+}
