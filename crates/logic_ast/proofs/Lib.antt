@@ -1,0 +1,16 @@
+pub mod Changed
+pub mod Formed
+pub mod Inner
+pub mod Lowered
+pub mod Measured
+pub mod Numbered
+pub mod Operators
+pub mod Places
+pub mod Readings
+pub mod Replaced
+pub mod Sizes
+pub mod Trees
+pub mod Views
+pub mod WellFormed
+pub mod Writes
+pub mod Written

@@ -1,0 +1,14 @@
+pub mod Expr
+pub mod Expression
+pub mod Fault
+pub mod FirstFault
+pub mod Formed
+pub mod Found
+pub mod Operator
+pub mod Parts
+pub mod Reading
+pub mod Site
+pub mod Sites
+pub mod Size
+pub mod View
+pub mod Writing

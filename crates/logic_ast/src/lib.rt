@@ -1,0 +1,35 @@
+//! Expressions: JsonLogic in a whole-number profile, with flagd's `fractional`, `sem_ver`, `starts_with` and `ends_with`.
+//!
+//! [`read_expr`] reads a tree as an expression and [`write_expr`] writes it as one. An [`Expr`] is well formed by its type:
+//! its operators have as many arguments as they take, its sites (its `fractional` operations) are numbered in preorder, and
+//! it has at most 10,000 nodes and 100 levels. [`sites`], [`site`], [`by_text`] and [`replace_site`] work on its sites.
+//!
+//! Proved, over the definitions in `specs/`: what is read of a tree is `reading` (`Reading`, `FirstFault`, `Size`), with
+//! its refusals in their order; what is written for an expression is `written` (`Writing`), and reads as it; the n-th site
+//! is the n-th in `preorder` (`Sites`); replacing its entries changes them and nothing else.
+#![tactic(auto)]
+
+mod check;
+mod copy;
+mod expr;
+mod fault;
+mod find;
+mod lookup;
+mod node;
+mod operator;
+mod read;
+mod replace;
+mod size;
+mod write;
+
+pub use expr::{Expr, Site};
+pub use fault::LogicFault;
+pub use lookup::{by_text, site, sites};
+pub use node::{Bucket, Node};
+pub use operator::{Operator, is_fractional};
+pub use read::read_expr;
+pub use replace::replace_site;
+pub use write::write_expr;
+
+#[cfg(test)]
+mod tests;
