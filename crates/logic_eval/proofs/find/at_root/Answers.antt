@@ -1,0 +1,12 @@
+use Rattle.std.proofs.Common.{◌≡◌, true, false, Some, ap, sym, ◌∙◌, rules}
+use Rattle.std.specs.Prelude.{codes}
+use Rattle.std.specs.Str.{bytes_eq}
+use Rattle.flag_text.specs.View.{view, members_view}
+use Rattle.logic_eval.proofs.Paths.{find-with_member, find-with_member_other, same_name, other_name}
+use Rattle.logic_eval.proofs.find.at_root.Goals as goal
+
+pub returns-then-eq : goal.returns-then-eq
+returns-then-eq c = same_name c.args.name.now (view c.args.flagd.now) (members_view c.args.members.now) (sym c.eq.ensures ∙ c.if-eq.true)
+
+pub returns-else-eq : goal.returns-else-eq
+returns-else-eq c = c.member_of.ensures ∙ sym (other_name c.args.name.now (view c.args.flagd.now) (members_view c.args.members.now) (sym c.eq.ensures ∙ c.if-eq.false))

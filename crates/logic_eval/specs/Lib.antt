@@ -1,0 +1,15 @@
+pub mod Arithmetic
+pub mod Budget
+pub mod Comparison
+pub mod Evaluation
+pub mod Fault
+pub mod Fractional
+pub mod Lists
+pub mod Number
+pub mod Operators
+pub mod Run
+pub mod Scope
+pub mod Text
+pub mod Truth
+pub mod Version
+pub mod Views

@@ -1,0 +1,61 @@
+//! The evaluation of an expression.
+ghost use Rattle.std.specs.Prelude.{◌≡◌, map};
+ghost use Rattle.flag_text.specs.Outcome.{GivesUnless};
+ghost use Rattle.flag_text.specs.View.{view as tree_view};
+ghost use Rattle.logic_ast.specs.Expr.{view};
+ghost use Rattle.logic_eval.specs.declared.fault.EvalFault.TheVariants.{WantOfMemory};
+ghost use Rattle.logic_eval.specs.Budget.{paid};
+ghost use Rattle.logic_eval.specs.Evaluation.{evaluation_of, meaning};
+ghost use Rattle.logic_eval.specs.Scope.{flagd as flagd_of, default_input, root_scope};
+ghost use Rattle.logic_ast.specs.View.{node_view};
+ghost use Rattle.logic_eval.specs.Views.{progress, reach_view, situation};
+
+use crate::context::Context;
+use crate::evaluate::evaluate;
+use crate::fault::EvalFault;
+use crate::meter::{Meter, Reached};
+use flag_text::Tree;
+use logic_ast::{Expr, Node};
+use std::alloc::Global;
+
+/// The units that an evaluation may cost.
+const MOST_UNITS: u64 = 100_000;
+
+/// What the expression evaluates to in the context, and the sites that were reached, in the order of
+/// evaluation.
+///
+/// Refused, in the order of evaluation: `Arithmetic` where a number is missing, out of range or
+/// divided by 0, `BadBuckets` where the buckets of a site are no entries of a rule, `TextTooLong`
+/// where a text that is made has more than 65,536 bytes; and `TooLong` where what came before costs
+/// more than 100,000 units.
+pub fn eval(
+    alloc: Global,
+    expr: &Expr,
+    context: &Context,
+) -> Result<(Tree, Vec<Reached>), EvalFault>
+    ensures exact { GivesUnless WantOfMemory (λ r. (tree_view r.0, map reach_view r.1.items)) result (evaluation_of (view expr.now) (situation context.now)) }
+{
+    let flagd = context.make_flagd(alloc)?;
+    let mut meter = Meter {
+        alloc,
+        left: MOST_UNITS,
+        reached: Vec::new(alloc),
+    };
+    let tree = evaluated(&mut meter, expr.root(), context, &flagd)?;
+    let Meter { reached, .. } = meter;
+    Ok((tree, reached))
+}
+
+// The value of a node at the root scope.
+fn evaluated<'a>(
+    meter: &mut Meter,
+    node: &'a Node,
+    context: &'a Context<'a>,
+    flagd: &'a Tree,
+) -> Result<Tree, EvalFault>
+    requires { tree_view flagd.now ≡ flagd_of (situation context.now) }
+    ensures exact { GivesUnless WantOfMemory (λ t. (tree_view t, progress meter.new)) result (paid (progress meter.old) (meaning (default_input (situation context.now)) (node_view node.now) (root_scope (situation context.now)))) }
+{
+    let value = evaluate(meter, node, context.scope(flagd), context.subject())?;
+    Ok(value.into_tree(meter.alloc)?)
+}
