@@ -1,0 +1,14 @@
+pub mod Faults
+pub mod Heads
+pub mod Inlined
+pub mod Known
+pub mod Meanings
+pub mod Measures
+pub mod Named
+pub mod Objects
+pub mod Passes
+pub mod Readable
+pub mod Sizes
+pub mod Standing
+pub mod Tables
+pub mod Told

@@ -1,0 +1,183 @@
+//! Measuring a tree with a measure in the place of each reference.
+ghost use Rattle.std.specs.Prelude.{◌≡◌, ℕ, true, false, length, Some, option_map};
+ghost use Rattle.flag_text.specs.Shape.{whole, text, list, names_rise};
+ghost use Rattle.flag_text.specs.View.{view, items_view, members_view};
+ghost use Rattle.flag_defs.specs.Measure.{known, measure, measured, object_measured, members_measured, both, list_measure, literal_measure, item_in_front, member_in_front, operation_reading, operation_measure, takes_count};
+
+use crate::measure::{Measure, Parts, Reading, capped, member_in_front, plus};
+use crate::references::{is_reference_name, reference_of};
+use flag_text::{Tree, position_of};
+use logic_ast::{Operator, is_fractional};
+
+const MAX_WHOLE: u64 = (1 << 53) - 1;
+
+const WEIGHTS: i64 = 1 << 31;
+
+/// What is known of the evaluator of this name.
+pub(crate) fn known(
+    evaluators: &[(String, Tree)],
+    measures: &[Option<Measure>],
+    name: &str,
+) -> Option<Measure>
+    requires rising { names_rise (members_view evaluators.now) ≡ true }
+    requires each { length measures.now ≡ length evaluators.now }
+    ensures { result ≡ known (members_view evaluators.now) measures.now name.now }
+{
+    match position_of(evaluators, name) {
+        Some(i) => measures[i],
+        None => None,
+    }
+}
+
+/// The measure of a tree, where that of each reference in it is known.
+#[cycle(measured)]
+pub(crate) fn measured(
+    tree: &Tree,
+    evaluators: &[(String, Tree)],
+    measures: &[Option<Measure>],
+) -> Option<Measure>
+    requires rising { names_rise (members_view evaluators.now) ≡ true }
+    requires each { length measures.now ≡ length evaluators.now }
+    ensures { result ≡ measured (known (members_view evaluators.now) measures.now) (view tree.now) }
+{
+    match tree {
+        Tree::Null | Tree::Bool(_) => Some(Measure::scalar(true, false, false, 0)),
+        Tree::Whole(n) => Some(whole_measure(*n)),
+        Tree::Other => Some(Measure::scalar(false, false, false, 0)),
+        Tree::Text(text) => Some(text_measure(text.as_str())),
+        Tree::List(items) => list_measured(items, evaluators, measures),
+        Tree::Object(members) => match reference_of(members.as_slice()) {
+            Some(name) => known(evaluators, measures, name),
+            None => object_measured(members, evaluators, measures),
+        },
+    }
+}
+
+#[cycle(measured)]
+fn list_measured(
+    items: &Vec<Tree>,
+    evaluators: &[(String, Tree)],
+    measures: &[Option<Measure>],
+) -> Option<Measure>
+    requires rising { names_rise (members_view evaluators.now) ≡ true }
+    requires each { length measures.now ≡ length evaluators.now }
+    ensures { result ≡ measured (known (members_view evaluators.now) measures.now) (list (items_view items.now.items)) }
+{
+    let mut parts = Some(Parts::NONE);
+    for i in (0..items.len()).rev() {
+        let item = measured(&items[i], evaluators, measures);
+        parts = item_in_front(item, parts);
+    }
+    list_measure(items.len(), parts)
+}
+
+#[cycle(measured)]
+fn object_measured(
+    members: &Vec<(String, Tree)>,
+    evaluators: &[(String, Tree)],
+    measures: &[Option<Measure>],
+) -> Option<Measure>
+    requires rising { names_rise (members_view evaluators.now) ≡ true }
+    requires each { length measures.now ≡ length evaluators.now }
+    ensures { result ≡ object_measured (known (members_view evaluators.now) measures.now) (members_view members.now.items) }
+{
+    if members.len() == 1 {
+        let (name, member) = &members[0];
+        let measure = measured(member, evaluators, measures);
+        return operation_measure(name.as_str(), measure);
+    }
+    let mut all = Some((Reading::NOTHING, 0));
+    for i in (0..members.len()).rev() {
+        let (name, member) = &members[i];
+        let measure = measured(member, evaluators, measures);
+        all = front_member(name.as_str(), measure, all);
+    }
+    literal_measure(all)
+}
+
+fn list_measure(count: usize, parts: Option<Parts>) -> Option<Measure>
+    ensures { result ≡ option_map (list_measure count) parts }
+{
+    match parts {
+        Some(parts) => Some(Measure::list(count, parts)),
+        None => None,
+    }
+}
+
+fn literal_measure(all: Option<(Reading, u32)>) -> Option<Measure>
+    ensures { result ≡ option_map literal_measure all }
+{
+    match all {
+        Some(all) => Some(Measure::literal(all)),
+        None => None,
+    }
+}
+
+fn operation_measure(name: &str, measure: Option<Measure>) -> Option<Measure>
+    ensures { result ≡ option_map (operation_measure name.now) measure }
+{
+    match measure {
+        Some(measure) => Some(operation(name, measure)),
+        None => None,
+    }
+}
+
+fn item_in_front(item: Option<Measure>, parts: Option<Parts>) -> Option<Parts>
+    ensures { result ≡ both item_in_front item parts }
+{
+    match (item, parts) {
+        (Some(item), Some(parts)) => Some(parts.with_front(item)),
+        _ => None,
+    }
+}
+
+fn front_member(
+    name: &str,
+    measure: Option<Measure>,
+    rest: Option<(Reading, u32)>,
+) -> Option<(Reading, u32)>
+    ensures { result ≡ both (member_in_front name.now) measure rest }
+{
+    match (measure, rest) {
+        (Some(measure), Some(rest)) => Some(member_in_front(name, measure, rest)),
+        _ => None,
+    }
+}
+
+/// Of an object of one member.
+fn operation(name: &str, measure: Measure) -> Measure
+    ensures { result ≡ operation_measure name.now measure }
+{
+    let is_reference = is_reference_name(name) && measure.is_text;
+    let full = measure.full.when(!is_reference).around();
+    let expression = operation_reading(name, measure).around().around();
+    let length = capped(name.len());
+    Measure::object(full, expression, plus(length, measure.bytes))
+}
+
+fn operation_reading(name: &str, measure: Measure) -> Reading
+    ensures { result ≡ operation_reading name.now measure }
+{
+    if is_fractional(name) {
+        return measure.site;
+    }
+    let takes = match Operator::named(name) {
+        Some(operator) => operator.takes(measure.argument_count),
+        None => false,
+    };
+    measure.arguments.when(takes)
+}
+
+fn whole_measure(n: i64) -> Measure
+    ensures { result ≡ measure (whole n) }
+{
+    let is_whole = n.unsigned_abs() <= MAX_WHOLE;
+    let is_weight = 0 <= n && n < WEIGHTS;
+    Measure::scalar(is_whole, false, is_weight, 0)
+}
+
+fn text_measure(content: &str) -> Measure
+    ensures { result ≡ measure (text content.now) }
+{
+    Measure::scalar(true, true, false, capped(content.len()))
+}

@@ -1,0 +1,146 @@
+//! The measures of the evaluators of a document, each taken over the measures of those that it refers to.
+ghost use Rattle.std.specs.Prelude.{◌≡◌, ℕ, ◌+◌, ◌<◌, true, false, length, replicate, Some, IfOk};
+ghost use Rattle.std.specs.List.{HoldsAt};
+ghost use Rattle.flag_text.specs.Shape.{names_rise};
+ghost use Rattle.flag_text.specs.View.{view, members_view};
+ghost use Rattle.flag_defs.specs.Measure.{known, measured};
+ghost use Rattle.flag_defs.specs.Table.{AreHeads, IsHead, IsStuck, Knows, KnowsAll, unknown_count};
+
+use crate::measure::Measure;
+use crate::measuring::measured;
+use crate::references::reference_in;
+use crate::walk::walk;
+use flag_text::{Tree, position_of};
+use std::alloc::{AllocError, Global};
+
+/// What is known of each evaluator.
+#[derive(Drop)]
+pub(crate) struct Known {
+    /// Of each that has an inlined form, the measure of this form. The others refer to a name that there is none of, or
+    /// lead back to themselves.
+    pub(crate) measures: Vec<Option<Measure>>,
+    /// The places of the evaluators at the ends of the references from those that have a form.
+    pub(crate) heads: Vec<usize>,
+}
+
+pub(crate) fn table(alloc: Global, evaluators: &[(String, Tree)]) -> Result<Known, AllocError>
+    requires rising { names_rise (members_view evaluators.now) ≡ true }
+    ensures each { IfOk result (λ t. length t.measures.items ≡ length evaluators.now) }
+    ensures knows_all { IfOk result (λ t. KnowsAll (members_view evaluators.now) t.measures.items) }
+    ensures heads { IfOk result (λ t. AreHeads evaluators.now t.measures.items t.heads.items) }
+{
+    let count = evaluators.len();
+    let mut measures = none_known(alloc, count)?;
+    let mut heads = no_heads(alloc, count)?;
+    walk(alloc, evaluators, &mut measures, &mut heads)?;
+    while pass(evaluators, &mut measures, &mut heads) {}
+    Ok(Known { measures, heads })
+}
+
+/// Measures each evaluator that can be measured now, in their order. Answers whether there was one.
+fn pass(
+    evaluators: &[(String, Tree)],
+    measures: &mut Vec<Option<Measure>>,
+    heads: &mut Vec<usize>,
+) -> bool
+    requires rising { names_rise (members_view evaluators.now) ≡ true }
+    requires each { length measures.old.items ≡ length evaluators.now }
+    requires knows { Knows (members_view evaluators.now) measures.old.items }
+    requires heads { AreHeads evaluators.now measures.old.items heads.old.items }
+    ensures each { length measures.new.items ≡ length evaluators.now }
+    ensures knows { Knows (members_view evaluators.now) measures.new.items }
+    ensures heads { AreHeads evaluators.now measures.new.items heads.new.items }
+    ensures fewer { result ≡ true → unknown_count measures.new.items < unknown_count measures.old.items }
+    ensures stuck { result ≡ false → (i : ℕ) → i < length evaluators.now → IsStuck evaluators.now measures.new.items i }
+{
+    let mut learned = false;
+    for i in 0..evaluators.len() {
+        let new = learn(evaluators, measures, heads, i);
+        learned |= new;
+    }
+    learned
+}
+
+/// Measures the evaluator at an index, where it is not measured yet and what it refers to is. Answers whether it was
+/// measured now.
+pub(crate) fn learn(
+    evaluators: &[(String, Tree)],
+    measures: &mut Vec<Option<Measure>>,
+    heads: &mut Vec<usize>,
+    i: usize,
+) -> bool
+    requires rising { names_rise (members_view evaluators.now) ≡ true }
+    requires each { length measures.old.items ≡ length evaluators.now }
+    requires within { i < length evaluators.now }
+    requires knows { Knows (members_view evaluators.now) measures.old.items }
+    requires heads { AreHeads evaluators.now measures.old.items heads.old.items }
+    ensures each { length measures.new.items ≡ length evaluators.now }
+    ensures knows { Knows (members_view evaluators.now) measures.new.items }
+    ensures heads { AreHeads evaluators.now measures.new.items heads.new.items }
+    ensures fewer { result ≡ true → unknown_count measures.new.items + 1 ≡ unknown_count measures.old.items }
+    ensures same { result ≡ false → measures.new.items ≡ measures.old.items }
+    ensures stuck { result ≡ false → IsStuck evaluators.now measures.old.items i }
+{
+    if measures[i].is_some() {
+        return false;
+    }
+    match measured(&evaluators[i].1, evaluators, measures.as_slice()) {
+        Some(measure) => {
+            let head = head(
+                evaluators,
+                measures.as_slice(),
+                heads.as_slice(),
+                i,
+                measure,
+            );
+            measures[i] = Some(measure);
+            heads[i] = head;
+            true
+        }
+        None => false,
+    }
+}
+
+/// The place of the evaluator at the end of the references from the one at an index, which can be measured.
+fn head(
+    evaluators: &[(String, Tree)],
+    measures: &[Option<Measure>],
+    heads: &[usize],
+    i: usize,
+    measure: Measure,
+) -> usize
+    requires rising { names_rise (members_view evaluators.now) ≡ true }
+    requires each { length measures.now ≡ length evaluators.now }
+    requires within { i < length evaluators.now }
+    requires heads { AreHeads evaluators.now measures.now heads.now }
+    requires found { HoldsAt (λ m. measured (known (members_view evaluators.now) measures.now) (view m.1) ≡ Some measure) evaluators.now i }
+    ensures { IsHead evaluators.now i result }
+{
+    let Some(name) = reference_in(&evaluators[i].1) else {
+        return i;
+    };
+    match position_of(evaluators, name) {
+        Some(next) => heads[next],
+        None => i,
+    }
+}
+
+fn none_known(alloc: Global, count: usize) -> Result<Vec<Option<Measure>>, AllocError>
+    ensures { IfOk result (λ v. v.items ≡ replicate count None) }
+{
+    let mut measures = Vec::with_capacity(alloc, count)?;
+    for _ in 0..count {
+        measures.push(None)?;
+    }
+    Ok(measures)
+}
+
+fn no_heads(alloc: Global, count: usize) -> Result<Vec<usize>, AllocError>
+    ensures { IfOk result (λ v. length v.items ≡ count) }
+{
+    let mut heads = Vec::with_capacity(alloc, count)?;
+    for _ in 0..count {
+        heads.push(0)?;
+    }
+    Ok(heads)
+}
