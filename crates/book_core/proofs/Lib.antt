@@ -1,0 +1,10 @@
+pub mod Answered
+pub mod Counted
+pub mod Cut
+pub mod Fed
+pub mod Lawful
+pub mod Noting
+pub mod Ordered
+pub mod Paged
+pub mod Printed
+pub mod Taken

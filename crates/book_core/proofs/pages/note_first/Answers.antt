@@ -1,0 +1,32 @@
+use Rattle.std.proofs.Common.{◌≡◌, [], map, string_bytes, refl, ap, ◌∙◌, arith}
+use Rattle.std.specs.BTreeMap.{insert_entry}
+use Rattle.std.specs.BTreeSet.{insert_key}
+use Rattle.book_core.specs.Page.{bytes_cmp, page_cmp}
+use Rattle.book_core.specs.Book.{inputs_view, contents_view}
+use Rattle.book_core.proofs.Noting.{long_reply, new_reply}
+use Rattle.book_core.proofs.Ordered.{insert_key-map}
+use Rattle.book_core.proofs.Paged.{inputs_on-none, reply_to-on, page_added}
+use Rattle.book_core.proofs.pages.note_first.Goals as goal
+
+pub returns-then-input-gt-MOST_BYTES-clause-exact : goal.returns-then-input-gt-MOST_BYTES-clause-exact
+returns-then-input-gt-MOST_BYTES-clause-exact c = λ _.
+    let none = inputs_on-none c.args.pages.now.entries c.args.page.now c.requires in
+    reply_to-on (contents_view c.args.pages.now.entries) c.args.page.now c.args.input.now [] none ∙ long_reply [] c.args.input.now c.if-input-gt-MOST_BYTES.true
+
+pub returns-clause-exact : goal.returns-clause-exact
+returns-clause-exact c =
+    let none = inputs_on-none c.args.pages.now.entries c.args.page.now c.requires in
+    reply_to-on (contents_view c.args.pages.now.entries) c.args.page.now c.args.input.now [] none ∙ new_reply [] c.args.input.now c.if-input-gt-MOST_BYTES.false refl (omega arith)
+
+pub returns-clause-noted : goal.returns-clause-noted
+returns-clause-noted c =
+    let es = c.args.pages.now.entries in
+    let input = c.args.input.now in
+    let key = c.in_ok-from_str.field-0 in
+    let set = c.insert.new.self in
+    let one : inputs_view set ≡ insert_key bytes_cmp [] input =
+    ap (map string_bytes) c.in_ok-insert.ensures.keys ∙ insert_key-map string_bytes bytes_cmp c.new-inputs.result.keys key
+    ∙ ap (λ ks. insert_key bytes_cmp (map string_bytes ks) (string_bytes key)) c.new-inputs.ensures.empty
+    ∙ ap (insert_key bytes_cmp []) c.in_ok-from_str.ensures.ok in
+    ap contents_view (c.in_ok-insert-2.ensures.entries ∙ ap (λ k. insert_entry page_cmp es k set) c.in_ok-copy.ensures)
+    ∙ page_added es c.args.page.now set input c.requires one

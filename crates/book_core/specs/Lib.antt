@@ -1,0 +1,10 @@
+pub mod Book
+pub mod Calls
+pub mod Counts
+pub mod Fault
+pub mod Lines
+pub mod Page
+pub mod PageOrder
+pub mod Printing
+pub mod Reading
+pub mod Site

@@ -1,0 +1,82 @@
+ghost use Rattle.std.specs.Prelude.{◌≡◌, [], IfOk, OnOk, OnErr};
+ghost use Rattle.flag_text.specs.Outcome.{GivesUnless};
+ghost use Rattle.book_core.specs.Book.{IsBook, contents_view, inputs_on, input_count, reply_to, with_input};
+
+use crate::exposure::Exposure;
+use crate::fault::BookFault;
+use crate::noted::Noted;
+use crate::page::Page;
+use crate::pages::{count_inputs, inputs_of, note_in};
+use std::alloc::{AllocError, Global};
+use std::collections::{BTreeMap, BTreeSet};
+use std::marker::Model;
+
+/// The inputs that reached each `fractional` operation, each once on its page.
+#[derive(Drop)]
+pub struct Book {
+    pages: BTreeMap<Page, BTreeSet<String>>,
+}
+
+impl Model for Book {
+    ghost use Rattle.book_core.specs.Book.{Contents, IsBook, contents_view};
+
+    ghost Value = { Contents };
+
+    ghost view = { λ b. contents_view b.pages.entries };
+
+    ghost invariant = { λ b. IsBook (contents_view b.pages.entries) };
+}
+
+impl Book {
+    /// The book without pages. It takes no memory yet.
+    pub fn new(alloc: Global) -> Book
+        ensures { result ≡ [] }
+    {
+        Book {
+            pages: BTreeMap::new(alloc),
+        }
+    }
+
+    /// Notes an input on a page: New where it did not stand there, else Again. A new input is refused
+    /// with InputTooLong where it has more than 1024 bytes, and with PageFull where the page has
+    /// 1000000 inputs. A refusal leaves the book as it was. Cost: O(log pages + log inputs)
+    /// comparisons; memory is taken for a new input alone.
+    pub fn note(&mut self, alloc: Global, page: &Page, input: &str) -> Result<Noted, BookFault>
+        ensures exact { GivesUnless BookFault.WantOfMemory (λ reply. reply) result (reply_to self.old page.now input.now) }
+        ensures noted { OnOk result (self.new ≡ with_input self.old page.now input.now) }
+        ensures refused { OnErr result (self.new ≡ self.old) }
+    {
+        note_in(alloc, &mut self.pages, page, input)
+    }
+
+    /// A copy of the inputs on a page, none where the book does not have the page. Want of memory is its one fault.
+    /// Cost: O(inputs of the page).
+    pub fn exposure(&self, alloc: Global, page: &Page) -> Result<Exposure, AllocError>
+        ensures { IfOk result (λ inputs. inputs ≡ inputs_on self.now page.now) }
+    {
+        inputs_of(alloc, &self.pages, page)
+    }
+
+    /// The number of inputs on all pages. Cost: O(pages).
+    pub fn inputs(&self) -> u128
+        ensures { result ≡ input_count self.now }
+    {
+        count_inputs(&self.pages)
+    }
+
+    /// The book of these pages.
+    pub(crate) fn of_pages(pages: BTreeMap<Page, BTreeSet<String>>) -> Book
+        requires { IsBook (contents_view pages.entries) }
+        ensures { result ≡ contents_view pages.entries }
+    {
+        Book { pages }
+    }
+
+    /// The pages with their inputs.
+    pub(crate) fn pages(&self) -> &BTreeMap<Page, BTreeSet<String>>
+        ensures contents { contents_view result.now.entries ≡ self.now }
+        ensures lawful { IsBook self.now }
+    {
+        &self.pages
+    }
+}

@@ -1,0 +1,37 @@
+//! A book of the inputs that reached each `fractional` operation of flagd's targeting.
+//!
+//! A [`Book`] has a [`Page`] for each flag, site and bucketing expression; a page has the hash inputs that were noted
+//! there, each once. An [`Exposure`] is the inputs of one page, by which a change of the operation's rule is priced.
+//!
+//! Proved, over the definitions of `specs/`: which answer a note is given, and that the book then holds what it held
+//! and that input (`Book`); that a book is its calls, so that each answer follows from the calls before it and the
+//! contents are what was accepted (`Calls`); an exposure is the page's contents in strictly rising order, the number
+//! of inputs is that of all pages, and the counts at each point are those of the hash (`Counts`); which book the bytes
+//! of a file stand for, or which line is at fault first and how (`Reading`); what is printed of a book, and that it
+//! reads as the book (`Printing`). A refused note leaves the book as it was.
+#![tactic(auto)]
+
+mod book;
+mod counting;
+mod exposure;
+mod fault;
+mod laws;
+mod line;
+mod noted;
+mod page;
+mod pages;
+mod print;
+mod read;
+
+pub use book::Book;
+pub use counting::counts;
+pub use exposure::Exposure;
+pub use fault::{BookFault, BookFileFault};
+pub use laws::a_book_is_its_calls;
+pub use noted::Noted;
+pub use page::Page;
+pub use print::print_book;
+pub use read::read_book;
+
+#[cfg(test)]
+mod tests;

@@ -1,0 +1,195 @@
+//! The lines of a book file, one at a time.
+ghost use Rattle.std.specs.Prelude.{◌≡◌, ◌+◌, ◌<◌, ◌^◌, [], ◌∷◌, length, codes, option_map, option_and_then, MatchOption, IfSome, Ok, IfOk, IfErr};
+ghost use Rattle.std.specs.Option.{option_copied};
+ghost use Rattle.std.specs.List.{position, slice_split};
+ghost use Rattle.flag_text.specs.Outcome.{GivesUnless};
+ghost use Rattle.flag_text.specs.View.{view, members_view};
+ghost use Rattle.flag_text.specs.Readers.{as_text, member_of};
+ghost use Rattle.flag_text.specs.Reading.{tree_of};
+ghost use Rattle.book_core.specs.Lines.{line_view};
+ghost use Rattle.book_core.specs.Reading.{is_feed, is_header, is_book_shape, is_book_member, is_one, site_of, by_of, page_of, page_line, shape_line, line_of, lines_of};
+
+use crate::fault::BookFileFault;
+use crate::page::Page;
+use flag_text::{TextFault, Tree, read_tree};
+use std::alloc::{AllocError, Global};
+
+/// The numbers of sites are below this.
+const SITES: i64 = 1 << 32;
+
+/// What a line stands for.
+#[derive(Drop)]
+pub(crate) enum Line {
+    Page(Page),
+    Input(String),
+    Other,
+}
+
+/// The bytes that are left of a file, and the number of lines that were taken before them.
+#[derive(Drop)]
+pub(crate) struct Lines<'a> {
+    pub(crate) rest: &'a [u8],
+    pub(crate) taken: u64,
+    ghost counted: { taken + length rest.now < 2 ^ 64 },
+}
+
+impl<'a> Lines<'a> {
+    /// Takes the next line, where there is one.
+    pub(crate) fn take(&mut self, alloc: Global) -> Result<Option<Line>, BookFileFault>
+        ensures next { IfOk result (λ r. MatchOption r (lines_of self.old.rest.now ≡ [])
+            (λ line. lines_of self.old.rest.now ≡ line_view line ∷ lines_of self.new.rest.now)) }
+        ensures number { IfOk result (λ r. MatchOption r (self.new ≡ self.old)
+            (λ line. self.new.taken ≡ self.old.taken + 1)) }
+        ensures shorter { IfOk result (λ r. MatchOption r (self.new ≡ self.old)
+            (λ line. length self.new.rest.now < length self.old.rest.now)) }
+        ensures want { IfErr result (λ e. e ≡ BookFileFault.WantOfMemory) }
+    {
+        let bytes = self.rest;
+        if bytes.is_empty() {
+            return Ok(None);
+        }
+        self.taken += 1;
+        match cut(bytes) {
+            Some((line, rest)) => {
+                self.rest = rest;
+                Ok(Some(read_line(alloc, line)?))
+            }
+            None => {
+                self.rest = &bytes[bytes.len()..];
+                Ok(Some(Line::Other))
+            }
+        }
+    }
+}
+
+/// The bytes before the first line feed, and those after it.
+pub(crate) fn cut(bytes: &[u8]) -> Option<(&[u8], &[u8])>
+    ensures parts { MatchOption result (slice_split is_feed bytes.now ≡ bytes.now ∷ [])
+        (λ r. slice_split is_feed bytes.now ≡ r.0.now ∷ slice_split is_feed r.1.now) }
+    ensures lengths { IfSome result (λ r. length r.0.now + length r.1.now + 1 ≡ length bytes.now) }
+{
+    match feed_at(bytes) {
+        None => None,
+        Some(at) => Some((&bytes[..at], &bytes[at + 1..])),
+    }
+}
+
+fn feed_at(bytes: &[u8]) -> Option<usize>
+    ensures { result ≡ position is_feed bytes.now }
+{
+    bytes.iter().position(|b| *b == b'\n')
+}
+
+/// What a line stands for.
+#[tactic(auto, unfolding(crate::specs::Reading::line_of))]
+fn read_line(alloc: Global, bytes: &[u8]) -> Result<Line, BookFileFault>
+    ensures { GivesUnless BookFileFault.WantOfMemory line_view result (Ok (line_of bytes.now)) }
+{
+    match read_tree(alloc, bytes, bytes.len()) {
+        Ok(tree) => tree_line(alloc, tree),
+        Err(TextFault::WantOfMemory) => Err(BookFileFault::WantOfMemory),
+        Err(_) => Ok(Line::Other),
+    }
+}
+
+fn tree_line(alloc: Global, tree: Tree) -> Result<Line, BookFileFault>
+    ensures { GivesUnless BookFileFault.WantOfMemory line_view result (Ok (shape_line (view tree))) }
+{
+    match tree {
+        Tree::Text(text) => Ok(Line::Input(text)),
+        Tree::Object(members) => page_line(alloc, &Tree::Object(members)),
+        _ => Ok(Line::Other),
+    }
+}
+
+fn page_line(alloc: Global, tree: &Tree) -> Result<Line, BookFileFault>
+    ensures { GivesUnless BookFileFault.WantOfMemory line_view result (Ok (page_line (page_of (view tree.now)))) }
+{
+    match page_in(alloc, tree)? {
+        Some(page) => Ok(Line::Page(page)),
+        None => Ok(Line::Other),
+    }
+}
+
+/// The page that an object names.
+#[tactic(auto, unfolding(crate::specs::Reading::page_of))]
+fn page_in(alloc: Global, tree: &Tree) -> Result<Option<Page>, AllocError>
+    ensures { IfOk result (λ page. page ≡ page_of (view tree.now)) }
+{
+    let Some(flag) = flag_in(tree) else {
+        return Ok(None);
+    };
+    let Some(site) = site_in(tree) else {
+        return Ok(None);
+    };
+    let Some(by) = by_in(tree) else {
+        return Ok(None);
+    };
+    let by = match by {
+        None => None,
+        Some(text) => Some(String::from_str(alloc, text)?),
+    };
+    let flag = String::from_str(alloc, flag)?;
+    Ok(Some(Page { flag, site, by }))
+}
+
+fn flag_in(tree: &Tree) -> Option<&str>
+    ensures { option_copied result ≡ option_and_then as_text (member_of (codes "flag") (view tree.now)) }
+{
+    tree.member("flag")?.as_text()
+}
+
+fn site_in(tree: &Tree) -> Option<u32>
+    ensures { result ≡ option_and_then site_of (member_of (codes "site") (view tree.now)) }
+{
+    match tree.member("site")? {
+        Tree::Whole(n) if 0 <= *n && *n < SITES => Some(*n as u32),
+        _ => None,
+    }
+}
+
+fn by_in(tree: &Tree) -> Option<Option<&str>>
+    ensures { option_map option_copied result ≡ option_and_then by_of (member_of (codes "by") (view tree.now)) }
+{
+    match tree.member("by")? {
+        Tree::Null => Some(None),
+        Tree::Text(text) => Some(Some(text.as_str())),
+        _ => None,
+    }
+}
+
+/// Whether a line is the first one of a book.
+pub(crate) fn is_header(alloc: Global, bytes: &[u8]) -> Result<bool, BookFileFault>
+    ensures { GivesUnless BookFileFault.WantOfMemory (λ b. b) result (Ok (is_header (tree_of bytes.now (length bytes.now)))) }
+{
+    match read_tree(alloc, bytes, bytes.len()) {
+        Ok(tree) => Ok(is_book_object(&tree)),
+        Err(TextFault::WantOfMemory) => Err(BookFileFault::WantOfMemory),
+        Err(_) => Ok(false),
+    }
+}
+
+fn is_book_object(tree: &Tree) -> bool
+    ensures { result ≡ is_book_shape (view tree.now) }
+{
+    match tree {
+        Tree::Object(members) => is_book_member(members.as_slice()),
+        _ => false,
+    }
+}
+
+fn is_book_member(members: &[(String, Tree)]) -> bool
+    ensures { result ≡ is_book_member (members_view members.now) }
+{
+    match members {
+        [] => false,
+        [(name, value)] => name.as_str() == "book" && is_one(value),
+        [_, _, ..] => false,
+    }
+}
+
+fn is_one(tree: &Tree) -> bool
+    ensures { result ≡ is_one (view tree.now) }
+{
+    matches!(tree, Tree::Whole(1))
+}

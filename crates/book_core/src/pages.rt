@@ -1,0 +1,121 @@
+//! The map from pages to inputs that a book keeps.
+ghost use Rattle.std.specs.Prelude.{◌≡◌, IfOk, OnOk, OnErr, None};
+ghost use Rattle.std.specs.BTreeMap.{get};
+ghost use Rattle.std.specs.BTreeSet.{insert_key};
+ghost use Rattle.flag_text.specs.Outcome.{GivesUnless};
+ghost use Rattle.book_core.specs.Page.{bytes_cmp, page_cmp};
+ghost use Rattle.book_core.specs.Book.{IsBook, IsExposure, input_count, inputs_on, page_reply, reply_to, with_input, inputs_view, contents_view};
+
+use crate::exposure::Exposure;
+use crate::fault::BookFault;
+use crate::noted::Noted;
+use crate::page::Page;
+use std::alloc::{AllocError, Global};
+use std::collections::{BTreeMap, BTreeSet};
+
+/// The most inputs that a page takes.
+pub(crate) const MOST_INPUTS: usize = 1_000_000;
+
+/// The most bytes that an input has.
+pub(crate) const MOST_BYTES: usize = 1024;
+
+/// Notes an input on a page that has these inputs.
+pub(crate) fn note_on(
+    alloc: Global,
+    inputs: &mut BTreeSet<String>,
+    input: &str,
+) -> Result<Noted, BookFault>
+    ensures exact { GivesUnless BookFault.WantOfMemory (λ reply. reply) result (page_reply (inputs_view inputs.old) input.now) }
+    ensures noted { OnOk result (inputs_view inputs.new ≡ insert_key bytes_cmp (inputs_view inputs.old) input.now) }
+    ensures refused { OnErr result (inputs_view inputs.new ≡ inputs_view inputs.old) }
+{
+    if input.len() > MOST_BYTES {
+        return Err(BookFault::InputTooLong);
+    }
+    let full = inputs.len() >= MOST_INPUTS;
+    if inputs.contains(input) {
+        return Ok(Noted::Again);
+    }
+    if full {
+        return Err(BookFault::PageFull);
+    }
+    inputs.insert(String::from_str(alloc, input)?)?;
+    Ok(Noted::New)
+}
+
+/// Notes an input on its page.
+pub(crate) fn note_in(
+    alloc: Global,
+    pages: &mut BTreeMap<Page, BTreeSet<String>>,
+    page: &Page,
+    input: &str,
+) -> Result<Noted, BookFault>
+    ensures exact { GivesUnless BookFault.WantOfMemory (λ reply. reply) result (reply_to (contents_view pages.old.entries) page.now input.now) }
+    ensures noted { OnOk result (contents_view pages.new.entries ≡ with_input (contents_view pages.old.entries) page.now input.now) }
+    ensures refused { OnErr result (contents_view pages.new.entries ≡ contents_view pages.old.entries) }
+{
+    match pages.get_mut(page) {
+        Some(inputs) => note_on(alloc, inputs, input),
+        None => note_first(alloc, pages, page, input),
+    }
+}
+
+/// Notes the first input of a page that is not there yet.
+fn note_first(
+    alloc: Global,
+    pages: &mut BTreeMap<Page, BTreeSet<String>>,
+    page: &Page,
+    input: &str,
+) -> Result<Noted, BookFault>
+    requires { get page_cmp pages.old page.now ≡ None }
+    ensures exact { GivesUnless BookFault.WantOfMemory (λ reply. reply) result (reply_to (contents_view pages.old.entries) page.now input.now) }
+    ensures noted { OnOk result (contents_view pages.new.entries ≡ with_input (contents_view pages.old.entries) page.now input.now) }
+    ensures refused { OnErr result (contents_view pages.new.entries ≡ contents_view pages.old.entries) }
+{
+    if input.len() > MOST_BYTES {
+        return Err(BookFault::InputTooLong);
+    }
+    let mut inputs = BTreeSet::new(alloc);
+    inputs.insert(String::from_str(alloc, input)?)?;
+    pages.insert(page.copy(alloc)?, inputs)?;
+    Ok(Noted::New)
+}
+
+/// The inputs on a page.
+pub(crate) fn inputs_of(
+    alloc: Global,
+    pages: &BTreeMap<Page, BTreeSet<String>>,
+    page: &Page,
+) -> Result<Exposure, AllocError>
+    requires { IsBook (contents_view pages.now.entries) }
+    ensures { IfOk result (λ inputs. inputs ≡ inputs_on (contents_view pages.now.entries) page.now) }
+{
+    match pages.get(page) {
+        None => Ok(Exposure::of_rising(Vec::new(alloc))),
+        Some(inputs) => copied(alloc, inputs),
+    }
+}
+
+/// The inputs of a set.
+fn copied(alloc: Global, inputs: &BTreeSet<String>) -> Result<Exposure, AllocError>
+    requires { IsExposure (inputs_view inputs.now) }
+    ensures { IfOk result (λ copies. copies ≡ inputs_view inputs.now) }
+{
+    let mut copies = Vec::with_capacity(alloc, inputs.len())?;
+    for input in inputs {
+        copies.push(String::from_str(alloc, input.as_str())?)?;
+    }
+    Ok(Exposure::of_rising(copies))
+}
+
+/// The number of inputs on all pages.
+pub(crate) fn count_inputs(pages: &BTreeMap<Page, BTreeSet<String>>) -> u128
+    requires { IsBook (contents_view pages.now.entries) }
+    ensures { result ≡ input_count (contents_view pages.now.entries) }
+{
+    let mut count: u128 = 0;
+    for inputs in pages.values() {
+        count += inputs.len() as u128;
+    }
+    count
+}
