@@ -1,0 +1,9 @@
+pub mod Changes
+pub mod Halving
+pub mod Inserts
+pub mod Lawful
+pub mod Limited
+pub mod Order
+pub mod Parts
+pub mod Pricings
+pub mod Runs

@@ -1,0 +1,84 @@
+-- The limits on names: each name once, in order, with lawful limits.
+use Rattle.std.proofs.Common.{◌≡◌, ℕ, suc, ◌+◌, ◌<◌, ◌≤◌, ◌^◌, List, [], ◌∷◌, map, drop, length, get_or, String, string_bytes, Global, Bool, true, false, ◌||◌, ◌&&◌, Ok, Err, Option, Some, None, IfSome, is_some, unwrap_or, refl, sym, ap, ◌∙◌, add-one, arith}
+use Rattle.std.proofs.Math.Seq.{drop-cons}
+use Rattle.std.specs.BTreeMap.{insert_entry, is_at}
+use Rattle.std.specs.Cmp.Lexicographic.{slice_cmp}
+use Rattle.std.specs.List.{All, list_any, list_all}
+use Rattle.std.specs.List.Sorted.{IsStrictlySortedBy}
+use Rattle.std.specs.Map.{keys_of, lookup}
+use Rattle.std.specs.Ordering.{nat_cmp, on}
+use Rattle.std.specs.Str.{bytes_eq}
+use Rattle.std.specs.declared.cmp.Ordering.{Ordering}
+use Rattle.std.proofs.lemmas.List.Elements.{All-nil}
+use Rattle.std.proofs.lemmas.Map.Entries.{All-lookup}
+use Rattle.std.proofs.lemmas.Map.Lookups.{exact_bytes}
+use Rattle.std.proofs.lemmas.Map.Made.{is_some-lookup}
+use denote.Ref.{Bor}
+use Rattle.price_core.specs.Limits.{Limits, AreLimits, limits_of}
+use Rattle.price_core.specs.Pricing.{Pricing}
+use Rattle.price_core.specs.Request.{Asked, is_known, pair_is_known, all_known, limits_on, totals_of}
+use Rattle.price_core.specs.declared.fault.PriceFault.TheVariants.{UnknownVariant}
+use Rattle.price_core.proofs.Inserts.{insert-seen, rise_seen, found-insert, all_insert}
+
+-- the entries of a map by borrowed names
+abbrev pub named : Bor (List ℕ) × (ℕ × ℕ) → List ℕ × (ℕ × ℕ)
+named e = (e.0.now, e.1)
+
+abbrev pub named_limits : List (Bor (List ℕ) × (ℕ × ℕ)) → Limits
+named_limits es = map named es
+
+abbrev pub name_cmp : Bor (List ℕ) → Bor (List ℕ) → Ordering
+name_cmp = on (λ (x : Bor (List ℕ)). x.now) (slice_cmp nat_cmp)
+
+found-limits_on : (asked : Limits) (names : List (List ℕ)) (name : List ℕ) → is_some (lookup (bytes_eq name) (limits_on asked names)) ≡ list_any (bytes_eq name) names
+found-limits_on asked [] name = refl
+found-limits_on asked (n ∷ ns) name = found-insert (slice_cmp nat_cmp) exact_bytes (bytes_eq name) (limits_on asked ns) n (limits_of asked n) ∙ ap (λ x. bytes_eq name n || x) (found-limits_on asked ns name)
+
+-- the names that have limits are those that were given
+pub is_known-limits_on : (asked : Limits) (names : List (List ℕ)) (name : List ℕ) → is_known (keys_of (limits_on asked names)) name ≡ is_known names name
+is_known-limits_on asked names name = sym (is_some-lookup (bytes_eq name) (limits_on asked names)) ∙ found-limits_on asked names name
+
+pub known_names : (asked : Limits) (names : List (List ℕ)) → is_known (keys_of (limits_on asked names)) ≡ is_known names
+known_names asked names = λ i name. is_known-limits_on asked names name i
+
+value_of : (P : ℕ × ℕ → Type 0) (o : Option (ℕ × ℕ)) → P (0, 0) → IfSome o P → P (unwrap_or o (0, 0))
+value_of P None none h = none
+value_of P (Some x) none h = h
+
+all_limits_on : (P : ℕ × ℕ → Type 0) (asked : Limits) (names : List (List ℕ)) → P (0, 0) → All (λ l. P l.1) asked → All (λ l. P l.1) (limits_on asked names)
+all_limits_on P asked [] none all = All-nil (λ (l : List ℕ × (ℕ × ℕ)). P l.1)
+all_limits_on P asked (n ∷ ns) none all =
+    all_insert (slice_cmp nat_cmp) P (limits_on asked ns) n (limits_of asked n) (value_of P (lookup (bytes_eq n) asked) none (All-lookup P (bytes_eq n) asked all)) (all_limits_on P asked ns none all)
+
+pub limits_lawful : (asked : Limits) (names : List (List ℕ)) → AreLimits asked → IsStrictlySortedBy (slice_cmp nat_cmp) (keys_of (limits_on asked names)) → AreLimits (limits_on asked names)
+limits_lawful asked names lawful rise = record {
+  rise = rise;
+  ordered = all_limits_on (λ r. r.0 ≤ r.1) asked names (omega arith) lawful.ordered;
+  small = all_limits_on (λ r. r.1 < 2 ^ 31) asked names (omega arith) lawful.small;
+}
+
+-- one more name, the one in front of those whose limits are put in order
+pub limits_more : (asked : Limits) (names : List (String Global)) (left i : ℕ) (x : String Global) (es more : List (Bor (List ℕ) × (ℕ × ℕ))) (k : Bor (List ℕ)) (v : ℕ × ℕ)
+    → left ≡ i + 1 → i < length names → x ≡ get_or names i x → k.now ≡ string_bytes x → v ≡ limits_of asked k.now → more ≡ insert_entry name_cmp es k v
+    → named_limits es ≡ limits_on asked (map string_bytes (drop left names)) → named_limits more ≡ limits_on asked (map string_bytes (drop i names))
+limits_more asked names left i x es more k v next inside is key value put made =
+    let front : drop i names ≡ x ∷ drop (i + 1) names = rw add-one (drop-cons names i x inside ∙ ap (λ y. y ∷ drop (suc i) names) (sym is)) in
+    let after : named_limits es ≡ limits_on asked (map string_bytes (drop (i + 1) names)) = made ∙ ap (λ n. limits_on asked (map string_bytes (drop n names))) next in
+    ap named_limits put ∙ (insert-seen (λ (x : Bor (List ℕ)). x.now) (slice_cmp nat_cmp) es k v ∙ ((λ j. insert_entry (slice_cmp nat_cmp) (after j) (key j) ((value ∙ ap (limits_of asked) key) j)) ∙ ap (λ ns. limits_on asked (map string_bytes ns)) (sym front)))
+
+pub named_rise : (es : List (Bor (List ℕ) × (ℕ × ℕ))) → IsStrictlySortedBy name_cmp (keys_of es) → IsStrictlySortedBy (slice_cmp nat_cmp) (keys_of (named_limits es))
+named_rise es h = rise_seen (λ (x : Bor (List ℕ)). x.now) (slice_cmp nat_cmp) es h
+
+pub all_known_is : (asked : Asked) (names : List (List ℕ)) (limits totals : Limits) (prices : Pricing) (b : Bool) → limits ≡ limits_on asked.totals names → totals ≡ asked.totals → prices ≡ asked.prices
+    → b ≡ (list_all (is_known (keys_of limits)) (keys_of totals) && (list_all (pair_is_known (keys_of limits)) (keys_of prices.named) && list_all (pair_is_known (keys_of limits)) prices.barred))
+    → all_known names asked ≡ b
+all_known_is asked names limits totals prices b limits_are totals_are prices_are found =
+    let test : Limits → Pricing → (List ℕ → Bool) → Bool = λ ts ps k. list_all k (keys_of ts) && (list_all (λ p. k p.0 && k p.1) (keys_of ps.named) && list_all (λ p. k p.0 && k p.1) ps.barred) in
+    let known : is_known (keys_of limits) ≡ is_known names = ap (λ ls. is_known (keys_of ls)) limits_are ∙ known_names asked.totals names in
+    sym (found ∙ (λ i. test (totals_are i) (prices_are i) (known i)))
+
+pub totals_ok : (asked : Asked) (names : List (List ℕ)) (limits : Limits) → limits ≡ limits_on asked.totals names → all_known names asked ≡ true → totals_of names asked ≡ Ok limits
+totals_ok asked names limits is known = rw known (ap Ok (sym is))
+
+pub totals_err : (asked : Asked) (names : List (List ℕ)) → all_known names asked ≡ false → totals_of names asked ≡ Err UnknownVariant
+totals_err asked names unknown = rw unknown refl

@@ -1,0 +1,5 @@
+pub mod Cost
+pub mod Fault
+pub mod Limits
+pub mod Pricing
+pub mod Request

@@ -1,0 +1,274 @@
+//! From a tree to a request as it is written, its prices not yet judged.
+ghost use Rattle.std.specs.Prelude.{◌≡◌, ◌^◌, true, IfOk, option_map, option_and_then, string_bytes};
+ghost use Rattle.std.specs.List.Sorted.{IsStrictlySortedBy};
+ghost use Rattle.std.specs.Map.{keys_of};
+ghost use Rattle.flag_text.specs.Outcome.{GivesUnless};
+ghost use Rattle.flag_text.specs.Readers.{as_list, as_whole, member_of};
+ghost use Rattle.flag_text.specs.Shape.{is_whole, no_items};
+ghost use Rattle.flag_text.specs.View.{view, items_view, members_view};
+ghost use Rattle.price_core.specs.Limits.{limits_view};
+ghost use Rattle.price_core.specs.Pricing.{pair_cmp, change_view, entry_view, entries_view};
+ghost use Rattle.price_core.specs.Request.{form_in, flag_in, site_in, usual_in, totals_in, named_in, barred_in, limits_with, limit_of, range_of, number_below, pair_of, price_parts, bar_parts, each_of, if_there, if_written, written_of, draft_view, IsWritten};
+
+use crate::change::{Change, once_each};
+use crate::fault::PriceFault;
+use crate::totals::Limit;
+use flag_text::Tree;
+use std::alloc::Global;
+
+const TOTALS: i64 = 1 << 31;
+
+const SITES: i64 = 1 << 32;
+
+/// A request as it is written.
+#[derive(Drop)]
+pub(crate) struct Draft {
+    pub(crate) flag: String,
+    pub(crate) site: u32,
+    pub(crate) totals: Vec<Limit>,
+    pub(crate) usual: i64,
+    pub(crate) named: Vec<(Change, i64)>,
+    pub(crate) barred: Vec<(Change, ())>,
+}
+
+/// Whether totals may be ranges, by the form of the request.
+fn form_in(tree: &Tree) -> Option<bool>
+    ensures { result ≡ form_in (view tree.now) }
+{
+    match tree.member("plan")?.as_whole()? {
+        1 => Some(false),
+        2 => Some(true),
+        _ => None,
+    }
+}
+
+fn flag_in(alloc: Global, tree: &Tree) -> Result<String, PriceFault>
+    ensures { GivesUnless PriceFault.WantOfMemory (λ s. string_bytes s) result (if_written (flag_in (view tree.now))) }
+{
+    match tree.member("flag") {
+        Some(Tree::Text(flag)) => Ok(flag.clone()?),
+        _ => Err(PriceFault::BadRequest),
+    }
+}
+
+fn site_in(tree: &Tree) -> Option<u32>
+    ensures { result ≡ site_in (view tree.now) }
+{
+    match tree.member("site") {
+        None => Some(0),
+        Some(Tree::Whole(site)) if 0 <= *site && *site < SITES => Some(*site as u32),
+        Some(_) => None,
+    }
+}
+
+fn usual_in(tree: &Tree) -> Option<i64>
+    ensures { result ≡ usual_in (view tree.now) }
+{
+    match tree.member("price") {
+        None => Some(1),
+        Some(price) => price.as_whole(),
+    }
+}
+
+fn totals_in(alloc: Global, tree: &Tree, ranges: bool) -> Result<Vec<Limit>, PriceFault>
+    ensures { GivesUnless PriceFault.WantOfMemory (λ v. limits_view v.items) result (if_written (totals_in ranges (view tree.now))) }
+{
+    match tree.member("totals") {
+        Some(Tree::Object(members)) => limits_with(alloc, members.as_slice(), ranges),
+        _ => Err(PriceFault::BadRequest),
+    }
+}
+
+fn limits_with(
+    alloc: Global,
+    members: &[(String, Tree)],
+    ranges: bool,
+) -> Result<Vec<Limit>, PriceFault>
+    ensures { GivesUnless PriceFault.WantOfMemory (λ v. limits_view v.items) result (if_written (limits_with ranges (members_view members.now))) }
+{
+    let mut limits = Vec::new(alloc);
+    for (name, total) in members {
+        let Some((low, high)) = limit_of(total, ranges) else {
+            return Err(PriceFault::BadRequest);
+        };
+        let name = name.clone()?;
+        limits.push(Limit { name, low, high })?;
+    }
+    Ok(limits)
+}
+
+/// The least and the greatest total that one number, or a list of two, stands for.
+fn limit_of(tree: &Tree, ranges: bool) -> Option<(u32, u32)>
+    ensures { result ≡ limit_of ranges (view tree.now) }
+{
+    match tree {
+        Tree::List(parts) if ranges => range_of(parts.as_slice()),
+        Tree::List(_) => None,
+        _ => {
+            let total = total_of(tree)?;
+            Some((total, total))
+        }
+    }
+}
+
+fn range_of(parts: &[Tree]) -> Option<(u32, u32)>
+    ensures { result ≡ range_of (items_view parts.now) }
+{
+    match parts {
+        [low, high] => {
+            let low = total_of(low)?;
+            Some((low, total_of(high)?))
+        }
+        _ => None,
+    }
+}
+
+fn total_of(tree: &Tree) -> Option<u32>
+    ensures { result ≡ number_below (2 ^ 31) (view tree.now) }
+{
+    match tree {
+        Tree::Whole(total) if 0 <= *total && *total < TOTALS => Some(*total as u32),
+        _ => None,
+    }
+}
+
+/// The items of the list of this name, none where there is no such member.
+fn list_of<'a>(tree: &'a Tree, name: &str) -> Option<&'a [Tree]>
+    ensures { option_map (λ ts. items_view ts.now) result ≡ if_there no_items as_list (member_of name.now (view tree.now)) }
+{
+    match tree.member(name) {
+        None => Some(&[]),
+        Some(list) => list.as_list(),
+    }
+}
+
+fn named_in(alloc: Global, tree: &Tree) -> Result<Vec<(Change, i64)>, PriceFault>
+    ensures exact { GivesUnless PriceFault.WantOfMemory (λ v. entries_view v.items) result (if_written (named_in (view tree.now))) }
+    ensures rise { IfOk result (λ v. IsStrictlySortedBy pair_cmp (keys_of (entries_view v.items))) }
+{
+    let Some(items) = list_of(tree, "prices") else {
+        return Err(PriceFault::BadRequest);
+    };
+    once_each(alloc, prices_of(alloc, items)?)
+}
+
+fn prices_of(alloc: Global, items: &[Tree]) -> Result<Vec<(Change, i64)>, PriceFault>
+    ensures { GivesUnless PriceFault.WantOfMemory (λ v. entries_view v.items) result (if_written (each_of price_parts (items_view items.now))) }
+{
+    let mut prices = Vec::new(alloc);
+    for item in items {
+        prices.push(price_of(alloc, item)?)?;
+    }
+    Ok(prices)
+}
+
+fn price_of(alloc: Global, item: &Tree) -> Result<(Change, i64), PriceFault>
+    ensures { GivesUnless PriceFault.WantOfMemory entry_view result (if_written (option_and_then price_parts (as_list (view item.now)))) }
+{
+    match item {
+        Tree::List(parts) => price_parts(alloc, parts.as_slice()),
+        _ => Err(PriceFault::BadRequest),
+    }
+}
+
+/// The price of one change, `[from, to, n]`.
+fn price_parts(alloc: Global, parts: &[Tree]) -> Result<(Change, i64), PriceFault>
+    ensures { GivesUnless PriceFault.WantOfMemory entry_view result (if_written (price_parts (items_view parts.now))) }
+{
+    match parts {
+        [] => Err(PriceFault::BadRequest),
+        [_] => Err(PriceFault::BadRequest),
+        [_, _] => Err(PriceFault::BadRequest),
+        [from, to, price] => priced(alloc, from, to, price),
+        [_, _, _, _, ..] => Err(PriceFault::BadRequest),
+    }
+}
+
+fn priced(alloc: Global, from: &Tree, to: &Tree, price: &Tree) -> Result<(Change, i64), PriceFault>
+    ensures { GivesUnless PriceFault.WantOfMemory entry_view result (if_written (option_and_then (λ p. option_map (λ n. (p, n)) (as_whole (view price.now))) (pair_of (view from.now) (view to.now)))) }
+{
+    let change = change_of(alloc, from, to)?;
+    match price.as_whole() {
+        Some(price) => Ok((change, price)),
+        None => Err(PriceFault::BadRequest),
+    }
+}
+
+fn barred_in(alloc: Global, tree: &Tree) -> Result<Vec<(Change, ())>, PriceFault>
+    ensures exact { GivesUnless PriceFault.WantOfMemory (λ v. entries_view v.items) result (if_written (barred_in (view tree.now))) }
+    ensures rise { IfOk result (λ v. IsStrictlySortedBy pair_cmp (keys_of (entries_view v.items))) }
+{
+    let Some(items) = list_of(tree, "forbid") else {
+        return Err(PriceFault::BadRequest);
+    };
+    once_each(alloc, bars_of(alloc, items)?)
+}
+
+fn bars_of(alloc: Global, items: &[Tree]) -> Result<Vec<(Change, ())>, PriceFault>
+    ensures { GivesUnless PriceFault.WantOfMemory (λ v. entries_view v.items) result (if_written (each_of bar_parts (items_view items.now))) }
+{
+    let mut bars = Vec::new(alloc);
+    for item in items {
+        bars.push((bar_of(alloc, item)?, ()))?;
+    }
+    Ok(bars)
+}
+
+fn bar_of(alloc: Global, item: &Tree) -> Result<Change, PriceFault>
+    ensures { GivesUnless PriceFault.WantOfMemory (λ c. (change_view c, tt)) result (if_written (option_and_then bar_parts (as_list (view item.now)))) }
+{
+    match item {
+        Tree::List(parts) => bar_parts(alloc, parts.as_slice()),
+        _ => Err(PriceFault::BadRequest),
+    }
+}
+
+/// One forbidden change, `[from, to]`.
+fn bar_parts(alloc: Global, parts: &[Tree]) -> Result<Change, PriceFault>
+    ensures { GivesUnless PriceFault.WantOfMemory (λ c. (change_view c, tt)) result (if_written (bar_parts (items_view parts.now))) }
+{
+    match parts {
+        [] => Err(PriceFault::BadRequest),
+        [_] => Err(PriceFault::BadRequest),
+        [from, to] => change_of(alloc, from, to),
+        [_, _, _, ..] => Err(PriceFault::BadRequest),
+    }
+}
+
+fn change_of(alloc: Global, from: &Tree, to: &Tree) -> Result<Change, PriceFault>
+    ensures { GivesUnless PriceFault.WantOfMemory change_view result (if_written (pair_of (view from.now) (view to.now))) }
+{
+    match (from, to) {
+        (Tree::Text(from), Tree::Text(to)) => {
+            let from = from.clone()?;
+            Ok(Change {
+                from,
+                to: to.clone()?,
+            })
+        }
+        _ => Err(PriceFault::BadRequest),
+    }
+}
+
+/// The request that a tree stands for, as it is written.
+pub(crate) fn written(alloc: Global, tree: &Tree) -> Result<Draft, PriceFault>
+    requires { is_whole (view tree.now) ≡ true }
+    ensures exact { GivesUnless PriceFault.WantOfMemory draft_view result (if_written (written_of (view tree.now))) }
+    ensures lawful { IfOk result (λ d. IsWritten (draft_view d)) }
+{
+    let ranges = form_in(tree).ok_or(PriceFault::BadRequest)?;
+    let flag = flag_in(alloc, tree)?;
+    let site = site_in(tree).ok_or(PriceFault::BadRequest)?;
+    let usual = usual_in(tree).ok_or(PriceFault::BadRequest)?;
+    let totals = totals_in(alloc, tree, ranges)?;
+    let named = named_in(alloc, tree)?;
+    let barred = barred_in(alloc, tree)?;
+    Ok(Draft {
+        flag,
+        site,
+        totals,
+        usual,
+        named,
+        barred,
+    })
+}

@@ -1,0 +1,222 @@
+ghost use Rattle.std.specs.Prelude.{◌≡◌, ◌≤◌, ◌&&◌, true, IfSome, map, string_bytes};
+ghost use Rattle.std.specs.Cmp.Lexicographic.{slice_cmp};
+ghost use Rattle.std.specs.List.{list_any, list_all};
+ghost use Rattle.std.specs.List.Sorted.{IsStrictlySortedBy};
+ghost use Rattle.std.specs.Map.{keys_of};
+ghost use Rattle.std.specs.Ordering.{nat_cmp};
+ghost use Rattle.flag_text.specs.Outcome.{GivesUnless};
+ghost use Rattle.flag_text.specs.Shape.{is_whole};
+ghost use Rattle.flag_text.specs.View.{view};
+ghost use Rattle.price_core.specs.Limits.{limits_view};
+ghost use Rattle.price_core.specs.Pricing.{IsPricing, max_price, entries_view};
+ghost use Rattle.price_core.specs.Request.{IsWritten, draft_view, is_self_pair, as_price, as_prices, if_in_range, is_range, judged, request_of, asked_of, is_known, pair_is_known, totals_of};
+
+use crate::change::Change;
+use crate::draft::{Draft, written};
+use crate::fault::PriceFault;
+use crate::prices::Prices;
+use crate::totals::{Limit, Totals, find_limit, limits_on};
+use flag_text::{Tree, read_tree};
+use std::alloc::Global;
+use std::marker::Model;
+
+/// The largest request, in bytes.
+const MAX_REQUEST: usize = 4 << 20;
+
+const MAX_PRICE: i64 = 1_000_000;
+
+/// What is asked of the new rule of a site: limits on the totals of its names, prices of changes
+/// and forbidden changes.
+#[derive(Drop)]
+pub struct Request {
+    flag: String,
+    site: u32,
+    totals: Vec<Limit>,
+    prices: Prices,
+}
+
+impl Model for Request {
+    ghost use Rattle.std.specs.Prelude.{string_bytes};
+    ghost use Rattle.price_core.specs.Limits.{limits_view};
+    ghost use Rattle.price_core.specs.Request.{Asked, IsAsked};
+
+    ghost Value = { Asked };
+
+    ghost view = { λ r. record { flag = string_bytes r.flag; site = r.site; totals = limits_view r.totals.items; prices = r.prices } };
+
+    ghost invariant = { λ r. IsAsked (record { flag = string_bytes r.flag; site = r.site; totals = limits_view r.totals.items; prices = r.prices }) };
+}
+
+impl Request {
+    /// The request that a JSON text of at most 4,194,304 bytes stands for. It refuses first what
+    /// is no request, then a pair of equal names, then a price out of range, then an empty range.
+    pub fn read(alloc: Global, bytes: &[u8]) -> Result<Request, PriceFault>
+        ensures exact { GivesUnless PriceFault.WantOfMemory (λ r. r) result (asked_of bytes.now) }
+    {
+        let tree = read_tree(alloc, bytes, MAX_REQUEST)?;
+        requested(alloc, &tree)
+    }
+
+    /// The flag whose rule is to change.
+    pub fn flag(&self) -> &str
+        ensures { result.now ≡ self.now.flag }
+    {
+        self.flag.as_str()
+    }
+
+    /// The number of the site whose rule is to change.
+    pub fn site(&self) -> u32
+        ensures { result ≡ self.now.site }
+    {
+        self.site
+    }
+
+    /// The prices of changes and the forbidden changes.
+    pub fn prices(&self) -> &Prices
+        ensures value { result.now ≡ self.now.prices }
+        ensures lawful { IsPricing result.now }
+    {
+        &self.prices
+    }
+
+    /// The limits on each of these names, both 0 where none are asked. It refuses a request that
+    /// names another in its totals, prices or prohibitions.
+    pub fn totals(&self, alloc: Global, names: &[String]) -> Result<Totals, PriceFault>
+        ensures exact { GivesUnless PriceFault.WantOfMemory (λ t. t) result (totals_of (map string_bytes names.now) self.now) }
+    {
+        let limits = limits_on(alloc, self.totals.as_slice(), names)?;
+        if !all_known(limits.as_slice(), self.totals.as_slice(), &self.prices) {
+            return Err(PriceFault::UnknownVariant);
+        }
+        Ok(Totals { limits })
+    }
+}
+
+/// The request that a tree stands for.
+fn requested(alloc: Global, tree: &Tree) -> Result<Request, PriceFault>
+    requires { is_whole (view tree.now) ≡ true }
+    ensures { GivesUnless PriceFault.WantOfMemory (λ r. r) result (request_of (view tree.now)) }
+{
+    let draft = written(alloc, tree)?;
+    judge(alloc, draft)
+}
+
+/// Whether each name that is asked for is one of those that have limits.
+fn all_known(limits: &[Limit], asked: &[Limit], prices: &Prices) -> bool
+    requires { IsStrictlySortedBy (slice_cmp nat_cmp) (keys_of (limits_view limits.now)) }
+    ensures { result ≡ (list_all (is_known (keys_of (limits_view limits.now))) (keys_of (limits_view asked.now)) && (list_all (pair_is_known (keys_of (limits_view limits.now))) (keys_of prices.now.named) && list_all (pair_is_known (keys_of (limits_view limits.now))) prices.now.barred)) }
+{
+    names_are_known(limits, asked)
+        && changes_are_known(limits, prices.named())
+        && changes_are_known(limits, prices.barred())
+}
+
+/// Whether the name is one of those that have limits.
+fn is_known(limits: &[Limit], name: &str) -> bool
+    requires { IsStrictlySortedBy (slice_cmp nat_cmp) (keys_of (limits_view limits.now)) }
+    ensures { result ≡ is_known (keys_of (limits_view limits.now)) name.now }
+{
+    find_limit(limits, name).is_some()
+}
+
+fn names_are_known(limits: &[Limit], asked: &[Limit]) -> bool
+    requires { IsStrictlySortedBy (slice_cmp nat_cmp) (keys_of (limits_view limits.now)) }
+    ensures { result ≡ list_all (is_known (keys_of (limits_view limits.now))) (keys_of (limits_view asked.now)) }
+{
+    for limit in asked {
+        if !is_known(limits, limit.name.as_str()) {
+            return false;
+        }
+    }
+    true
+}
+
+fn changes_are_known<X>(limits: &[Limit], entries: &[(Change, X)]) -> bool
+    requires { IsStrictlySortedBy (slice_cmp nat_cmp) (keys_of (limits_view limits.now)) }
+    ensures { result ≡ list_all (pair_is_known (keys_of (limits_view limits.now))) (keys_of (entries_view entries.now)) }
+{
+    for (change, _) in entries {
+        if !is_known(limits, change.from.as_str()) || !is_known(limits, change.to.as_str()) {
+            return false;
+        }
+    }
+    true
+}
+
+fn has_self_pair<X>(entries: &[(Change, X)]) -> bool
+    ensures { result ≡ list_any is_self_pair (keys_of (entries_view entries.now)) }
+{
+    for (change, _) in entries {
+        if change.from.as_str() == change.to.as_str() {
+            return true;
+        }
+    }
+    false
+}
+
+fn as_price(price: i64) -> Option<u64>
+    ensures value { result ≡ as_price price }
+    ensures fits { IfSome result (λ n. n ≤ max_price) }
+{
+    if 0 <= price && price <= MAX_PRICE {
+        Some(price as u64)
+    } else {
+        None
+    }
+}
+
+fn as_prices(alloc: Global, named: Vec<(Change, i64)>) -> Result<Vec<(Change, u64)>, PriceFault>
+    ensures { GivesUnless PriceFault.WantOfMemory (λ v. entries_view v.items) result (if_in_range (as_prices (entries_view named.items))) }
+{
+    let mut prices = Vec::new(alloc);
+    for (change, price) in named {
+        let Some(price) = as_price(price) else {
+            return Err(PriceFault::PriceRange);
+        };
+        prices.push((change, price))?;
+    }
+    Ok(prices)
+}
+
+fn are_ranges(totals: &[Limit]) -> bool
+    ensures { result ≡ list_all is_range (limits_view totals.now) }
+{
+    for limit in totals {
+        if limit.low > limit.high {
+            return false;
+        }
+    }
+    true
+}
+
+/// The request that was written, unless its pairs, prices or ranges are refused.
+fn judge(alloc: Global, draft: Draft) -> Result<Request, PriceFault>
+    requires { IsWritten (draft_view draft) }
+    ensures { GivesUnless PriceFault.WantOfMemory (λ r. r) result (judged (draft_view draft)) }
+{
+    let Draft {
+        flag,
+        site,
+        totals,
+        usual,
+        named,
+        barred,
+    } = draft;
+    if has_self_pair(named.as_slice()) || has_self_pair(barred.as_slice()) {
+        return Err(PriceFault::SelfPair);
+    }
+    let Some(usual) = as_price(usual) else {
+        return Err(PriceFault::PriceRange);
+    };
+    let named = as_prices(alloc, named)?;
+    if !are_ranges(totals.as_slice()) {
+        return Err(PriceFault::EmptyRange);
+    }
+    let prices = Prices::of(usual, named, barred);
+    Ok(Request {
+        flag,
+        site,
+        totals,
+        prices,
+    })
+}
