@@ -1,0 +1,17 @@
+pub mod Sums
+pub mod Weighted
+pub mod Regroup
+pub mod Points
+pub mod Deficits
+pub mod DualSums
+pub mod Duality
+pub mod Keys
+pub mod Certified
+pub mod Cuts
+pub mod Joined
+pub mod Members
+pub mod NameTotals
+pub mod Pairs
+pub mod Placed
+pub mod Ranges
+pub mod Runs

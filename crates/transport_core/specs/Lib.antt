@@ -1,0 +1,9 @@
+pub mod Certificate
+pub mod Deficient
+pub mod Dual
+pub mod Fault
+pub mod Fits
+pub mod Groups
+pub mod Refusals
+pub mod Rows
+pub mod Sum

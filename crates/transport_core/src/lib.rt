@@ -1,0 +1,28 @@
+//! Whether a rollout's answer is right, whoever made it: the definitions of a rule that fits and costs the least, and the
+//! checks of a plan with its certificate and of a cut.
+//!
+//! Proved, over the definitions of `specs/`: `check_plan` accepts a rule exactly where it fits (`Fits`) and the certificate's
+//! numbers, one for each group and name, are dual prices (`Dual`, `Certificate`) that prove its cost, and then no rule of any
+//! shape that fits costs the inputs less; each refusal comes first in its order (`Refusals`). `check_cut` accepts a set of
+//! names exactly where it is deficient (`Deficient`), and then no rule fits.
+#![tactic(auto)]
+
+mod certificate;
+mod cut;
+mod duals;
+mod fault;
+mod groups;
+mod laws;
+mod plan;
+mod rows;
+mod slack;
+mod totals;
+
+pub use certificate::{Certificate, Cut, CutKind};
+pub use cut::check_cut;
+pub use fault::CheckFault;
+pub use laws::weak_duality;
+pub use plan::check_plan;
+
+#[cfg(test)]
+mod tests;

@@ -1,0 +1,102 @@
+//! The check of a plan and its certificate.
+ghost use Rattle.std.specs.Prelude.{◌≡◌, ◌≢◌, ◌<◌, ◌^◌, length, map, string_bytes, sum_by, OnOk, IfErr, MatchResult};
+ghost use Rattle.transport_core.specs.Certificate.{IsCertified, certificate_view};
+ghost use Rattle.transport_core.specs.Fits.{Fits, IsLeast};
+ghost use Rattle.transport_core.specs.Refusals.{Refuses, RefusesRule, RefusesDuals, AreDuals};
+
+use crate::certificate::Certificate;
+use crate::duals::{are_groups, are_names, sums_to};
+use crate::fault::CheckFault;
+use crate::groups::groups;
+use crate::slack::check_slack;
+use crate::totals::keeps_limits;
+use book_core::Exposure;
+use bucket_core::Rule;
+use price_core::{Prices, Totals, first_forbidden, switch_cost};
+use std::alloc::Global;
+
+/// Checks that a new rule fits the request and that a certificate proves its cost for the inputs, so that no rule which
+/// fits costs less. It refuses, in this order, with `Weight` (the rules differ in their totals), `Totals` (a total is outside
+/// its limits), `Forbidden` (the least point whose change is), `Groups` (the numbers are not those of exactly the groups and
+/// names), `Slack` (the first group and name whose numbers sum to more than the change costs), `Sum` (the numbers do not sum
+/// to the cost), `Cost` (the rule's cost is another). It goes over runs of points and over groups, in `O(n log n)` steps at n
+/// entries and inputs, and `O(k)` look-ups of a price for each group, at k names.
+pub fn check_plan(
+    alloc: Global,
+    old: &Rule,
+    new: &Rule,
+    totals: &Totals,
+    prices: &Prices,
+    exposure: &Exposure,
+    certificate: &Certificate,
+) -> Result<(), CheckFault>
+    ensures certified { OnOk result (IsCertified old.now new.now totals.now prices.now exposure.now (certificate_view certificate.now)) }
+    ensures least { OnOk result (IsLeast old.now new.now totals.now prices.now exposure.now) }
+    ensures refused { IfErr result (Refuses old.now new.now totals.now prices.now exposure.now (certificate_view certificate.now)) }
+    ensures exact { IfErr result (λ fault. fault ≢ CheckFault.WantOfMemory → ¬ (IsCertified old.now new.now totals.now prices.now exposure.now (certificate_view certificate.now))) }
+{
+    let _total = old.total();
+    let _limits = totals.entries();
+    check_rule(alloc, old, new, totals, prices)?;
+    check_duals(alloc, old, totals, prices, exposure.inputs(), certificate)?;
+    let cost = switch_cost(alloc, old, new, exposure, prices)?;
+    if cost != certificate.cost {
+        return Err(CheckFault::Cost);
+    }
+    Ok(())
+}
+
+/// Checks that the new rule fits.
+fn check_rule(
+    alloc: Global,
+    old: &Rule,
+    new: &Rule,
+    totals: &Totals,
+    prices: &Prices,
+) -> Result<(), CheckFault>
+    ensures { MatchResult result (λ _. Fits old.now new.now totals.now prices.now) (RefusesRule old.now new.now totals.now prices.now) }
+{
+    if new.total() != old.total() {
+        return Err(CheckFault::Weight);
+    }
+    if !keeps_limits(alloc, new, totals)? {
+        return Err(CheckFault::Totals);
+    }
+    match first_forbidden(old, new, prices) {
+        Some(point) => Err(CheckFault::Forbidden(point)),
+        None => Ok(()),
+    }
+}
+
+/// Checks the numbers of a certificate, where the low limits sum to at most a rule's total.
+fn check_duals(
+    alloc: Global,
+    old: &Rule,
+    totals: &Totals,
+    prices: &Prices,
+    inputs: &[String],
+    certificate: &Certificate,
+) -> Result<(), CheckFault>
+    requires few { length inputs.now < 2 ^ 32 }
+    requires lows { sum_by (λ l. l.1.0) totals.now < 2 ^ 32 }
+    ensures { MatchResult result
+        (λ _. AreDuals old.now totals.now prices.now (map string_bytes inputs.now) (certificate_view certificate.now))
+        (RefusesDuals old.now totals.now prices.now (map string_bytes inputs.now) (certificate_view certificate.now)) }
+{
+    let limits = totals.entries();
+    let alpha = certificate.alpha.as_slice();
+    let beta = certificate.beta.as_slice();
+    let sizes = groups(alloc, old, inputs)?;
+    let groups = sizes.as_slice();
+    if !are_groups(alpha, groups) {
+        return Err(CheckFault::Groups);
+    }
+    if !are_names(beta, limits) {
+        return Err(CheckFault::Groups);
+    }
+    check_slack(alpha, beta, prices)?;
+    if !sums_to(groups, alpha, limits, beta, certificate.cost) {
+        return Err(CheckFault::Sum);
+    }
+    Ok(())
+}

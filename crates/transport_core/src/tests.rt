@@ -1,0 +1,233 @@
+use super::*;
+use book_core::{Book, Exposure, Page};
+use bucket_core::{Rule, read_rule};
+use flag_text::read_tree;
+use price_core::{Request, Totals};
+use std::alloc::{AllocError, Global};
+use std::test::Fail;
+
+fn rule(alloc: Global, text: &[u8]) -> Result<Rule, Fail> {
+    Ok(read_rule(alloc, &read_tree(alloc, text, 1000)?)?)
+}
+
+fn names(alloc: Global, texts: &[&str]) -> Result<Vec<String>, AllocError> {
+    let mut names = Vec::new(alloc);
+    for text in texts {
+        names.push(String::from_str(alloc, text)?)?;
+    }
+    Ok(names)
+}
+
+/// What is found of a set of names, for the old rule red 5, blue 5.
+fn found(
+    alloc: Global,
+    request: &[u8],
+    kind: CutKind,
+    set: &[&str],
+) -> Result<Result<(), CheckFault>, Fail> {
+    let old = rule(alloc, b"[[\"red\",5],[\"blue\",5]]")?;
+    let request = Request::read(alloc, request)?;
+    let variants = names(alloc, &["blue", "green", "red"])?;
+    let totals: Totals = request.totals(alloc, variants.as_slice())?;
+    let cut = Cut {
+        kind,
+        names: names(alloc, set)?,
+    };
+    Ok(check_cut(alloc, &old, &totals, request.prices(), &cut))
+}
+
+const NO_RED_TO_GREEN: &[u8] =
+    b"{\"plan\":1,\"flag\":\"color\",\"totals\":{\"red\":3,\"blue\":1,\"green\":6},\"forbid\":[[\"red\",\"green\"]]}";
+
+const FREE: &[u8] = b"{\"plan\":1,\"flag\":\"color\",\"totals\":{\"red\":3,\"blue\":7}}";
+
+const RANGES: &[u8] =
+    b"{\"plan\":2,\"flag\":\"color\",\"totals\":{\"red\":[1,2],\"blue\":[1,8],\"green\":[6,7]},\"forbid\":[[\"red\",\"green\"]]}";
+
+#[test]
+fn deficient_sets(rt: HostRuntime) -> Result<(), Fail> {
+    let alloc = rt.alloc();
+    // 5 points are red, and only 3 + 1 may be red or blue
+    assert_eq!(rt;
+        found(alloc, NO_RED_TO_GREEN, CutKind::Over, &["red"])?,
+        Ok(())
+    );
+    // blue ones may be any of 10
+    assert_eq!(rt;
+        found(alloc, NO_RED_TO_GREEN, CutKind::Over, &["blue"])?,
+        Err(CheckFault::NotDeficient)
+    );
+    // all points, and as many allowed
+    assert_eq!(rt;
+        found(alloc, FREE, CutKind::Over, &["blue", "red"])?,
+        Err(CheckFault::NotDeficient)
+    );
+    // 6 are asked of green, and only the 5 blue points may become green
+    assert_eq!(rt; found(alloc, RANGES, CutKind::Under, &["green"])?, Ok(()));
+    assert_eq!(rt;
+        found(alloc, RANGES, CutKind::Under, &["blue"])?,
+        Err(CheckFault::NotDeficient)
+    );
+    // a name that stands twice counts once
+    assert_eq!(rt;
+        found(alloc, NO_RED_TO_GREEN, CutKind::Over, &["blue", "blue"])?,
+        Err(CheckFault::NotDeficient)
+    );
+    // no set of names with limits
+    assert_eq!(rt;
+        found(alloc, NO_RED_TO_GREEN, CutKind::Over, &["pink", "red"])?,
+        Err(CheckFault::NotDeficient)
+    );
+    assert_eq!(rt;
+        found(alloc, NO_RED_TO_GREEN, CutKind::Over, &[])?,
+        Err(CheckFault::NotDeficient)
+    );
+    Ok(())
+}
+
+fn exposure(alloc: Global, inputs: &[&str]) -> Result<Exposure, Fail> {
+    let page = Page {
+        flag: String::new(alloc),
+        site: 0,
+        by: None,
+    };
+    let mut book = Book::new(alloc);
+    for input in inputs {
+        book.note(alloc, &page, input)?;
+    }
+    Ok(book.exposure(alloc, &page)?)
+}
+
+/// Seven inputs, which lie on the points 0, 1, 4, 4, 6, 7 and 7 of 10.
+const INPUTS: [&str; 7] = [
+    "",
+    "The quick brown fox jumps over the lazy dog",
+    "!",
+    "!Ce",
+    "!C",
+    "test",
+    "Hello, world!",
+];
+
+/// A certificate over these groups and names, with these numbers.
+fn certificate(
+    alloc: Global,
+    alpha: &[(&str, u32, i64)],
+    beta: &[(&str, i64)],
+    cost: u64,
+) -> Result<Certificate, AllocError> {
+    let mut groups = Vec::new(alloc);
+    for (name, count, value) in alpha {
+        groups.push((String::from_str(alloc, name)?, *count, *value))?;
+    }
+    let mut names = Vec::new(alloc);
+    for (name, value) in beta {
+        names.push((String::from_str(alloc, name)?, *value))?;
+    }
+    Ok(Certificate {
+        alpha: groups,
+        beta: names,
+        cost,
+    })
+}
+
+/// What the check says of a new rule for the old one red 5, blue 5.
+fn checked(
+    alloc: Global,
+    request: &[u8],
+    new: &[u8],
+    plan: &Certificate,
+) -> Result<Result<(), CheckFault>, Fail> {
+    let old = rule(alloc, b"[[\"red\",5],[\"blue\",5]]")?;
+    let new = rule(alloc, new)?;
+    let request = Request::read(alloc, request)?;
+    let variants = names(alloc, &["blue", "green", "red"])?;
+    let totals: Totals = request.totals(alloc, variants.as_slice())?;
+    let inputs = exposure(alloc, INPUTS.as_slice())?;
+    Ok(check_plan(alloc, &old, &new, &totals, request.prices(), &inputs, plan))
+}
+
+const NO_RED_TO_BLUE: &[u8] =
+    b"{\"plan\":1,\"flag\":\"color\",\"totals\":{\"red\":3,\"blue\":7},\"forbid\":[[\"red\",\"blue\"]]}";
+
+const BEST: &[u8] = b"[[\"red\",2],[\"blue\",2],[\"red\",1],[\"blue\",5]]";
+
+const ZERO: [(&str, i64); 3] = [("blue", 0), ("green", 0), ("red", 0)];
+
+#[test]
+fn plans(rt: HostRuntime) -> Result<(), Fail> {
+    let alloc = rt.alloc();
+    let free = [
+        ("blue", 0, 0),
+        ("blue", 1, 0),
+        ("blue", 2, 0),
+        ("red", 0, 0),
+        ("red", 1, 0),
+        ("red", 2, 0),
+    ];
+    let plan = certificate(alloc, free.as_slice(), ZERO.as_slice(), 0)?;
+    assert_eq!(rt; checked(alloc, FREE, BEST, &plan)?, Ok(()));
+    assert_eq!(rt;
+        checked(alloc, FREE, b"[[\"red\",3],[\"blue\",6]]", &plan)?,
+        Err(CheckFault::Weight)
+    );
+    assert_eq!(rt;
+        checked(alloc, FREE, b"[[\"red\",4],[\"blue\",6]]", &plan)?,
+        Err(CheckFault::Totals)
+    );
+    assert_eq!(rt;
+        checked(
+            alloc,
+            FREE,
+            b"[[\"red\",3],[\"blue\",6],[\"pink\",1]]",
+            &plan
+        )?,
+        Err(CheckFault::Totals)
+    );
+    assert_eq!(rt;
+        checked(alloc, NO_RED_TO_BLUE, BEST, &plan)?,
+        Err(CheckFault::Forbidden(2))
+    );
+    assert_eq!(rt;
+        checked(alloc, FREE, b"[[\"red\",3],[\"blue\",7]]", &plan)?,
+        Err(CheckFault::Cost)
+    );
+    let mut high = free;
+    high[3] = ("red", 0, 1);
+    let plan = certificate(alloc, high.as_slice(), ZERO.as_slice(), 0)?;
+    let blue = String::from_str(alloc, "blue")?;
+    let red = String::from_str(alloc, "red")?;
+    assert_eq!(rt;
+        checked(alloc, FREE, BEST, &plan)?,
+        Err(CheckFault::Slack(red, 0, blue))
+    );
+    let mut low = free;
+    low[3] = ("red", 0, -1);
+    let plan = certificate(alloc, low.as_slice(), ZERO.as_slice(), 0)?;
+    assert_eq!(rt; checked(alloc, FREE, BEST, &plan)?, Err(CheckFault::Sum));
+    let plan = certificate(alloc, &free[1..], ZERO.as_slice(), 0)?;
+    assert_eq!(rt; checked(alloc, FREE, BEST, &plan)?, Err(CheckFault::Groups));
+    let plan = certificate(alloc, free.as_slice(), &ZERO[1..], 0)?;
+    assert_eq!(rt; checked(alloc, FREE, BEST, &plan)?, Err(CheckFault::Groups));
+    let plan = certificate(alloc, free.as_slice(), ZERO.as_slice(), 1)?;
+    assert_eq!(rt; checked(alloc, FREE, BEST, &plan)?, Err(CheckFault::Sum));
+    Ok(())
+}
+
+#[test]
+fn numbers_and_names(rt: HostRuntime) -> Result<(), Fail> {
+    for (fault, number, name) in [
+        (CheckFault::Weight, 1, "Weight"),
+        (CheckFault::Totals, 2, "Totals"),
+        (CheckFault::Forbidden(3), 3, "Forbidden"),
+        (CheckFault::Sum, 5, "Sum"),
+        (CheckFault::Cost, 6, "Cost"),
+        (CheckFault::NotDeficient, 7, "NotDeficient"),
+        (CheckFault::Groups, 8, "Groups"),
+    ] {
+        assert_eq!(rt; fault.number(), number);
+        assert_eq!(rt; fault.name(), name);
+    }
+    weak_duality();
+    Ok(())
+}
