@@ -1,0 +1,12 @@
+pub mod Asked
+pub mod Bucket
+pub mod Commands
+pub mod Files
+pub mod Loading
+pub mod Memory
+pub mod Price
+pub mod Refusal
+pub mod Report
+pub mod Telling
+pub mod Totals
+pub mod Words

@@ -1,0 +1,139 @@
+-- The line that a refusal is written as.
+use Rattle.std.specs.Prelude.{◌≡◌, ℕ, Bool, true, false, List, ◌++◌, codes, decimal, nat_eq, Result, Ok, Err, IfErr}
+use Rattle.flag_text.specs.Fault as texts
+use Rattle.bucket_core.specs.Fault as rules
+use Rattle.book_core.specs.Fault as books
+use Rattle.price_core.specs.Fault as requests
+use Rattle.flagops.specs.Files.{load_number, load_name}
+use Rattle.flagops.specs.declared.files.LoadFault.TheVariants.{Unreadable}
+use Rattle.flagops.specs.declared.refusal.Call.{Call}
+use Rattle.flagops.specs.declared.refusal.Call.TheVariants as call
+use Rattle.flagops.specs.declared.refusal.Refusal.{Refusal}
+use Rattle.flagops.specs.declared.refusal.Refusal.TheVariants.{WantOfMemory, Load, ReadTree, ReadRule, ReadRequest, Note, Price}
+use Rattle.flagops.specs.declared.refusal.PriceMismatch.{PriceMismatch}
+use Rattle.flagops.specs.declared.refusal.PriceMismatch.TheVariants.{Weight, BadKeys}
+
+abbrev pub call_name : Call → List ℕ
+call_name call.Flagops = codes "flagops"
+call_name call.Load = codes "load"
+call_name call.ReadTree = codes "read_tree"
+call_name call.ReadRule = codes "read_rule"
+call_name call.Bucket = codes "bucket"
+call_name call.ReadRequest = codes "Request::read"
+call_name call.Note = codes "note"
+call_name call.Price = codes "price"
+
+-- the calls that loading a tree makes
+abbrev pub loads_tree : Call → Bool
+loads_tree call.Load = true
+loads_tree call.ReadTree = true
+loads_tree c = false
+
+-- the calls that loading a rule makes
+abbrev pub loads_rule : Call → Bool
+loads_rule call.ReadRule = true
+loads_rule c = loads_tree c
+
+-- the calls that the command `bucket` makes
+abbrev pub bucket_calls : Call → Bool
+bucket_calls call.Bucket = true
+bucket_calls c = loads_rule c
+
+-- the calls that loading a request makes
+abbrev pub loads_request : Call → Bool
+loads_request call.Load = true
+loads_request call.ReadRequest = true
+loads_request c = false
+
+-- the calls that loading the keys of a file makes, beside those of `price` itself
+abbrev pub loads_keys : Call → Bool
+loads_keys call.Price = true
+loads_keys c = loads_tree c
+
+-- the calls that noting keys makes
+abbrev pub notes_keys : Call → Bool
+notes_keys call.Note = true
+notes_keys call.Price = true
+notes_keys c = false
+
+-- the call of the command `price` itself
+abbrev pub price_itself : Call → Bool
+price_itself call.Price = true
+price_itself c = false
+
+-- the calls that the command `price` makes
+abbrev pub price_calls : Call → Bool
+price_calls call.Price = true
+price_calls call.ReadRequest = true
+price_calls call.Note = true
+price_calls c = loads_rule c
+
+-- the call that refused
+abbrev pub call_of : Refusal → Call
+call_of (WantOfMemory c) = c
+call_of (Load e) = call.Load
+call_of (ReadTree e) = call.ReadTree
+call_of (ReadRule e) = call.ReadRule
+call_of (ReadRequest e) = call.ReadRequest
+call_of (Note e) = call.Note
+call_of (Price e) = call.Price
+
+-- the number and the name of what the command `price` refuses
+abbrev pub mismatch_number : PriceMismatch → ℕ
+mismatch_number Weight = 1
+mismatch_number BadKeys = 2
+
+abbrev pub mismatch_name : PriceMismatch → List ℕ
+mismatch_name Weight = codes "Weight"
+mismatch_name BadKeys = codes "BadKeys"
+
+-- the number and the name of its fault
+abbrev pub number_of : Refusal → ℕ
+number_of (WantOfMemory c) = 0
+number_of (Load e) = load_number e
+number_of (ReadTree e) = texts.number_of e
+number_of (ReadRule e) = rules.number_of e
+number_of (ReadRequest e) = requests.number_of e
+number_of (Note e) = books.number_of e
+number_of (Price e) = mismatch_number e
+
+abbrev pub name_of : Refusal → List ℕ
+name_of (WantOfMemory c) = codes "WantOfMemory"
+name_of (Load e) = load_name e
+name_of (ReadTree e) = texts.name_of e
+name_of (ReadRule e) = rules.name_of e
+name_of (ReadRequest e) = requests.name_of e
+name_of (Note e) = books.name_of e
+name_of (Price e) = mismatch_name e
+
+-- memory ran out: each fault has this as its number 0
+abbrev pub is_want : Refusal → Bool
+is_want r = nat_eq (number_of r) 0
+
+-- `refused`, the call, the number and the name, separated by blanks
+abbrev pub line_with : List ℕ → List ℕ → List ℕ → List ℕ
+line_with call number name = codes "refused " ++ (call ++ (codes " " ++ (number ++ (codes " " ++ (name ++ codes "\n")))))
+
+unfoldable pub line_of : Refusal → List ℕ
+line_of r = line_with (call_name (call_of r)) (decimal (number_of r)) (name_of r)
+
+-- the line where a call ran out of memory
+unfoldable pub want_line : Call → List ℕ
+want_line c = codes "refused " ++ (call_name c ++ codes " 0 WantOfMemory\n")
+
+-- What was returned, seen by `seen`, is what the definition gives, unless memory ran out.
+abbrev pub GivesUnlessWant : {X Y : Type 0} → (X → Y) → Result X Refusal → Result Y Refusal → Type 0
+GivesUnlessWant seen (Ok x) wanted = wanted ≡ Ok (seen x)
+GivesUnlessWant seen (Err r) wanted = is_want r ≡ false → wanted ≡ Err r
+
+-- a refusal comes from one of these calls
+abbrev pub ComesFrom : {X : Type 0} → (Call → Bool) → Result X Refusal → Type 0
+ComesFrom calls r = IfErr r (λ e. calls (call_of e) ≡ true)
+
+-- a file could not be read
+abbrev pub is_file_fault : {X : Type 0} → Result X Refusal → Bool
+is_file_fault (Err (Load Unreadable)) = true
+is_file_fault r = false
+
+abbrev pub unreadable : Refusal
+unreadable = Load Unreadable

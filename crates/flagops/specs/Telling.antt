@@ -1,0 +1,33 @@
+-- What is written where the words ask for no command.
+use Rattle.std.specs.Prelude.{◌≡◌, ◌⊎◌, ℕ, Bool, List, Option}
+use Rattle.clap.specs.Walk.{Text}
+use Rattle.clap.specs.Kinds.{IsAmong}
+use Rattle.clap.specs.declared.error.kind.ErrorKind.{ErrorKind}
+use Rattle.clap.specs.declared.error.kind.ErrorKind.TheVariants.{DisplayHelp, DisplayVersion, OutOfMemory}
+use Rattle.flagops.specs.Report.{Reports, want_report}
+use Rattle.flagops.specs.Words.{faults_of}
+use Rattle.flagops.specs.declared.refusal.Call.TheVariants.{Flagops}
+
+module _ (out : Option (List ℕ)) (out_after : Option (List ℕ)) (is_broken : Bool) (err : Option (List ℕ)) (err_after : Option (List ℕ)) (status : ℕ) where
+  -- memory ran out, which is a line on the output
+  abbrev pub Wants : Type 0
+  Wants = (err_after ≡ err) × Reports out out_after is_broken status (want_report Flagops)
+
+  -- a text that was asked for goes to the output
+  abbrev pub Shows : Type 0
+  Shows = (err_after ≡ err) × ((text : List ℕ) × Reports out out_after is_broken status (record { text = text; status = 0 }))
+
+  -- a mistake in the words is told beside the output, which stays as it was
+  abbrev pub Complains : Type 0
+  Complains = (out_after ≡ out) × (status ≡ 2)
+
+  -- by the kind of the error that `clap` gives
+  abbrev pub Tells : ErrorKind → Type 0
+  Tells OutOfMemory = Wants
+  Tells DisplayHelp = Shows ⊎ Wants
+  Tells DisplayVersion = Shows ⊎ Wants
+  Tells kind = Complains ⊎ Wants
+
+  -- the same, by one of the faults that the words have
+  abbrev pub TellsWords : List Text → Type 0
+  TellsWords words = Wants ⊎ ((kind : ErrorKind) × IsAmong kind (faults_of words) × Tells kind)

@@ -1,0 +1,16 @@
+/// A command with its words.
+#[derive(Clone, Copy, Debug, PartialEq, Eq)]
+pub enum Asked<'a> {
+    /// Which variant a rule file gives to a key.
+    Bucket {
+        rule: &'a str,
+        key: &'a str,
+    },
+    /// What a new rule costs the keys of a file.
+    Price {
+        old: &'a str,
+        new: &'a str,
+        request: &'a str,
+        keys: &'a str,
+    },
+}

@@ -1,0 +1,36 @@
+//! The table of the commands, and what each answers.
+ghost use Rattle.std.specs.Prelude.{◌≡◌, ◌||◌, IfSome};
+ghost use Rattle.flagops.specs.Commands.{calls_of, outcome_of};
+ghost use Rattle.flagops.specs.Asked.{asked_view};
+ghost use Rattle.flagops.specs.Refusal.{ComesFrom, GivesUnlessWant, is_file_fault};
+ghost use Rattle.flagops.specs.Report.{outcome_view};
+
+use crate::asked::Asked;
+use crate::bucket::bucket;
+use crate::files::FileSet;
+use crate::outcome::Outcome;
+use crate::price::price;
+use crate::refusal::Refusal;
+use std::alloc::Global;
+
+/// What the command answers, or why it is refused.
+pub fn outcome<F: FileSet>(
+    alloc: Global,
+    files: &mut F,
+    asked: &Asked<'_>,
+) -> Result<Outcome, Refusal>
+    ensures exact { IfSome (F.holding files.old) (λ at. GivesUnlessWant outcome_view result (outcome_of at (asked_view asked.now))) }
+    ensures calls { ComesFrom (calls_of (asked_view asked.now)) result }
+    ensures failed { F.has_failed files.new ≡ (F.has_failed files.old || is_file_fault result) }
+    ensures kept { F.holding files.new ≡ F.holding files.old }
+{
+    match asked {
+        Asked::Bucket { rule, key } => bucket(alloc, files, rule, key),
+        Asked::Price {
+            old,
+            new,
+            request,
+            keys,
+        } => price(alloc, files, old, new, request, keys),
+    }
+}

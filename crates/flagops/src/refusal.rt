@@ -1,0 +1,158 @@
+//! Refusals, and the line that each is written as.
+ghost use Rattle.std.specs.Prelude.{◌≡◌, IfOk, string_bytes};
+ghost use Rattle.flagops.specs.Refusal.{call_of, call_name, is_want, number_of, name_of, line_of, mismatch_number, mismatch_name};
+
+use crate::files::LoadFault;
+use book_core::BookFault;
+use bucket_core::RuleFault;
+use flag_text::TextFault;
+use price_core::PriceFault;
+use std::alloc::{AllocError, Global};
+
+/// A call that can refuse, by the name that a refusal's line has.
+#[derive(Clone, Copy, Debug, PartialEq, Eq)]
+pub enum Call {
+    /// The program, while it reads its words.
+    Flagops,
+    /// The reading of a file.
+    Load,
+    /// `flag_text::read_tree`.
+    ReadTree,
+    /// `bucket_core::read_rule`.
+    ReadRule,
+    /// The command `bucket` itself.
+    Bucket,
+    ReadRequest,
+    Note,
+    Price,
+}
+
+impl Call {
+    /// The name of the call.
+    pub fn name(self) -> &'static str
+        ensures { result.now ≡ call_name self }
+    {
+        match self {
+            Call::Flagops => "flagops",
+            Call::Load => "load",
+            Call::ReadTree => "read_tree",
+            Call::ReadRule => "read_rule",
+            Call::Bucket => "bucket",
+            Call::ReadRequest => "Request::read",
+            Call::Note => "note",
+            Call::Price => "price",
+        }
+    }
+}
+
+/// Why the command `price` refuses what it read.
+#[derive(Clone, Copy, Debug, PartialEq, Eq)]
+pub enum PriceMismatch {
+    /// The totals of the two rules differ.
+    Weight,
+    /// The key file is no list of texts.
+    BadKeys,
+}
+
+impl PriceMismatch {
+    /// The number that a refusal is written with.
+    pub fn number(&self) -> u32
+        ensures { result ≡ mismatch_number self.now }
+    {
+        match self {
+            PriceMismatch::Weight => 1,
+            PriceMismatch::BadKeys => 2,
+        }
+    }
+
+    /// The name that a refusal is written with: the variant's.
+    pub fn name(&self) -> &'static str
+        ensures { result.now ≡ mismatch_name self.now }
+    {
+        match self {
+            PriceMismatch::Weight => "Weight",
+            PriceMismatch::BadKeys => "BadKeys",
+        }
+    }
+}
+
+/// Why a command was refused: the call that refused, with its fault.
+#[derive(Clone, Copy, Debug, PartialEq, Eq)]
+pub enum Refusal {
+    /// The program or a command ran out of memory between its calls.
+    WantOfMemory(Call),
+    /// A file was not read.
+    Load(LoadFault),
+    /// A file is no tree.
+    ReadTree(TextFault),
+    /// A tree is no rule.
+    ReadRule(RuleFault),
+    ReadRequest(PriceFault),
+    Note(BookFault),
+    Price(PriceMismatch),
+}
+
+impl Refusal {
+    /// The call that refused.
+    pub fn call(&self) -> Call
+        ensures { result ≡ call_of self.now }
+    {
+        match self {
+            Refusal::WantOfMemory(call) => *call,
+            Refusal::Load(_) => Call::Load,
+            Refusal::ReadTree(_) => Call::ReadTree,
+            Refusal::ReadRule(_) => Call::ReadRule,
+            Refusal::ReadRequest(_) => Call::ReadRequest,
+            Refusal::Note(_) => Call::Note,
+            Refusal::Price(_) => Call::Price,
+        }
+    }
+
+    /// The number of the fault.
+    pub fn number(&self) -> u32
+        ensures { result ≡ number_of self.now }
+    {
+        match self {
+            Refusal::WantOfMemory(_) => 0,
+            Refusal::Load(fault) => fault.number(),
+            Refusal::ReadTree(fault) => fault.number(),
+            Refusal::ReadRule(fault) => fault.number(),
+            Refusal::ReadRequest(fault) => fault.number(),
+            Refusal::Note(fault) => fault.number(),
+            Refusal::Price(fault) => fault.number(),
+        }
+    }
+
+    /// The name of the fault.
+    pub fn name(&self) -> &'static str
+        ensures { result.now ≡ name_of self.now }
+    {
+        match self {
+            Refusal::WantOfMemory(_) => "WantOfMemory",
+            Refusal::Load(fault) => fault.name(),
+            Refusal::ReadTree(fault) => fault.name(),
+            Refusal::ReadRule(fault) => fault.name(),
+            Refusal::ReadRequest(fault) => fault.name(),
+            Refusal::Note(fault) => fault.name(),
+            Refusal::Price(fault) => fault.name(),
+        }
+    }
+
+    /// Whether memory ran out.
+    pub fn is_want(&self) -> bool
+        ensures { result ≡ is_want self.now }
+    {
+        self.number() == 0
+    }
+
+    /// The line that the refusal is written as.
+    #[tactic(auto, unfolding(crate::specs::Refusal::line_of))]
+    pub fn line(&self, alloc: Global) -> Result<String, AllocError>
+        ensures { IfOk result (λ s. string_bytes s ≡ line_of self.now) }
+    {
+        let call = self.call().name();
+        let number = self.number();
+        let name = self.name();
+        format!(in alloc; "refused {call} {number} {name}\n")
+    }
+}

@@ -1,0 +1,6 @@
+mod bucket;
+mod endings;
+mod files;
+mod memory;
+mod price;
+mod words;
