@@ -91,7 +91,7 @@ name_end xs i point left r now h =
 not_zero : (a t : ℕ) → t ≡ a → t ≢ 0 → eqb a 0 ≡ false
 not_zero a t e n = elim (cases_Bool (eqb a 0)) [ inl z ↦ absurd (n (e ∙ eqb-true a 0 z)) | inr z ↦ z ]
 
-buckets_entries : (ps : List (Shape × Shape)) (r : Entries) → buckets_of ps ≡ Some r → entries_of ps ≡ Some r
+pub buckets_entries : (ps : List (Shape × Shape)) (r : Entries) → buckets_of ps ≡ Some r → entries_of ps ≡ Some r
 buckets_entries ps r h = go (entries_of ps) h
   where
     go : (o : Option Entries) → option_and_then not_too_heavy o ≡ Some r → o ≡ Some r

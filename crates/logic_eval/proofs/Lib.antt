@@ -15,4 +15,9 @@ pub mod Paths
 pub mod Names
 pub mod Chains
 pub mod Choices
+pub mod Branching
+pub mod Answered
 pub mod Results
+pub mod Runs
+pub mod WholeValues
+pub mod Reaching

@@ -4,6 +4,7 @@ pub mod Comparison
 pub mod Evaluation
 pub mod Fault
 pub mod Fractional
+pub mod Laws
 pub mod Lists
 pub mod Number
 pub mod Operators

@@ -1,7 +1,7 @@
 //! What an evaluation is given beside the expression.
 ghost use Rattle.std.specs.Prelude.{◌≡◌, ◌<◌, ◌^◌, true, IfOk, IsSome};
 ghost use Rattle.flag_text.specs.Readers.{as_object};
-ghost use Rattle.flag_text.specs.Shape.{Shape, is_whole, names_rise};
+ghost use Rattle.flag_text.specs.Shape.{is_whole, members_are_whole};
 ghost use Rattle.flag_text.specs.View.{view, members_view};
 
 use crate::find::member_of;
@@ -11,13 +11,13 @@ use std::alloc::{AllocError, Global};
 
 /// The evaluation context, the flag's key and the moment: the last two are seen as `$flagd`.
 ///
-/// It borrows the context and the key.
+/// It borrows the context and the key. By its type the context is whole and the moment is below 2^53.
 #[derive(Drop)]
 pub struct Context<'a> {
     members: &'a [(String, Tree)],
     flag: &'a str,
     moment: u64,
-    ghost rising: { names_rise (members_view members.now) ≡ true },
+    ghost whole: { members_are_whole (members_view members.now) ≡ true },
     ghost small: { moment < 2 ^ 53 },
 }
 

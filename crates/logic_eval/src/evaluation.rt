@@ -1,12 +1,16 @@
 //! The evaluation of an expression.
-ghost use Rattle.std.specs.Prelude.{◌≡◌, map};
+ghost use Rattle.std.specs.Prelude.{◌≡◌, true, IfOk, length, map};
+ghost use Rattle.std.specs.List.{All};
 ghost use Rattle.flag_text.specs.Outcome.{GivesUnless};
+ghost use Rattle.flag_text.specs.Shape.{is_whole};
 ghost use Rattle.flag_text.specs.View.{view as tree_view};
 ghost use Rattle.logic_ast.specs.Expr.{view};
 ghost use Rattle.logic_eval.specs.declared.fault.EvalFault.TheVariants.{WantOfMemory};
 ghost use Rattle.logic_eval.specs.Budget.{paid};
 ghost use Rattle.logic_eval.specs.Evaluation.{evaluation_of, meaning};
+ghost use Rattle.logic_eval.specs.Laws.{IsOfSite};
 ghost use Rattle.logic_eval.specs.Scope.{flagd as flagd_of, default_input, root_scope};
+ghost use Rattle.logic_ast.specs.Sites.{sites};
 ghost use Rattle.logic_ast.specs.View.{node_view};
 ghost use Rattle.logic_eval.specs.Views.{progress, reach_view, situation};
 
@@ -34,6 +38,9 @@ pub fn eval(
     context: &Context,
 ) -> Result<(Tree, Vec<Reached>), EvalFault>
     ensures exact { GivesUnless WantOfMemory (λ r. (tree_view r.0, map reach_view r.1.items)) result (evaluation_of (view expr.now) (situation context.now)) }
+    ensures whole { IfOk result (λ r. is_whole (tree_view r.0) ≡ true) }
+    ensures reached { IfOk result (λ r. All (IsOfSite (view expr.now)) (map reach_view r.1.items)) }
+    ensures unreached { sites (view expr.now) ≡ 0 → IfOk result (λ r. length r.1.items ≡ 0) }
 {
     let flagd = context.make_flagd(alloc)?;
     let mut meter = Meter {

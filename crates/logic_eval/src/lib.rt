@@ -11,6 +11,7 @@ mod evaluation;
 mod fault;
 mod find;
 mod fractional;
+mod laws;
 mod lists;
 mod meter;
 mod missing;
@@ -25,6 +26,7 @@ mod version;
 pub use context::Context;
 pub use evaluation::eval;
 pub use fault::EvalFault;
+pub use laws::{a_branch_not_taken_is_not_evaluated, a_literal_site_chooses};
 pub use meter::Reached;
 
 #[cfg(test)]

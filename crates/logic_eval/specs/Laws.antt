@@ -1,0 +1,47 @@
+-- What the definition of an evaluation amounts to: which sites are reached, what a site gives, and what isn't evaluated.
+use Rattle.std.specs.Prelude.{ℕ, ◌≡◌, ◌<◌, ◌^◌, true, false, List, Option, Some, Ok}
+use Rattle.bucket_core.specs.Rule.{Entries, total_weight}
+use Rattle.flag_text.specs.Shape.{Shape}
+use Rattle.logic_ast.specs.Expression.{Expression, operation, fractional, Expressions, expression, By, Buckets}
+use Rattle.logic_ast.specs.Sites.{sites, entries_of, entries_at}
+use Rattle.logic_ast.specs.declared.operator.Operator.TheVariants.{If, And, Or}
+use Rattle.logic_eval.specs.Evaluation.{meaning, by_meaning, input}
+use Rattle.logic_eval.specs.Fractional.{by_input}
+use Rattle.logic_eval.specs.Run.{Reach, cost, after, ◌>>=◌}
+use Rattle.logic_eval.specs.Truth.{is_true}
+
+-- A reached entry is of a site of the expression: it has the site's number, and the total weight of its entries where they are literal.
+pub record IsOfSite (e : Expression) (r : Reach) : Type 0 where
+  pub number : r.site < sites e
+  pub total : (es : Entries) → entries_at r.site e ≡ Ok es → r.total ≡ total_weight es
+
+-- A site with a literal rule evaluates its bucketing expression and nothing else; then `by_input` says what it gives: null
+-- without an input, else the name that the rule chooses for the input, which reaches the site with the rule's total weight.
+abbrev pub LiteralSiteChooses : Type 0
+LiteralSiteChooses =
+    (default : Option (List ℕ)) (n : ℕ) (b : By) (bs : Buckets) (rule : Entries) (scope : Shape) → entries_of bs ≡ Some rule → total_weight rule < 2 ^ 31
+    → meaning default (fractional n b bs) scope ≡ after (cost 1) (input default (by_meaning default b) scope >>= λ i. by_input n i rule)
+
+-- `if` with a true test is the test and then its result: what stands behind them isn't evaluated.
+abbrev pub TrueTestSkipsTheRest : Type 0
+TrueTestSkipsTheRest =
+    (default : Option (List ℕ)) (test result : Expression) (rest : Expressions) (scope v : Shape) → (meaning default test scope).ending ≡ Ok v → is_true v ≡ true
+    → meaning default (operation If (expression test (expression result rest))) scope ≡ after (cost 1) (meaning default test scope >>= λ _. meaning default result scope)
+
+-- `if` with a false test is the same whatever its result is.
+abbrev pub FalseTestSkipsItsResult : Type 0
+FalseTestSkipsItsResult =
+    (default : Option (List ℕ)) (test result other : Expression) (rest : Expressions) (scope v : Shape) → (meaning default test scope).ending ≡ Ok v → is_true v ≡ false
+    → meaning default (operation If (expression test (expression result rest))) scope ≡ meaning default (operation If (expression test (expression other rest))) scope
+
+-- `and` with a false first argument is that argument alone.
+abbrev pub FalseEndsAnd : Type 0
+FalseEndsAnd =
+    (default : Option (List ℕ)) (first : Expression) (rest : Expressions) (scope v : Shape) → (meaning default first scope).ending ≡ Ok v → is_true v ≡ false
+    → meaning default (operation And (expression first rest)) scope ≡ after (cost 1) (meaning default first scope)
+
+-- `or` with a true first argument is that argument alone.
+abbrev pub TrueEndsOr : Type 0
+TrueEndsOr =
+    (default : Option (List ℕ)) (first : Expression) (rest : Expressions) (scope v : Shape) → (meaning default first scope).ending ≡ Ok v → is_true v ≡ true
+    → meaning default (operation Or (expression first rest)) scope ≡ after (cost 1) (meaning default first scope)

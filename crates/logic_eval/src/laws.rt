@@ -1,0 +1,15 @@
+//! What holds of the definitions alone.
+ghost use Rattle.logic_eval.specs.Laws.{LiteralSiteChooses, TrueTestSkipsTheRest, FalseTestSkipsItsResult, FalseEndsAnd, TrueEndsOr};
+
+/// A site whose entries are literal evaluates its bucketing expression alone, and gives what its rule chooses for the input.
+pub fn a_literal_site_chooses()
+    ensures { LiteralSiteChooses }
+{}
+
+/// A branch that isn't taken is not evaluated: it reaches no site, costs nothing and has no fault.
+pub fn a_branch_not_taken_is_not_evaluated()
+    ensures true_test { TrueTestSkipsTheRest }
+    ensures false_test { FalseTestSkipsItsResult }
+    ensures false_argument { FalseEndsAnd }
+    ensures true_argument { TrueEndsOr }
+{}
