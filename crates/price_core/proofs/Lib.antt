@@ -3,6 +3,7 @@ pub mod Halving
 pub mod Inserts
 pub mod Lawful
 pub mod Limited
+pub mod Numbered
 pub mod Order
 pub mod Parts
 pub mod Pricings

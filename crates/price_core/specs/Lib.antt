@@ -1,5 +1,6 @@
 pub mod Cost
 pub mod Fault
 pub mod Limits
+pub mod Numbering
 pub mod Pricing
 pub mod Request

@@ -1,5 +1,5 @@
 -- What a request asks of a new rule, and which of its refusals comes first.
-use Rattle.std.specs.Prelude.{ℕ, ◌<◌, ◌^◌, ◌==◌, nat_lt, nat_le, ℤ, pos, negsuc, Bool, true, false, ◌&&◌, ◌||◌, List, [], ◌∷◌, map, if◌then◌else◌, Option, Some, None, option_map, option_and_then, Result, Ok, Err, codes, String, string_bytes}
+use Rattle.std.specs.Prelude.{ℕ, ◌<◌, ◌^◌, ◌==◌, nat_lt, nat_le, ℤ, pos, negsuc, Bool, true, false, ◌&&◌, ◌||◌, List, [], ◌∷◌, if◌then◌else◌, Option, Some, None, option_map, option_and_then, Result, Ok, Err, codes, string_bytes}
 use Rattle.std.specs.BTreeMap.{insert_entry}
 use Rattle.std.specs.Cmp.Lexicographic.{slice_cmp}
 use Rattle.std.specs.List.{All, list_any, list_all}
@@ -9,7 +9,7 @@ use Rattle.std.specs.Ordering.{nat_cmp}
 use Rattle.std.specs.Str.{bytes_eq}
 use Rattle.flag_text.specs.Readers.{as_whole, as_text, as_list, as_object, member_of}
 use Rattle.flag_text.specs.Reading.{tree_of}
-use Rattle.flag_text.specs.Shape.{Shape, null, boolean, whole, other, text, list, object, Items, no_items, item, Members, no_members, member}
+use Rattle.flag_text.specs.Shape.{Shape, whole, list, Items, no_items, item, Members, no_members, member}
 use Rattle.flag_text.specs.declared.fault.TextFault.{TextFault}
 use Rattle.price_core.specs.Limits.{Limits, AreLimits, limits_of, limits_view}
 use Rattle.price_core.specs.Pricing.{Pair, Pricing, IsPricing, is_same_pair, pair_cmp, max_price, entries_view}

@@ -1,10 +1,10 @@
 //! What a new rule costs, and where it is forbidden.
 ghost use Rattle.std.specs.Prelude.{◌≡◌, ◌≤◌, ◌<◌, length, map, string_bytes, IfOk, IfSome};
 ghost use Rattle.bucket_core.specs.Rule.{total_weight};
-ghost use Rattle.price_core.specs.Cost.{cost_of, input_cost, first_forbidden_of};
-ghost use Rattle.price_core.specs.Pricing.{max_price};
+ghost use Rattle.price_core.specs.Cost.{cost_of, first_forbidden_of};
 
 use crate::prices::Prices;
+use crate::switching::Switching;
 use book_core::Exposure;
 use bucket_core::Rule;
 use std::alloc::{AllocError, Global};
@@ -29,30 +29,22 @@ pub fn first_forbidden(old: &Rule, new: &Rule, prices: &Prices) -> Option<u32>
     None
 }
 
-/// What one input costs: the price of the change from the name that the old rule gives it to the
-/// name that the new one gives it.
-fn input_cost(old: &Rule, new: &Rule, prices: &Prices, input: &str) -> u64
-    ensures value { result ≡ input_cost old.now new.now prices.now input.now }
-    ensures small { result ≤ max_price }
-{
-    prices.price(old.choose(input), new.choose(input))
-}
-
-fn cost_over(old: &Rule, new: &Rule, prices: &Prices, inputs: &[String]) -> u64
+fn cost_over(switching: &Switching<'_>, inputs: &[String]) -> u64
     requires { length inputs.now ≤ 1000000 }
-    ensures { result ≡ cost_of old.now new.now (map string_bytes inputs.now) prices.now }
+    ensures { result ≡ cost_of switching.now.0 switching.now.1 (map string_bytes inputs.now) switching.now.2 }
 {
     let mut cost = 0;
     for input in inputs {
-        cost += input_cost(old, new, prices, input.as_str());
+        cost += switching.cost(input.as_str());
     }
     cost
 }
 
-/// The sum of what the inputs cost, each evaluated once by each rule. The rules may differ in their
-/// totals.
+/// The sum of what the inputs cost, each hashed once. The rules may differ in their totals. No two
+/// texts are compared for an input: equal names of the two rules share a number, and the prices are
+/// looked up by numbers.
 pub fn switch_cost(
-    _alloc: Global,
+    alloc: Global,
     old: &Rule,
     new: &Rule,
     exposure: &Exposure,
@@ -60,5 +52,6 @@ pub fn switch_cost(
 ) -> Result<u64, AllocError>
     ensures exact { IfOk result (λ cost. cost ≡ cost_of old.now new.now exposure.now prices.now) }
 {
-    Ok(cost_over(old, new, prices, exposure.inputs()))
+    let switching = Switching::of(alloc, old, new, prices)?;
+    Ok(cost_over(&switching, exposure.inputs()))
 }

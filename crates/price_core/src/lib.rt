@@ -5,8 +5,10 @@ mod change;
 mod cost;
 mod draft;
 mod fault;
+mod numbering;
 mod prices;
 mod request;
+mod switching;
 mod totals;
 
 pub use cost::{first_forbidden, switch_cost};

@@ -41,6 +41,14 @@ impl Prices {
         }
     }
 
+    /// The price of a change that has none of its own.
+    pub(crate) fn usual(&self) -> u64
+        ensures value { result ≡ self.now.usual }
+        ensures lawful { IsPricing self.now }
+    {
+        self.usual
+    }
+
     /// The changes that have a price of their own.
     pub(crate) fn named(&self) -> &[(Change, u64)]
         ensures { entries_view result.now ≡ self.now.named }

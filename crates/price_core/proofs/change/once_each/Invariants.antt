@@ -1,6 +1,5 @@
 use Rattle.std.proofs.Common.{◌≡◌, ◌++◌, length}
 use Rattle.price_core.proofs.Order.{IsSorting}
-use Rattle.price_core.specs.Pricing.{entries_view}
 use Rattle.price_core.proofs.change.once_each.Given as goal
 
 abbrev pub invariant-loop-change : goal.invariant-loop-change

@@ -1,4 +1,4 @@
-use Rattle.std.proofs.Common.{String, string_bytes, Global, length, ap, arith}
+use Rattle.std.proofs.Common.{string_bytes, length, ap, arith}
 use Rattle.std.proofs.lemmas.List.{length-map}
 use Rattle.price_core.proofs.cost.switch_cost.Goals as goal
 

@@ -1,4 +1,4 @@
-use Rattle.std.proofs.Common.{Some, string_bytes, sym, ap, ◌∙◌, rules}
+use Rattle.std.proofs.Common.{string_bytes, sym, ◌∙◌, rules}
 use Rattle.std.specs.Cmp.Lexicographic.{slice_cmp}
 use Rattle.std.specs.Ordering.{nat_cmp}
 use Rattle.std.proofs.lemmas.Cmp.{nat_list_cmp_total}

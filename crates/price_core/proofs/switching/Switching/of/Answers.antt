@@ -1,0 +1,16 @@
+use Rattle.std.proofs.Common.{subst}
+use Rattle.price_core.specs.Numbering.{AreNumbersOf}
+use Rattle.price_core.proofs.Numbered.{numbers_kept, switching_of}
+use Rattle.price_core.proofs.switching.Switching.of.Goals as goal
+
+pub invariant_of-result : goal.invariant_of-result
+invariant_of-result c =
+    let first = c.add_all.new.self in
+    let both = c.add_all-2.new.self in
+    let old = c.args.old.now in
+    let new = c.args.new.now in
+    let froms = c.in_ok-old_numbers.old_numbers.items in
+    let tos = c.in_ok-new_numbers.new_numbers.items in
+    let of_old : AreNumbersOf first old froms = subst (λ r. AreNumbersOf first r froms) c.entries.ensures.value c.in_ok-old_numbers.ensures.numbered in
+    let of_new : AreNumbersOf both new tos = subst (λ r. AreNumbersOf both r tos) c.entries-2.ensures.value c.in_ok-new_numbers.ensures.numbered in
+    switching_of both old new c.args.prices.now froms tos c.in_ok-by_numbers.by_numbers c.in_ok-by_numbers.ensures.lawful (numbers_kept first both old froms c.in_ok-new_numbers.ensures.keeps of_old) of_new c.in_ok-by_numbers.ensures.priced

@@ -1,0 +1,107 @@
+//! Numbers for names, so that changes are told apart without comparing texts.
+ghost use Rattle.std.specs.Prelude.{◌≡◌, IfOk, Some};
+ghost use Rattle.std.specs.Map.{lookup};
+ghost use Rattle.std.specs.Str.{bytes_eq};
+ghost use Rattle.bucket_core.specs.Rule.{entries_view};
+ghost use Rattle.price_core.specs.Pricing.{change_view};
+ghost use Rattle.price_core.specs.Numbering.{IsNumbering, Keeps, AreNumbersOf, ArePricesBetween, pair_of_numbers};
+
+use crate::change::Change;
+use crate::prices::Prices;
+use std::alloc::{AllocError, Global};
+use std::collections::HashMap;
+use std::marker::Model;
+
+/// A number for each of some names: equal names have one number, different names have two.
+#[derive(Drop)]
+pub(crate) struct Numbering<'a> {
+    by_name: HashMap<&'a str, usize>,
+}
+
+impl<'a> Model for Numbering<'a> {
+    ghost use Rattle.std.specs.Prelude.{ℕ, List};
+    ghost use Rattle.price_core.specs.Numbering.{IsNumbering, numbers_view};
+
+    ghost Value = { List (List ℕ × ℕ) };
+
+    ghost view = { λ n. numbers_view n.by_name.entries };
+
+    ghost invariant = { λ n. IsNumbering (numbers_view n.by_name.entries) };
+}
+
+impl<'a> Numbering<'a> {
+    /// No names yet.
+    pub(crate) fn new(alloc: Global) -> Numbering<'a> {
+        Numbering {
+            by_name: HashMap::new(alloc),
+        }
+    }
+
+    /// The number of the name, if it has one.
+    fn get(&self, name: &str) -> Option<usize>
+        ensures { result ≡ lookup (bytes_eq name.now) self.now }
+    {
+        self.by_name.get(name).copied()
+    }
+
+    /// The numbers of the two names of the change, if both have one.
+    fn pair(&self, change: &Change) -> Option<(usize, usize)>
+        ensures { result ≡ pair_of_numbers self.now (change_view change.now) }
+    {
+        let from = self.get(change.from.as_str())?;
+        let to = self.get(change.to.as_str())?;
+        Some((from, to))
+    }
+
+    /// The number of the name, a new one where it has none.
+    fn add(&mut self, name: &'a str) -> Result<usize, AllocError>
+        ensures numbered { IfOk result (λ n. lookup (bytes_eq name.now) self.new ≡ Some n) }
+        ensures keeps { Keeps self.old self.new }
+    {
+        if let Some(number) = self.get(name) {
+            return Ok(number);
+        }
+        let number = self.by_name.len();
+        self.by_name.insert(name, number)?;
+        Ok(number)
+    }
+
+    /// The number of each entry's name, in the order of the entries.
+    pub(crate) fn add_all(
+        &mut self,
+        alloc: Global,
+        entries: &'a [(String, u64)],
+    ) -> Result<Vec<usize>, AllocError>
+        ensures numbered { IfOk result (λ v. AreNumbersOf self.new (entries_view entries.now) v.items) }
+        ensures keeps { Keeps self.old self.new }
+    {
+        let mut numbers = Vec::with_capacity(alloc, entries.len())?;
+        for (name, _) in entries {
+            numbers.push(self.add(name.as_str())?)?;
+        }
+        Ok(numbers)
+    }
+
+    /// The prices of their own that changes between these names have, by the names' numbers.
+    pub(crate) fn prices_between(
+        &self,
+        alloc: Global,
+        prices: &Prices,
+    ) -> Result<HashMap<(usize, usize), u64>, AllocError>
+        ensures priced { IfOk result (λ m. ArePricesBetween self.now prices.now.named m) }
+        ensures lawful { IsNumbering self.now }
+    {
+        let _ = &self.by_name;
+        let named = prices.named();
+        let mut by_numbers = HashMap::new(alloc);
+        let mut left = named.len();
+        while left > 0 {
+            left -= 1;
+            let (change, price) = &named[left];
+            if let Some(pair) = self.pair(change) {
+                by_numbers.insert(pair, *price)?;
+            }
+        }
+        Ok(by_numbers)
+    }
+}
