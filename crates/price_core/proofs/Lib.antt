@@ -8,3 +8,5 @@ pub mod Order
 pub mod Parts
 pub mod Pricings
 pub mod Runs
+pub mod Shared
+pub mod Summed

@@ -1,13 +1,16 @@
 //! What a new rule costs, and where it is forbidden.
 ghost use Rattle.std.specs.Prelude.{◌≡◌, ◌≤◌, ◌<◌, length, map, string_bytes, IfOk, IfSome};
 ghost use Rattle.bucket_core.specs.Rule.{total_weight};
-ghost use Rattle.price_core.specs.Cost.{cost_of, first_forbidden_of};
+ghost use Rattle.price_core.specs.Cost.{cost_of, input_cost, first_forbidden_of};
+ghost use Rattle.price_core.specs.Pricing.{IsPricing};
 
 use crate::prices::Prices;
 use crate::switching::Switching;
 use book_core::Exposure;
 use bucket_core::Rule;
+use rayon::prelude::*;
 use std::alloc::{AllocError, Global};
+use std::thread::Threads;
 
 /// The least point whose change is forbidden, of two rules of one total. It goes from run to run of
 /// points with equal old and new names, and takes `O(runs · log entries)` steps.
@@ -29,21 +32,26 @@ pub fn first_forbidden(old: &Rule, new: &Rule, prices: &Prices) -> Option<u32>
     None
 }
 
-fn cost_over(switching: &Switching<'_>, inputs: &[String]) -> u64
-    requires { length inputs.now ≤ 1000000 }
+fn cost_over(rt: &(impl Threads + Sync), switching: &Switching<'_>, inputs: &[String]) -> u64
+    requires few { length inputs.now ≤ 1000000 }
+    requires lawful { IsPricing switching.now.2 }
     ensures { result ≡ cost_of switching.now.0 switching.now.1 (map string_bytes inputs.now) switching.now.2 }
 {
-    let mut cost = 0;
-    for input in inputs {
-        cost += switching.cost(input.as_str());
-    }
-    cost
+    inputs
+        .par_iter()
+        .map(
+            |input: &String| -> u64
+                ensures { result ≡ input_cost switching.entry.now.0 switching.entry.now.1 switching.entry.now.2 (string_bytes input.now) }
+            { switching.cost(input.as_str()) },
+        )
+        .sum(rt)
 }
 
-/// The sum of what the inputs cost, each hashed once. The rules may differ in their totals. No two
-/// texts are compared for an input: equal names of the two rules share a number, and the prices are
-/// looked up by numbers.
+/// The sum of what the inputs cost, each hashed once, added up by as many threads as there are
+/// processors. The rules may differ in their totals. No two texts are compared for an input: equal
+/// names of the two rules share a number, and the prices are looked up by numbers.
 pub fn switch_cost(
+    rt: &(impl Threads + Sync),
     alloc: Global,
     old: &Rule,
     new: &Rule,
@@ -53,5 +61,5 @@ pub fn switch_cost(
     ensures exact { IfOk result (λ cost. cost ≡ cost_of old.now new.now exposure.now prices.now) }
 {
     let switching = Switching::of(alloc, old, new, prices)?;
-    Ok(cost_over(&switching, exposure.inputs()))
+    Ok(cost_over(rt, &switching, exposure.inputs()))
 }

@@ -3,7 +3,7 @@ ghost use Rattle.std.specs.Prelude.{◌≡◌, IfOk, Some};
 ghost use Rattle.std.specs.Map.{lookup};
 ghost use Rattle.std.specs.Str.{bytes_eq};
 ghost use Rattle.bucket_core.specs.Rule.{entries_view};
-ghost use Rattle.price_core.specs.Pricing.{change_view};
+ghost use Rattle.price_core.specs.Pricing.{IsPricing, change_view};
 ghost use Rattle.price_core.specs.Numbering.{IsNumbering, Keeps, AreNumbersOf, ArePricesBetween, pair_of_numbers};
 
 use crate::change::Change;
@@ -90,6 +90,7 @@ impl<'a> Numbering<'a> {
     ) -> Result<HashMap<(usize, usize), u64>, AllocError>
         ensures priced { IfOk result (λ m. ArePricesBetween self.now prices.now.named m) }
         ensures lawful { IsNumbering self.now }
+        ensures prices_lawful { IsPricing prices.now }
     {
         let _ = &self.by_name;
         let named = prices.named();

@@ -51,7 +51,8 @@ impl Prices {
 
     /// The changes that have a price of their own.
     pub(crate) fn named(&self) -> &[(Change, u64)]
-        ensures { entries_view result.now ≡ self.now.named }
+        ensures value { entries_view result.now ≡ self.now.named }
+        ensures lawful { IsPricing self.now }
     {
         self.named.as_slice()
     }

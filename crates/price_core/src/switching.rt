@@ -45,7 +45,8 @@ impl<'a> Switching<'a> {
         new: &'a Rule,
         prices: &'a Prices,
     ) -> Result<Switching<'a>, AllocError>
-        ensures { IfOk result (λ s. s ≡ (old.entry.now, new.entry.now, prices.entry.now)) }
+        ensures rules { IfOk result (λ s. s ≡ (old.entry.now, new.entry.now, prices.entry.now)) }
+        ensures lawful { IfOk result (λ s. IsPricing s.2) }
     {
         let mut numbering = Numbering::new(alloc);
         let old_numbers = numbering.add_all(alloc, old.entries())?;

@@ -71,7 +71,7 @@ fn prices_of_a_new_rule(rt: HostRuntime) -> Result<(), Fail> {
         let request = Request::read(alloc, text.as_slice())?;
         let prices = request.prices();
         assert_eq!(rt;
-            switch_cost(alloc, &old, &new, &seen, prices)?,
+            switch_cost(&rt, alloc, &old, &new, &seen, prices)?,
             cost,
             "at {more:?}"
         );
@@ -81,7 +81,7 @@ fn prices_of_a_new_rule(rt: HostRuntime) -> Result<(), Fail> {
             "at {more:?}"
         );
         assert_eq!(rt;
-            switch_cost(alloc, &old, &old, &seen, prices)?,
+            switch_cost(&rt, alloc, &old, &old, &seen, prices)?,
             0,
             "at {more:?}"
         );
@@ -94,7 +94,7 @@ fn prices_of_a_new_rule(rt: HostRuntime) -> Result<(), Fail> {
     assert_eq!(rt; request.site(), 4294967295);
     // three of the inputs are blue in the old rule: those on the points 6, 7 and 7
     assert_eq!(rt;
-        switch_cost(alloc, &old, &smaller, &seen, request.prices())?,
+        switch_cost(&rt, alloc, &old, &smaller, &seen, request.prices())?,
         9
     );
     assert_eq!(rt; request.prices().price("red", "red"), 0);

@@ -34,7 +34,7 @@ returns-clause-priced c =
     let l = c.loop-left in
     let at_front : l.left ≡ 0 = omega (arith, c.loop-left-test.false) in
     let all = subst (λ n. ArePricesBetween c.args.self.now (entries_view (drop n c.named-named.result.now)) l.by_numbers) at_front l.invariant.priced in
-    subst (λ es. ArePricesBetween c.args.self.now es l.by_numbers) c.named-named.ensures all
+    subst (λ es. ArePricesBetween c.args.self.now es l.by_numbers) c.named-named.ensures.value all
 
 pub returns-clause-lawful : goal.returns-clause-lawful
 returns-clause-lawful c = subst IsNumbering c.self.view_is c.self.invariant
