@@ -4,6 +4,7 @@ pub mod Budgets
 pub mod Exits
 pub mod Sizes
 pub mod Values
+pub mod Scopes
 pub mod Branches
 pub mod Items
 pub mod Sites

@@ -27,21 +27,6 @@ missing_others scope vs x h is e =
     ap (λ us. missing scope (map value_view us)) (cons_at vs x h is)
     ∙ (ap (λ o. filter (is_missing scope) (names_from o (value_view x ∷ map value_view (drop 1 vs)))) (sym e) ∙ ap (λ us. filter (is_missing scope) (map value_view us)) (sym (cons_at vs x h is)))
 
-pub missing_fewer : (scope : Shape) (names : List Shape) → length (filter (is_missing scope) names) ≤ length names
-missing_fewer scope [] = omega arith
-missing_fewer scope (n ∷ ns) = elim (cases_Bool (is_missing scope n)) [
-  | inl e ↦ let r = missing_fewer scope ns in rw e (omega arith)
-  | inr e ↦ let r = missing_fewer scope ns in rw e (omega arith)
-]
-
--- what is found and what is missing are all names
-pub found_rest : (scope : Shape) (names : List Shape) → found_count scope names ≡ length names - length (filter (is_missing scope) names)
-found_rest scope [] = refl
-found_rest scope (n ∷ ns) = elim (cases_Bool (is_missing scope n)) [
-  | inl e ↦ let r = found_rest scope ns in let f = missing_fewer scope ns in rw e (omega arith)
-  | inr e ↦ let r = found_rest scope ns in let f = missing_fewer scope ns in rw e (omega arith)
-]
-
 pub fewer : (scope : Shape) (n : ℤ) (ts : List Shape) → int_lt (pos (found_count scope ts)) n ≡ true → missing_unless scope (Some n) ts ≡ Ok (list (items_of (filter (is_missing scope) ts)))
 fewer scope n ts e = rw e refl
 

@@ -4,6 +4,7 @@ use Rattle.std.specs.Fmt.{signed_decimal}
 use Rattle.std.specs.List.{slice_split}
 use Rattle.std.specs.Ordering.{nat_cmp, match_ordering}
 use Rattle.std.specs.Cmp.Lexicographic.{slice_cmp}
+use Rattle.std.specs.Str.{bytes_eq}
 use Rattle.flag_text.specs.Shape.{Shape, null, boolean, whole, other, text, list, object, Items, no_items, item, Members, no_members, member}
 use Rattle.flag_text.specs.Readers.{as_text, as_list, find_member, member_of}
 use Rattle.flag_text.specs.View.{items_of}
@@ -133,3 +134,8 @@ abbrev mutual
   pub members_size : Members → ℕ
   members_size no_members = 0
   members_size (member k t ms) = size t + members_size ms
+
+-- the sizes of the members of other names
+abbrev pub others_size : List ℕ → Members → ℕ
+others_size name no_members = 0
+others_size name (member k t ms) = (if bytes_eq k name then 0 else size t) + others_size name ms

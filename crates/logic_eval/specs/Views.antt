@@ -38,7 +38,7 @@ value_view (Lent t) = view t.now
 value_view (Made t) = view t
 
 abbrev pub scope_view : Scope → Shape
-scope_view (Root context flagd) = with_flagd (view flagd.now) (object (members_view context.now))
+scope_view (Root r) = with_flagd (view r.flagd.now) (object (members_view r.members.now))
 scope_view (Item t) = view t.now
 scope_view (Fold so_far current) = reduce_scope (view so_far.now) (view current.now)
 

@@ -4,9 +4,8 @@ ghost use Rattle.flag_text.specs.Readers.{as_object};
 ghost use Rattle.flag_text.specs.Shape.{is_whole, members_are_whole};
 ghost use Rattle.flag_text.specs.View.{view, members_view};
 
-use crate::find::member_of;
-use crate::scope::{Scope, Subject};
-use flag_text::Tree;
+use crate::scope::{Root, Scope, Subject};
+use flag_text::{Tree, member_by_halving};
 use std::alloc::{AllocError, Global};
 
 /// The evaluation context, the flag's key and the moment: the last two are seen as `$flagd`.
@@ -59,14 +58,17 @@ impl<'a> Context<'a> {
         requires { view made.now ≡ flagd (situation self.now) }
         ensures { scope_view result ≡ root_scope (situation self.now) }
     {
-        Scope::Root(self.members, made)
+        Scope::Root(Root {
+            members: self.members,
+            flagd: made,
+        })
     }
 
     /// What the default hash input is made of.
     pub(crate) fn subject(&self) -> Subject<'_>
         ensures { default_view result ≡ default_input (situation self.now) }
     {
-        let key = match member_of(self.members, "targetingKey") {
+        let key = match member_by_halving(self.members, "targetingKey") {
             Some(Tree::Text(key)) => Some(key.as_str()),
             _ => None,
         };

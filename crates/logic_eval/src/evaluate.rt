@@ -97,9 +97,7 @@ fn operate<'a>(
         Operator::Reduce => reduce(meter, arguments, scope, subject),
         Operator::Var => {
             let values = evaluate_all(meter, arguments, scope, subject)?;
-            let value = variable(meter.alloc, scope, values)?;
-            pay_for(meter, value.tree())?;
-            Ok(value)
+            variable(meter, scope, values)
         }
         _ => {
             let values = evaluate_all(meter, arguments, scope, subject)?;

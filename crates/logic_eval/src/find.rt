@@ -1,6 +1,5 @@
 //! What a path finds in a scope.
 ghost use Rattle.std.specs.Prelude.{◌≡◌, IfOk, map, option_map, option_and_then, slice_get, ◌∷◌, ◌<◌, length, IfSome};
-ghost use Rattle.flag_text.specs.Readers.{find_member};
 ghost use Rattle.flag_text.specs.Shape.{object};
 ghost use Rattle.flag_text.specs.View.{view, members_view};
 ghost use Rattle.logic_eval.specs.Number.{below};
@@ -10,8 +9,8 @@ ghost use Rattle.logic_eval.specs.Views.{scope_view, found_view, names_after};
 ghost use Rattle.std.specs.List.{slice_split};
 
 use crate::number::digits_value;
-use crate::scope::Scope;
-use flag_text::Tree;
+use crate::scope::{Root, Scope};
+use flag_text::{Tree, member_by_halving};
 use std::alloc::{AllocError, Global};
 
 /// What a path finds.
@@ -81,20 +80,20 @@ fn enter<'a>(scope: Scope<'a>, name: &str) -> Option<&'a Tree>
     ensures { option_map (λ t. view t.now) result ≡ step (scope_view scope.entry) name.now }
 {
     match scope {
-        Scope::Root(members, flagd) => at_root(members, flagd, name),
+        Scope::Root(root) => at_root(root, name),
         Scope::Item(tree) => step(tree, name),
         Scope::Fold(so_far, current) => in_fold(so_far, current, name),
     }
 }
 
 // A member of the context, with `$flagd` in its place.
-fn at_root<'a>(members: &'a [(String, Tree)], flagd: &'a Tree, name: &str) -> Option<&'a Tree>
-    ensures { option_map (λ t. view t.now) result ≡ step (with_flagd (view flagd.now) (object (members_view members.now))) name.now }
+fn at_root<'a>(root: Root<'a>, name: &str) -> Option<&'a Tree>
+    ensures { option_map (λ t. view t.now) result ≡ step (with_flagd (view root.entry.flagd.now) (object (members_view root.entry.members.now))) name.now }
 {
     if name == "$flagd" {
-        Some(flagd)
+        Some(root.flagd)
     } else {
-        member_of(members, name)
+        member_by_halving(root.members, name)
     }
 }
 
@@ -109,18 +108,6 @@ fn in_fold<'a>(so_far: &'a Tree, current: &'a Tree, name: &str) -> Option<&'a Tr
     } else {
         None
     }
-}
-
-/// The member of this name.
-pub(crate) fn member_of<'a>(members: &'a [(String, Tree)], name: &str) -> Option<&'a Tree>
-    ensures { option_map (λ t. view t.now) result ≡ find_member name.now (members_view members.now) }
-{
-    for (key, member) in members {
-        if key.as_str() == name {
-            return Some(member);
-        }
-    }
-    None
 }
 
 // What a text finds: the whole scope where it is empty, else its steps.

@@ -1,14 +1,17 @@
 //! The units that an evaluation may still cost, and what it has reached.
-ghost use Rattle.std.specs.Prelude.{◌≡◌};
+ghost use Rattle.std.specs.Prelude.{◌≡◌, codes, if◌then◌else◌, string_bytes};
+ghost use Rattle.std.specs.Str.{bytes_eq};
+ghost use Rattle.flag_text.specs.Shape.{object};
 ghost use Rattle.flag_text.specs.Outcome.{GivesUnless};
 ghost use Rattle.flag_text.specs.View.{view, items_view, members_view};
 ghost use Rattle.logic_eval.specs.declared.fault.EvalFault.TheVariants.{WantOfMemory};
 ghost use Rattle.logic_eval.specs.Budget.{paid};
 ghost use Rattle.logic_eval.specs.Run.{spends};
-ghost use Rattle.logic_eval.specs.Views.{progress};
-ghost use Rattle.logic_eval.specs.Scope.{size, items_size, members_size};
+ghost use Rattle.logic_eval.specs.Scope.{size, items_size, members_size, others_size, with_flagd};
+ghost use Rattle.logic_eval.specs.Views.{progress, scope_view};
 
 use crate::fault::EvalFault;
+use crate::scope::{Root, Scope};
 use flag_text::Tree;
 use std::alloc::Global;
 
@@ -81,4 +84,46 @@ fn pay_for_members(meter: &mut Meter, members: &Vec<(String, Tree)>) -> Result<(
         pay_for(meter, member)?;
     }
     Ok(())
+}
+
+/// Takes the size of a scope, as a value, from what is left.
+pub(crate) fn pay_for_scope(meter: &mut Meter, scope: Scope) -> Result<(), EvalFault>
+    ensures exact { GivesUnless WantOfMemory (λ u. (u, progress meter.new)) result (paid (progress meter.old) (spends (size (scope_view scope.entry)))) }
+{
+    match scope {
+        Scope::Root(root) => pay_for_root(meter, root),
+        Scope::Item(tree) => pay_for(meter, tree),
+        Scope::Fold(so_far, current) => {
+            meter.pay(1)?;
+            pay_for(meter, so_far)?;
+            pay_for(meter, current)
+        }
+    }
+}
+
+fn pay_for_root(meter: &mut Meter, root: Root) -> Result<(), EvalFault>
+    ensures exact { GivesUnless WantOfMemory (λ u. (u, progress meter.new)) result (paid (progress meter.old) (spends (size (with_flagd (view root.entry.flagd.now) (object (members_view root.entry.members.now)))))) }
+{
+    meter.pay(1)?;
+    pay_for(meter, root.flagd)?;
+    pay_for_others(meter, root.members)
+}
+
+// The context's member `$flagd` is no part of the scope.
+fn pay_for_others(meter: &mut Meter, members: &[(String, Tree)]) -> Result<(), EvalFault>
+    ensures exact { GivesUnless WantOfMemory (λ u. (u, progress meter.new)) result (paid (progress meter.old) (spends (others_size (codes "$flagd") (members_view members.now)))) }
+{
+    for (key, member) in members {
+        pay_for_other(meter, key, member)?;
+    }
+    Ok(())
+}
+
+fn pay_for_other(meter: &mut Meter, name: &String, member: &Tree) -> Result<(), EvalFault>
+    ensures exact { GivesUnless WantOfMemory (λ u. (u, progress meter.new)) result (paid (progress meter.old) (spends (if bytes_eq (string_bytes name.now) (codes "$flagd") then 0 else size (view member.now)))) }
+{
+    if name.as_str() == "$flagd" {
+        return Ok(());
+    }
+    pay_for(meter, member)
 }

@@ -81,6 +81,19 @@ fn missing_values(alloc: Global, scope: Scope, names: &[Value]) -> Result<Vec<Tr
     Ok(found)
 }
 
+// How many of the names find something.
+fn found_count(alloc: Global, scope: Scope, names: &[Tree]) -> Result<usize, AllocError>
+    ensures { IfOk result (λ n. n ≡ found_count (scope_view scope.entry) (map view names.now)) }
+{
+    let mut found = 0;
+    for name in names {
+        if !is_missing(alloc, scope, name)? {
+            found += 1;
+        }
+    }
+    Ok(found)
+}
+
 fn is_fewer(found: usize, least: i64) -> bool
     ensures { result ≡ int_lt (pos found) least }
 {
@@ -100,10 +113,9 @@ pub(crate) fn missing_some(
         return Err(EvalFault::Arithmetic);
     };
     let names = items_of(names);
-    let missing = missing_items(alloc, scope, names)?;
-    let found = names.len() - missing.len();
+    let found = found_count(alloc, scope, names)?;
     if is_fewer(found, least) {
-        Ok(Tree::List(missing))
+        Ok(Tree::List(missing_items(alloc, scope, names)?))
     } else {
         Ok(Tree::List(Vec::new(alloc)))
     }

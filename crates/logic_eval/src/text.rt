@@ -132,10 +132,20 @@ fn part_to_end(alloc: Global, value: &Tree, start: Option<i64>) -> Result<String
     let Some(start) = start else {
         return Err(EvalFault::Arithmetic);
     };
-    let content = content_of(alloc, value)?;
-    let length = character_count(content.as_str());
-    let start = start_of(length, start);
-    Ok(characters_between(alloc, content.as_str(), start, length)?)
+    match value {
+        Tree::Text(text) => Ok(text_to_end(alloc, text.as_str(), start)?),
+        _ => {
+            let content = content_of(alloc, value)?;
+            Ok(text_to_end(alloc, content.as_str(), start)?)
+        }
+    }
+}
+
+fn text_to_end(alloc: Global, text: &str, start: i64) -> Result<String, AllocError>
+    ensures { IfOk result (λ s. string_bytes s ≡ encode_utf8_all (part_to_end (chars text.now) start)) }
+{
+    let length = character_count(text);
+    characters_between(alloc, text, start_of(length, start), length)
 }
 
 fn part_of_length(
@@ -149,11 +159,21 @@ fn part_of_length(
     let (Some(start), Some(count)) = (start, count) else {
         return Err(EvalFault::Arithmetic);
     };
-    let content = content_of(alloc, value)?;
-    let length = character_count(content.as_str());
+    match value {
+        Tree::Text(text) => Ok(text_of_length(alloc, text.as_str(), start, count)?),
+        _ => {
+            let content = content_of(alloc, value)?;
+            Ok(text_of_length(alloc, content.as_str(), start, count)?)
+        }
+    }
+}
+
+fn text_of_length(alloc: Global, text: &str, start: i64, count: i64) -> Result<String, AllocError>
+    ensures { IfOk result (λ s. string_bytes s ≡ encode_utf8_all (part_of_length (chars text.now) start count)) }
+{
+    let length = character_count(text);
     let start = start_of(length, start);
-    let end = end_of(length, start, count);
-    Ok(characters_between(alloc, content.as_str(), start, end)?)
+    characters_between(alloc, text, start, end_of(length, start, count))
 }
 
 /// The `cat` text of one value.

@@ -1,12 +1,17 @@
 //! `var`, and the whole scope as a value.
-ghost use Rattle.std.specs.Prelude.{◌≡◌, IfOk, OnOk, map, codes, string_bytes};
+ghost use Rattle.std.specs.Prelude.{◌≡◌, IfOk, OnOk, map, codes, option_map, string_bytes, unwrap_or};
+ghost use Rattle.flag_text.specs.Outcome.{GivesUnless};
 ghost use Rattle.flag_text.specs.Shape.{object, member, Members};
 ghost use Rattle.flag_text.specs.View.{view, members_view};
-ghost use Rattle.logic_eval.specs.Operators.{reduce_scope};
+ghost use Rattle.logic_eval.specs.declared.fault.EvalFault.TheVariants.{WantOfMemory};
+ghost use Rattle.logic_eval.specs.Budget.{paid};
+ghost use Rattle.logic_eval.specs.Operators.{reduce_scope, found};
 ghost use Rattle.logic_eval.specs.Scope.{variable, with_flagd};
-ghost use Rattle.logic_eval.specs.Views.{value_view, scope_view, before};
+ghost use Rattle.logic_eval.specs.Views.{progress, value_view, scope_view, before};
 
+use crate::fault::EvalFault;
 use crate::find::{Found, find};
+use crate::meter::{Meter, pay_for, pay_for_scope};
 use crate::scope::Scope;
 use crate::value::Value;
 use flag_text::Tree;
@@ -20,7 +25,7 @@ fn whole<'a>(alloc: Global, scope: Scope<'a>) -> Result<Value<'a>, AllocError>
 {
     match scope {
         Scope::Item(tree) => Ok(Value::Lent(tree)),
-        Scope::Root(members, flagd) => Ok(Value::Made(root(alloc, members, flagd)?)),
+        Scope::Root(at) => Ok(Value::Made(root(alloc, at.members, at.flagd)?)),
         Scope::Fold(so_far, current) => Ok(Value::Made(fold(alloc, so_far, current)?)),
     }
 }
@@ -95,27 +100,49 @@ fn push_copies(
     Ok(())
 }
 
-/// `var`: no path is the whole scope; where nothing is found, the second argument, or null.
-pub(crate) fn variable<'a>(
+// What `var` gives, where it isn't the whole scope: what its path finds, else its second argument, or null.
+fn located<'a>(
     alloc: Global,
     scope: Scope<'a>,
     values: SmallVec<Value<'a>, 3>,
-) -> Result<Value<'a>, AllocError>
-    ensures { IfOk result (λ v. value_view v ≡ variable (scope_view scope.entry) (map value_view values.entry.items)) }
+) -> Result<Option<Value<'a>>, AllocError>
+    ensures { IfOk result (λ v. unwrap_or (option_map value_view v) (scope_view scope.entry) ≡ variable (scope_view scope.entry) (map value_view values.entry.items)) }
 {
     let mut values = values;
     if values.is_empty() {
-        return whole(alloc, scope);
+        return Ok(None);
     }
     match find(alloc, scope, values[0].tree())? {
-        Some(Found::Whole) => whole(alloc, scope),
-        Some(Found::Part(tree)) => Ok(Value::Lent(tree)),
+        Some(Found::Whole) => Ok(None),
+        Some(Found::Part(tree)) => Ok(Some(Value::Lent(tree))),
         None => {
             if values.len() > 1 {
-                Ok(values.remove(1))
+                Ok(Some(values.remove(1)))
             } else {
-                Ok(Value::Made(Tree::Null))
+                Ok(Some(Value::Made(Tree::Null)))
             }
+        }
+    }
+}
+
+/// `var`: no path is the whole scope; where nothing is found, the second argument, or null. What it gives is paid for
+/// before a scope is copied.
+pub(crate) fn variable<'a>(
+    meter: &mut Meter,
+    scope: Scope<'a>,
+    values: SmallVec<Value<'a>, 3>,
+) -> Result<Value<'a>, EvalFault>
+    ensures exact { GivesUnless WantOfMemory (λ v. (value_view v, progress meter.new)) result (paid (progress meter.old) (found (variable (scope_view scope.entry) (map value_view values.entry.items)))) }
+{
+    let place = located(meter.alloc, scope, values)?;
+    match place {
+        Some(value) => {
+            pay_for(meter, value.tree())?;
+            Ok(value)
+        }
+        None => {
+            pay_for_scope(meter, scope)?;
+            Ok(whole(meter.alloc, scope)?)
         }
     }
 }

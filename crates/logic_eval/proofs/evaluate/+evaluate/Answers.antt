@@ -157,15 +157,9 @@ operate-returns-in_err-values-in-Var t c = record {
       (λ n. ap (λ o. paid (progress c.args.meter.now) (operated o (meanings (default_view c.args.subject) (nodes_view c.args.arguments.now.items)) (scope_view c.args.scope))) c.in-Var.is ∙ bind_err _ _ _ _ (c.in_err-values-in-Var.ensures.exact n));
 }
 
-pub operate-returns-in_err-pay_for-in-Var : goal.operate-returns-in_err-pay_for-in-Var
-operate-returns-in_err-pay_for-in-Var t c = record {
-  exact = exits _ _ _ _ c.from_residual-in_err-pay_for-in-Var.ensures.1
-      (λ n. ap (λ o. paid (progress c.args.meter.now) (operated o (meanings (default_view c.args.subject) (nodes_view c.args.arguments.now.items)) (scope_view c.args.scope))) c.in-Var.is ∙ (bind_ok _ _ _ _ _ c.in_ok-values-in-Var.ensures.exact ∙ found_err _ _ _ (ap (λ v. paid (progress c.evaluate_all.new.meter) (spends (size v))) (sym (c.tree.ensures ∙ c.in_ok-value-in-Var.ensures)) ∙ c.in_err-pay_for-in-Var.ensures.exact n)));
-}
-
-pub operate-returns-in_ok-pay_for-in-Var : goal.operate-returns-in_ok-pay_for-in-Var
-operate-returns-in_ok-pay_for-in-Var t c = record {
-  exact = ap (λ o. paid (progress c.args.meter.now) (operated o (meanings (default_view c.args.subject) (nodes_view c.args.arguments.now.items)) (scope_view c.args.scope))) c.in-Var.is ∙ (bind_ok _ _ _ _ _ c.in_ok-values-in-Var.ensures.exact ∙ (found_ok _ (progress c.pay_for.new.meter) _ _ (ap (λ v. paid (progress c.evaluate_all.new.meter) (spends (size v))) (sym (c.tree.ensures ∙ c.in_ok-value-in-Var.ensures)) ∙ c.in_ok-pay_for-in-Var.ensures.exact) ∙ ap (λ v. Ok (v, progress c.pay_for.new.meter)) (sym c.in_ok-value-in-Var.ensures)));
+pub operate-returns-in_ok-values-in-Var : goal.operate-returns-in_ok-values-in-Var
+operate-returns-in_ok-values-in-Var t c = record {
+  exact = gives_same _ _ _ _ (ap (λ o. paid (progress c.args.meter.now) (operated o (meanings (default_view c.args.subject) (nodes_view c.args.arguments.now.items)) (scope_view c.args.scope))) c.in-Var.is ∙ bind_ok _ _ _ _ _ c.in_ok-values-in-Var.ensures.exact) c.variable.ensures.exact;
 }
 
 pub operate-returns-in_err-values-in_default : goal.operate-returns-in_err-values-in_default

@@ -6,7 +6,7 @@ use Rattle.logic_eval.proofs.Paths.{find-with_member, find-with_member_other, sa
 use Rattle.logic_eval.proofs.find.at_root.Goals as goal
 
 pub returns-then-eq : goal.returns-then-eq
-returns-then-eq c = same_name c.args.name.now (view c.args.flagd.now) (members_view c.args.members.now) (sym c.eq.ensures ∙ c.if-eq.true)
+returns-then-eq c = same_name c.args.name.now (view c.args.root.flagd.now) (members_view c.args.root.members.now) (sym c.eq.ensures ∙ c.if-eq.true)
 
 pub returns-else-eq : goal.returns-else-eq
-returns-else-eq c = c.member_of.ensures ∙ sym (other_name c.args.name.now (view c.args.flagd.now) (members_view c.args.members.now) (sym c.eq.ensures ∙ c.if-eq.false))
+returns-else-eq c = c.member_by_halving.ensures.found ∙ sym (other_name c.args.name.now (view c.args.root.flagd.now) (members_view c.args.root.members.now) (sym c.eq.ensures ∙ c.if-eq.false))
