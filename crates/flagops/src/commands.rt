@@ -12,9 +12,11 @@ use crate::outcome::Outcome;
 use crate::price::price;
 use crate::refusal::Refusal;
 use std::alloc::Global;
+use std::thread::Threads;
 
 /// What the command answers, or why it is refused.
-pub fn outcome<F: FileSet>(
+pub fn outcome<R: Threads + Sync, F: FileSet>(
+    rt: &R,
     alloc: Global,
     files: &mut F,
     asked: &Asked<'_>,
@@ -31,6 +33,6 @@ pub fn outcome<F: FileSet>(
             new,
             request,
             keys,
-        } => price(alloc, files, old, new, request, keys),
+        } => price(rt, alloc, files, old, new, request, keys),
     }
 }

@@ -17,11 +17,13 @@ use bucket_core::Rule;
 use flag_text::Tree;
 use price_core::{Prices, Request, first_forbidden, switch_cost};
 use std::alloc::{AllocError, Global};
+use std::thread::Threads;
 
 /// The totals of the new rule's names, the first forbidden point, and what the change costs the
 /// keys, a line each.
 #[tactic(auto, unfolding(crate::specs::Price::price_report))]
-pub fn price<F: FileSet>(
+pub fn price<R: Threads + Sync, F: FileSet>(
+    rt: &R,
     alloc: Global,
     files: &mut F,
     old: &str,
@@ -39,7 +41,7 @@ pub fn price<F: FileSet>(
     let request = load_request(alloc, files, request)?;
     let keys = load_keys(alloc, files, keys)?;
     let exposure = exposed(alloc, keys.as_slice())?;
-    priced(alloc, &old, &new, request.prices(), &exposure)
+    priced(rt, alloc, &old, &new, request.prices(), &exposure)
 }
 
 /// The request of the file at a path.
@@ -119,6 +121,7 @@ fn exposed(alloc: Global, keys: &[String]) -> Result<Exposure, Refusal>
 }
 
 fn priced(
+    rt: &(impl Threads + Sync),
     alloc: Global,
     old: &Rule,
     new: &Rule,
@@ -132,7 +135,7 @@ fn priced(
     if old.total() != new.total() {
         return Err(Refusal::Price(PriceMismatch::Weight));
     }
-    match lines(alloc, old, new, prices, exposure) {
+    match lines(rt, alloc, old, new, prices, exposure) {
         Ok(text) => Ok(Outcome {
             text,
             status: Status::Done,
@@ -143,6 +146,7 @@ fn priced(
 
 #[tactic(auto, unfolding(crate::specs::Price::price_text))]
 fn lines(
+    rt: &(impl Threads + Sync),
     alloc: Global,
     old: &Rule,
     new: &Rule,
@@ -156,7 +160,7 @@ fn lines(
     let mut lines = total_lines(alloc, totals_by_name(alloc, new.entries())?.as_slice())?;
     let forbidden = forbidden_line(alloc, first_forbidden(old, new, prices))?;
     lines.push_str(forbidden.as_str())?;
-    let cost = cost_line(alloc, switch_cost(alloc, old, new, exposure, prices)?)?;
+    let cost = cost_line(alloc, switch_cost(rt, alloc, old, new, exposure, prices)?)?;
     lines.push_str(cost.as_str())?;
     Ok(lines)
 }

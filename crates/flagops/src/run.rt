@@ -18,6 +18,7 @@ use crate::words::asked;
 use flag_text::{Outlet, write_whole};
 use std::alloc::Global;
 use std::convert::AsStr;
+use std::thread::Threads;
 
 /// Does what the words after the program's name ask for, and gives the status to end with: 0
 /// done, 1 refused or the output failed, 2 words that ask for nothing.
@@ -25,7 +26,7 @@ use std::convert::AsStr;
 /// The report goes to `out`, whole before its first byte is written. `err` gets the text of
 /// `clap` on words that it refuses, and nothing else; help and the version, where they are asked
 /// for, go to `out` with status 0.
-pub fn run<R: AllocGlobal, S: AsStr, F: FileSet, O: Outlet, E: Outlet>(
+pub fn run<R: AllocGlobal + Threads + Sync, S: AsStr, F: FileSet, O: Outlet, E: Outlet>(
     rt: &R,
     words: &[S],
     files: &mut F,
@@ -46,7 +47,7 @@ pub fn run<R: AllocGlobal, S: AsStr, F: FileSet, O: Outlet, E: Outlet>(
 {
     let alloc = rt.alloc();
     match asked(alloc, words) {
-        Ok(asked) => match answer(alloc, files, &asked) {
+        Ok(asked) => match answer(rt, alloc, files, &asked) {
             Ok(outcome) => report(out, &outcome),
             Err(call) => want(out, call),
         },
@@ -55,12 +56,17 @@ pub fn run<R: AllocGlobal, S: AsStr, F: FileSet, O: Outlet, E: Outlet>(
 }
 
 /// The outcome of a command or the line of its refusal, or the call that ran out of memory.
-fn answer<F: FileSet>(alloc: Global, files: &mut F, asked: &Asked<'_>) -> Result<Outcome, Call>
+fn answer<R: Threads + Sync, F: FileSet>(
+    rt: &R,
+    alloc: Global,
+    files: &mut F,
+    asked: &Asked<'_>,
+) -> Result<Outcome, Call>
     ensures exact { IfSome (F.holding files.old) (λ at. AnswersOrWants (calls_of (asked_view asked.now)) result (report_of (outcome_of at (asked_view asked.now)))) }
     ensures unread { F.has_failed files.old ≡ false → F.has_failed files.new ≡ true → AnswersOrWants is_load result (report_of (Err unreadable)) }
     ensures kept { F.holding files.new ≡ F.holding files.old }
 {
-    match outcome(alloc, files, asked) {
+    match outcome(rt, alloc, files, asked) {
         Ok(outcome) => Ok(outcome),
         Err(refusal) => refused(alloc, &refusal),
     }

@@ -139,7 +139,7 @@ pub struct Ran {
 }
 
 /// A run over one file `f` and an output that takes so many bytes.
-pub fn run_with(
+pub(super) fn run_with(
     rt: &HostRuntime,
     words: &[&str],
     file: &[u8],
