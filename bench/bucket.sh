@@ -3,16 +3,7 @@
 #
 # Needs python3, which makes the file and reads the figures of the run from the system.
 
-here=$(CDPATH='' cd -- "$(dirname -- "$0")/.." && pwd -P) || exit 1
-if ! command -v python3 >/dev/null 2>&1; then
-    echo "bench/bucket.sh: needs python3, which is not on the path" >&2
-    exit 1
-fi
-folder=$(mktemp -d) || exit 1
-trap 'rm -rf "$folder"' EXIT
-
-# Builds the program, where it is not built, before any run is timed.
-"$here/flagops" --version >/dev/null || exit 1
+. "$(dirname -- "$0")/opening.sh"
 python3 - "$here/flagops" "$folder/rule.json" <<'PYTHON'
 import os, resource, subprocess, sys, time
 

@@ -125,10 +125,6 @@ unfolding IsStrictlySortedBy
 sorted_texts [] sorted = tt
 sorted_texts (k ∷ ks) sorted = (All-texts k ks sorted.0, sorted_texts ks sorted.1)
 
-pub no_texts : IsStrictlySortedBy bytes_cmp []
-unfolding IsStrictlySortedBy
-no_texts = tt
-
 -- an input that is there is not inserted again
 pub again_inserted : (keys : List (String Global)) (input : List ℕ) → IsStrictlySortedBy string_cmp keys → is_among input (map string_bytes keys) ≡ true → insert_key bytes_cmp (map string_bytes keys) input ≡ map string_bytes keys
 again_inserted keys input sorted among =

@@ -81,10 +81,6 @@ last_of-view es e at =
     let f : PageName × BTreeSet (String Global) → PageName × Inputs = λ x. (x.0, inputs_view x.1) in
     ap (λ n. slice_get (map f es) (n - 1)) (length-map es f) ∙ slice_get-map f es (length es - 1) ∙ ap (option_map f) at
 
-pub last_of-none : (es : List (PageName × BTreeSet (String Global))) → length es ≡ 0 → last_of (contents_view es) ≡ None
-last_of-none [] e = refl
-last_of-none (x ∷ es) e = absurd (omega (arith, e))
-
 last_one : (book : Contents) (e : PageName × Inputs) → slice_get (book ++ e ∷ []) (length book) ≡ Some e
 last_one [] e = refl
 last_one (x ∷ xs) e = last_one xs e
@@ -122,12 +118,6 @@ taken_lines (Some line) before after taken = taken
 pub renumbered : (r : Option Line) (after : List FileLine) (last : Standing) (n m : ℕ) (P : Type 0) → MatchOption r P (λ line. m ≡ n + 1) → first_fault (n + 1) last (with_line r after) ≡ first_fault m last (with_line r after)
 renumbered None after last n m P number = refl
 renumbered (Some line) after last n m P number = ap (λ k. first_fault k last (line_view line ∷ after)) (sym number)
-
-pub input_taken : (n : ℕ) (page : PageName) (xs : Inputs) (input : List ℕ) (ls : List FileLine) → input_fault n xs input ≡ None → first_fault n (Some (page, xs)) (adds input ∷ ls) ≡ first_fault (n + 1) (Some (page, xs ++ input ∷ [])) ls
-input_taken n page xs input ls good = ap (λ f. option_or f (first_fault (n + 1) (Some (page, xs ++ input ∷ [])) ls)) good
-
-pub input_refused : (n : ℕ) (page : PageName) (xs : Inputs) (input : List ℕ) (ls : List FileLine) (e : BookFileFault) → input_fault n xs input ≡ Some e → first_fault n (Some (page, xs)) (adds input ∷ ls) ≡ Some e
-input_refused n page xs input ls e bad = ap (λ f. option_or f (first_fault (n + 1) (Some (page, xs ++ input ∷ [])) ls)) bad
 
 -- ---- from page to page
 

@@ -5,6 +5,7 @@ use Rattle.flag_text.specs.declared.fault.TextFault.TheVariants as text
 use Rattle.price_core.specs.declared.fault.PriceFault.{PriceFault}
 use Rattle.price_core.specs.declared.fault.PriceFault.TheVariants.{WantOfMemory, BadRequest, UnknownVariant, SelfPair, PriceRange, EmptyRange}
 
+-- want of memory is 0
 abbrev pub number_of : PriceFault → ℕ
 number_of WantOfMemory = 0
 number_of BadRequest = 1
@@ -13,6 +14,7 @@ number_of SelfPair = 3
 number_of PriceRange = 4
 number_of EmptyRange = 5
 
+-- the name of the variant
 abbrev pub name_of : PriceFault → List ℕ
 name_of WantOfMemory = codes "WantOfMemory"
 name_of BadRequest = codes "BadRequest"

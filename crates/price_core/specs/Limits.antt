@@ -16,9 +16,11 @@ Limits = List (List ℕ × (ℕ × ℕ))
 abbrev pub limits_of : Limits → List ℕ → ℕ × ℕ
 limits_of ls name = unwrap_or (lookup (bytes_eq name) ls) (0, 0)
 
+-- the least total that a name may have
 abbrev pub low_of : Limits → List ℕ → ℕ
 low_of ls name = (limits_of ls name).0
 
+-- the greatest total that a name may have
 abbrev pub high_of : Limits → List ℕ → ℕ
 high_of ls name = (limits_of ls name).1
 
@@ -32,5 +34,6 @@ pub record AreLimits (ls : Limits) : Type 0 where
 abbrev pub limit_view : Limit → List ℕ × (ℕ × ℕ)
 limit_view l = (string_bytes l.name, (l.low, l.high))
 
+-- the same of a list of limits
 abbrev pub limits_view : List Limit → Limits
 limits_view ls = map limit_view ls

@@ -11,10 +11,11 @@ use Rattle.price_core.specs.Pricing.{Pair, Pricing, is_same_pair, price_of}
 abbrev pub Numbers : Type 0
 Numbers = List (List ℕ × ℕ)
 
--- the same of the program, without where the names lie in memory
+-- a name of the program with its number, without where it lies in memory
 abbrev pub number_view : Bor (List ℕ) × ℕ → List ℕ × ℕ
 number_view e = (e.0.now, e.1)
 
+-- the same of a list of names
 abbrev pub numbers_view : List (Bor (List ℕ) × ℕ) → Numbers
 numbers_view es = map number_view es
 

@@ -13,6 +13,7 @@ use Rattle.price_core.specs.declared.change.Change.{Change}
 abbrev pub Pair : Type 0
 Pair = List ℕ × List ℕ
 
+-- whether both names of one change are those of the other
 abbrev pub is_same_pair : Pair → Pair → Bool
 is_same_pair p q = bytes_eq p.0 q.0 && bytes_eq p.1 q.1
 
@@ -34,6 +35,7 @@ price_of p a b = if bytes_eq a b then 0 else unwrap_or (lookup (is_same_pair (a,
 abbrev pub is_forbidden : Pricing → List ℕ → List ℕ → Bool
 is_forbidden p a b = not (bytes_eq a b) && list_any (is_same_pair (a, b)) p.barred
 
+-- the greatest price
 abbrev pub max_price : ℕ
 max_price = 1000000
 
@@ -44,12 +46,14 @@ pub record IsPricing (p : Pricing) : Type 0 where
   pub named_rise : IsStrictlySortedBy pair_cmp (keys_of p.named)
   pub barred_rise : IsStrictlySortedBy pair_cmp p.barred
 
--- a change of the program, and a list of changes with something said of each, without where the names lie in memory
+-- a change of the program, without where its names lie in memory
 abbrev pub change_view : Change → Pair
 change_view c = (string_bytes c.from, string_bytes c.to)
 
+-- a change with what is said of it
 abbrev pub entry_view : {X : Type 0} → Change × X → Pair × X
 entry_view e = (change_view e.0, e.1)
 
+-- the same of a list of changes
 abbrev pub entries_view : {X : Type 0} → List (Change × X) → List (Pair × X)
 entries_view es = map entry_view es

@@ -6,19 +6,25 @@ use flag_text::TextFault;
 use std::alloc::{AllocError, AllocFailed};
 use thiserror::Error;
 
-/// Why a request is refused.
+/// Why a request is refused: no request first, then a pair of equal names, a price out of range, an empty range.
 #[derive(Clone, Copy, Debug, PartialEq, Eq, Error)]
 pub enum PriceFault {
+    /// Memory was wanted and refused; it has no place in an order of refusals.
     #[error("out of memory")]
     WantOfMemory,
+    /// The text is no JSON tree of whole numbers, a member is of another form, or a pair is named twice.
     #[error("not a request")]
     BadRequest,
+    /// The totals, the prices or the prohibitions name what is none of the variants.
     #[error("a name is none of the variants")]
     UnknownVariant,
+    /// A price or a prohibition is of a change from a name to itself.
     #[error("a pair of equal names")]
     SelfPair,
+    /// A price, the usual one among them, is not from 0 to 1000000.
     #[error("a price is not from 0 to 1000000")]
     PriceRange,
+    /// The low limit on a total is above the high one.
     #[error("a low limit is above its high limit")]
     EmptyRange,
 }

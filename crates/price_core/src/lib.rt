@@ -1,4 +1,14 @@
-//! Prices of a rollout.
+//! What a change of a rollout asks for, and what it costs.
+//!
+//! A [`Request`] asks for a new rule at a `fractional` operation of flagd's targeting: limits on the total of each
+//! variant, a price for each change from one variant to another, and changes that are forbidden. The cost of a new rule
+//! is the sum, over the recorded hash inputs, of the price of the change from the variant that the old rule gives the
+//! input to the variant that the new one gives it.
+//!
+//! Proved, over the definitions of `specs/`: which request a text stands for, with each refusal in its order
+//! (`Request`); which limits the variants of a site have (`Limits`); what a change costs and which are forbidden
+//! (`Pricing`); the least forbidden point of two rules, and the cost of a new rule, which is added up by as many threads
+//! as there are processors (`Cost`).
 #![tactic(auto)]
 
 mod change;

@@ -14,8 +14,11 @@ use std::marker::Model;
 /// The least and the greatest total that a name may have.
 #[derive(Drop)]
 pub struct Limit {
+    /// The name of the variant.
     pub name: String,
+    /// The least number of points that it may have.
     pub low: u32,
+    /// The greatest number of points that it may have, at least `low` and below 2^31.
     pub high: u32,
 }
 
