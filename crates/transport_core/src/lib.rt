@@ -7,20 +7,26 @@
 //! names exactly where it is deficient (`Deficient`), and then no rule fits.
 #![tactic(auto)]
 
+mod assignment;
 mod certificate;
 mod cut;
 mod duals;
 mod fault;
+mod flows;
 mod groups;
+mod instance;
 mod laws;
 mod plan;
+mod proving;
 mod rows;
 mod slack;
 mod totals;
 
+pub use assignment::Assignment;
 pub use certificate::{Certificate, Cut, CutKind};
 pub use cut::check_cut;
 pub use fault::CheckFault;
+pub use instance::Instance;
 pub use laws::weak_duality;
 pub use plan::check_plan;
 

@@ -1,0 +1,121 @@
+//! Instances: what a planner is given, and the tests of what it answers.
+ghost use Rattle.std.specs.Prelude.{◌≡◌, ◌≢◌, ◌<◌, ◌≤◌, ◌⊎◌, ◌↔◌, ◌^◌, List, ℕ, IsTrue, IfOk, IfErr, IsErrOf, length, map, string_bytes, sum_by};
+ghost use Rattle.bucket_core.specs.Rule.{Entries, total_weight, names_view};
+ghost use Rattle.price_core.specs.Limits.{limits_view};
+ghost use Rattle.transport_core.specs.Assignment.{HasAssignment, IsPlaced, IsProved, flows_of};
+ghost use Rattle.transport_core.specs.Certificate.{IsCertified, certificate_view};
+ghost use Rattle.transport_core.specs.Deficient.{IsDeficient};
+ghost use Rattle.transport_core.specs.Fits.{IsLeast};
+ghost use Rattle.transport_core.specs.Groups.{AreSizes, rows_view};
+ghost use Rattle.transport_core.specs.Instance.{IsProblem, MissTotal, max_names, max_planned_total};
+
+use crate::assignment::Assignment;
+use crate::certificate::{Certificate, Cut};
+use crate::fault::CheckFault;
+use crate::groups::groups;
+use crate::rows::Row;
+use crate::totals::totals;
+use book_core::Exposure;
+use bucket_core::Rule;
+use price_core::{Limit, Prices, Totals};
+use std::alloc::Global;
+use std::marker::Model;
+
+/// What a planner is given of a rule, of the inputs that were recorded for it, and of a request: the groups of the rule's
+/// points, each with its number of points, and the limits and prices that are asked.
+#[derive(Drop)]
+pub struct Instance<'a> {
+    groups: Vec<Row<'a>>,
+    totals: &'a Totals,
+    prices: &'a Prices,
+}
+
+impl<'a> Model for Instance<'a> {
+    ghost use Rattle.transport_core.specs.Groups.{rows_view};
+    ghost use Rattle.transport_core.specs.Instance.{TransportProblem, IsProblem};
+
+    ghost Value = { TransportProblem };
+
+    ghost view = { λ i. record { groups = rows_view i.groups.items; limits = i.totals.now; pricing = i.prices.now } };
+
+    ghost invariant = { λ i. IsProblem (record { groups = rows_view i.groups.items; limits = i.totals.now; pricing = i.prices.now }) };
+}
+
+impl<'a> Instance<'a> {
+    /// The instance of a rule, of limits and prices, and of the inputs that were recorded. It refuses with `Totals` where
+    /// the low limits sum above the rule's total or the high ones below it. It takes `O(n log n)` steps at n entries and
+    /// inputs.
+    pub fn make(
+        alloc: Global,
+        old: &'a Rule,
+        totals: &'a Totals,
+        prices: &'a Prices,
+        exposure: &Exposure,
+    ) -> Result<Instance<'a>, CheckFault>
+        requires small { total_weight old.now ≤ max_planned_total }
+        requires names { length totals.now ≤ max_names }
+        ensures groups { IfOk result (λ i. AreSizes old.now exposure.now i.groups) }
+        ensures limits { IfOk result (λ i. i.limits ≡ totals.now) }
+        ensures pricing { IfOk result (λ i. i.pricing ≡ prices.now) }
+        ensures totals { IsErrOf result CheckFault.Totals ↔ MissTotal old.now totals.now }
+        ensures refused { IfErr result (λ fault. (fault ≡ CheckFault.WantOfMemory) ⊎ (fault ≡ CheckFault.Totals)) }
+    {
+        let total = u64::from(old.total());
+        let limits = totals.entries();
+        if total < low_sum(limits) || high_sum(limits) < total {
+            return Err(CheckFault::Totals);
+        }
+        let groups = groups(alloc, old, exposure.inputs())?;
+        Ok(Instance {
+            groups,
+            totals,
+            prices,
+        })
+    }
+
+    /// The groups, by name and then by number of inputs, each with its number of points.
+    pub fn groups(&self) -> &[((&'a str, u32), u32)]
+        ensures value { rows_view result.now ≡ self.now.groups }
+        ensures lawful { IsProblem self.now }
+    {
+        self.groups.as_slice()
+    }
+
+    /// The limits of each name, by name.
+    pub fn totals(&self) -> &'a Totals
+        ensures value { result.now ≡ self.now.limits }
+    {
+        self.totals
+    }
+
+    /// What each switch costs an input, and which are forbidden.
+    pub fn prices(&self) -> &'a Prices
+        ensures value { result.now ≡ self.now.pricing }
+    {
+        self.prices
+    }
+}
+
+/// The sum of the low limits.
+fn low_sum(limits: &[Limit]) -> u64
+    requires { length limits.now ≤ max_names }
+    ensures { result ≡ sum_by (λ l. l.1.0) (limits_view limits.now) }
+{
+    let mut sum = 0;
+    for limit in limits {
+        sum += u64::from(limit.low);
+    }
+    sum
+}
+
+/// The sum of the high limits.
+fn high_sum(limits: &[Limit]) -> u64
+    requires { length limits.now ≤ max_names }
+    ensures { result ≡ sum_by (λ l. l.1.1) (limits_view limits.now) }
+{
+    let mut sum = 0;
+    for limit in limits {
+        sum += u64::from(limit.high);
+    }
+    sum
+}
