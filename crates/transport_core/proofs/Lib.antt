@@ -1,3 +1,5 @@
+pub mod Arcs
+pub mod Assigned
 pub mod Sums
 pub mod Weighted
 pub mod Regroup

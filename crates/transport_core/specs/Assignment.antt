@@ -1,9 +1,10 @@
 -- Assignments: how many points of each group are given each name, and what makes one certified.
 use Rattle.std.specs.Prelude.{◌≡◌, ◌==◌, ◌&&◌, ◌||◌, ◌+ℤ◌, ℕ, ◌+◌, ◌*◌, ◌≤◌, pos, Bool, true, not, List, [], ◌∷◌, ◌++◌, map, length, take, drop, sum, sum_by, count_by, nat_le, if◌then◌else◌, None, unwrap_or}
-use Rattle.std.specs.List.{All, list_all, range_with_len, zip}
+use Rattle.std.specs.List.{list_all, range_with_len, zip}
 use Rattle.std.specs.Map.{keys_of}
 use Rattle.std.specs.Str.{bytes_eq}
 use Rattle.bucket_core.specs.Rule.{Entries, total_weight, at}
+use Rattle.price_core.specs.Limits.{Limits}
 use Rattle.price_core.specs.Pricing.{Pricing, price_of, is_forbidden}
 use Rattle.transport_core.specs.Certificate.{DualPrices, group_sum, gains, losses}
 use Rattle.transport_core.specs.Groups.{GroupKey, is_same_group, group_at}
@@ -18,10 +19,14 @@ Arc = GroupKey × List ℕ
 abbrev pub is_same_arc : Arc → Arc → Bool
 is_same_arc a b = is_same_group a.0 b.0 && bytes_eq a.1 b.1
 
+-- the arcs from a group, with the numbers at the front
+abbrev pub row_flows : GroupKey → List (List ℕ) → List ℕ → List (Arc × ℕ)
+row_flows g names numbers = zip (map (λ name. (g, name)) names) numbers
+
 -- the flow on each arc, where the numbers stand by group and then by name
 abbrev pub arc_flows : List GroupKey → List (List ℕ) → List ℕ → List (Arc × ℕ)
 arc_flows [] names numbers = []
-arc_flows (g ∷ gs) names numbers = zip (map (λ name. (g, name)) names) numbers ++ arc_flows gs names (drop (length names) numbers)
+arc_flows (g ∷ gs) names numbers = row_flows g names numbers ++ arc_flows gs names (drop (length names) numbers)
 
 abbrev pub flows_of : TransportProblem → List ℕ → List (Arc × ℕ)
 flows_of p numbers = arc_flows (keys_of p.groups) (keys_of p.limits) numbers
@@ -52,16 +57,23 @@ inflow flows name = sum_by (λ f. if bytes_eq name f.0.1 then f.1 else 0) flows
 abbrev pub flow_cost : Pricing → List (Arc × ℕ) → ℕ
 flow_cost pricing flows = sum_by (λ f. f.1 * (f.0.0.1 * price_of pricing f.0.0.0 f.0.1)) flows
 
+-- the points that are given each name are at most its high limit, or at least its low one
+abbrev pub keeps_high : Limits → List (Arc × ℕ) → Bool
+keeps_high limits flows = list_all (λ l. nat_le (inflow flows l.0) l.1.1) limits
+
+abbrev pub keeps_low : Limits → List (Arc × ℕ) → Bool
+keeps_low limits flows = list_all (λ l. nat_le l.1.0 (inflow flows l.0)) limits
+
 -- each point is placed, within the high limits and against no prohibition
 pub record IsPlaced (p : TransportProblem) (numbers : List ℕ) : Type 0 where
   pub whole : spends_all p.groups (length p.limits) numbers ≡ true
   pub allowed : is_free_of p.pricing (flows_of p numbers) ≡ true
-  pub high : All (λ l. inflow (flows_of p numbers) l.0 ≤ l.1.1) p.limits
+  pub high : keeps_high p.limits (flows_of p numbers) ≡ true
 
 -- the same, the low limits are met, and the certificate's numbers, one for each group and one for each name, prove the cost
 pub record IsProved (p : TransportProblem) (numbers : List ℕ) (c : DualPrices) : Type 0 where
   pub placed : IsPlaced p numbers
-  pub low : All (λ l. l.1.0 ≤ inflow (flows_of p numbers) l.0) p.limits
+  pub low : keeps_low p.limits (flows_of p numbers) ≡ true
   pub groups : keys_of c.alpha ≡ keys_of p.groups
   pub names : keys_of c.beta ≡ keys_of p.limits
   pub slack : first_broken p.pricing c ≡ None

@@ -1,20 +1,14 @@
 //! Instances: what a planner is given, and the tests of what it answers.
-ghost use Rattle.std.specs.Prelude.{◌≡◌, ◌≢◌, ◌<◌, ◌≤◌, ◌⊎◌, ◌↔◌, ◌^◌, List, ℕ, IsTrue, IfOk, IfErr, IsErrOf, length, map, string_bytes, sum_by};
-ghost use Rattle.bucket_core.specs.Rule.{Entries, total_weight, names_view};
+ghost use Rattle.std.specs.Prelude.{◌≡◌, ◌≤◌, ◌⊎◌, ◌↔◌, IfOk, IfErr, IsErrOf, length, sum_by};
+ghost use Rattle.bucket_core.specs.Rule.{total_weight};
 ghost use Rattle.price_core.specs.Limits.{limits_view};
-ghost use Rattle.transport_core.specs.Assignment.{HasAssignment, IsPlaced, IsProved, flows_of};
-ghost use Rattle.transport_core.specs.Certificate.{IsCertified, certificate_view};
-ghost use Rattle.transport_core.specs.Deficient.{IsDeficient};
-ghost use Rattle.transport_core.specs.Fits.{IsLeast};
 ghost use Rattle.transport_core.specs.Groups.{AreSizes, rows_view};
 ghost use Rattle.transport_core.specs.Instance.{IsProblem, MissTotal, max_names, max_planned_total};
 
-use crate::assignment::Assignment;
-use crate::certificate::{Certificate, Cut};
 use crate::fault::CheckFault;
 use crate::groups::groups;
 use crate::rows::Row;
-use crate::totals::totals;
+use crate::totals::totals as totals_of;
 use book_core::Exposure;
 use bucket_core::Rule;
 use price_core::{Limit, Prices, Totals};
@@ -26,19 +20,22 @@ use std::marker::Model;
 #[derive(Drop)]
 pub struct Instance<'a> {
     groups: Vec<Row<'a>>,
+    // the points of each old name, by name
+    variants: Vec<(&'a str, u32)>,
     totals: &'a Totals,
     prices: &'a Prices,
 }
 
 impl<'a> Model for Instance<'a> {
     ghost use Rattle.transport_core.specs.Groups.{rows_view};
-    ghost use Rattle.transport_core.specs.Instance.{TransportProblem, IsProblem};
+    ghost use Rattle.transport_core.specs.Instance.{TransportProblem, IsProblem, AreGroupTotals};
+    ghost use Rattle.transport_core.specs.Rows.{totals_view};
 
     ghost Value = { TransportProblem };
 
     ghost view = { λ i. record { groups = rows_view i.groups.items; limits = i.totals.now; pricing = i.prices.now } };
 
-    ghost invariant = { λ i. IsProblem (record { groups = rows_view i.groups.items; limits = i.totals.now; pricing = i.prices.now }) };
+    ghost invariant = { λ i. IsProblem (record { groups = rows_view i.groups.items; limits = i.totals.now; pricing = i.prices.now }) × AreGroupTotals (rows_view i.groups.items) (totals_view i.variants.items) };
 }
 
 impl<'a> Instance<'a> {
@@ -66,8 +63,10 @@ impl<'a> Instance<'a> {
             return Err(CheckFault::Totals);
         }
         let groups = groups(alloc, old, exposure.inputs())?;
+        let variants = totals_of(alloc, old)?;
         Ok(Instance {
             groups,
+            variants,
             totals,
             prices,
         })

@@ -1,5 +1,5 @@
 //! The tests of what a planner answers, on the instance alone.
-ghost use Rattle.std.specs.Prelude.{◌≡◌, ◌↔◌, List, ℕ, ⊥, IsTrue};
+ghost use Rattle.std.specs.Prelude.{◌≡◌, ◌↔◌, List, ℕ, IsTrue};
 ghost use Rattle.bucket_core.specs.Rule.{Entries, names_view};
 ghost use Rattle.transport_core.specs.Assignment.{HasAssignment, IsPlaced, IsProved, flows_of};
 ghost use Rattle.transport_core.specs.Certificate.{IsCertified, certificate_view};

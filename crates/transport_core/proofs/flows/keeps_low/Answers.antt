@@ -1,0 +1,39 @@
+use Rattle.std.proofs.Common.{◌≡◌, ◌==◌, ◌&&◌, ◌||◌, not, ◌+◌, ◌*◌, ◌∷◌, ℕ, List, [], drop, length, get_or, Bool, true, cond, sum_by, string_bytes, refl, sym, ap, ◌∙◌, subst, arith}
+use Rattle.std.specs.List.{slice_index_or}
+use Rattle.std.specs.Map.{keys_of}
+use Rattle.std.specs.Str.{bytes_eq}
+use Rattle.price_core.specs.Limits.{limit_view, limits_view}
+use Rattle.price_core.specs.Pricing.{price_of, is_forbidden}
+use Rattle.transport_core.specs.Assignment.{Arc, row_flows, arc_flows, spends_all, is_free_of, inflow, flow_cost, keeps_high, keeps_low}
+use Rattle.transport_core.specs.Groups.{row_view, rows_view}
+use Rattle.transport_core.proofs.Arcs.{next_of, spends_here, free_here, sum_here, row_here, element_here, no_row, no_points, not_barred, row_inflow, name_at_place, width_of}
+use Rattle.transport_core.proofs.Ranges.{from_here}
+use Rattle.std.proofs.lemmas.Bool.{le-leb, lt-leb}
+use Rattle.std.proofs.lemmas.List.Sums.{sum_by-cons}
+use Rattle.transport_core.proofs.flows.keeps_low.Goals as goal
+
+pub returns-then-inflow-from : goal.returns-then-inflow-from
+returns-then-inflow-from c =
+    let limits = c.args.limits.now in
+    let i = c.loop-place.place in
+    let l = c.index-limits-place.result in
+    let flows = arc_flows (keys_of (rows_view c.args.groups.now)) (keys_of (limits_view limits)) c.args.numbers.now in
+    let here = ap (λ ls. keeps_low (limits_view ls) flows) (from_here limits i l c.loop-place-test.true c.index-limits-place.is) in
+    let named = ap (inflow flows) (name_at_place limits i l c.loop-place-test.true c.index-limits-place.is) in
+    let later = keeps_low (limits_view (drop (i + 1) limits)) flows in
+    sym (sym c.loop-place.invariant.rest ∙ (here ∙ ap (λ b. b && later) (lt-leb (l.low) (inflow flows (string_bytes l.name)) (omega (arith, c.if-inflow-from.true, c.from.ensures, c.inflow.ensures, named)))))
+
+pub loop-place-preserved : goal.loop-place-preserved
+loop-place-preserved c =
+    let limits = c.args.limits.now in
+    let i = c.loop-place.place in
+    let l = c.index-limits-place.result in
+    let flows = arc_flows (keys_of (rows_view c.args.groups.now)) (keys_of (limits_view limits)) c.args.numbers.now in
+    let here = ap (λ ls. keeps_low (limits_view ls) flows) (from_here limits i l c.loop-place-test.true c.index-limits-place.is) in
+    let named = ap (inflow flows) (name_at_place limits i l c.loop-place-test.true c.index-limits-place.is) in
+    let later = keeps_low (limits_view (drop (i + 1) limits)) flows in
+    record {
+      rest = sym (here ∙ ap (λ b. b && later) (le-leb (l.low) (inflow flows (string_bytes l.name)) (omega (arith, c.if-inflow-from.false, c.from.ensures, c.inflow.ensures, named)))) ∙ c.loop-place.invariant.rest;
+      spent = c.loop-place.invariant.spent;
+      rise = c.loop-place.invariant.rise;
+    }
