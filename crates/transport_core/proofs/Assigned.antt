@@ -73,7 +73,7 @@ module _ {K : Type 0} (same : K → K → Bool) (only : (a b : K) → same a b �
   nothing f [] none = refl
   nothing f (r ∷ rows) none =
       let empty : r.1 ≡ 0 = omega (arith, none r.0, amount-cons r rows r.0, cond-true {A = ℕ} (same r.0 r.0) r.1 0 (self r.0)) in
-      let free : r.1 * f r.0 ≡ 0 = ap (λ n. n * f r.0) empty in
+      let free : r.1 * f r.0 ≡ 0 * f r.0 = ap (λ n. n * f r.0) empty in
       omega (arith, weigh-cons f r rows, free, nothing f rows (λ k. omega (arith, none k, amount-cons r rows k)))
 
   -- as many elements of each key as the rows have

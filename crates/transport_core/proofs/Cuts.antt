@@ -38,7 +38,7 @@ one_le true b next = omega (arith, ints, ap (λ (t : Bool). let n : ℕ = cond t
 one_le false b next = omega (arith, ints)
 
 -- a member of the set that may become the name
-reached : (pricing : Pricing) (names : List (List ℕ)) (from to : List ℕ) → is_forbidden pricing from to ≡ false → is_among names from ≡ true → list_any (λ a. may_become pricing a to) names ≡ true
+pub reached : (pricing : Pricing) (names : List (List ℕ)) (from to : List ℕ) → is_forbidden pricing from to ≡ false → is_among names from ≡ true → list_any (λ a. may_become pricing a to) names ≡ true
 reached pricing [] from to allowed among = among
 reached pricing (a ∷ names) from to allowed among =
     ⊎_elim

@@ -67,6 +67,10 @@ module _ (kind : CutKind) (old : Entries) (limits read : Limits) (pricing : Pric
       deficient_from kind old totals limits pricing names are (listed_from_test (keys_of limits) names (sym same ∙ passes))
       (subst (λ ns. Outnumbers kind totals limits pricing ns) names_are (subst (λ ls. Outnumbers kind totals ls pricing seen) limits_are more))
 
+  pub outnumbers_back : (totals : List (List ℕ × ℕ)) → AreTotals old totals → IsDeficient kind old limits pricing names → Outnumbers kind totals read pricing seen
+  outnumbers_back totals are deficient =
+      subst (λ ls. Outnumbers kind totals ls pricing seen) (sym limits_are) (subst (λ ns. Outnumbers kind totals limits pricing ns) (sym names_are) (outnumbers_from kind old totals limits pricing names are deficient))
+
   pub refuse_few : (totals : List (List ℕ × ℕ)) → AreTotals old totals → (Outnumbers kind totals read pricing seen → ⊥) → IsDeficient kind old limits pricing names → ⊥
   refuse_few totals are few deficient =
-      few (subst (λ ls. Outnumbers kind totals ls pricing seen) (sym limits_are) (subst (λ ns. Outnumbers kind totals limits pricing ns) (sym names_are) (outnumbers_from kind old totals limits pricing names are deficient)))
+      few (outnumbers_back totals are deficient)

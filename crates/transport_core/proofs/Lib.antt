@@ -16,4 +16,5 @@ pub mod NameTotals
 pub mod Pairs
 pub mod Placed
 pub mod Ranges
+pub mod Plans
 pub mod Runs

@@ -36,7 +36,7 @@ text_ties a b tie = (bytes_eq-Decides a b).1 (sym (name_ties b a tie))
 
 -- ---- the points whose name passes a test, entry by entry
 
-times : (b : Bool) (w : ℕ) → w * cond b 1 0 ≡ cond b w 0
+pub times : (b : Bool) (w : ℕ) → w * cond b 1 0 ≡ cond b w 0
 times true w = omega arith
 times false w = omega arith
 
@@ -81,7 +81,7 @@ whole-sorted rule weights sorted is moved = sum_by-IsPermutation (λ (r : Lent).
 
 -- ---- what is listed of a name
 
-bytes_eq-sym : (a b : List ℕ) → bytes_eq a b ≡ bytes_eq b a
+pub bytes_eq-sym : (a b : List ℕ) → bytes_eq a b ≡ bytes_eq b a
 bytes_eq-sym a b = same_from_decides (bytes_eq a b) (bytes_eq b a) (bytes_eq-Decides a b) (Decides-like (bytes_eq b a) sym sym (bytes_eq-Decides b a))
 
 count-turned : (name : List ℕ) (ns : List (List ℕ)) → count_by (bytes_eq name) ns ≡ count_by (λ n. bytes_eq n name) ns

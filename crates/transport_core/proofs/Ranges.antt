@@ -38,7 +38,7 @@ count-none : (a n : ℕ) → count_by (λ (p : ℕ). false) (range_with_len a n)
 count-none a zero = refl
 count-none a (suc n) = omega (arith, sum_by-cons (λ (p : ℕ). 0) a (range_with_len (a + 1) n), count-none (a + 1) n)
 
-count-all : (a n : ℕ) → count_by (λ (p : ℕ). true) (range_with_len a n) ≡ n
+pub count-all : (a n : ℕ) → count_by (λ (p : ℕ). true) (range_with_len a n) ≡ n
 count-all a zero = refl
 count-all a (suc n) = omega (arith, sum_by-cons (λ (p : ℕ). 1) a (range_with_len (a + 1) n), count-all (a + 1) n)
 

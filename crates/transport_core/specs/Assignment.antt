@@ -1,5 +1,5 @@
 -- Assignments: how many points of each group are given each name, and what makes one certified.
-use Rattle.std.specs.Prelude.{◌≡◌, ◌==◌, ◌&&◌, ◌||◌, ◌+ℤ◌, ℕ, ◌+◌, ◌*◌, ◌≤◌, pos, Bool, true, not, List, [], ◌∷◌, ◌++◌, map, length, take, drop, sum, sum_by, count_by, nat_le, if◌then◌else◌, None, unwrap_or}
+use Rattle.std.specs.Prelude.{◌≡◌, ◌==◌, ◌&&◌, ◌||◌, ◌+ℤ◌, ℕ, ◌*◌, ℤ, pos, Bool, true, not, List, [], ◌∷◌, ◌++◌, map, length, take, drop, sum, sum_by, count_by, nat_le, if◌then◌else◌, unwrap_or}
 use Rattle.std.specs.List.{list_all, range_with_len, zip}
 use Rattle.std.specs.Map.{keys_of}
 use Rattle.std.specs.Str.{bytes_eq}
@@ -9,7 +9,7 @@ use Rattle.price_core.specs.Pricing.{Pricing, price_of, is_forbidden}
 use Rattle.transport_core.specs.Certificate.{DualPrices, group_sum, gains, losses}
 use Rattle.transport_core.specs.Groups.{GroupKey, is_same_group, group_at}
 use Rattle.transport_core.specs.Instance.{TransportProblem}
-use Rattle.transport_core.specs.Refusals.{first_broken}
+use Rattle.transport_core.specs.Refusals.{is_broken}
 use Rattle.transport_core.specs.Rows.{amount_of}
 
 -- an arc of the network: from a group to a name
@@ -64,18 +64,26 @@ keeps_high limits flows = list_all (λ l. nat_le (inflow flows l.0) l.1.1) limit
 abbrev pub keeps_low : Limits → List (Arc × ℕ) → Bool
 keeps_low limits flows = list_all (λ l. nat_le l.1.0 (inflow flows l.0)) limits
 
+-- no group and name that an allowed change joins have numbers that sum to more than it costs
+abbrev pub has_slack : Pricing → List (GroupKey × ℤ) → List (List ℕ × ℤ) → Bool
+has_slack pricing alpha beta = list_all (λ b. list_all (λ a. not (is_broken pricing (a, b))) alpha) beta
+
 -- each point is placed, within the high limits and against no prohibition
 pub record IsPlaced (p : TransportProblem) (numbers : List ℕ) : Type 0 where
   pub whole : spends_all p.groups (length p.limits) numbers ≡ true
   pub allowed : is_free_of p.pricing (flows_of p numbers) ≡ true
   pub high : keeps_high p.limits (flows_of p numbers) ≡ true
 
--- the same, the low limits are met, and the certificate's numbers, one for each group and one for each name, prove the cost
+-- the certificate's numbers are one for each group and one for each name, have slack, and sum to the cost
+pub record AreDualNumbers (p : TransportProblem) (c : DualPrices) : Type 0 where
+  pub groups : keys_of c.alpha ≡ keys_of p.groups
+  pub names : keys_of c.beta ≡ keys_of p.limits
+  pub slack : has_slack p.pricing c.alpha c.beta ≡ true
+  pub sum : ((group_sum p.groups c.alpha +ℤ gains p.limits c.beta) +ℤ losses p.limits c.beta) ≡ pos c.cost
+
+-- each point is placed within all limits, and the certificate's numbers prove the cost
 pub record IsProved (p : TransportProblem) (numbers : List ℕ) (c : DualPrices) : Type 0 where
   pub placed : IsPlaced p numbers
   pub low : keeps_low p.limits (flows_of p numbers) ≡ true
-  pub groups : keys_of c.alpha ≡ keys_of p.groups
-  pub names : keys_of c.beta ≡ keys_of p.limits
-  pub slack : first_broken p.pricing c ≡ None
-  pub sum : ((group_sum p.groups c.alpha +ℤ gains p.limits c.beta) +ℤ losses p.limits c.beta) ≡ pos c.cost
   pub cost : flow_cost p.pricing (flows_of p numbers) ≡ c.cost
+  pub duals : AreDualNumbers p c

@@ -45,7 +45,7 @@ pub fn check_cut(
 }
 
 /// Whether the set is deficient by its kind, where its names have limits.
-fn outnumbers(
+pub(crate) fn outnumbers(
     kind: CutKind,
     totals: &[(&str, u32)],
     limits: &[Limit],
@@ -61,7 +61,7 @@ fn outnumbers(
 }
 
 /// Whether each name of the set has limits.
-fn are_listed(names: &[String], limits: &[Limit]) -> bool
+pub(crate) fn are_listed(names: &[String], limits: &[Limit]) -> bool
     ensures { result ≡ list_all (λ name. list_any (bytes_eq name) (keys_of (limits_view limits.now))) (names_view names.now) }
 {
     for name in names {

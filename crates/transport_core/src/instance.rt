@@ -3,7 +3,8 @@ ghost use Rattle.std.specs.Prelude.{◌≡◌, ◌≤◌, ◌⊎◌, ◌↔◌, 
 ghost use Rattle.bucket_core.specs.Rule.{total_weight};
 ghost use Rattle.price_core.specs.Limits.{limits_view};
 ghost use Rattle.transport_core.specs.Groups.{AreSizes, rows_view};
-ghost use Rattle.transport_core.specs.Instance.{IsProblem, MissTotal, max_names, max_planned_total};
+ghost use Rattle.transport_core.specs.Instance.{IsProblem, AreGroupTotals, MissTotal, max_names, max_planned_total};
+ghost use Rattle.transport_core.specs.Rows.{totals_view};
 
 use crate::fault::CheckFault;
 use crate::groups::groups;
@@ -78,6 +79,13 @@ impl<'a> Instance<'a> {
         ensures lawful { IsProblem self.now }
     {
         self.groups.as_slice()
+    }
+
+    /// The points of each old name, by name.
+    pub(crate) fn variants(&self) -> &[(&'a str, u32)]
+        ensures { AreGroupTotals self.now.groups (totals_view result.now) }
+    {
+        self.variants.as_slice()
     }
 
     /// The limits of each name, by name.

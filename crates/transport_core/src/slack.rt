@@ -1,5 +1,8 @@
-ghost use Rattle.std.specs.Prelude.{◌≡◌, None, MatchResult, find, option_map, string_bytes};
-ghost use Rattle.transport_core.specs.Certificate.{alpha_row, alpha_view, beta_view};
+ghost use Rattle.std.specs.Prelude.{◌≡◌, ◌≤◌, ◌*◌, ◌+ℤ◌, pos, not, int_lt, None, MatchResult, find, option_map, string_bytes};
+ghost use Rattle.std.specs.List.{list_all};
+ghost use Rattle.price_core.specs.Pricing.{max_price};
+ghost use Rattle.transport_core.specs.Assignment.{has_slack};
+ghost use Rattle.transport_core.specs.Certificate.{alpha_row, alpha_view, beta_row, beta_view};
 ghost use Rattle.transport_core.specs.Refusals.{is_broken, pairs_of, ReportsBroken};
 
 use crate::fault::CheckFault;
@@ -50,7 +53,51 @@ fn broken_by<'a>(
 fn is_broken(name: &str, count: u32, alpha: i64, variant: &str, beta: i64, prices: &Prices) -> bool
     ensures { result ≡ is_broken prices.now (((name.now, count), alpha), (variant.now, beta)) }
 {
-    let cost = u64::from(count) * prices.price(name, variant);
-    let sum = i128::from(alpha) + i128::from(beta);
-    !prices.forbidden(name, variant) && i128::from(cost) < sum
+    !prices.forbidden(name, variant) && exceed(count, prices.price(name, variant), alpha, beta)
+}
+
+/// Whether the numbers sum to more than so many inputs pay.
+fn exceed(count: u32, price: u64, alpha: i64, beta: i64) -> bool
+    requires { price ≤ max_price }
+    ensures { result ≡ int_lt (pos (count * price)) (alpha +ℤ beta) }
+{
+    i128::from(u64::from(count) * price) < i128::from(alpha) + i128::from(beta)
+}
+
+/// Whether no group and name that an allowed change joins have numbers that sum to more than it costs. Groups of one variant
+/// stand beside each other, so that a price is looked up once for each variant and name.
+pub(crate) fn has_slack(
+    alpha: &[(String, u32, i64)],
+    beta: &[(String, i64)],
+    prices: &Prices,
+) -> bool
+    ensures { result ≡ has_slack prices.now (alpha_view alpha.now) (beta_view beta.now) }
+{
+    for name in beta {
+        if !has_slack_at(name, alpha, prices) {
+            return false;
+        }
+    }
+    true
+}
+
+/// The same, for one name.
+fn has_slack_at(name: &(String, i64), alpha: &[(String, u32, i64)], prices: &Prices) -> bool
+    ensures { result ≡ list_all (λ a. not (is_broken prices.now (a, beta_row name.now))) (alpha_view alpha.now) }
+{
+    let to = name.0.as_str();
+    let mut from = "";
+    let mut forbidden = prices.forbidden(from, to);
+    let mut price = prices.price(from, to);
+    for group in alpha {
+        if group.0.as_str() != from {
+            from = group.0.as_str();
+            forbidden = prices.forbidden(from, to);
+            price = prices.price(from, to);
+        }
+        if !forbidden && exceed(group.1, price, group.2, name.1) {
+            return false;
+        }
+    }
+    true
 }

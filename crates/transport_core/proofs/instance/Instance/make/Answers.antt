@@ -1,0 +1,35 @@
+use Rattle.std.proofs.Common.{◌≡◌, ◌<◌, ◌^◌, ℕ, List, length, map, true, false, IsTrue, string_bytes, sum_by, refl, sym, ap, ◌∙◌, subst, arith}
+use Rattle.std.proofs.lemmas.Bool.{false≢true}
+use Rattle.bucket_core.specs.Rule.{names_view}
+use Rattle.price_core.specs.Limits.{Limits, limits_view}
+use Rattle.price_core.specs.Pricing.{Pricing}
+use Rattle.transport_core.specs.Assignment.{IsPlaced, IsProved, AreDualNumbers}
+use Rattle.transport_core.specs.Certificate.{alpha_view, beta_view, certificate_view}
+use Rattle.transport_core.specs.Deficient.{Outnumbers, IsDeficient}
+use Rattle.transport_core.specs.Groups.{AreSizes, rows_view}
+use Rattle.transport_core.specs.Instance.{TransportProblem}
+use Rattle.transport_core.specs.Rows.{whole_amount, totals_view}
+use Rattle.transport_core.proofs.Certified.{same_lists, other_lists, group_decides}
+use Rattle.transport_core.proofs.Deficits.{accept, refuse_unlisted, outnumbers_back}
+use Rattle.transport_core.proofs.Plans.{same_problem, certified_by, least_by, none_over, whole-groups, group_totals, totals_are, few_groups}
+use Rattle.transport_core.proofs.instance.Instance.make.Goals as goal
+
+pub invariant_of-result : goal.invariant_of-result
+invariant_of-result c =
+    let old = c.args.old.now in
+    let inputs = map string_bytes c.inputs.result.now in
+    let groups = rows_view c.in_ok-groups.groups.items in
+    let sizes = c.in_ok-groups.ensures.sizes in
+    let whole = whole-groups old inputs groups sizes in
+    let lows = ap (λ (ls : Limits). sum_by (λ l. l.1.0) ls) c.entries-limits.ensures.value in
+    let highs = ap (λ (ls : Limits). sum_by (λ l. l.1.1) ls) c.entries-limits.ensures.value in
+    (record {
+      limits = c.entries-limits.ensures.lawful;
+      names = c.requires.names;
+      rise = sizes.rise;
+      sizes = sizes.some;
+      some = omega (arith, whole, c.total.ensures.value, c.total.ensures.allowed.some);
+      small = omega (arith, whole, c.requires.small);
+      lows = omega (arith, whole, lows, c.total.ensures.value, c.from-total.ensures, c.low_sum.ensures, c.if-total-low_sum.false);
+      highs = omega (arith, whole, highs, c.total.ensures.value, c.from-total.ensures, c.high_sum.ensures, c.if-high_sum-total.false);
+    }, group_totals old inputs groups sizes (totals_view c.in_ok-variants.variants.items) c.in_ok-variants.ensures)
