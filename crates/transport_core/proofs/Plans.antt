@@ -145,6 +145,11 @@ same_problem p groups limits pricing groups_are limits_are pricing_is =
     ∙ (ap (λ (ls : Limits). let q : TransportProblem = record { groups = p.groups; limits = ls; pricing = pricing } in q) limits_are
     ∙ ap (λ (pr : Pricing). let q : TransportProblem = record { groups = p.groups; limits = p.limits; pricing = pr } in q) pricing_is)
 
+pub same_numbers : (c : DualPrices) (alpha : List (GroupKey × ℤ)) (beta : List (List ℕ × ℤ)) → alpha ≡ c.alpha → beta ≡ c.beta → record { alpha = alpha; beta = beta; cost = c.cost } ≡ c
+same_numbers c alpha beta alpha_is beta_is =
+    ap (λ (xs : List (GroupKey × ℤ)). let d : DualPrices = record { alpha = xs; beta = beta; cost = c.cost } in d) alpha_is
+    ∙ ap (λ (xs : List (List ℕ × ℤ)). let d : DualPrices = record { alpha = c.alpha; beta = xs; cost = c.cost } in d) beta_is
+
 -- ---- limits
 
 lows_from : (limits : Limits) (bound : List ℕ → ℕ) (name : List ℕ) → list_all (λ l. nat_le l.1.0 (bound l.0)) limits ≡ true → low_of limits name ≤ bound name
@@ -264,7 +269,8 @@ row-sum g test [] [] same = sym (nothing_of (test g) 0 refl)
 row-sum g test [] (k ∷ row) same = absurd (omega arith)
 row-sum g test (n ∷ names) [] same = absurd (omega arith)
 row-sum g test (n ∷ names) (k ∷ row) same =
-    omega (arith, sum_by-cons (λ (f : Arc × ℕ). cond (test f.0.0) f.1 0) ((g, n), k) (row_flows g names row), sum_by-cons (λ (m : ℕ). m) k row, added (test g) k (sum row), row-sum g test names row (omega arith))
+    let size = ap (λ (m : ℕ). let r : ℕ = cond (test g) m 0 in r) (sum_by-cons (λ (m : ℕ). m) k row) in
+    omega (arith, sum_by-cons (λ (f : Arc × ℕ). cond (test f.0.0) f.1 0) ((g, n), k) (row_flows g names row), size, added (test g) k (sum row), row-sum g test names row (omega arith))
 
 groups-sum : (test : GroupKey → Bool) (groups : List (GroupKey × ℕ)) (names : List (List ℕ)) (numbers : List ℕ) → spends_all groups (length names) numbers ≡ true → sum_by (λ g. cond (test g.0) g.1 0) groups ≡ sum_by (λ (f : Arc × ℕ). cond (test f.0.0) f.1 0) (arc_flows (keys_of groups) names numbers)
 groups-sum test [] names numbers spent = refl

@@ -5,7 +5,7 @@ use Rattle.std.specs.Map.{keys_of}
 use Rattle.bucket_core.specs.Rule.{Entries, total_weight, total_of}
 use Rattle.price_core.specs.Cost.{cost_of, first_forbidden_of}
 use Rattle.price_core.specs.Limits.{Limits, low_of, high_of}
-use Rattle.price_core.specs.Pricing.{Pricing, price_of, is_forbidden}
+use Rattle.price_core.specs.Pricing.{Pricing, price_of, is_forbidden, max_price}
 use Rattle.transport_core.specs.Certificate.{DualPrices, alpha_at, beta_of}
 use Rattle.transport_core.specs.Dual.{least_value}
 use Rattle.transport_core.specs.Fits.{Fits}
@@ -30,6 +30,12 @@ pairs_of alpha beta = flat_map (λ a. map (λ b. (a, b)) beta) alpha
 -- the change is not forbidden, and the numbers of the group and the name sum to more than it costs
 abbrev pub is_broken : Pricing → (GroupKey × ℤ) × (List ℕ × ℤ) → Bool
 is_broken pricing pair = not (is_forbidden pricing pair.0.0.0 pair.1.0) && int_lt (pos (pair.0.0.1 * price_of pricing pair.0.0.0 pair.1.0)) (pair.0.1 +ℤ pair.1.1)
+
+-- what a change from one name to another costs, and whether it is forbidden
+pub record IsToll (pricing : Pricing) (to from : List ℕ) (barred : Bool) (price : ℕ) : Type 0 where
+  pub forbidden : barred ≡ is_forbidden pricing from to
+  pub amount : price ≡ price_of pricing from to
+  pub small : price ≤ max_price
 
 -- the first pair whose slack is negative
 abbrev pub first_broken : Pricing → DualPrices → Option ((GroupKey × ℤ) × (List ℕ × ℤ))

@@ -1,9 +1,9 @@
-ghost use Rattle.std.specs.Prelude.{◌≡◌, ◌≤◌, ◌*◌, ◌+ℤ◌, pos, not, int_lt, None, MatchResult, find, option_map, string_bytes};
+ghost use Rattle.std.specs.Prelude.{◌≡◌, ◌≤◌, ◌*◌, ◌+ℤ◌, ◌&&◌, pos, not, int_lt, None, MatchResult, find, option_map, string_bytes};
 ghost use Rattle.std.specs.List.{list_all};
 ghost use Rattle.price_core.specs.Pricing.{max_price};
 ghost use Rattle.transport_core.specs.Assignment.{has_slack};
 ghost use Rattle.transport_core.specs.Certificate.{alpha_row, alpha_view, beta_row, beta_view};
-ghost use Rattle.transport_core.specs.Refusals.{is_broken, pairs_of, ReportsBroken};
+ghost use Rattle.transport_core.specs.Refusals.{is_broken, pairs_of, IsToll, ReportsBroken};
 
 use crate::fault::CheckFault;
 use price_core::Prices;
@@ -53,7 +53,48 @@ fn broken_by<'a>(
 fn is_broken(name: &str, count: u32, alpha: i64, variant: &str, beta: i64, prices: &Prices) -> bool
     ensures { result ≡ is_broken prices.now (((name.now, count), alpha), (variant.now, beta)) }
 {
-    !prices.forbidden(name, variant) && exceed(count, prices.price(name, variant), alpha, beta)
+    let toll = charge(name, variant, prices);
+    !toll.forbidden && exceed(count, toll.price, alpha, beta)
+}
+
+/// What an input pays for a change from a variant to the name at hand.
+#[derive(Clone, Copy)]
+struct Toll<'a> {
+    from: &'a str,
+    forbidden: bool,
+    price: u64,
+}
+
+fn charge<'a>(from: &'a str, to: &str, prices: &Prices) -> Toll<'a>
+    ensures from { result.from.now ≡ from.now }
+    ensures toll { IsToll prices.now to.now result.from.now result.forbidden result.price }
+{
+    Toll {
+        from,
+        forbidden: prices.forbidden(from, to),
+        price: prices.price(from, to),
+    }
+}
+
+/// The toll from a variant, which is known where it is that of the variant before.
+fn charge_from<'a>(known: Toll<'a>, from: &'a str, to: &str, prices: &Prices) -> Toll<'a>
+    requires { IsToll prices.now to.now known.from.now known.forbidden known.price }
+    ensures from { result.from.now ≡ from.now }
+    ensures toll { IsToll prices.now to.now result.from.now result.forbidden result.price }
+{
+    if known.from == from {
+        known
+    } else {
+        charge(from, to, prices)
+    }
+}
+
+/// Whether the change is not forbidden, and the numbers of the group and of the name sum to more than it costs.
+fn is_passed(toll: &Toll, group: &(String, u32, i64), name: &(String, i64)) -> bool
+    requires { toll.now.price ≤ max_price }
+    ensures { result ≡ (not toll.now.forbidden && int_lt (pos ((alpha_row group.now).0.1 * toll.now.price)) ((alpha_row group.now).1 +ℤ (beta_row name.now).1)) }
+{
+    !toll.forbidden && exceed(group.1, toll.price, group.2, name.1)
 }
 
 /// Whether the numbers sum to more than so many inputs pay.
@@ -85,17 +126,10 @@ pub(crate) fn has_slack(
 fn has_slack_at(name: &(String, i64), alpha: &[(String, u32, i64)], prices: &Prices) -> bool
     ensures { result ≡ list_all (λ a. not (is_broken prices.now (a, beta_row name.now))) (alpha_view alpha.now) }
 {
-    let to = name.0.as_str();
-    let mut from = "";
-    let mut forbidden = prices.forbidden(from, to);
-    let mut price = prices.price(from, to);
+    let mut known = charge("", name.0.as_str(), prices);
     for group in alpha {
-        if group.0.as_str() != from {
-            from = group.0.as_str();
-            forbidden = prices.forbidden(from, to);
-            price = prices.price(from, to);
-        }
-        if !forbidden && exceed(group.1, price, group.2, name.1) {
+        known = charge_from(known, group.0.as_str(), name.0.as_str(), prices);
+        if is_passed(&known, group, name) {
             return false;
         }
     }

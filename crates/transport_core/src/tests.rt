@@ -231,3 +231,8 @@ fn numbers_and_names(rt: HostRuntime) -> Result<(), Fail> {
     weak_duality();
     Ok(())
 }
+
+/// The instance of the old rule red 5, blue 5 and the seven inputs, with totals red 1, blue 5, green 4 and no change of red
+/// to green: 2 red points without inputs change, and the red ones of 1, 1 and 0 inputs.
+const NO_RED_TO_GREEN_1: &[u8] =
+    b"{\"plan\":1,\"flag\":\"color\",\"totals\":{\"red\":1,\"blue\":5,\"green\":4},\"forbid\":[[\"red\",\"green\"]]}";

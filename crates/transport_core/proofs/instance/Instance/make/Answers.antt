@@ -22,14 +22,16 @@ invariant_of-result c =
     let sizes = c.in_ok-groups.ensures.sizes in
     let whole = whole-groups old inputs groups sizes in
     let lows = ap (λ (ls : Limits). sum_by (λ l. l.1.0) ls) c.entries-limits.ensures.value in
-    let highs = ap (λ (ls : Limits). sum_by (λ l. l.1.1) ls) c.entries-limits.ensures.value in
-    (record {
-      limits = c.entries-limits.ensures.lawful;
-      names = c.requires.names;
-      rise = sizes.rise;
-      sizes = sizes.some;
-      some = omega (arith, whole, c.total.ensures.value, c.total.ensures.allowed.some);
-      small = omega (arith, whole, c.requires.small);
-      lows = omega (arith, whole, lows, c.total.ensures.value, c.from-total.ensures, c.low_sum.ensures, c.if-total-low_sum.false);
-      highs = omega (arith, whole, highs, c.total.ensures.value, c.from-total.ensures, c.high_sum.ensures, c.if-high_sum-total.false);
-    }, group_totals old inputs groups sizes (totals_view c.in_ok-variants.variants.items) c.in_ok-variants.ensures)
+    let highs = ap (λ (ls : Limits). sum_by (λ l. l.1.1) ls) c.entries-limits.ensures.value in (
+      record {
+        limits = c.entries-limits.ensures.lawful;
+        names = c.requires.names;
+        rise = sizes.rise;
+        sizes = sizes.some;
+        some = omega (arith, whole, c.total.ensures.value, c.total.ensures.allowed.some);
+        small = omega (arith, whole, c.requires.small);
+        lows = omega (arith, whole, lows, c.total.ensures.value, c.from-total.ensures, c.low_sum.ensures, c.if-total-low_sum.false);
+        highs = omega (arith, whole, highs, c.total.ensures.value, c.from-total.ensures, c.high_sum.ensures, c.if-high_sum-total.false);
+      },
+      group_totals old inputs groups sizes (totals_view c.in_ok-variants.variants.items) c.in_ok-variants.ensures,
+    )

@@ -1,0 +1,61 @@
+use Rattle.std.proofs.Common.{◌≡◌, ◌<◌, ◌^◌, ℕ, List, length, map, true, false, IsTrue, string_bytes, sum_by, refl, sym, ap, ◌∙◌, subst, arith}
+use Rattle.std.proofs.lemmas.Bool.{false≢true}
+use Rattle.bucket_core.specs.Rule.{names_view}
+use Rattle.price_core.specs.Limits.{Limits, limits_view}
+use Rattle.price_core.specs.Pricing.{Pricing}
+use Rattle.transport_core.specs.Assignment.{IsPlaced, IsProved, AreDualNumbers}
+use Rattle.transport_core.specs.Certificate.{alpha_view, beta_view, certificate_view}
+use Rattle.transport_core.specs.Deficient.{Outnumbers, IsDeficient}
+use Rattle.transport_core.specs.Groups.{AreSizes, rows_view}
+use Rattle.transport_core.specs.Instance.{TransportProblem}
+use Rattle.transport_core.specs.Rows.{whole_amount, totals_view}
+use Rattle.transport_core.proofs.Certified.{same_lists, other_lists, group_decides}
+use Rattle.transport_core.proofs.Deficits.{accept, refuse_unlisted, outnumbers_back}
+use Rattle.transport_core.proofs.Plans.{same_problem, certified_by, least_by, none_over, whole-groups, group_totals, totals_are, few_groups}
+use Rattle.std.specs.Map.{keys_of}
+use Rattle.std.specs.Str.{bytes_eq}
+use Rattle.std.proofs.lemmas.Slice.Eq.{bytes_eq-Decides}
+use Rattle.transport_core.specs.Certificate.{DualPrices}
+use Rattle.transport_core.specs.Groups.{is_same_group}
+use Rattle.transport_core.proofs.Plans.{same_numbers}
+use Rattle.transport_core.proofs.proving.are_duals.Goals as goal
+
+pub returns-then-not-are_groups : goal.returns-then-not-are_groups
+returns-then-not-are_groups c =
+    let p : TransportProblem = record { groups = rows_view c.args.groups.now; limits = limits_view c.args.limits.now; pricing = c.args.prices.now } in
+    let alpha = alpha_view c.as_slice-alpha.result.now in
+    let beta = beta_view c.as_slice-beta.result.now in
+    let cost = c.args.certificate.now.cost in
+    let seen : DualPrices = record { alpha = alpha; beta = beta; cost = cost } in
+    let plan = certificate_view c.args.certificate.now in
+    let same : seen ≡ plan = same_numbers plan alpha beta (ap alpha_view c.as_slice-alpha.ensures.value) (ap beta_view c.as_slice-beta.ensures.value) in
+    (λ yes. absurd (false≢true yes), λ duals. absurd (other_lists is_same_group group_decides (keys_of alpha) (keys_of p.groups) (sym c.if-not-are_groups.ensures) (subst (λ (d : DualPrices). AreDualNumbers p d) (sym same) duals).groups))
+
+pub returns-then-not-are_names : goal.returns-then-not-are_names
+returns-then-not-are_names c =
+    let p : TransportProblem = record { groups = rows_view c.args.groups.now; limits = limits_view c.args.limits.now; pricing = c.args.prices.now } in
+    let alpha = alpha_view c.as_slice-alpha.result.now in
+    let beta = beta_view c.as_slice-beta.result.now in
+    let cost = c.args.certificate.now.cost in
+    let seen : DualPrices = record { alpha = alpha; beta = beta; cost = cost } in
+    let plan = certificate_view c.args.certificate.now in
+    let same : seen ≡ plan = same_numbers plan alpha beta (ap alpha_view c.as_slice-alpha.ensures.value) (ap beta_view c.as_slice-beta.ensures.value) in
+    (λ yes. absurd (false≢true yes), λ duals. absurd (other_lists bytes_eq bytes_eq-Decides (keys_of beta) (keys_of p.limits) (sym c.if-not-are_names.ensures) (subst (λ (d : DualPrices). AreDualNumbers p d) (sym same) duals).names))
+
+pub returns : goal.returns
+returns c =
+    let p : TransportProblem = record { groups = rows_view c.args.groups.now; limits = limits_view c.args.limits.now; pricing = c.args.prices.now } in
+    let alpha = alpha_view c.as_slice-alpha.result.now in
+    let beta = beta_view c.as_slice-beta.result.now in
+    let cost = c.args.certificate.now.cost in
+    let seen : DualPrices = record { alpha = alpha; beta = beta; cost = cost } in
+    let plan = certificate_view c.args.certificate.now in
+    let same : seen ≡ plan = same_numbers plan alpha beta (ap alpha_view c.as_slice-alpha.ensures.value) (ap beta_view c.as_slice-beta.ensures.value) in (
+      λ yes. subst (λ (d : DualPrices). AreDualNumbers p d) same (record {
+        groups = same_lists is_same_group group_decides (keys_of alpha) (keys_of p.groups) (sym c.if-not-are_groups.ensures);
+        names = same_lists bytes_eq bytes_eq-Decides (keys_of beta) (keys_of p.limits) (sym c.if-not-are_names.ensures);
+        slack = sym c.if-not-has_slack.ensures;
+        sum = c.sums_to.ensures.0 yes;
+      }),
+      λ duals. c.sums_to.ensures.1 (subst (λ (d : DualPrices). AreDualNumbers p d) (sym same) duals).sum,
+    )
