@@ -14,14 +14,17 @@ use book_core::Exposure;
 use bucket_core::Rule;
 use price_core::{Prices, Totals, first_forbidden, switch_cost};
 use std::alloc::Global;
+use std::thread::Threads;
 
 /// Checks that a new rule fits the request and that a certificate proves its cost for the inputs, so that no rule which
 /// fits costs less. It refuses, in this order, with `Weight` (the rules differ in their totals), `Totals` (a total is outside
 /// its limits), `Forbidden` (the least point whose change is), `Groups` (the numbers are not those of exactly the groups and
 /// names), `Slack` (the first group and name whose numbers sum to more than the change costs), `Sum` (the numbers do not sum
 /// to the cost), `Cost` (the rule's cost is another). It goes over runs of points and over groups, in `O(n log n)` steps at n
-/// entries and inputs, and `O(k)` look-ups of a price for each group, at k names.
+/// entries and inputs, and `O(k)` look-ups of a price for each group, at k names. The inputs are priced by as many threads as
+/// there are processors.
 pub fn check_plan(
+    rt: &(impl Threads + Sync),
     alloc: Global,
     old: &Rule,
     new: &Rule,
@@ -39,7 +42,7 @@ pub fn check_plan(
     let _limits = totals.entries();
     check_rule(alloc, old, new, totals, prices)?;
     check_duals(alloc, old, totals, prices, exposure.inputs(), certificate)?;
-    let cost = switch_cost(alloc, old, new, exposure, prices)?;
+    let cost = switch_cost(rt, alloc, old, new, exposure, prices)?;
     if cost != certificate.cost {
         return Err(CheckFault::Cost);
     }

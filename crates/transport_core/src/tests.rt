@@ -5,6 +5,7 @@ use flag_text::read_tree;
 use price_core::{Request, Totals};
 use std::alloc::{AllocError, Global};
 use std::test::Fail;
+use std::thread::Threads;
 
 fn rule(alloc: Global, text: &[u8]) -> Result<Rule, Fail> {
     Ok(read_rule(alloc, &read_tree(alloc, text, 1000)?)?)
@@ -133,6 +134,7 @@ fn certificate(
 
 /// What the check says of a new rule for the old one red 5, blue 5.
 fn checked(
+    rt: &(impl Threads + Sync),
     alloc: Global,
     request: &[u8],
     new: &[u8],
@@ -144,7 +146,16 @@ fn checked(
     let variants = names(alloc, &["blue", "green", "red"])?;
     let totals: Totals = request.totals(alloc, variants.as_slice())?;
     let inputs = exposure(alloc, INPUTS.as_slice())?;
-    Ok(check_plan(alloc, &old, &new, &totals, request.prices(), &inputs, plan))
+    Ok(check_plan(
+        rt,
+        alloc,
+        &old,
+        &new,
+        &totals,
+        request.prices(),
+        &inputs,
+        plan,
+    ))
 }
 
 const NO_RED_TO_BLUE: &[u8] =
@@ -166,17 +177,18 @@ fn plans(rt: HostRuntime) -> Result<(), Fail> {
         ("red", 2, 0),
     ];
     let plan = certificate(alloc, free.as_slice(), ZERO.as_slice(), 0)?;
-    assert_eq!(rt; checked(alloc, FREE, BEST, &plan)?, Ok(()));
+    assert_eq!(rt; checked(&rt, alloc, FREE, BEST, &plan)?, Ok(()));
     assert_eq!(rt;
-        checked(alloc, FREE, b"[[\"red\",3],[\"blue\",6]]", &plan)?,
+        checked(&rt, alloc, FREE, b"[[\"red\",3],[\"blue\",6]]", &plan)?,
         Err(CheckFault::Weight)
     );
     assert_eq!(rt;
-        checked(alloc, FREE, b"[[\"red\",4],[\"blue\",6]]", &plan)?,
+        checked(&rt, alloc, FREE, b"[[\"red\",4],[\"blue\",6]]", &plan)?,
         Err(CheckFault::Totals)
     );
     assert_eq!(rt;
         checked(
+            &rt,
             alloc,
             FREE,
             b"[[\"red\",3],[\"blue\",6],[\"pink\",1]]",
@@ -185,11 +197,11 @@ fn plans(rt: HostRuntime) -> Result<(), Fail> {
         Err(CheckFault::Totals)
     );
     assert_eq!(rt;
-        checked(alloc, NO_RED_TO_BLUE, BEST, &plan)?,
+        checked(&rt, alloc, NO_RED_TO_BLUE, BEST, &plan)?,
         Err(CheckFault::Forbidden(2))
     );
     assert_eq!(rt;
-        checked(alloc, FREE, b"[[\"red\",3],[\"blue\",7]]", &plan)?,
+        checked(&rt, alloc, FREE, b"[[\"red\",3],[\"blue\",7]]", &plan)?,
         Err(CheckFault::Cost)
     );
     let mut high = free;
@@ -198,19 +210,31 @@ fn plans(rt: HostRuntime) -> Result<(), Fail> {
     let blue = String::from_str(alloc, "blue")?;
     let red = String::from_str(alloc, "red")?;
     assert_eq!(rt;
-        checked(alloc, FREE, BEST, &plan)?,
+        checked(&rt, alloc, FREE, BEST, &plan)?,
         Err(CheckFault::Slack(red, 0, blue))
     );
     let mut low = free;
     low[3] = ("red", 0, -1);
     let plan = certificate(alloc, low.as_slice(), ZERO.as_slice(), 0)?;
-    assert_eq!(rt; checked(alloc, FREE, BEST, &plan)?, Err(CheckFault::Sum));
+    assert_eq!(rt;
+        checked(&rt, alloc, FREE, BEST, &plan)?,
+        Err(CheckFault::Sum)
+    );
     let plan = certificate(alloc, &free[1..], ZERO.as_slice(), 0)?;
-    assert_eq!(rt; checked(alloc, FREE, BEST, &plan)?, Err(CheckFault::Groups));
+    assert_eq!(rt;
+        checked(&rt, alloc, FREE, BEST, &plan)?,
+        Err(CheckFault::Groups)
+    );
     let plan = certificate(alloc, free.as_slice(), &ZERO[1..], 0)?;
-    assert_eq!(rt; checked(alloc, FREE, BEST, &plan)?, Err(CheckFault::Groups));
+    assert_eq!(rt;
+        checked(&rt, alloc, FREE, BEST, &plan)?,
+        Err(CheckFault::Groups)
+    );
     let plan = certificate(alloc, free.as_slice(), ZERO.as_slice(), 1)?;
-    assert_eq!(rt; checked(alloc, FREE, BEST, &plan)?, Err(CheckFault::Sum));
+    assert_eq!(rt;
+        checked(&rt, alloc, FREE, BEST, &plan)?,
+        Err(CheckFault::Sum)
+    );
     Ok(())
 }
 
@@ -232,7 +256,135 @@ fn numbers_and_names(rt: HostRuntime) -> Result<(), Fail> {
     Ok(())
 }
 
-/// The instance of the old rule red 5, blue 5 and the seven inputs, with totals red 1, blue 5, green 4 and no change of red
-/// to green: 2 red points without inputs change, and the red ones of 1, 1 and 0 inputs.
-const NO_RED_TO_GREEN_1: &[u8] =
+/// The numbers by group and by name, of the groups blue with 0, 1 and 2 inputs and red with 0, 1 and 2, and of the names
+/// blue, green and red.
+fn assignment(alloc: Global, numbers: &[u32]) -> Result<Assignment, AllocError> {
+    Ok(Assignment {
+        numbers: Vec::from_slice(alloc, numbers)?,
+    })
+}
+
+const GREEN_4: &[u8] =
     b"{\"plan\":1,\"flag\":\"color\",\"totals\":{\"red\":1,\"blue\":5,\"green\":4},\"forbid\":[[\"red\",\"green\"]]}";
+
+#[test]
+fn proved_on_the_instance(rt: HostRuntime) -> Result<(), Fail> {
+    let alloc = rt.alloc();
+    let old = rule(alloc, b"[[\"red\",5],[\"blue\",5]]")?;
+    let request = Request::read(alloc, GREEN_4)?;
+    let variants = names(alloc, &["blue", "green", "red"])?;
+    let totals = request.totals(alloc, variants.as_slice())?;
+    let inputs = exposure(alloc, INPUTS.as_slice())?;
+    assert!(rt; old.total() <= 1_000_000);
+    assert!(rt; totals.entries().len() <= 64);
+    let instance = Instance::make(alloc, &old, &totals, request.prices(), &inputs)?;
+    assert!(rt;
+        instance.groups()
+            == [
+                (("blue", 0), 3),
+                (("blue", 1), 1),
+                (("blue", 2), 1),
+                (("red", 0), 2),
+                (("red", 1), 2),
+                (("red", 2), 1)
+            ]
+            .as_slice()
+    );
+    // the red points without inputs and with one become blue, and of the blue ones those with at most one become green
+    let cheapest = assignment(
+        alloc,
+        &[0, 3, 0, 0, 1, 0, 1, 0, 0, 2, 0, 0, 2, 0, 0, 0, 0, 1],
+    )?;
+    let alpha = [
+        ("blue", 0, -1),
+        ("blue", 1, 0),
+        ("blue", 2, 0),
+        ("red", 0, 0),
+        ("red", 1, 1),
+        ("red", 2, 1),
+    ];
+    let beta = [("blue", 0), ("green", 1), ("red", -1)];
+    let plan = certificate(alloc, alpha.as_slice(), beta.as_slice(), 3)?;
+    assert!(rt; instance.places(&cheapest));
+    assert!(rt; instance.proves(&cheapest, &plan));
+    // a red point with one input stays red, in place of the one with two
+    let dearer = assignment(
+        alloc,
+        &[0, 3, 0, 0, 1, 0, 1, 0, 0, 2, 0, 0, 1, 0, 1, 1, 0, 0],
+    )?;
+    assert!(rt; instance.places(&dearer));
+    assert!(rt; !instance.proves(&dearer, &plan));
+    // a red point becomes green
+    let forbidden = assignment(
+        alloc,
+        &[1, 2, 0, 0, 1, 0, 1, 0, 0, 1, 1, 0, 2, 0, 0, 0, 0, 1],
+    )?;
+    assert!(rt; !instance.places(&forbidden));
+    // a point has no place
+    let fewer = assignment(
+        alloc,
+        &[0, 3, 0, 0, 1, 0, 1, 0, 0, 2, 0, 0, 2, 0, 0, 0, 0, 0],
+    )?;
+    assert!(rt; !instance.places(&fewer));
+    let loose = certificate(alloc, alpha.as_slice(), ZERO.as_slice(), 0)?;
+    assert!(rt; !instance.proves(&cheapest, &loose));
+    Ok(())
+}
+
+/// Whether the instance of the old rule red 5, blue 5 finds a set of names deficient.
+fn deficient(
+    alloc: Global,
+    request: &[u8],
+    kind: CutKind,
+    set: &[&str],
+) -> Result<Option<bool>, Fail> {
+    let old = rule(alloc, b"[[\"red\",5],[\"blue\",5]]")?;
+    let request = Request::read(alloc, request)?;
+    let variants = names(alloc, &["blue", "green", "red"])?;
+    let totals = request.totals(alloc, variants.as_slice())?;
+    let inputs = exposure(alloc, INPUTS.as_slice())?;
+    let cut = Cut {
+        kind,
+        names: names(alloc, set)?,
+    };
+    if old.total() > 1_000_000 || totals.entries().len() > 64 {
+        return Ok(None);
+    }
+    match Instance::make(alloc, &old, &totals, request.prices(), &inputs) {
+        Ok(instance) => Ok(Some(instance.is_deficient(&cut))),
+        Err(CheckFault::Totals) => Ok(None),
+        Err(fault) => Err(fault.into()),
+    }
+}
+
+const TOO_MANY: &[u8] = b"{\"plan\":1,\"flag\":\"color\",\"totals\":{\"red\":3,\"blue\":8}}";
+
+const TOO_FEW: &[u8] = b"{\"plan\":1,\"flag\":\"color\",\"totals\":{\"red\":3,\"blue\":6}}";
+
+#[test]
+fn deficient_on_the_instance(rt: HostRuntime) -> Result<(), Fail> {
+    let alloc = rt.alloc();
+    assert_eq!(rt;
+        deficient(alloc, NO_RED_TO_GREEN, CutKind::Over, &["red"])?,
+        Some(true)
+    );
+    assert_eq!(rt;
+        deficient(alloc, NO_RED_TO_GREEN, CutKind::Over, &["blue"])?,
+        Some(false)
+    );
+    assert_eq!(rt;
+        deficient(alloc, RANGES, CutKind::Under, &["green"])?,
+        Some(true)
+    );
+    assert_eq!(rt;
+        deficient(alloc, FREE, CutKind::Over, &["blue", "red"])?,
+        Some(false)
+    );
+    assert_eq!(rt;
+        deficient(alloc, NO_RED_TO_GREEN, CutKind::Over, &["pink"])?,
+        Some(false)
+    );
+    assert_eq!(rt; deficient(alloc, TOO_MANY, CutKind::Over, &["red"])?, None);
+    assert_eq!(rt; deficient(alloc, TOO_FEW, CutKind::Over, &["red"])?, None);
+    Ok(())
+}
