@@ -165,7 +165,7 @@ first_counted (object no_members) c = c.expression
 first_counted (object (member k t no_members)) c = c.expression
 first_counted (object (member k t (member l u ms))) c = c.expression
 
-buckets_size-item : (t : Shape) (ts : Items) → buckets_size (item t ts) ≡ size.beside (place_size t) (buckets_size ts)
+pub buckets_size-item : (t : Shape) (ts : Items) → buckets_size (item t ts) ≡ size.beside (place_size t) (buckets_size ts)
 buckets_size-item null ts = refl
 buckets_size-item (boolean b) ts = refl
 buckets_size-item (whole n) ts = refl

@@ -11,22 +11,22 @@ abbrev pub Stands : Members → (List ℕ → Option Shape) → Type 0
 Stands evaluators s = (name : List ℕ) (v : Shape) → s name ≡ Some v → (t : Shape) × (find_member name evaluators ≡ Some t) × IsInlined evaluators t v
 
 -- what stands for a name in a form of depth n
-abbrev refer_at : Members → ℕ → List ℕ → Option Shape
+abbrev pub refer_at : Members → ℕ → List ℕ → Option Shape
 refer_at evaluators zero name = None
 refer_at evaluators (suc n) name = refers evaluators n name
 
-inlined-is : (evaluators : Members) (n : ℕ) (t : Shape) → inlined n evaluators t ≡ replaced (refer_at evaluators n) t
+pub inlined-is : (evaluators : Members) (n : ℕ) (t : Shape) → inlined n evaluators t ≡ replaced (refer_at evaluators n) t
 inlined-is evaluators zero t = refl
 inlined-is evaluators (suc n) t = refl
 
-refer_at-add : (evaluators : Members) (k n : ℕ) → Gains (refer_at evaluators n) (refer_at evaluators (k + n))
+pub refer_at-add : (evaluators : Members) (k n : ℕ) → Gains (refer_at evaluators n) (refer_at evaluators (k + n))
 refer_at-add evaluators k zero name v e = cc
 refer_at-add evaluators k (suc n) name v e =
     let z : suc (k + n) ≡ k + suc n = omega arith in
     let f = and_then_some (inlined n evaluators) (find_member name evaluators) v e in
     ap (λ d. refer_at evaluators d name) (sym z) ∙ (ap (option_and_then (inlined (k + n) evaluators)) f.1 ∙ inlined-add evaluators k n f.0 v f.2)
 
-refer_at-left : (evaluators : Members) (n k : ℕ) → Gains (refer_at evaluators n) (refer_at evaluators (n + k))
+pub refer_at-left : (evaluators : Members) (n k : ℕ) → Gains (refer_at evaluators n) (refer_at evaluators (n + k))
 refer_at-left evaluators n k name v e = ap (λ d. refer_at evaluators d name) (add_comm n k) ∙ refer_at-add evaluators k n name v e
 
 object_inlined : (evaluators : Members) (s : List ℕ → Option Shape) → Stands evaluators s → (o : Option (List ℕ)) (ms : Members) (u : Shape)

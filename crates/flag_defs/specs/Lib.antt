@@ -1,7 +1,16 @@
+pub mod Changes
 pub mod Definition
 pub mod Document
 pub mod Fault
+pub mod Flag
+pub mod Flags
 pub mod Inlining
+pub mod Law
+pub mod Least
 pub mod Measure
+pub mod Members
+pub mod Outline
 pub mod Readable
+pub mod Rules
 pub mod Table
+pub mod Targeting

@@ -1,6 +1,6 @@
 -- What is known of a tree by each way in which it can be read: its nodes and levels up to a number above every limit,
 -- whether nothing is wrong with it, and how many bytes it is printed in at least.
-use Rattle.std.specs.Prelude.{ℕ, ◌+◌, ◌^◌, ◌==◌, min, max, pos, Bool, true, false, not, ◌&&◌, List, [], ◌∷◌, length, nat_lt, if◌then◌else◌, Option, Some, None, option_map, option_and_then}
+use Rattle.std.specs.Prelude.{ℕ, suc, ◌+◌, ◌^◌, ◌==◌, min, max, pos, Bool, true, false, not, ◌&&◌, List, [], ◌∷◌, length, nat_lt, if◌then◌else◌, Option, Some, None, option_map, option_and_then}
 use Rattle.std.specs.Str.{bytes_eq}
 use Rattle.flag_text.specs.Shape.{Shape, null, boolean, whole, other, text, list, object, Items, no_items, item, Members, no_members, member, is_in_range}
 use Rattle.logic_ast.specs.Operator.{operator_of, takes, is_fractional}
@@ -81,7 +81,7 @@ list_measure n p = record {
   is_list = true;
   is_text = false;
   is_weight = false;
-  bytes = plus p.bytes 1;
+  bytes = plus p.bytes 2;
 }
 
 -- ---- a scalar
@@ -113,7 +113,7 @@ object_measure full expression bytes = record {
   is_list = false;
   is_text = false;
   is_weight = false;
-  bytes = plus bytes 1;
+  bytes = plus bytes 2;
 }
 
 -- the members of an object, together
@@ -148,7 +148,7 @@ abbrev mutual
   measure (whole (pos n)) = scalar_of (is_in_range (pos n)) false (nat_lt n (2 ^ 31)) 0
   measure (whole z) = scalar_of (is_in_range z) false false 0
   measure other = scalar_of false false false 0
-  measure (text s) = scalar_of true true false (length s)
+  measure (text s) = scalar_of true true false (suc (length s))
   measure (list ts) = list_measure (item_count ts) (parts ts)
   measure (object ms) = object_of ms
 
@@ -180,7 +180,7 @@ abbrev mutual
   measured refer (whole (pos n)) = Some (scalar_of (is_in_range (pos n)) false (nat_lt n (2 ^ 31)) 0)
   measured refer (whole z) = Some (scalar_of (is_in_range z) false false 0)
   measured refer other = Some (scalar_of false false false 0)
-  measured refer (text s) = Some (scalar_of true true false (length s))
+  measured refer (text s) = Some (scalar_of true true false (suc (length s)))
   measured refer (list ts) = option_map (list_measure (item_count ts)) (parts_measured refer ts)
   measured refer (object ms) = referred refer (reference_of ms) (object_measured refer ms)
 

@@ -202,13 +202,14 @@ impl Measure {
             is_list: true,
             is_text: false,
             is_weight: false,
-            bytes: plus(parts.bytes, 1),
+            bytes: plus(parts.bytes, 2),
         }
     }
 
     /// Whether a tree of this measure is read as an expression, with whole numbers alone and no reference left.
     pub(crate) fn is_readable(&self) -> bool
-        ensures { (t : Shape) → is_tidy t ≡ true → measure t ≡ self.now → result ≡ is_readable t }
+        ensures exact { result ≡ reads self.now }
+        ensures readable { (t : Shape) → is_tidy t ≡ true → measure t ≡ self.now → result ≡ is_readable t }
     {
         self.reads()
     }
@@ -232,7 +233,7 @@ impl Measure {
             is_list: false,
             is_text: false,
             is_weight: false,
-            bytes: plus(bytes, 1),
+            bytes: plus(bytes, 2),
         }
     }
 

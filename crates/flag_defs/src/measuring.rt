@@ -179,5 +179,5 @@ fn whole_measure(n: i64) -> Measure
 fn text_measure(content: &str) -> Measure
     ensures { result ≡ measure (text content.now) }
 {
-    Measure::scalar(true, true, false, capped(content.len()))
+    Measure::scalar(true, true, false, plus(capped(content.len()), 1))
 }

@@ -1,0 +1,22 @@
+use Rattle.std.proofs.Common.{◌≡◌, ◌<◌, ◌+◌, ◌-◌, drop, length, sym, subst, arith}
+use Rattle.flag_text.specs.View.{view, members_view}
+use Rattle.flag_defs.proofs.Meant.{AllHaveLeast, HasLeast, one_more-least, tidy_at}
+use Rattle.flag_defs.proofs.document.least_of_all.Goals as goal
+
+pub least_bytes-bytes-requires-clause-tidy : goal.least_bytes-bytes-requires-clause-tidy
+least_bytes-bytes-requires-clause-tidy c =
+    tidy_at c.args.definitions.now (c.loop-left.left - 1) c.index-definitions-left.result (omega (arith, c.loop-left.invariant.0, c.loop-left-test.true)) c.requires.tidy
+
+pub loop-left-preserved : goal.loop-left-preserved
+loop-left-preserved c =
+    let evaluators = members_view c.args.evaluators.now in
+    let ds = c.args.definitions.now in
+    let i = c.loop-left.left - 1 in
+    let x = c.index-definitions-left.result in
+    let low : i < length ds = omega (arith, c.loop-left.invariant.0, c.loop-left-test.true) in
+    let next : c.loop-left.left ≡ i + 1 = omega (arith, c.loop-left-test.true) in
+    let one = subst (λ y. HasLeast evaluators (view y.1) c.least_bytes-bytes.result) (sym c.index-definitions-left.is) c.least_bytes-bytes.ensures in (
+      omega (arith, c.loop-left.invariant.0),
+      one_more-least evaluators ds i x c.least_bytes-bytes.result c.loop-left.least c.saturating_add-least.result low c.index-definitions-left.is one
+          (subst (λ k. AllHaveLeast evaluators (members_view (drop k ds)) c.loop-left.least) next c.loop-left.invariant.1) (omega (arith, c.saturating_add-least.ensures)),
+    )

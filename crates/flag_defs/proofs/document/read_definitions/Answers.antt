@@ -1,0 +1,26 @@
+use Rattle.flag_text.proofs.Halving.{names_rise-tidy}
+use Rattle.flag_text.specs.View.{members_view}
+use Rattle.flag_defs.specs.Flag.{entries_view}
+use Rattle.flag_defs.proofs.Meant.{many_meant, heavy_meant, rise_meant}
+use Rattle.flag_defs.proofs.document.read_definitions.Goals as goal
+
+pub table-requires : goal.table-requires
+table-requires c = record { rising = names_rise-tidy (members_view c.args.evaluators.now) c.requires.evaluators_tidy }
+
+pub least_of_all-least-requires-clause-rising : goal.least_of_all-least-requires-clause-rising
+least_of_all-least-requires-clause-rising c = names_rise-tidy (members_view c.args.evaluators.now) c.requires.evaluators_tidy
+
+pub returns-then-definitions-gt-MAX_FLAGS : goal.returns-then-definitions-gt-MAX_FLAGS
+returns-then-definitions-gt-MAX_FLAGS c = λ _. many_meant (members_view c.args.evaluators.now) c.args.definitions.now c.least_of_all-least.result c.least_of_all-least.ensures c.if-definitions-gt-MAX_FLAGS.true
+
+pub returns-then-least-gt-MAX_BYTES : goal.returns-then-least-gt-MAX_BYTES
+returns-then-least-gt-MAX_BYTES c = λ _.
+    heavy_meant (members_view c.args.evaluators.now) c.args.definitions.now c.least_of_all-least.result (names_rise-tidy (members_view c.args.definitions.now) c.requires.tidy) c.least_of_all-least.ensures
+    c.if-least-gt-MAX_BYTES.true
+
+pub read_all-requires-clause-rising : goal.read_all-requires-clause-rising
+read_all-requires-clause-rising c = names_rise-tidy (members_view c.args.evaluators.now) c.requires.evaluators_tidy
+
+pub limited-requires : goal.limited-requires
+limited-requires c =
+    rise_meant (members_view c.args.evaluators.now) (members_view c.args.definitions.now) (entries_view c.in_ok-flags.flags.items) (names_rise-tidy (members_view c.args.definitions.now) c.requires.tidy) c.in_ok-flags.ensures

@@ -1,0 +1,132 @@
+//! From a definition to a flag.
+ghost use Rattle.std.specs.Prelude.{◌≡◌, ◌≤◌, true, length, Option, Some, option_map, option_copied, string_bytes, IfOk};
+ghost use Rattle.flag_text.specs.Shape.{object, is_tidy, members_are_tidy, names_rise};
+ghost use Rattle.flag_text.specs.View.{view as tree_view, members_view};
+ghost use Rattle.logic_ast.specs.Expr.{view};
+ghost use Rattle.flag_defs.specs.Definition.{Definition, Means, good};
+ghost use Rattle.flag_defs.specs.Document.{definition_written};
+ghost use Rattle.flag_defs.specs.Flag.{flag_view};
+ghost use Rattle.flag_defs.specs.Least.{least};
+ghost use Rattle.flag_defs.specs.Outline.{outline_view, rules_with};
+ghost use Rattle.flag_defs.specs.Rules.{are_rules};
+ghost use Rattle.flag_defs.specs.Table.{AreHeads, KnowsAll};
+
+use crate::flag::Flag;
+use crate::members::copy_members;
+use crate::outline::{Outline, outline_of};
+use crate::rules::Rules;
+use crate::table::Known;
+use crate::targeting::read_targeting;
+use crate::weigh::{Weight, weigh_targeting};
+use flag_text::{Tree, member_by_halving};
+use logic_ast::Expr;
+use std::alloc::{AllocError, Global};
+
+/// In how many bytes what a definition means is printed at least. Nothing is expanded.
+pub(crate) fn least_bytes(definition: &Tree, evaluators: &[(String, Tree)], table: &Known) -> u32
+    requires rising { names_rise (members_view evaluators.now) ≡ true }
+    requires each { length table.now.measures.items ≡ length evaluators.now }
+    requires heads { AreHeads evaluators.now table.now.measures.items table.now.heads.items }
+    requires knows_all { KnowsAll (members_view evaluators.now) table.now.measures.items }
+    requires tidy { is_tidy (tree_view definition.now) ≡ true }
+    requires evaluators_tidy { members_are_tidy (members_view evaluators.now) ≡ true }
+    ensures { (d : Definition) × Means (members_view evaluators.now) (tree_view definition.now) d × (result ≤ least (definition_written d)) }
+{
+    match definition.as_object() {
+        Some(members) => least_of_members(members, evaluators, table),
+        None => 0,
+    }
+}
+
+fn least_of_members(members: &[(String, Tree)], evaluators: &[(String, Tree)], table: &Known) -> u32
+    requires rising { names_rise (members_view evaluators.now) ≡ true }
+    requires each { length table.now.measures.items ≡ length evaluators.now }
+    requires heads { AreHeads evaluators.now table.now.measures.items table.now.heads.items }
+    requires knows_all { KnowsAll (members_view evaluators.now) table.now.measures.items }
+    requires tidy { members_are_tidy (members_view members.now) ≡ true }
+    requires evaluators_tidy { members_are_tidy (members_view evaluators.now) ≡ true }
+    ensures { (d : Definition) × Means (members_view evaluators.now) (object (members_view members.now)) d × (result ≤ least (definition_written d)) }
+{
+    let Some(_outline) = outline_of(members) else {
+        return 0;
+    };
+    match weigh_targeting(member_by_halving(members, "targeting"), evaluators, table) {
+        Weight::With(bytes) => bytes,
+        Weight::Broken | Weight::Without => 0,
+    }
+}
+
+/// The flag of a definition.
+pub(crate) fn read_flag(
+    alloc: Global,
+    definition: &Tree,
+    evaluators: &[(String, Tree)],
+    table: &Known,
+) -> Result<Flag, AllocError>
+    requires rising { names_rise (members_view evaluators.now) ≡ true }
+    requires each { length table.now.measures.items ≡ length evaluators.now }
+    requires heads { AreHeads evaluators.now table.now.measures.items table.now.heads.items }
+    requires knows_all { KnowsAll (members_view evaluators.now) table.now.measures.items }
+    requires tidy { is_tidy (tree_view definition.now) ≡ true }
+    requires evaluators_tidy { members_are_tidy (members_view evaluators.now) ≡ true }
+    ensures { IfOk result (λ f. Means (members_view evaluators.now) (tree_view definition.now) (flag_view f)) }
+{
+    match definition.as_object() {
+        Some(members) => read_members(alloc, members, evaluators, table),
+        None => Ok(Flag { rules: None }),
+    }
+}
+
+fn read_members(
+    alloc: Global,
+    members: &[(String, Tree)],
+    evaluators: &[(String, Tree)],
+    table: &Known,
+) -> Result<Flag, AllocError>
+    requires rising { names_rise (members_view evaluators.now) ≡ true }
+    requires each { length table.now.measures.items ≡ length evaluators.now }
+    requires heads { AreHeads evaluators.now table.now.measures.items table.now.heads.items }
+    requires knows_all { KnowsAll (members_view evaluators.now) table.now.measures.items }
+    requires tidy { members_are_tidy (members_view members.now) ≡ true }
+    requires evaluators_tidy { members_are_tidy (members_view evaluators.now) ≡ true }
+    ensures { IfOk result (λ f. Means (members_view evaluators.now) (object (members_view members.now)) (flag_view f)) }
+{
+    let Some(outline) = outline_of(members) else {
+        return Ok(Flag { rules: None });
+    };
+    let targeting = member_by_halving(members, "targeting");
+    if let Weight::Broken = weigh_targeting(targeting, evaluators, table) {
+        return Ok(Flag { rules: None });
+    }
+    let targeting = read_targeting(alloc, targeting, evaluators, table)?;
+    good_flag(alloc, outline, targeting)
+}
+
+/// The good flag with this targeting.
+fn good_flag(
+    alloc: Global,
+    outline: Outline<'_>,
+    targeting: Option<Expr>,
+) -> Result<Flag, AllocError>
+    requires { are_rules (rules_with (outline_view outline) (option_map view targeting)) ≡ true }
+    ensures { IfOk result (λ f. flag_view f ≡ good (rules_with (outline_view outline.entry) (option_map view targeting))) }
+{
+    let variants = copy_members(alloc, outline.variants)?;
+    let default_variant = own_name(alloc, outline.default_variant)?;
+    let rules = Rules {
+        enabled: outline.enabled,
+        variants,
+        default_variant,
+        targeting,
+    };
+    Ok(Flag { rules: Some(rules) })
+}
+
+fn own_name(alloc: Global, name: Option<&str>) -> Result<Option<String>, AllocError>
+    ensures { IfOk result (λ n. option_map string_bytes n ≡ option_copied name.entry) }
+{
+    match name {
+        Some(name) => Ok(Some(String::from_str(alloc, name)?)),
+        None => Ok(None),
+    }
+}

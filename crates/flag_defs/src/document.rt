@@ -1,0 +1,144 @@
+//! From the bytes of a document to its flags.
+ghost use Rattle.std.specs.Prelude.{◌≡◌, ◌≤◌, ◌<◌, true, length, Some, option_map, option_and_then, IfOk, IsErrOf};
+ghost use Rattle.flag_text.specs.Readers.{as_object, member_of};
+ghost use Rattle.flag_text.specs.Shape.{is_tidy, members_are_tidy, names_rise};
+ghost use Rattle.flag_text.specs.View.{view, members_view};
+ghost use Rattle.flag_defs.specs.Document.{Definitions, AllMean, DocumentMeans, FlagsMean, definitions_written, evaluators_in, flags_in, max_bytes};
+ghost use Rattle.flag_defs.specs.Fault.{of_text};
+ghost use Rattle.flag_defs.specs.Flag.{entries_view};
+ghost use Rattle.flag_defs.specs.Flags.{HoldsUnless};
+ghost use Rattle.flag_defs.specs.Least.{members_least};
+ghost use Rattle.flag_defs.specs.Table.{AreHeads, KnowsAll};
+
+use crate::definition::{least_bytes, read_flag};
+use crate::fault::DefFault;
+use crate::flag::Flag;
+use crate::flags::Flags;
+use crate::limits::{MAX_BYTES, MAX_FLAGS, limited};
+use crate::table::{Known, table};
+use flag_text::{TextFault, Tree, read_doc};
+use std::alloc::{AllocError, Global};
+
+/// The flags of a document: a JSON object with the member `flags`, an object from key to definition, and perhaps
+/// `$evaluators`, to which targetings refer. A definition that breaks a rule makes a broken flag.
+///
+/// Refusals, in this order: `TooLarge` above 4,194,304 bytes, before anything is read; `NotJson`; `NoFlags`; `TooLarge` for
+/// more than 10,000 flags, and for flags that are printed in more than 4,194,304 bytes. No targeting is expanded before it
+/// is known that all of them together have so few bytes.
+pub fn read_flags(alloc: Global, bytes: &[u8]) -> Result<Flags, DefFault>
+    ensures means { HoldsUnless (DocumentMeans bytes.now) result }
+    ensures large { max_bytes < length bytes.now → IsErrOf result DefFault.TooLarge }
+{
+    match read_doc(alloc, bytes, MAX_BYTES) {
+        Ok(document) => read_document(alloc, &document),
+        Err(fault) => Err(of_text(fault)),
+    }
+}
+
+/// The fault of a document whose text is refused.
+fn of_text(fault: TextFault) -> DefFault
+    ensures { result ≡ of_text fault }
+{
+    match fault {
+        TextFault::WantOfMemory => DefFault::WantOfMemory,
+        TextFault::TooLarge => DefFault::TooLarge,
+        TextFault::NotJson | TextFault::NotWhole | TextFault::TooDeep => DefFault::NotJson,
+    }
+}
+
+fn read_document(alloc: Global, document: &Tree) -> Result<Flags, DefFault>
+    requires { is_tidy (view document.now) ≡ true }
+    ensures { HoldsUnless (FlagsMean (evaluators_in (view document.now)) (flags_in (view document.now))) result }
+{
+    match members_of(document, "flags") {
+        Some(definitions) => read_definitions(alloc, definitions, evaluators_in(document)),
+        None => Err(DefFault::NoFlags),
+    }
+}
+
+/// The members of the object of this name.
+fn members_of<'a>(document: &'a Tree, name: &str) -> Option<&'a [(String, Tree)]>
+    ensures { option_map (λ ms. members_view ms.now) result ≡ option_and_then as_object (member_of name.now (view document.now)) }
+{
+    match document.member(name) {
+        Some(tree) => tree.as_object(),
+        None => None,
+    }
+}
+
+fn evaluators_in(document: &Tree) -> &[(String, Tree)]
+    ensures { members_view result.now ≡ evaluators_in (view document.now) }
+{
+    match members_of(document, "$evaluators") {
+        Some(evaluators) => evaluators,
+        None => &[],
+    }
+}
+
+fn read_definitions(
+    alloc: Global,
+    definitions: &[(String, Tree)],
+    evaluators: &[(String, Tree)],
+) -> Result<Flags, DefFault>
+    requires tidy { members_are_tidy (members_view definitions.now) ≡ true }
+    requires evaluators_tidy { members_are_tidy (members_view evaluators.now) ≡ true }
+    ensures { HoldsUnless (FlagsMean (members_view evaluators.now) (Some (members_view definitions.now))) result }
+{
+    let known = table(alloc, evaluators)?;
+    let least = least_of_all(definitions, evaluators, &known);
+    if definitions.len() > MAX_FLAGS {
+        return Err(DefFault::TooLarge);
+    }
+    if least > MAX_BYTES {
+        return Err(DefFault::TooLarge);
+    }
+    let flags = read_all(alloc, definitions, evaluators, &known)?;
+    limited(alloc, flags)
+}
+
+/// In how many bytes all definitions together are printed at least.
+fn least_of_all(
+    definitions: &[(String, Tree)],
+    evaluators: &[(String, Tree)],
+    table: &Known,
+) -> usize
+    requires rising { names_rise (members_view evaluators.now) ≡ true }
+    requires each { length table.now.measures.items ≡ length evaluators.now }
+    requires heads { AreHeads evaluators.now table.now.measures.items table.now.heads.items }
+    requires knows_all { KnowsAll (members_view evaluators.now) table.now.measures.items }
+    requires tidy { members_are_tidy (members_view definitions.now) ≡ true }
+    requires evaluators_tidy { members_are_tidy (members_view evaluators.now) ≡ true }
+    ensures { (fs : Definitions) × AllMean (members_view evaluators.now) (members_view definitions.now) fs × (result ≤ members_least (definitions_written fs)) }
+{
+    let mut least: usize = 0;
+    let mut left = definitions.len();
+    while left > 0 {
+        left -= 1;
+        let bytes = least_bytes(&definitions[left].1, evaluators, table);
+        least = least.saturating_add(bytes as usize);
+    }
+    least
+}
+
+/// The flags of all definitions, under their keys.
+fn read_all(
+    alloc: Global,
+    definitions: &[(String, Tree)],
+    evaluators: &[(String, Tree)],
+    table: &Known,
+) -> Result<Vec<(String, Flag)>, AllocError>
+    requires rising { names_rise (members_view evaluators.now) ≡ true }
+    requires each { length table.now.measures.items ≡ length evaluators.now }
+    requires heads { AreHeads evaluators.now table.now.measures.items table.now.heads.items }
+    requires knows_all { KnowsAll (members_view evaluators.now) table.now.measures.items }
+    requires tidy { members_are_tidy (members_view definitions.now) ≡ true }
+    requires evaluators_tidy { members_are_tidy (members_view evaluators.now) ≡ true }
+    ensures { IfOk result (λ v. AllMean (members_view evaluators.now) (members_view definitions.now) (entries_view v.items)) }
+{
+    let mut flags = Vec::with_capacity(alloc, definitions.len())?;
+    for (key, definition) in definitions {
+        let flag = read_flag(alloc, definition, evaluators, table)?;
+        flags.push((key.clone()?, flag))?;
+    }
+    Ok(flags)
+}

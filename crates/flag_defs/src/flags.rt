@@ -1,0 +1,58 @@
+//! Flags by their keys.
+ghost use Rattle.std.specs.Prelude.{◌≡◌, ◌≤◌, ◌<◌, ◌↔◌, true, [], length, Some, option_map};
+ghost use Rattle.std.specs.Cmp.Lexicographic.{slice_cmp};
+ghost use Rattle.std.specs.List.{slice_get};
+ghost use Rattle.std.specs.List.Sorted.{IsStrictlySortedBy};
+ghost use Rattle.std.specs.Map.{keys_of, lookup};
+ghost use Rattle.std.specs.Ordering.{nat_cmp};
+ghost use Rattle.std.specs.Str.{bytes_eq};
+ghost use Rattle.std.proofs.lemmas.Map.Keys.{IsStrictlySortedBy-prop};
+ghost use Rattle.flag_defs.specs.Document.{max_flags, max_bytes, printed};
+ghost use Rattle.flag_defs.specs.Flag.{entries_view, flag_view};
+
+use crate::find::find_flag;
+use crate::flag::Flag;
+
+/// Flags by their keys, which rise strictly as bytes: at most 10,000, printed in at most 4,194,304 bytes.
+#[derive(Drop)]
+pub struct Flags {
+    pub(crate) flags: Vec<(String, Flag)>,
+    pub ghost rising: { IsStrictlySortedBy (slice_cmp nat_cmp) (keys_of (entries_view flags.items)) } by { IsStrictlySortedBy-prop (slice_cmp nat_cmp) (keys_of (entries_view flags.items)) },
+    pub ghost few: { length flags.items ≤ max_flags },
+    pub ghost small: { length (printed (entries_view flags.items)) ≤ max_bytes },
+}
+
+impl Flags {
+    ghost use Rattle.flag_defs.specs.Flags.{flags_view, AreFlags};
+
+    /// How many flags there are.
+    pub fn len(&self) -> usize
+        ensures value { result ≡ length (flags_view self.now) }
+        ensures lawful { AreFlags (flags_view self.now) }
+    {
+        self.flags.len()
+    }
+
+    /// Whether there are none.
+    pub fn is_empty(&self) -> bool
+        ensures { result ≡ true ↔ (flags_view self.now ≡ []) }
+    {
+        self.flags.is_empty()
+    }
+
+    /// The flag of this key, where there is one, found by halving.
+    pub fn get(&self, key: &str) -> Option<&Flag>
+        ensures { option_map (λ f. flag_view f.now) result ≡ lookup (bytes_eq key.now) (flags_view self.now) }
+    {
+        find_flag(self.flags.as_slice(), key)
+    }
+
+    /// The flag at a place in the order of the keys' bytes, with its key.
+    pub fn at(&self, i: usize) -> (&str, &Flag)
+        requires { i < length (flags_view self.now) }
+        ensures { slice_get (flags_view self.now) i ≡ Some (result.0.now, flag_view result.1.now) }
+    {
+        let (key, flag) = &self.flags[i];
+        (key.as_str(), flag)
+    }
+}
