@@ -1,0 +1,7 @@
+pub mod Kind
+pub mod Lawful
+pub mod Printing
+pub mod Resolution
+pub mod Resolved
+pub mod Views
+pub mod Words

@@ -1,0 +1,32 @@
+-- How a resolution is printed.
+use Rattle.std.specs.Prelude.{ℕ, pos, List, map, codes, Option, Some, None, option_map}
+use Rattle.flag_text.specs.Printing.{text_of}
+use Rattle.flag_text.specs.Shape.{Shape, null, whole, text, list, object, no_items, item, no_members, member}
+use Rattle.flag_text.specs.View.{items_of}
+use Rattle.logic_eval.specs.Run.{Reach}
+use Rattle.flag_resolve.specs.Resolved.{Resolved}
+use Rattle.flag_resolve.specs.Words.{reason_word, code_word}
+
+-- a text, or null where there is none
+abbrev pub text_or_null : Option (List ℕ) → Shape
+text_or_null None = null
+text_or_null (Some s) = text s
+
+-- [site,input,total]
+abbrev pub reach_shape : Reach → Shape
+reach_shape r = list (item (whole (pos r.site)) (item (text r.input) (item (whole (pos r.total)) no_items)))
+
+-- {"code":..,"reached":..,"reason":..,"value":..,"variant":..}
+abbrev pub details : Shape → Shape → Shape → Shape → Shape → Shape
+details code reached reason value variant =
+    object (member (codes "code") code (member (codes "reached") reached (member (codes "reason") reason
+    (member (codes "value") value (member (codes "variant") variant no_members)))))
+
+-- a resolution as an object
+abbrev pub resolution_shape : Resolved → Shape
+resolution_shape r =
+    details (text_or_null (option_map code_word r.code)) (list (items_of (map reach_shape r.reached))) (text (reason_word r.reason)) r.value (text_or_null r.variant)
+
+-- the same as a compact JSON text
+unfoldable pub resolution_text : Resolved → List ℕ
+resolution_text r = text_of (resolution_shape r)
