@@ -26,7 +26,7 @@ use Rattle.logic_eval.proofs.Runs.{Runs}
 use Rattle.logic_eval.proofs.WholeValues.{IsWhole, root_scope-whole}
 
 -- the element at a place
-at_place : {A : Type 0} (xs : List A) (x : A) (i : Contains xs x) → slice_get xs i.0 ≡ Some x
+pub at_place : {A : Type 0} (xs : List A) (x : A) (i : Contains xs x) → slice_get xs i.0 ≡ Some x
 at_place xs x i = slice_get-get_or xs i.0 x i.1 ∙ ap Some i.2
 
 -- an entry of one of the sites of an expression

@@ -18,6 +18,8 @@ pub mod Chains
 pub mod Choices
 pub mod Branching
 pub mod Answered
+pub mod Alike
+pub mod Replacing
 pub mod Results
 pub mod Runs
 pub mod WholeValues

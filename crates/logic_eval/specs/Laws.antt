@@ -1,13 +1,16 @@
 -- What the definition of an evaluation amounts to: which sites are reached, what a site gives, and what isn't evaluated.
-use Rattle.std.specs.Prelude.{ℕ, ◌≡◌, ◌<◌, ◌^◌, true, false, List, Option, Some, Ok}
-use Rattle.bucket_core.specs.Rule.{Entries, total_weight}
+use Rattle.std.specs.Prelude.{ℕ, ◌≡◌, ◌<◌, ◌^◌, ◌==◌, if◌then◌else◌, true, false, List, map, Option, Some, Ok}
+use Rattle.std.specs.List.{All}
+use Rattle.bucket_core.specs.Rule.{Entries, total_weight, choice}
 use Rattle.flag_text.specs.Shape.{Shape}
 use Rattle.logic_ast.specs.Expression.{Expression, operation, fractional, Expressions, expression, By, Buckets}
-use Rattle.logic_ast.specs.Sites.{sites, entries_of, entries_at}
+use Rattle.logic_ast.specs.Formed.{is_well_formed}
+use Rattle.logic_ast.specs.Sites.{sites, entries_of, entries_at, with_entries}
 use Rattle.logic_ast.specs.declared.operator.Operator.TheVariants.{If, And, Or}
-use Rattle.logic_eval.specs.Evaluation.{meaning, by_meaning, input}
+use Rattle.logic_eval.specs.Evaluation.{evaluation_of, meaning, by_meaning, input}
 use Rattle.logic_eval.specs.Fractional.{by_input}
 use Rattle.logic_eval.specs.Run.{Reach, cost, after, ◌>>=◌}
+use Rattle.logic_eval.specs.Scope.{Situation}
 use Rattle.logic_eval.specs.Truth.{is_true}
 
 -- A reached entry is of a site of the expression: it has the site's number, and the total weight of its entries where they are literal.
@@ -45,3 +48,16 @@ abbrev pub TrueEndsOr : Type 0
 TrueEndsOr =
     (default : Option (List ℕ)) (first : Expression) (rest : Expressions) (scope v : Shape) → (meaning default first scope).ending ≡ Ok v → is_true v ≡ true
     → meaning default (operation Or (expression first rest)) scope ≡ after (cost 1) (meaning default first scope)
+
+-- an entry of site n with this total, any other entry as it is
+abbrev pub with_total : ℕ → ℕ → Reach → Reach
+with_total n total r = if r.site == n then record { site = r.site; input = r.input; total = total } else r
+
+-- Where one site gets another rule, and each input that reached it chooses as before, an evaluation gives the same value and
+-- reaches the same sites by the same inputs: only that site's total is the new rule's.
+abbrev pub OneSiteReplaced : Type 0
+OneSiteReplaced =
+    (e : Expression) (n : ℕ) (old new : Entries) (s : Situation) (v : Shape) (rs : List Reach)
+    → is_well_formed e ≡ true → entries_at n e ≡ Ok old → 0 < total_weight old → total_weight old < 2 ^ 31 → 0 < total_weight new → total_weight new < 2 ^ 31
+    → evaluation_of e s ≡ Ok (v, rs) → All (λ r. r.site ≡ n → choice new r.input ≡ choice old r.input) rs
+    → evaluation_of (with_entries n new e) s ≡ Ok (v, map (with_total n (total_weight new)) rs)

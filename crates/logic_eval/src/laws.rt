@@ -1,5 +1,5 @@
 //! What holds of the definitions alone.
-ghost use Rattle.logic_eval.specs.Laws.{LiteralSiteChooses, TrueTestSkipsTheRest, FalseTestSkipsItsResult, FalseEndsAnd, TrueEndsOr};
+ghost use Rattle.logic_eval.specs.Laws.{LiteralSiteChooses, TrueTestSkipsTheRest, FalseTestSkipsItsResult, FalseEndsAnd, TrueEndsOr, OneSiteReplaced};
 
 /// A site whose entries are literal evaluates its bucketing expression alone, and gives what its rule chooses for the input.
 pub fn a_literal_site_chooses()
@@ -12,4 +12,10 @@ pub fn a_branch_not_taken_is_not_evaluated()
     ensures false_test { FalseTestSkipsItsResult }
     ensures false_argument { FalseEndsAnd }
     ensures true_argument { TrueEndsOr }
+{}
+
+/// Where one site gets another rule, and each input that reached it chooses as before, the evaluation gives the same value
+/// and reaches the same sites by the same inputs: only that site's total is the new rule's.
+pub fn a_rule_that_chooses_alike_changes_nothing_else()
+    ensures { OneSiteReplaced }
 {}

@@ -26,7 +26,10 @@ mod version;
 pub use context::Context;
 pub use evaluation::eval;
 pub use fault::EvalFault;
-pub use laws::{a_branch_not_taken_is_not_evaluated, a_literal_site_chooses};
+pub use laws::{
+    a_branch_not_taken_is_not_evaluated, a_literal_site_chooses,
+    a_rule_that_chooses_alike_changes_nothing_else,
+};
 pub use meter::Reached;
 
 #[cfg(test)]
