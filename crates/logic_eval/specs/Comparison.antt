@@ -15,7 +15,7 @@ abbrev pub is_number : Option ℤ → ℤ → Bool
 is_number None n = false
 is_number (Some m) n = int_eq m n
 
--- `===`: one kind and equal; a list or an object equals nothing
+-- `===`: equal values of the same kind, lists and objects never
 abbrev pub is_same : Shape → Shape → Bool
 is_same null null = true
 is_same (boolean a) (boolean b) = bool_eq a b

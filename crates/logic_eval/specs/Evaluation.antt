@@ -9,7 +9,7 @@ use Rattle.logic_eval.specs.Operators.{Meaning, values, as_list, operated}
 use Rattle.logic_eval.specs.Run.{Reach, cost, Run, gives, after, ◌>>=◌, result_of}
 use Rattle.logic_eval.specs.Scope.{Situation, root_scope, default_input, size}
 
--- a name or a weight that is a literal is not evaluated and costs nothing
+-- a literal name or weight is taken as it stands, for no units
 abbrev pub part_of : Expression → Meaning → Meaning
 part_of (literal t) m = λ scope. gives t
 part_of e m = m
@@ -32,7 +32,7 @@ input default (Some m) scope = m scope >>= λ v. gives (given_input v)
 abbrev pub site : Option (List ℕ) → ℕ → Option Meaning → List (Meaning × Meaning) → Meaning
 site default n m ps scope = input default m scope >>= λ i. pairs ps scope >>= decided n i
 
--- A literal costs its size, every other expression 1, as it begins.
+-- Each expression is charged for before anything in it is done: a literal by its size, another by one unit.
 abbrev mutual
   pub meaning : Option (List ℕ) → Expression → Meaning
   meaning default (literal t) = λ scope. after (cost (size t)) (gives t)

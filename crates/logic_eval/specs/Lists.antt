@@ -10,7 +10,7 @@ abbrev pub shapes_of : Items → List Shape
 shapes_of no_items = []
 shapes_of (item t ts) = t ∷ shapes_of ts
 
--- the items of a list; a value that is no list counts as empty
+-- what `map` and the like go over: a list's items, of another value nothing
 abbrev pub items_in : Shape → List Shape
 items_in (list ts) = shapes_of ts
 items_in t = []

@@ -25,7 +25,7 @@ signed_value (b ∷ bs) = if b == 45 then option_map (λ n. neg_ℤ (pos n)) (di
 abbrev pub decimal_value : List ℕ → Option ℤ
 decimal_value s = option_and_then in_range (signed_value s)
 
--- a whole number itself, a decimal text its value
+-- of a whole number that number, of a text the number that it spells in decimal
 abbrev pub number_of : Shape → Option ℤ
 number_of (whole n) = Some n
 number_of (text s) = decimal_value s

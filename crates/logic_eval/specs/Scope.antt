@@ -91,7 +91,7 @@ is_blank (Some t) = false
 abbrev pub is_missing : Shape → Shape → Bool
 is_missing scope name = is_blank (find scope name)
 
--- the items of the first value where it is a list, else all values
+-- the names are given in one list, or as values of their own
 abbrev pub names_from : Option Items → List Shape → List Shape
 names_from (Some ts) vs = shapes_of ts
 names_from None vs = vs

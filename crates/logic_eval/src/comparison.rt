@@ -6,7 +6,7 @@ ghost use Rattle.logic_eval.specs.Comparison.{is_same, is_equal, order_number, i
 use crate::number::{decimal_value, number_of};
 use flag_text::Tree;
 
-/// `===`: one kind and equal; a list or an object equals nothing.
+/// `===`: equal values of the same kind, lists and objects never.
 pub(crate) fn is_same(a: &Tree, b: &Tree) -> bool
     ensures { result ≡ is_same (view a.now) (view b.now) }
 {

@@ -358,7 +358,7 @@ fn shares<'a>(
     Ok(shares)
 }
 
-// A name or a weight: a literal is not evaluated and costs nothing.
+// A name or a weight: a literal is taken as it stands, for no units.
 #[cycle(evaluate)]
 fn part<'a>(
     meter: &mut Meter,

@@ -31,7 +31,10 @@ const MOST_UNITS: u64 = 100_000;
 /// Refused, in the order of evaluation: `Arithmetic` where a number is missing, out of range or
 /// divided by 0, `BadBuckets` where the buckets of a site are no entries of a rule, `TextTooLong`
 /// where a text that is made has more than 65,536 bytes; and `TooLong` where what came before costs
-/// more than 100,000 units.
+/// more than 100,000 units. `WantOfMemory` may come at any step.
+///
+/// It takes about as many steps as units, but for a path inside one of the context's values, which looks at an object's
+/// members one by one, and for the buckets of each site that is reached, which are walked.
 pub fn eval(
     alloc: Global,
     expr: &Expr,

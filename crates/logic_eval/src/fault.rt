@@ -8,14 +8,19 @@ use thiserror::Error;
 /// Why an evaluation gives no value.
 #[derive(Clone, Copy, Debug, PartialEq, Eq, Error)]
 pub enum EvalFault {
+    /// Memory ran out.
     #[error("out of memory")]
     WantOfMemory,
+    /// An operator needs a number where there is none, a result is outside -(2^53-1) to 2^53-1, or `%` divides by 0.
     #[error("a number is missing, out of range or divided by 0")]
     Arithmetic,
+    /// What was done so far costs more than 100,000 units.
     #[error("the evaluation costs more than 100000 units")]
     TooLong,
+    /// A site has a name that is no text, a weight that is none, or weights that sum to 2^31 or more.
     #[error("a bucket has no name, or the weights are no weights of a rule")]
     BadBuckets,
+    /// `cat` or a default hash input makes a text of more than 65,536 bytes.
     #[error("a text that was made is longer than 65536 bytes")]
     TextTooLong,
 }

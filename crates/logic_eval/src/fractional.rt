@@ -13,6 +13,8 @@ pub(crate) enum Input<'a> {
 /// A name and its weight.
 #[derive(Drop)]
 pub(crate) enum Share<'a> {
+    /// Both stand in the expression.
     Literal(&'a str, u64),
+    /// Both are values that may be no name and no weight.
     Computed(Value<'a>, Value<'a>),
 }

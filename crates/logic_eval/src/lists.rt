@@ -12,7 +12,7 @@ use crate::value::Value;
 use flag_text::Tree;
 use std::alloc::{AllocError, Global};
 
-/// `merge`: the items of lists and the other values, in one list.
+/// `merge`: one list of what the values hold: the items of a list, any other value as it is.
 pub(crate) fn merged(alloc: Global, values: &[Value]) -> Result<Vec<Tree>, AllocError>
     ensures { IfOk result (λ v. map view v.items ≡ flat_map parts_of (map value_view values.now)) }
 {

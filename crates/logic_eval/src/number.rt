@@ -64,7 +64,7 @@ pub(crate) fn decimal_value(text: &str) -> Option<i64>
     }
 }
 
-/// A whole number itself, a decimal text its value.
+/// Of a whole number that number, of a text the number that it spells in decimal.
 pub(crate) fn number_of(value: &Tree) -> Option<i64>
     ensures { result ≡ number_of (view value.now) }
 {

@@ -11,7 +11,9 @@ use std::alloc::{AllocError, Global};
 /// A value: lent by the expression or the context, or made by an operator.
 #[derive(Drop)]
 pub(crate) enum Value<'a> {
+    /// A value that the expression, the context or a list holds.
     Lent(&'a Tree),
+    /// A value of its own.
     Made(Tree),
 }
 
@@ -42,7 +44,7 @@ impl Value<'_> {
     }
 }
 
-/// The items of a list; a value that is no list counts as empty.
+/// What `map` and the like go over: a list's items, of another value nothing.
 pub(crate) fn items_of(tree: &Tree) -> &[Tree]
     ensures { map view result.now ≡ items_in (view tree.now) }
 {
