@@ -10,7 +10,7 @@ ghost use Rattle.book_core.specs.Reading.{book_of};
 
 use crate::book::Book;
 use crate::page::Page;
-use flag_text::{Tree, print_tree};
+use flag_text::{Tree, print_tree, push_text};
 use std::alloc::{AllocError, Global};
 use std::collections::{BTreeMap, BTreeSet};
 
@@ -65,8 +65,18 @@ fn push_inputs(
     ensures reads { OnOk result (AllByRecursion (λ input. Reads (text input)) (inputs_view inputs.now)) }
 {
     for input in inputs {
-        push_line(alloc, out, &input_tree(alloc, input)?)?;
+        push_input(alloc, out, input.as_str())?;
     }
+    Ok(())
+}
+
+/// Adds the text of an input and a line feed.
+fn push_input(alloc: Global, out: &mut Vec<u8>, input: &str) -> Result<(), AllocError>
+    ensures text { OnOk result (out.new.items ≡ out.old.items ++ line_text (text input.now)) }
+    ensures reads { OnOk result (Reads (text input.now)) }
+{
+    push_text(alloc, out, input)?;
+    out.push(b'\n')?;
     Ok(())
 }
 
@@ -89,12 +99,6 @@ fn header_tree(alloc: Global) -> Result<Tree, AllocError>
     let mut members = Vec::with_capacity(alloc, 1)?;
     members.push((String::from_str(alloc, "book")?, Tree::Whole(1)))?;
     Ok(Tree::Object(members))
-}
-
-fn input_tree(alloc: Global, input: &String) -> Result<Tree, AllocError>
-    ensures { IfOk result (λ tree. view tree ≡ text (string_bytes input.now)) }
-{
-    Ok(Tree::Text(String::from_str(alloc, input.as_str())?))
 }
 
 fn page_tree(alloc: Global, page: &Page) -> Result<Tree, AllocError>

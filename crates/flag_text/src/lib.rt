@@ -8,7 +8,8 @@
 //! - [`read_tree`] and [`read_doc`] give exactly what `tree_of` and `doc_of` of `specs/Reading.antt`
 //!   give of the bytes, each refusal at its place in the order, unless memory runs out. The
 //!   definitions stand over `serde_json`'s own definition of a JSON text (RFC 8259).
-//! - [`print_tree`] gives `text_of` of `specs/Printing.antt`, which reads back as the same tree.
+//! - [`print_tree`] gives `text_of` of `specs/Printing.antt`, which reads back as the same tree;
+//!   [`push_text`] adds that of one text to bytes.
 //! - The readers of a tree, its test for whole numbers, its levels, its copy and its comparison are
 //!   what `specs/Readers.antt` and `specs/Shape.antt` say of its shape.
 //! - An [`Outlet`] shows its bytes and whether a write has failed; [`write_whole`] writes all of the
@@ -21,6 +22,7 @@ mod fault;
 mod named;
 mod outlet;
 mod print;
+mod push;
 mod read;
 mod readers;
 mod tree;
@@ -30,6 +32,7 @@ pub use fault::TextFault;
 pub use named::{member_by_halving, position_of};
 pub use outlet::{Outlet, WriteOutlet, write_whole};
 pub use print::print_tree;
+pub use push::push_text;
 pub use read::{read_doc, read_tree};
 pub use tree::Tree;
 

@@ -272,3 +272,13 @@ fn writes(rt: HostRuntime) -> Result<(), Fail> {
     }
     Ok(())
 }
+
+#[test]
+fn text_behind_bytes(rt: HostRuntime) -> Result<(), Fail> {
+    let alloc = rt.alloc();
+    let mut out = Vec::from_slice(alloc, b"x")?;
+    push_text(alloc, &mut out, "a\"b\n\u{e9}")?;
+    push_text(alloc, &mut out, "")?;
+    assert_eq!(rt; out.as_slice(), b"x\"a\\\"b\\n\xc3\xa9\"\"\"".as_slice());
+    Ok(())
+}
