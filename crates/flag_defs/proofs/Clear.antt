@@ -4,7 +4,7 @@ use Rattle.bucket_core.specs.Reading.{bucket_from as entry_of}
 use Rattle.flag_text.specs.Shape as shape
 use Rattle.flag_text.specs.Shape.{Shape, null, boolean, whole, other, text, object, Items, no_items, item, Members, no_members, member}
 use Rattle.flag_text.proofs.Bools.{or_left, or_right}
-use Rattle.logic_ast.specs.Expression.{Expression, literal, list, operation, fractional, Expressions, By, by, no_buckets, Bucket}
+use Rattle.logic_ast.specs.Expression.{Expression, Expressions, Bucket}
 use Rattle.logic_ast.specs.Operator.{operator_of, operator_name, is_fractional}
 use Rattle.logic_ast.specs.Reading.{expression_from, object_from, expressions_from, arguments_from, site_from, by_from, buckets_from, computed_from, operation_of, or_computed}
 use Rattle.logic_ast.specs.Sites.{sites, sites_in_by, sites_in_bucket}

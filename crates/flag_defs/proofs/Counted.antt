@@ -1,12 +1,12 @@
 -- How many variants there are, and which value is an object.
-use Rattle.std.proofs.Common.{◌≡◌, ◌≤◌, ℕ, suc, List, [], ◌∷◌, length, nat_le, Bool, true, false, ◌&&◌, cond, Option, Some, None, refl, sym, ap, ◌∙◌, arith}
+use Rattle.std.proofs.Common.{◌≡◌, ◌≤◌, ℕ, suc, List, [], ◌∷◌, length, nat_le, Bool, ◌&&◌, cond, Some, None, refl, sym, ap, ◌∙◌, arith}
 use Rattle.std.specs.Prelude.{◌↔◌, IsTrue}
 use Rattle.std.proofs.lemmas.Grind.{common_steps}
 use Rattle.flag_text.specs.Readers.{as_object}
 use Rattle.flag_text.specs.Shape.{Shape, null, boolean, whole, other, text, list, object, Members, is_whole, levels}
 use Rattle.flag_text.specs.View.{members_view}
 use Rattle.flag_text.proofs.Views.{Named}
-use Rattle.flag_defs.specs.Definition.{member_count, are_of_one_kind, are_variants, variants_of}
+use Rattle.flag_defs.specs.Definition.{member_count, are_of_one_kind, variants_of}
 
 pub counted : (ms : List Named) → member_count (members_view ms) ≡ length ms
 counted [] = refl

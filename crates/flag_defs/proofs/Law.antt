@@ -1,5 +1,5 @@
 -- What is printed for flags is a document that means them.
-use Rattle.std.proofs.Common.{◌≡◌, ◌≤◌, ◌<◌, ℕ, suc, max, List, [], ◌∷◌, codes, length, Bool, true, false, not, ◌&&◌, ◌||◌, nat_lt, nat_le, cond, Option, Some, None, is_some, option_map, option_and_then, Result, Ok, Err, refl, sym, ap, ◌∙◌, subst, arith}
+use Rattle.std.proofs.Common.{◌≡◌, ◌≤◌, ℕ, List, [], ◌∷◌, codes, length, Bool, true, false, not, ◌&&◌, nat_lt, nat_le, cond, Option, Some, None, is_some, option_map, option_and_then, Result, Ok, Err, refl, sym, ap, ◌∙◌, subst, arith}
 use Rattle.std.specs.Prelude.{if◌then◌else◌}
 use Rattle.std.specs.Result.{result_ok}
 use Rattle.std.proofs.lemmas.Bool.{le-ltb}
@@ -7,8 +7,8 @@ use Rattle.std.proofs.lemmas.Grind.{common_steps}
 use Rattle.std.specs.List.{AllByRecursion}
 use Rattle.flag_text.proofs.Bools.{both, left, right, or_left, or_right}
 use Rattle.flag_text.specs.Readers.{find_member}
-use Rattle.flag_text.specs.Reading.{doc_of, if_whole, tree_of, max_levels}
-use Rattle.flag_text.specs.Shape.{Shape, null, boolean, whole, other, text, list, object, Items, no_items, item, Members, no_members, member, is_whole, levels, items_levels, members_levels, has_other}
+use Rattle.flag_text.specs.Reading.{doc_of, if_whole, max_levels}
+use Rattle.flag_text.specs.Shape.{Shape, null, boolean, whole, other, text, list, object, Items, no_items, item, Members, no_members, member, is_whole, levels, members_levels, has_other}
 use Rattle.flag_text.specs.declared.fault.TextFault.{TextFault}
 use Rattle.flag_text.specs.declared.fault.TextFault.TheVariants.{TooDeep, NotWhole}
 use Rattle.logic_ast.proofs.WellFormed.{is_whole-written, reading-written}
@@ -18,12 +18,12 @@ use Rattle.logic_ast.specs.Reading.{reading}
 use Rattle.logic_ast.specs.Size.{expression_size, is_too_big}
 use Rattle.logic_ast.specs.Writing.{written}
 use Rattle.logic_ast.specs.declared.fault.LogicFault.{LogicFault}
-use Rattle.flag_defs.specs.Definition.{Rules, Definition, broken, good, state_named, state_of, are_of_one_kind, member_count, are_variants, variants_of, default_of, or_null, read_targeting, targeting_of, HasTargeting, IsGood, Means}
+use Rattle.flag_defs.specs.Definition.{Rules, Definition, broken, good, state_named, state_of, are_of_one_kind, member_count, are_variants, variants_of, default_of, or_null, targeting_of, HasTargeting, IsGood, Means}
 use Rattle.flag_defs.specs.Document.{Definitions, with_default, with_targeting, state_text, definition_written, definitions_written, printed, limited, max_flags, max_bytes, AllMean, TextMeans, DocumentMeans}
 use Rattle.flag_defs.specs.Flag.{is_definition}
-use Rattle.flag_defs.specs.Inlining.{reference_of, by_reference, has_reference, items_have_reference, members_have_reference, replaced, items_replaced, members_replaced, inlined, IsInlined}
+use Rattle.flag_defs.specs.Inlining.{reference_of, by_reference, has_reference, items_have_reference, members_have_reference, replaced, items_replaced, members_replaced}
 use Rattle.flag_defs.specs.Law.{document_written, ReadsBack}
-use Rattle.flag_defs.specs.Rules.{has_members, is_targeting, are_targetings, is_default, are_rules}
+use Rattle.flag_defs.specs.Rules.{has_members, are_targetings, is_default, are_rules}
 use Rattle.flag_defs.proofs.Deep.{levels-read}
 use Rattle.flag_defs.proofs.Printed.{formed_targeting, targetings_of}
 use Rattle.flag_defs.proofs.Targetings.{shallow}

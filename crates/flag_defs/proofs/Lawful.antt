@@ -3,10 +3,10 @@ use Rattle.std.proofs.Common.{◌≡◌, List, [], ◌∷◌, Bool, true, ◌&&�
 use Rattle.std.specs.Prelude.{IfSome, option_map}
 use Rattle.std.specs.List.{AllByRecursion}
 use Rattle.std.specs.declared.alloc.Global.{Global}
-use Rattle.flag_text.specs.Shape.{Shape, Members, is_whole, members_are_whole, names_rise, object, levels}
+use Rattle.flag_text.specs.Shape.{Shape, Members, is_whole, members_are_whole, names_rise, object}
 use Rattle.flag_text.proofs.Bools.{left, right, Holds}
 use Rattle.flag_text.proofs.Halving.{names_rise-whole}
-use Rattle.flag_defs.specs.Definition.{Rules, are_variants, are_of_one_kind, member_count}
+use Rattle.flag_defs.specs.Definition.{Rules, are_variants, are_of_one_kind}
 use Rattle.flag_defs.specs.Flag.{definition_of, is_definition, flag_view, entries_view}
 use Rattle.flag_defs.specs.Rules.{are_rules}
 use Rattle.flag_defs.specs.declared.flag.Flag.{Flag}

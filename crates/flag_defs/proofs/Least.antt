@@ -15,28 +15,32 @@ use Rattle.flag_text.specs.Printing.{data_of, text_of}
 use Rattle.flag_text.specs.Reading.{number_shape, shape_of, items_shape, members_shape}
 use Rattle.flag_text.specs.Shape.{Shape, null, boolean, whole, other, text, list, object, Items, no_items, item, Members, no_members, member, comes_first, is_in_range, is_whole, items_are_whole, members_are_whole}
 use Rattle.flag_defs.specs.Least.{least, items_least, members_least}
-use Rattle.flag_defs.specs.Measure.{measure, parts, members_full}
+use Rattle.flag_defs.specs.Measure.{capped, measure, parts, members_full}
 
+-- what a measure counts, up to the most that is counted
 mutual
-  pub bytes-least : (t : Shape) → (measure t).bytes ≤ least t
-  bytes-least null = omega arith
-  bytes-least (boolean b) = omega arith
-  bytes-least (whole (pos n)) = omega arith
-  bytes-least (whole (negsuc n)) = omega arith
-  bytes-least other = omega arith
-  bytes-least (text s) = omega arith
-  bytes-least (list ts) = omega (arith, parts-least ts)
-  bytes-least (object no_members) = omega arith
-  bytes-least (object (member k t no_members)) = omega (arith, bytes-least t)
-  bytes-least (object (member k t (member l u ms))) = omega (arith, bytes-least t, bytes-least u, members_full-least ms)
+  pub bytes-counted : (t : Shape) → (measure t).bytes ≡ capped (least t)
+  bytes-counted null = refl
+  bytes-counted (boolean b) = refl
+  bytes-counted (whole (pos n)) = refl
+  bytes-counted (whole (negsuc n)) = refl
+  bytes-counted other = refl
+  bytes-counted (text s) = omega arith
+  bytes-counted (list ts) = omega (arith, parts-counted ts)
+  bytes-counted (object no_members) = refl
+  bytes-counted (object (member k t no_members)) = omega (arith, bytes-counted t)
+  bytes-counted (object (member k t (member l u ms))) = omega (arith, bytes-counted t, bytes-counted u, members-counted ms)
 
-  parts-least : (ts : Items) → (parts ts).bytes ≤ items_least ts
-  parts-least no_items = omega arith
-  parts-least (item t ts) = omega (arith, bytes-least t, parts-least ts)
+  parts-counted : (ts : Items) → (parts ts).bytes ≡ capped (items_least ts)
+  parts-counted no_items = refl
+  parts-counted (item t ts) = omega (arith, bytes-counted t, parts-counted ts)
 
-  members_full-least : (ms : Members) → (members_full ms).1 ≤ members_least ms
-  members_full-least no_members = omega arith
-  members_full-least (member k t ms) = omega (arith, bytes-least t, members_full-least ms)
+  members-counted : (ms : Members) → (members_full ms).1 ≡ capped (members_least ms)
+  members-counted no_members = refl
+  members-counted (member k t ms) = omega (arith, bytes-counted t, members-counted ms)
+
+pub bytes-least : (t : Shape) → (measure t).bytes ≤ least t
+bytes-least t = omega (arith, bytes-counted t)
 
 -- ---- texts
 

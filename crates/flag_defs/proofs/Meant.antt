@@ -1,5 +1,5 @@
 -- What definitions mean, one by one and together.
-use Rattle.std.proofs.Common.{◌≡◌, ◌≤◌, ◌<◌, ℕ, zero, suc, ◌+◌, List, [], ◌∷◌, ◌++◌, length, drop, get_or, String, string_bytes, codes, Bool, true, false, ◌&&◌, ◌||◌, cond, nat_lt, Option, Some, None, Result, Err, Ok, option_map, Less, Ordering, refl, sym, ap, ◌∙◌, subst, arith}
+use Rattle.std.proofs.Common.{◌≡◌, ◌≤◌, ◌<◌, ℕ, zero, suc, ◌+◌, List, [], ◌∷◌, ◌++◌, length, drop, get_or, string_bytes, codes, Bool, true, false, ◌&&◌, ◌||◌, cond, nat_lt, Option, Some, None, Result, Err, Ok, Less, Ordering, refl, sym, ap, ◌∙◌, subst, arith}
 use Rattle.std.specs.Prelude.{◌≢◌, option_and_then}
 use Rattle.std.specs.Cmp.Lexicographic.{slice_cmp}
 use Rattle.std.specs.List.{AllByRecursion}
@@ -17,7 +17,7 @@ use Rattle.flag_text.proofs.Views.{Named}
 use Rattle.logic_ast.proofs.Readings.{dropped}
 use Rattle.logic_ast.specs.Expression.{Expression}
 use Rattle.logic_ast.specs.Writing.{written}
-use Rattle.flag_defs.specs.Definition.{Rules, Definition, broken, good, Means, IsGood, HasTargeting, or_null, member_count}
+use Rattle.flag_defs.specs.Definition.{Definition, broken, good, Means, or_null, member_count}
 use Rattle.flag_defs.specs.Document.{Definitions, AllMean, FlagsMean, definition_written, definitions_written, with_default, with_targeting, state_text, or_no_members, evaluators_in, printed, limited, max_flags, max_bytes, flags_in, TextMeans, DocumentMeans}
 use Rattle.flag_defs.specs.Flag.{entries_view, flag_view, is_definition}
 use Rattle.flag_defs.specs.Least.{least, members_least}

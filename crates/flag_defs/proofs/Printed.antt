@@ -1,12 +1,12 @@
 -- What is printed of lawful flags is a tree that may be printed.
-use Rattle.std.proofs.Common.{◌≡◌, List, [], ◌∷◌, codes, Bool, true, false, ◌&&◌, Option, Some, None, Ordering, Less, refl, ap}
+use Rattle.std.proofs.Common.{◌≡◌, List, [], ◌∷◌, codes, true, false, Option, Some, None, Less, refl, ap}
 use Rattle.std.specs.Prelude.{ℕ}
 use Rattle.std.specs.Cmp.Lexicographic.{slice_cmp}
 use Rattle.std.specs.List.{AllByRecursion}
 use Rattle.std.specs.List.Sorted.{IsStrictlySortedBy}
 use Rattle.std.specs.Map.{keys_of}
 use Rattle.std.specs.Ordering.{nat_cmp, match_ordering}
-use Rattle.flag_text.specs.Shape.{Shape, text, object, Members, no_members, member, comes_first, is_whole, members_are_whole}
+use Rattle.flag_text.specs.Shape.{text, object, Members, no_members, member, comes_first, is_whole, members_are_whole}
 use Rattle.flag_text.proofs.Bools.{both, left, right}
 use Rattle.logic_ast.specs.Expression.{Expression}
 use Rattle.logic_ast.specs.Formed.{is_formed, is_well_formed}

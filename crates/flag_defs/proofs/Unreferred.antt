@@ -1,9 +1,9 @@
 -- An expression whose site has other entries refers to no evaluator where it did not before.
-use Rattle.std.proofs.Common.{◌≡◌, ℕ, List, [], ◌∷◌, codes, Bool, true, false, not, ◌&&◌, ◌||◌, cond, ◌==◌, Option, None, Some, Ok, refl}
+use Rattle.std.proofs.Common.{◌≡◌, ℕ, List, [], ◌∷◌, codes, Bool, true, false, not, ◌||◌, cond, ◌==◌, Option, None, Some, Ok, refl}
 use Rattle.bucket_core.specs.Rule.{Entries}
-use Rattle.flag_text.specs.Shape.{Shape, Items, no_items, item}
+use Rattle.flag_text.specs.Shape.{Items}
 use Rattle.flag_text.proofs.Bools.{both, left, right, or_left, or_right}
-use Rattle.logic_ast.specs.Expression.{Expression, literal, list, operation, fractional, Expressions, no_expressions, expression, By, no_by, by, Buckets, no_buckets, bucket, Bucket, literal_bucket, computed_bucket}
+use Rattle.logic_ast.specs.Expression.{Expression, literal, list, operation, fractional, Expressions, no_expressions, expression, By, no_by, by, Buckets, no_buckets, bucket, literal_bucket, computed_bucket}
 use Rattle.logic_ast.specs.Formed.{is_well_formed}
 use Rattle.logic_ast.specs.Operator.{operator_name}
 use Rattle.logic_ast.specs.Sites.{with_entries, all_with_entries, by_with_entries, buckets_with_entries, literal_buckets, Site, site_at, entries_of, if_site, if_entries, replaced}

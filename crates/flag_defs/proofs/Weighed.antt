@@ -2,18 +2,14 @@
 use Rattle.std.proofs.Common.{◌≡◌, ◌≤◌, ℕ, List, [], ◌∷◌, length, Vec, Global, vec_len, ◌==◌, Bool, true, false, not, ◌&&◌, cond, Option, Some, None, option_map, Result, Ok, Err, refl, sym, ap, ◌∙◌, subst, arith}
 use Rattle.std.specs.Prelude.{is_ok}
 use Rattle.std.specs.Result.{result_ok}
-use Rattle.flag_text.proofs.Bools.{left}
 use Rattle.flag_text.proofs.Views.{Named}
 use Rattle.flag_text.specs.View.{view, members_view}
 use Rattle.flag_text.specs.declared.tree.Tree.TheVariants as variant
 use Rattle.logic_ast.proofs.Trees.{view-object}
 use Rattle.std.proofs.lemmas.Bool.{ne_eqb}
-use Rattle.flag_text.specs.Printing.{text_of}
 use Rattle.flag_text.specs.Shape.{Shape, null, boolean, whole, other, text, list, object, Members, no_members, member, is_tidy, is_whole, members_are_tidy}
-use Rattle.logic_ast.proofs.WellFormed.{is_well_formed-from, is_whole-written}
 use Rattle.logic_ast.specs.Expression.{Expression}
 use Rattle.logic_ast.specs.FirstFault.{expression_fault}
-use Rattle.logic_ast.specs.Formed.{is_formed}
 use Rattle.logic_ast.specs.Reading.{expression_from, unless, reading}
 use Rattle.logic_ast.specs.Size.{is_too_big}
 use Rattle.logic_ast.specs.Writing.{written}
@@ -22,7 +18,7 @@ use Rattle.logic_ast.specs.declared.fault.LogicFault.TheVariants.{TooBig}
 use Rattle.flag_defs.specs.Definition.{read_targeting, targeting_of}
 use Rattle.flag_defs.specs.Inlining.{has_reference, replaced, members_replaced, IsInlined}
 use Rattle.flag_defs.specs.Least.{least}
-use Rattle.flag_defs.specs.Measure.{measure}
+use Rattle.flag_defs.specs.Measure.{capped, measure}
 use Rattle.flag_defs.specs.Readable.{reads, is_readable}
 use Rattle.flag_defs.specs.Table.{IsEndOf}
 use Rattle.flag_defs.specs.Targeting.{IsWeight, end_weight, is_nothing}
@@ -31,7 +27,7 @@ use Rattle.flag_defs.specs.declared.weigh.Weight.{Weight}
 use Rattle.flag_defs.specs.declared.weigh.Weight.TheVariants.{Broken, Without, With}
 use Rattle.flag_defs.proofs.Expanded.{object-form}
 use Rattle.flag_defs.proofs.Inlined.{map_some, and_then_some, one_form}
-use Rattle.flag_defs.proofs.Least.{bytes-least}
+use Rattle.flag_defs.proofs.Least.{bytes-counted, bytes-least}
 use Rattle.flag_defs.proofs.Longer.{longer}
 use Rattle.flag_defs.proofs.Readable.{reads-readable}
 use Rattle.flag_defs.proofs.Standing.{refer_at, inlined-is}
@@ -90,8 +86,12 @@ object_weight : (evaluators : Members) (t u : Shape) (m : Measure) (b : Bool) �
     → IsWeight evaluators t (cond b (With m.bytes) Broken)
 object_weight evaluators t u m true p same kind h =
     let r = read_some (is_whole u && not (has_reference u)) (reading u) h in
-    let few = bytes-written u r.1 r.2 in
-    (r.1, (u, p, kind ∙ r.3), subst (λ x. x.bytes ≤ least (written r.1)) same few)
+    let few = bytes-written u r.1 r.2 in (
+      r.1,
+      (u, p, kind ∙ r.3),
+      subst (λ x. x.bytes ≤ least (written r.1)) same few,
+      λ v q. ap (λ x. x.bytes) (sym same) ∙ (bytes-counted u ∙ ap (λ x. capped (least x)) (one_form evaluators t u v p q)),
+    )
 object_weight evaluators t u m false p same kind h = broken evaluators t u p (kind ∙ read_none (is_whole u && not (has_reference u)) (reading u) h)
 
 -- what has a member still has one

@@ -2,7 +2,7 @@
 use Rattle.std.specs.Prelude.{ℕ, List, Bool, true, false, not, ◌&&◌, is_some, Option, Some, None, option_map, String, string_bytes}
 use Rattle.std.specs.declared.alloc.Global.{Global}
 use Rattle.flag_text.specs.Readers.{find_member}
-use Rattle.flag_text.specs.Shape.{Shape, object, Members, no_members, member}
+use Rattle.flag_text.specs.Shape.{Shape, object, Members, member}
 use Rattle.flag_text.specs.View.{members_view}
 use Rattle.flag_text.specs.declared.tree.Tree.{Tree}
 use Rattle.logic_ast.specs.Expr.{view}

@@ -7,16 +7,18 @@ use Rattle.logic_ast.specs.Writing.{written}
 use Rattle.flag_defs.specs.Definition.{HasTargeting}
 use Rattle.flag_defs.specs.Inlining.{IsInlined}
 use Rattle.flag_defs.specs.Least.{least}
+use Rattle.flag_defs.specs.Measure.{capped}
 use Rattle.flag_defs.specs.Readable.{reads}
 use Rattle.flag_defs.specs.declared.measure.Measure.{Measure}
 use Rattle.flag_defs.specs.declared.weigh.Weight.{Weight}
 use Rattle.flag_defs.specs.declared.weigh.Weight.TheVariants.{Broken, Without, With}
 
--- it breaks the flag, or is none, or is an expression that is printed in so many bytes at least
+-- It breaks the flag, or is none, or is an expression that is printed in so many bytes at least: as many as its form, counted
+-- up to a number above every limit.
 abbrev pub IsWeight : Members → Shape → Weight → Type 0
 IsWeight evaluators t Broken = (e : Option Expression) → ¬ HasTargeting evaluators t e
 IsWeight evaluators t Without = HasTargeting evaluators t None
-IsWeight evaluators t (With n) = (e : Expression) × HasTargeting evaluators t (Some e) × (n ≤ least (written e))
+IsWeight evaluators t (With n) = (e : Expression) × HasTargeting evaluators t (Some e) × (n ≤ least (written e)) × ((u : Shape) → IsInlined evaluators t u → n ≡ capped (least u))
 
 -- null or `{}`: no targeting
 abbrev pub is_nothing : Shape → Bool

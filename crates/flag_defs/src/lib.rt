@@ -1,4 +1,21 @@
-//! Flag documents.
+//! Flag documents: their definitions, with references to shared evaluators, and the flags that they mean.
+//!
+//! [`read_flags`] reads a document, [`print_flags`] writes one. A [`Flag`] is broken, or has its state, variants, default
+//! variant and targeting. [`Flags`] are flags by their keys, which rise strictly; by their type they keep both limits, and
+//! each of them can be printed.
+//!
+//! What is proved, over the definitions in `specs/`:
+//! - [`read_flags`] answers what the bytes mean (`Document`), each refusal at its place in the order, unless memory runs
+//!   out. A definition means one thing (`Definition`): it is good with its rules, or broken where there are none. Its
+//!   targeting is read with all references replaced (`Inlining`); where a reference names nothing or leads back to itself,
+//!   the flag is broken. [`a_document_has_one_meaning`] is the law that makes this exact.
+//! - Before a targeting is expanded it is known whether it breaks its flag, and in how many bytes all flags are printed at
+//!   least (`Measure`, `Targeting`, `Least`).
+//! - [`print_flags`] writes `printed` (`Document`): keys sorted, targetings inlined, a broken flag as `{}`. What it writes
+//!   is a document that means these flags.
+//! - Each reader of a flag gives the part that it names (`Flag`), [`Flags::get`] what is looked up, [`Flags::make`] the map
+//!   of its list, and [`Flag::with_site`] the flag with other entries at one site and all else as it was (`Changes`).
+//! - The rules of each good flag can be printed and read again (`Rules`).
 #![tactic(auto)]
 
 mod copy;

@@ -1,4 +1,4 @@
-use Rattle.std.proofs.Common.{◌≡◌, codes, ap, sym, ◌∙◌}
+use Rattle.std.proofs.Common.{codes, ap, sym, ◌∙◌}
 use Rattle.flag_text.specs.Shape.{members_are_tidy}
 use Rattle.flag_text.specs.View.{view, members_view}
 use Rattle.flag_defs.proofs.Meant.{tidy_named_object, tidy_evaluators}

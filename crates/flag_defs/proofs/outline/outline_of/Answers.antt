@@ -1,4 +1,4 @@
-use Rattle.std.proofs.Common.{Some, codes, option_map, ap, sym, ◌∙◌}
+use Rattle.std.proofs.Common.{codes, sym}
 use Rattle.flag_text.proofs.Halving.{names_rise-whole}
 use Rattle.flag_text.specs.View.{members_view}
 use Rattle.flag_defs.proofs.Lawful.{whole_variants}

@@ -1,8 +1,7 @@
-use Rattle.std.proofs.Common.{◌≡◌, codes, sym, ap, ◌∙◌, subst, string_bytes}
+use Rattle.std.proofs.Common.{codes, ap, ◌∙◌, subst, string_bytes}
 use Rattle.std.proofs.lemmas.Result.{IfOk-weaker}
 use Rattle.flag_text.specs.Printing.{text_of}
-use Rattle.flag_text.specs.Shape.{Members, is_whole, object, no_members, member}
-use Rattle.flag_text.specs.View.{view}
+use Rattle.flag_text.specs.Shape.{is_whole, object, no_members, member}
 use Rattle.flag_defs.specs.Flag.{entries_view}
 use Rattle.flag_defs.specs.Law.{ReadsBack}
 use Rattle.flag_defs.proofs.Lawful.{lawful_flags}

@@ -1,4 +1,4 @@
-use Rattle.std.proofs.Common.{◌≡◌, ℕ, List, Option, Some, ap, ap₂, ◌∙◌}
+use Rattle.std.proofs.Common.{ℕ, List, Option, Some, ap, ap₂, ◌∙◌}
 use Rattle.flag_text.specs.Shape.{Members}
 use Rattle.flag_text.specs.View.{members_view}
 use Rattle.logic_ast.specs.Expr.{view}

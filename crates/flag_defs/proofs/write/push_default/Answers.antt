@@ -1,4 +1,4 @@
-use Rattle.std.proofs.Common.{Some, codes, option_map, string_bytes, ap, sym, ◌∙◌}
+use Rattle.std.proofs.Common.{codes, option_map, string_bytes, ap, sym, ◌∙◌}
 use Rattle.std.proofs.lemmas.Result.{on_ok_weaker}
 use Rattle.flag_text.specs.Shape.{text, member}
 use Rattle.flag_defs.specs.Document.{with_default}

@@ -1,4 +1,4 @@
-use Rattle.std.proofs.Common.{Some, codes, option_map, ap, sym, ◌∙◌}
+use Rattle.std.proofs.Common.{codes, option_map, ap, sym, ◌∙◌}
 use Rattle.std.proofs.lemmas.Result.{on_ok_weaker}
 use Rattle.flag_text.specs.Shape.{member}
 use Rattle.logic_ast.specs.Expr.{view}

@@ -1,4 +1,4 @@
-use Rattle.std.proofs.Common.{◌≡◌, codes, option_map, string_bytes, ap, ap₂, sym, ◌∙◌}
+use Rattle.std.proofs.Common.{codes, option_map, string_bytes, ap, ap₂, sym, ◌∙◌}
 use Rattle.flag_text.specs.Shape.{text, object, no_members, member}
 use Rattle.flag_text.specs.View.{view as tree_view, members_view}
 use Rattle.flag_text.specs.declared.tree.Tree.TheVariants.{Object, Text}

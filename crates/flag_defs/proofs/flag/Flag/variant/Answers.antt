@@ -1,4 +1,4 @@
-use Rattle.std.proofs.Common.{◌≡◌, ap, sym, subst, true, ◌∙◌}
+use Rattle.std.proofs.Common.{ap, ◌∙◌}
 use Rattle.flag_text.specs.Shape.{is_whole, names_rise}
 use Rattle.flag_text.specs.View.{view as tree_view, members_view}
 use Rattle.flag_text.specs.Readers.{find_member}

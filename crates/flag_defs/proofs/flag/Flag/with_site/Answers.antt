@@ -1,4 +1,4 @@
-use Rattle.std.proofs.Common.{◌≡◌, true, option_map, ap, sym, subst, ◌∙◌}
+use Rattle.std.proofs.Common.{◌≡◌, true, option_map, ap, sym, ◌∙◌}
 use Rattle.logic_ast.specs.Expr.{view}
 use Rattle.logic_ast.specs.Formed.{is_well_formed}
 use Rattle.flag_defs.specs.Flag.{rules_view}
