@@ -1,3 +1,4 @@
+pub mod Alike
 pub mod Kind
 pub mod Lawful
 pub mod Printing

@@ -8,13 +8,15 @@
 //! Proved, over the definitions of `specs/`: each answer is that of the first of ten cases that applies
 //! (`Resolution`), over what `logic_eval` says that an evaluation gives; whatever the case, a code stands with the
 //! reason ERROR alone, a value of a variant is of the wanted kind, and another value is the caller's default
-//! (`Lawful`); a resolution's value can be printed, and the text of a resolution (`Printing`).
+//! (`Lawful`); another targeting that is evaluated to the same value changes no more than what is reached (`Alike`);
+//! a resolution's value can be printed, and the text of a resolution (`Printing`).
 #![tactic(auto)]
 
 mod asked;
 mod cases;
 mod code;
 mod kind;
+mod laws;
 mod print;
 mod reason;
 mod resolution;
@@ -22,6 +24,10 @@ mod resolution;
 pub use cases::resolve;
 pub use code::Code;
 pub use kind::Kind;
+pub use laws::the_same_value_resolves_alike;
 pub use print::print_resolution;
 pub use reason::Reason;
 pub use resolution::Resolution;
+
+#[cfg(test)]
+mod tests;

@@ -1,0 +1,241 @@
+//! Worked rows, and a row for each case that they leave out.
+ghost use Rattle.std.specs.Prelude.{◌≡◌, ◌<◌, ◌^◌, true, IfOk};
+ghost use Rattle.flag_text.specs.Shape.{is_whole};
+ghost use Rattle.flag_text.specs.View.{view};
+
+use crate::{Code, Kind, Reason, print_resolution, resolve};
+use flag_defs::{Flags, read_flags};
+use flag_text::{Tree, read_tree};
+use std::alloc::Global;
+use std::test::Fail;
+
+const FLAGS: &[u8] = br#"{
+"$evaluators":{"vip":{"in":[{"var":"key"},["test"]]}},
+"flags":{
+"color":{"state":"ENABLED","variants":{"red":"r","blue":"b","green":"g"},"defaultVariant":"red",
+    "targeting":{"fractional":[{"var":"key"},["red",5],["blue",5]]}},
+"half":{"state":"ENABLED","variants":{"a":1.5},"defaultVariant":"a"},
+"off":{"state":"DISABLED","variants":{"on":true},"defaultVariant":"on"},
+"plain":{"state":"ENABLED","variants":{"on":true,"off":false},"defaultVariant":"on","targeting":{}},
+"vip":{"state":"ENABLED","variants":{"true":true,"false":false},"defaultVariant":"false",
+    "targeting":{"if":[{"$ref":"vip"},true,null]}},
+"lost":{"state":"ENABLED","variants":{"on":1},"defaultVariant":"on","targeting":{"if":[true,"no such"]}},
+"bare":{"state":"ENABLED","variants":{"on":1},"targeting":{"if":[false,"on"]}},
+"loop":{"state":"ENABLED","variants":{"on":1},"defaultVariant":"on","targeting":{"$ref":"nobody"}},
+"te":{"state":"ENABLED","variants":{"red":1,"blue":2},"defaultVariant":"red",
+    "targeting":{"fractional":[["red",50],["blue",50]]}},
+"zero":{"state":"ENABLED","variants":{"on":1},"defaultVariant":"on","targeting":{"%":[1,0]}}}}"#;
+
+const MORE_FLAGS: &[u8] = br#"{"flags":{
+"bare-plain":{"state":"ENABLED","variants":{"on":{}}},
+"clock":{"state":"ENABLED","variants":{"now":"n","then":"t"},"defaultVariant":"then",
+    "targeting":{"if":[{"==":[{"var":"$flagd.timestamp"},9007199254740991]},"now"]}},
+"list":{"state":"ENABLED","variants":{"on":{"a":[1,"\u00e9\n"]}},"defaultVariant":"on",
+    "targeting":{"map":[["test",""],{"fractional":[{"var":""},["x",5],["y",5]]}]}},
+"number":{"state":"ENABLED","variants":{"1":1},"targeting":{"+":[1]}},
+"object":{"state":"ENABLED","variants":{"on":{"a":[1,"\u00e9\n"]}},"targeting":{"if":[true,"on"]}},
+"weightless":{"state":"ENABLED","variants":{"red":"r","blue":"b","green":"g"},"defaultVariant":"red",
+    "targeting":{"fractional":[{"var":"key"},["red",0],["blue",0]]}},
+"wrong":{"state":"ENABLED","variants":{"on":1},"defaultVariant":"on"}}}"#;
+
+const CONTEXT: &[u8] = br#"{"key":"test","targetingKey":"st"}"#;
+
+const UNREADABLE: &str =
+    r#"{"code":"PARSE_ERROR","reached":[],"reason":"ERROR","value":9,"variant":null}"#;
+
+fn tree(alloc: Global, bytes: &[u8]) -> Result<Tree, Fail>
+    ensures { IfOk result (λ t. is_whole (view t) ≡ true) }
+{
+    Ok(read_tree(alloc, bytes, 4_194_304)?)
+}
+
+/// The default that the rows give for a kind.
+fn default_of(want: Kind) -> &'static [u8] {
+    match want {
+        Kind::Bool => b"false",
+        Kind::Text => b"\"d\"",
+        Kind::Whole => b"9",
+        Kind::Object => b"{\"d\":null}",
+    }
+}
+
+/// A resolution as it is printed.
+fn resolved(
+    alloc: Global,
+    flags: Option<&Flags>,
+    key: &str,
+    want: Kind,
+    context: &[u8],
+    moment: u64,
+) -> Result<String, Fail>
+    requires { moment < 2 ^ 53 }
+{
+    let default = tree(alloc, default_of(want))?;
+    let context = tree(alloc, context)?;
+    let resolution = resolve(alloc, flags, key, want, &default, &context, moment)?;
+    Ok(print_resolution(alloc, &resolution)?)
+}
+
+#[test]
+fn worked_resolutions(rt: HostRuntime) -> Result<(), Fail> {
+    let alloc = rt.alloc();
+    let flags = read_flags(alloc, FLAGS)?;
+    for (key, want, context, answer) in [
+        (
+            "color",
+            Kind::Text,
+            CONTEXT,
+            r#"{"code":null,"reached":[[0,"test",10]],"reason":"TARGETING_MATCH","value":"b","variant":"blue"}"#,
+        ),
+        (
+            "color",
+            Kind::Bool,
+            CONTEXT,
+            r#"{"code":"TYPE_MISMATCH","reached":[[0,"test",10]],"reason":"ERROR","value":false,"variant":null}"#,
+        ),
+        ("half", Kind::Whole, CONTEXT, UNREADABLE),
+        ("loop", Kind::Whole, CONTEXT, UNREADABLE),
+        ("zero", Kind::Whole, CONTEXT, UNREADABLE),
+        (
+            "off",
+            Kind::Bool,
+            CONTEXT,
+            r#"{"code":null,"reached":[],"reason":"DISABLED","value":false,"variant":null}"#,
+        ),
+        (
+            "plain",
+            Kind::Bool,
+            CONTEXT,
+            r#"{"code":null,"reached":[],"reason":"STATIC","value":true,"variant":"on"}"#,
+        ),
+        (
+            "vip",
+            Kind::Bool,
+            CONTEXT,
+            r#"{"code":null,"reached":[],"reason":"TARGETING_MATCH","value":true,"variant":"true"}"#,
+        ),
+        (
+            "vip",
+            Kind::Bool,
+            br#"{"key":"x"}"#.as_slice(),
+            r#"{"code":null,"reached":[],"reason":"DEFAULT","value":false,"variant":"false"}"#,
+        ),
+        (
+            "lost",
+            Kind::Whole,
+            CONTEXT,
+            r#"{"code":"GENERAL","reached":[],"reason":"ERROR","value":9,"variant":null}"#,
+        ),
+        (
+            "bare",
+            Kind::Whole,
+            CONTEXT,
+            r#"{"code":null,"reached":[],"reason":"DEFAULT","value":9,"variant":null}"#,
+        ),
+        (
+            "te",
+            Kind::Whole,
+            CONTEXT,
+            r#"{"code":null,"reached":[[0,"test",100]],"reason":"TARGETING_MATCH","value":2,"variant":"blue"}"#,
+        ),
+        (
+            "te",
+            Kind::Whole,
+            b"{}".as_slice(),
+            r#"{"code":null,"reached":[],"reason":"DEFAULT","value":1,"variant":"red"}"#,
+        ),
+        (
+            "nope",
+            Kind::Bool,
+            CONTEXT,
+            r#"{"code":"FLAG_NOT_FOUND","reached":[],"reason":"ERROR","value":false,"variant":null}"#,
+        ),
+        (
+            "nope",
+            Kind::Bool,
+            b"[]".as_slice(),
+            r#"{"code":"INVALID_CONTEXT","reached":[],"reason":"ERROR","value":false,"variant":null}"#,
+        ),
+    ] {
+        let text = resolved(alloc, Some(&flags), key, want, context, 0)?;
+        assert_eq!(rt; text.as_str(), answer, "of {key}");
+    }
+    let text = resolved(alloc, None, "color", Kind::Text, CONTEXT, 0)?;
+    assert_eq!(rt;
+        text.as_str(),
+        r#"{"code":"PROVIDER_NOT_READY","reached":[],"reason":"ERROR","value":"d","variant":null}"#
+    );
+    Ok(())
+}
+
+#[test]
+fn further_resolutions(rt: HostRuntime) -> Result<(), Fail> {
+    let alloc = rt.alloc();
+    let flags = read_flags(alloc, MORE_FLAGS)?;
+    for (key, want, answer) in [
+        (
+            "bare-plain",
+            Kind::Object,
+            r#"{"code":null,"reached":[],"reason":"DEFAULT","value":{"d":null},"variant":null}"#,
+        ),
+        (
+            "clock",
+            Kind::Text,
+            r#"{"code":null,"reached":[],"reason":"TARGETING_MATCH","value":"n","variant":"now"}"#,
+        ),
+        (
+            "list",
+            Kind::Object,
+            r#"{"code":"GENERAL","reached":[[0,"test",10],[0,"",10]],"reason":"ERROR","value":{"d":null},"variant":null}"#,
+        ),
+        (
+            "number",
+            Kind::Whole,
+            r#"{"code":"GENERAL","reached":[],"reason":"ERROR","value":9,"variant":null}"#,
+        ),
+        (
+            "object",
+            Kind::Object,
+            r#"{"code":null,"reached":[],"reason":"TARGETING_MATCH","value":{"a":[1,"é\n"]},"variant":"on"}"#,
+        ),
+        (
+            "weightless",
+            Kind::Text,
+            r#"{"code":null,"reached":[],"reason":"DEFAULT","value":"r","variant":"red"}"#,
+        ),
+        (
+            "wrong",
+            Kind::Text,
+            r#"{"code":"TYPE_MISMATCH","reached":[],"reason":"ERROR","value":"d","variant":null}"#,
+        ),
+    ] {
+        let text = resolved(
+            alloc,
+            Some(&flags),
+            key,
+            want,
+            CONTEXT,
+            9_007_199_254_740_991,
+        )?;
+        assert_eq!(rt; text.as_str(), answer, "of {key}");
+    }
+    Ok(())
+}
+
+#[test]
+fn words(rt: HostRuntime) -> Result<(), Fail> {
+    let alloc = rt.alloc();
+    for (word, kind) in [
+        ("bool", Some(Kind::Bool)),
+        ("text", Some(Kind::Text)),
+        ("whole", Some(Kind::Whole)),
+        ("object", Some(Kind::Object)),
+        ("Bool", None),
+        ("", None),
+    ] {
+        assert_eq!(rt; Kind::named(word), kind, "of {word}");
+    }
+    let text = format!(in alloc; "{} {}", Reason::TargetingMatch, Code::ProviderNotReady)?;
+    assert_eq!(rt; text.as_str(), "TARGETING_MATCH PROVIDER_NOT_READY");
+    Ok(())
+}
