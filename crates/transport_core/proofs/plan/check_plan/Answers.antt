@@ -8,7 +8,7 @@ use Rattle.transport_core.proofs.Certified.{lows-fit, refused_not, refuses_rule,
 use Rattle.transport_core.proofs.plan.check_plan.Goals as goal
 
 pub returns-in_err-check_rule-clause-exact : goal.returns-in_err-check_rule-clause-exact
-returns-in_err-check_rule-clause-exact c =
+returns-in_err-check_rule-clause-exact g c =
     let plan = certificate_view c.args.certificate.now in
     let fault = c.in_err-check_rule.field-0.0 in
     err_exit c.from_residual.result fault (λ _. Unit {0}) (λ (f : CheckFault). f ≢ WantOfMemory → ¬ IsCertified c.args.old.now c.args.new.now c.args.totals.now c.args.prices.now c.args.exposure.now plan) c.from_residual.ensures.1
@@ -16,11 +16,11 @@ returns-in_err-check_rule-clause-exact c =
     (refuses_rule c.args.old.now c.args.new.now c.args.totals.now c.args.prices.now c.args.exposure.now plan fault c.in_err-check_rule.ensures))
 
 pub check_duals-requires-clause-lows : goal.check_duals-requires-clause-lows
-check_duals-requires-clause-lows c =
+check_duals-requires-clause-lows g c =
     omega (arith, lows-fit c.args.old.now c.args.new.now c.args.totals.now c.args.prices.now c.entries-limits.ensures.lawful c.in_ok-check_rule.ensures, c.total-total.ensures.value, c.total-total.ensures.allowed.small)
 
 pub returns-in_err-check_duals-clause-exact : goal.returns-in_err-check_duals-clause-exact
-returns-in_err-check_duals-clause-exact c =
+returns-in_err-check_duals-clause-exact g c =
     let plan = certificate_view c.args.certificate.now in
     let fault = c.in_err-check_duals.field-0.0 in
     let refuses = subst (λ (ks : List (List ℕ)). RefusesDuals c.args.old.now c.args.totals.now c.args.prices.now ks plan fault) c.inputs.ensures.all c.in_err-check_duals.ensures in
@@ -29,13 +29,13 @@ returns-in_err-check_duals-clause-exact c =
     (refuses_duals c.args.old.now c.args.new.now c.args.totals.now c.args.prices.now c.args.exposure.now plan fault c.in_ok-check_rule.ensures refuses))
 
 pub returns-clause-certified : goal.returns-clause-certified
-returns-clause-certified c =
+returns-clause-certified g c =
     let plan = certificate_view c.args.certificate.now in
     let duals = subst (λ (ks : List (List ℕ)). AreDuals c.args.old.now c.args.totals.now c.args.prices.now ks plan) c.inputs.ensures.all c.in_ok-check_duals.ensures in
     certified_duals c.args.old.now c.args.new.now c.args.totals.now c.args.prices.now c.args.exposure.now plan c.entries-limits.ensures.lawful c.in_ok-check_rule.ensures duals (sym c.in_ok-cost.ensures.exact ∙ c.if-cost-certificate.false)
 
 pub returns-clause-least : goal.returns-clause-least
-returns-clause-least c =
+returns-clause-least g c =
     let plan = certificate_view c.args.certificate.now in
     let duals = subst (λ (ks : List (List ℕ)). AreDuals c.args.old.now c.args.totals.now c.args.prices.now ks plan) c.inputs.ensures.all c.in_ok-check_duals.ensures in
     let certified = certified_duals c.args.old.now c.args.new.now c.args.totals.now c.args.prices.now c.args.exposure.now plan c.entries-limits.ensures.lawful c.in_ok-check_rule.ensures duals (sym c.in_ok-cost.ensures.exact ∙ c.if-cost-certificate.false) in
