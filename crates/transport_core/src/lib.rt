@@ -5,6 +5,11 @@
 //! numbers, one for each group and name, are dual prices (`Dual`, `Certificate`) that prove its cost, and then no rule of any
 //! shape that fits costs the inputs less; each refusal comes first in its order (`Refusals`). `check_cut` accepts a set of
 //! names exactly where it is deficient (`Deficient`), and then no rule fits.
+//!
+//! An `Instance` is what a planner is given: groups of points, limits and prices, without the rule or the inputs. Proved of it:
+//! `make` gives the groups of the rule (`Instance`); `proves` accepts an assignment and a certificate exactly where the
+//! tests of `Assignment` hold, and then `check_plan` accepts each rule with that assignment; `is_deficient` answers as
+//! `check_cut` does of each such rule; and where `places` accepts an assignment no set is deficient over its high limits.
 #![tactic(auto)]
 
 mod assignment;
