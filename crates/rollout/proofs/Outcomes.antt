@@ -1,0 +1,37 @@
+-- What is told of an answer, by what its parts told.
+use Rattle.std.proofs.Common.{◌≡◌, ◌≢◌, Result, Ok, Err, refl, sym, ap, subst}
+use Rattle.transport_core.specs.declared.fault.CheckFault.{CheckFault}
+use Rattle.rollout.specs.Answer.{Answer}
+use Rattle.rollout.specs.Lawful.{Problem}
+use Rattle.rollout.specs.Verified.{Proves, Shows, Denies, IsOutcome, IsShown}
+use Rattle.rollout.specs.declared.fault.RolloutFault.{RolloutFault}
+use Rattle.rollout.specs.declared.fault.RolloutFault.TheVariants as fault
+use Rattle.rollout.specs.declared.verify_fault.VerifyFault.TheVariants.{Request, Check}
+
+only_want : (e : RolloutFault) → (e ≢ fault.WantOfMemory → ⊥) → e ≡ fault.WantOfMemory
+only_want fault.WantOfMemory h = refl
+only_want (fault.Request e) h = absurd (h (λ q. cc))
+only_want fault.UnknownFlag h = absurd (h (λ q. cc))
+only_want fault.NoSite h = absurd (h (λ q. cc))
+only_want fault.Computed h = absurd (h (λ q. cc))
+only_want fault.UnknownVariant h = absurd (h (λ q. cc))
+only_want fault.TotalsSum h = absurd (h (λ q. cc))
+only_want fault.TotalTooLarge h = absurd (h (λ q. cc))
+only_want fault.Undecided h = absurd (h (λ q. cc))
+only_want fault.NoWeight h = absurd (h (λ q. cc))
+only_want fault.TooLarge h = absurd (h (λ q. cc))
+
+-- a refusal of the request
+pub outcome_request : (r : Result Problem RolloutFault) (a : Answer) (e : RolloutFault) → (e ≢ fault.WantOfMemory → r ≡ Err e) → IsOutcome r a (Err (Request e))
+outcome_request (Err f) a e h = λ want. let same = h want in cc
+outcome_request (Ok p) a e h = only_want e (λ want. let same = h want in cc)
+
+-- a refusal of the check
+pub outcome_check : (r : Result Problem RolloutFault) (p : Problem) (a : Answer) (e : CheckFault) → r ≡ Ok p → Denies p a e → IsOutcome r a (Err (Check e))
+outcome_check r p a e is h = rw is h
+
+pub outcome_right : (r : Result Problem RolloutFault) (p : Problem) (a : Answer) → r ≡ Ok p → Proves p a → IsOutcome r a (Ok tt)
+outcome_right r p a is h = rw is h
+
+pub shown_right : (r : Result Problem RolloutFault) (p : Problem) (a : Answer) → r ≡ Ok p → Shows p a → IsShown r a
+shown_right r p a is h = rw is h

@@ -1,0 +1,63 @@
+-- The number and the name that a refusal of a rollout is printed with, and what a refusal of a lower call becomes.
+use Rattle.std.specs.Prelude.{ℕ, List, codes}
+use Rattle.bucket_core.specs.declared.fault.RuleFault.{RuleFault}
+use Rattle.bucket_core.specs.declared.fault.RuleFault.TheVariants as rule
+use Rattle.logic_ast.specs.declared.fault.LogicFault.{LogicFault}
+use Rattle.logic_ast.specs.declared.fault.LogicFault.TheVariants as logic
+use Rattle.price_core.specs.declared.fault.PriceFault.{PriceFault}
+use Rattle.price_core.specs.declared.fault.PriceFault.TheVariants as price
+use Rattle.rollout.specs.declared.fault.RolloutFault.{RolloutFault}
+use Rattle.rollout.specs.declared.fault.RolloutFault.TheVariants.{WantOfMemory, Request, UnknownFlag, NoSite, Computed, UnknownVariant, TotalsSum, TotalTooLarge, Undecided, NoWeight, TooLarge}
+
+-- want of memory is 0
+abbrev pub number_of : RolloutFault → ℕ
+number_of WantOfMemory = 0
+number_of (Request fault) = 1
+number_of UnknownFlag = 2
+number_of NoSite = 3
+number_of Computed = 4
+number_of UnknownVariant = 5
+number_of TotalsSum = 6
+number_of TotalTooLarge = 7
+number_of Undecided = 8
+number_of NoWeight = 9
+number_of TooLarge = 10
+
+-- the name of the variant
+abbrev pub name_of : RolloutFault → List ℕ
+name_of WantOfMemory = codes "WantOfMemory"
+name_of (Request fault) = codes "Request"
+name_of UnknownFlag = codes "UnknownFlag"
+name_of NoSite = codes "NoSite"
+name_of Computed = codes "Computed"
+name_of UnknownVariant = codes "UnknownVariant"
+name_of TotalsSum = codes "TotalsSum"
+name_of TotalTooLarge = codes "TotalTooLarge"
+name_of Undecided = codes "Undecided"
+name_of NoWeight = codes "NoWeight"
+name_of TooLarge = codes "TooLarge"
+
+-- A name that the flag lacks is told of requests and rules alike. Every other refusal of a request is carried.
+abbrev pub of_price : PriceFault → RolloutFault
+of_price price.WantOfMemory = WantOfMemory
+of_price price.BadRequest = Request price.BadRequest
+of_price price.UnknownVariant = UnknownVariant
+of_price price.SelfPair = Request price.SelfPair
+of_price price.PriceRange = Request price.PriceRange
+of_price price.EmptyRange = Request price.EmptyRange
+
+-- of what is told of a site of an expression
+abbrev pub of_logic : LogicFault → RolloutFault
+of_logic logic.WantOfMemory = WantOfMemory
+of_logic logic.UnknownOperator = NoSite
+of_logic logic.BadArguments = NoSite
+of_logic logic.TooBig = NoSite
+of_logic logic.NoSite = NoSite
+of_logic logic.Computed = Computed
+
+-- of what is told of a list of entries
+abbrev pub of_rule : RuleFault → RolloutFault
+of_rule rule.WantOfMemory = WantOfMemory
+of_rule rule.NoWeight = NoWeight
+of_rule rule.TooHeavy = TotalTooLarge
+of_rule rule.BadRule = Computed

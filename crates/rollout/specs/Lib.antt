@@ -1,0 +1,7 @@
+pub mod Answer
+pub mod Fault
+pub mod FileFault
+pub mod Lawful
+pub mod PlanFile
+pub mod Verified
+pub mod VerifyFault

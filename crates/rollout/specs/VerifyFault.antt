@@ -1,0 +1,14 @@
+-- The number and the name that a refusal of an answer is printed with: those of the fault that it carries.
+use Rattle.std.specs.Prelude.{ℕ, List}
+use Rattle.transport_core.specs.Fault as check
+use Rattle.rollout.specs.Fault as rollout
+use Rattle.rollout.specs.declared.verify_fault.VerifyFault.{VerifyFault}
+use Rattle.rollout.specs.declared.verify_fault.VerifyFault.TheVariants.{Request, Check}
+
+abbrev pub number_of : VerifyFault → ℕ
+number_of (Request fault) = rollout.number_of fault
+number_of (Check fault) = check.number_of fault
+
+abbrev pub name_of : VerifyFault → List ℕ
+name_of (Request fault) = rollout.name_of fault
+name_of (Check fault) = check.name_of fault

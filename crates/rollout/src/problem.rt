@@ -1,0 +1,83 @@
+//! What a lawful request asks.
+ghost use Rattle.std.specs.Prelude.{◌≡◌, ◌≤◌, ◌<◌, ◌*◌, false, Ok};
+ghost use Rattle.flag_text.specs.Outcome.{GivesUnless};
+ghost use Rattle.bucket_core.specs.Rule.{total_weight, refinement, entries_view};
+ghost use Rattle.flag_defs.specs.Flag.{flag_view, is_broken};
+ghost use Rattle.flag_defs.specs.Flags.{flags_view};
+ghost use Rattle.rollout.specs.Lawful.{IsRefining, max_planned, problem_of, problem_at, place_view, problem_view};
+
+use crate::fault::RolloutFault;
+use crate::place::{Place, limits_for, place_of};
+use crate::refining::Refining;
+use crate::sums::{check_size, weight_of};
+use book_core::{Book, Exposure};
+use bucket_core::Rule;
+use flag_defs::Flags;
+use price_core::{Request, Totals};
+use std::alloc::Global;
+
+/// The rule that is planned on, the limits on the totals of the flag's variants, the request with its prices, and the
+/// inputs that count.
+#[derive(Drop)]
+pub(crate) struct Problem {
+    pub(crate) old: Rule,
+    pub(crate) totals: Totals,
+    pub(crate) request: Request,
+    pub(crate) exposure: Exposure,
+}
+
+/// What the bytes of a request ask, where it is lawful.
+pub(crate) fn problem_of(
+    alloc: Global,
+    refining: Refining,
+    flags: &Flags,
+    request: &[u8],
+    book: &Book,
+) -> Result<Problem, RolloutFault>
+    requires { IsRefining refining }
+    ensures { GivesUnless RolloutFault.WantOfMemory problem_view result (problem_of refining (flags_view flags.now) request.now book.now) }
+{
+    let request = Request::read(alloc, request)?;
+    let place = place_of(alloc, flags, request.flag(), request.site())?;
+    problem_at(alloc, refining, book, request, place)
+}
+
+fn problem_at(
+    alloc: Global,
+    refining: Refining,
+    book: &Book,
+    request: Request,
+    place: Place<'_>,
+) -> Result<Problem, RolloutFault>
+    requires lawful { IsRefining refining }
+    requires good { is_broken (flag_view place.flag.now) ≡ false }
+    ensures { GivesUnless RolloutFault.WantOfMemory problem_view result (problem_at refining book.now request (place_view place.entry)) }
+{
+    let total = weight_of(place.entries.as_slice());
+    if total == 0 {
+        return Err(RolloutFault::NoWeight);
+    }
+    let totals = limits_for(alloc, &place, &request)?;
+    let factor = refining.factor(total);
+    check_size(totals.entries(), total, factor)?;
+    let Place { entries, page, .. } = place;
+    let old = refined(alloc, entries, factor)?;
+    let exposure = book.exposure(alloc, &page)?;
+    Ok(Problem {
+        old,
+        totals,
+        request,
+        exposure,
+    })
+}
+
+/// The rule of the entries, each weight times the factor.
+fn refined(alloc: Global, entries: Vec<(String, u64)>, factor: u32) -> Result<Rule, RolloutFault>
+    requires some { 0 < total_weight (entries_view entries.items) }
+    requires positive { 0 < factor }
+    requires small { total_weight (entries_view entries.items) * factor ≤ max_planned }
+    ensures { GivesUnless RolloutFault.WantOfMemory (λ r. r) result (Ok (refinement factor (entries_view entries.items))) }
+{
+    let rule = Rule::make(alloc, entries)?;
+    Ok(rule.refine(alloc, factor)?)
+}

@@ -1,0 +1,113 @@
+//! Whether an answer is right, whoever made it.
+ghost use Rattle.std.specs.Prelude.{◌≡◌, ◌<◌, OnOk, MatchResult};
+ghost use Rattle.flag_defs.specs.Flags.{flags_view};
+ghost use Rattle.rollout.specs.Answer.{planned_view};
+ghost use Rattle.rollout.specs.Lawful.{IsRefining, problem_of, problem_view};
+ghost use Rattle.rollout.specs.Verified.{IsOutcome, Proves, Shows, Denies, IsShown, refining_for};
+ghost use Rattle.rollout.specs.declared.refining.Refining.TheVariants.{Times};
+
+use crate::planned::Planned;
+use crate::problem::{Problem, problem_of};
+use crate::refining::Refining;
+use crate::verify_fault::VerifyFault;
+use book_core::Book;
+use flag_defs::Flags;
+use std::alloc::Global;
+use std::thread::Threads;
+use transport_core::{CheckFault, check_cut, check_plan};
+
+/// Checks that a request is lawful and that an answer is right for it. A rule is checked against the site's rule, refined
+/// to the rule's total where that is a multiple of the site's; a set of names against the site's rule as it is.
+///
+/// It refuses with `Request` where the request is refused, and then with `Check` as [`check_plan`] or [`check_cut`] does.
+pub fn verify(
+    rt: &(impl Threads + Sync),
+    alloc: Global,
+    flags: &Flags,
+    request: &[u8],
+    book: &Book,
+    planned: &Planned,
+) -> Result<(), VerifyFault>
+    ensures exact { IsOutcome (problem_of (refining_for (planned_view planned.now)) (flags_view flags.now) request.now book.now) (planned_view planned.now) result }
+    ensures shown { OnOk result (IsShown (problem_of (refining_for (planned_view planned.now)) (flags_view flags.now) request.now book.now) (planned_view planned.now)) }
+{
+    verify_by(
+        rt,
+        alloc,
+        refining_for(planned),
+        flags,
+        request,
+        book,
+        planned,
+    )
+}
+
+/// As [`verify`], with the site's rule refined by m for both kinds of answer. The condition is m from 1.
+pub fn verify_refined(
+    rt: &(impl Threads + Sync),
+    alloc: Global,
+    flags: &Flags,
+    request: &[u8],
+    book: &Book,
+    planned: &Planned,
+    m: u32,
+) -> Result<(), VerifyFault>
+    requires { 0 < m }
+    ensures exact { IsOutcome (problem_of (Times m) (flags_view flags.now) request.now book.now) (planned_view planned.now) result }
+    ensures shown { OnOk result (IsShown (problem_of (Times m) (flags_view flags.now) request.now book.now) (planned_view planned.now)) }
+{
+    verify_by(rt, alloc, Refining::Times(m), flags, request, book, planned)
+}
+
+fn refining_for(planned: &Planned) -> Refining
+    ensures value { result ≡ refining_for (planned_view planned.now) }
+    ensures lawful { IsRefining result }
+{
+    match planned {
+        Planned::Emit(rule, _) => Refining::ToTotal(rule.total()),
+        Planned::NoneExists(_) => Refining::Times(1),
+    }
+}
+
+fn verify_by(
+    rt: &(impl Threads + Sync),
+    alloc: Global,
+    refining: Refining,
+    flags: &Flags,
+    request: &[u8],
+    book: &Book,
+    planned: &Planned,
+) -> Result<(), VerifyFault>
+    requires { IsRefining refining }
+    ensures exact { IsOutcome (problem_of refining (flags_view flags.now) request.now book.now) (planned_view planned.now) result }
+    ensures shown { OnOk result (IsShown (problem_of refining (flags_view flags.now) request.now book.now) (planned_view planned.now)) }
+{
+    let problem = problem_of(alloc, refining, flags, request, book)?;
+    check(rt, alloc, &problem, planned)?;
+    Ok(())
+}
+
+fn check(
+    rt: &(impl Threads + Sync),
+    alloc: Global,
+    problem: &Problem,
+    planned: &Planned,
+) -> Result<(), CheckFault>
+    ensures exact { MatchResult result (λ _. Proves (problem_view problem.now) (planned_view planned.now)) (Denies (problem_view problem.now) (planned_view planned.now)) }
+    ensures shown { OnOk result (Shows (problem_view problem.now) (planned_view planned.now)) }
+{
+    let prices = problem.request.prices();
+    match planned {
+        Planned::Emit(rule, certificate) => check_plan(
+            rt,
+            alloc,
+            &problem.old,
+            rule,
+            &problem.totals,
+            prices,
+            &problem.exposure,
+            certificate,
+        ),
+        Planned::NoneExists(cut) => { check_cut(alloc, &problem.old, &problem.totals, prices, cut) }
+    }
+}
