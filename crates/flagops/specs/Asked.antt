@@ -1,5 +1,6 @@
 -- A command with its words.
 use Rattle.std.specs.Prelude.{List, ℕ}
+use Rattle.flag_resolve.specs.declared.kind.Kind.{Kind}
 use Rattle.flagops.specs.declared.asked.Asked as declared
 use Rattle.flagops.specs.declared.asked.Asked.TheVariants as code
 
@@ -8,8 +9,14 @@ pub data Asked : Type 0 where
   bucket : List ℕ → List ℕ → Asked
   -- the old and the new rule file, a request and a key file
   price : List ℕ → List ℕ → List ℕ → List ℕ → Asked
+  -- a document
+  check : List ℕ → Asked
+  -- a document, a key, a kind of value, a default, a context and a moment
+  resolve : List ℕ → List ℕ → Kind → List ℕ → List ℕ → ℕ → Asked
 
 -- the same, without where the words lie in memory
 abbrev pub asked_view : declared.Asked → Asked
 asked_view (code.Bucket rule key) = bucket rule.now key.now
 asked_view (code.Price old new request keys) = price old.now new.now request.now keys.now
+asked_view (code.Check document) = check document.now
+asked_view (code.Resolve document key kind default context moment) = resolve document.now key.now kind default.now context.now moment.number

@@ -1,24 +1,29 @@
 -- The table of the commands.
-use Rattle.std.specs.Prelude.{Bool, true, Result}
+use Rattle.std.specs.Prelude.{◌≡◌, Bool, true}
 use Rattle.flagops.specs.Bucket.{bucket_report}
+use Rattle.flagops.specs.Check.{IsCheckReport}
 use Rattle.flagops.specs.Files.{Holding}
 use Rattle.flagops.specs.Price.{price_report}
-use Rattle.flagops.specs.Refusal.{bucket_calls, price_calls}
-use Rattle.flagops.specs.Report.{Report}
+use Rattle.flagops.specs.Refusal.{bucket_calls, price_calls, check_calls, resolve_calls}
+use Rattle.flagops.specs.Report.{Outcomes}
+use Rattle.flagops.specs.Resolve.{IsResolveReport}
 use Rattle.flagops.specs.declared.refusal.Call.{Call}
 use Rattle.flagops.specs.declared.refusal.Call.TheVariants as call
-use Rattle.flagops.specs.Asked.{Asked, bucket, price}
-use Rattle.flagops.specs.declared.refusal.Refusal.{Refusal}
+use Rattle.flagops.specs.Asked.{Asked, bucket, price, check, resolve}
 
--- what each command reports over the files
-abbrev pub outcome_of : Holding → Asked → Result Report Refusal
-outcome_of at (bucket rule key) = bucket_report at rule key
-outcome_of at (price old new request keys) = price_report at old new request keys
+-- what each command comes to over the files
+abbrev pub IsOutcome : Holding → Asked → Outcomes
+IsOutcome at (bucket rule key) r = bucket_report at rule key ≡ r
+IsOutcome at (price old new request keys) r = price_report at old new request keys ≡ r
+IsOutcome at (check document) r = IsCheckReport at document r
+IsOutcome at (resolve document key kind default context moment) r = IsResolveReport at document key kind default context moment r
 
 -- the calls that each command makes
 abbrev pub calls_of : Asked → Call → Bool
 calls_of (bucket rule key) c = bucket_calls c
 calls_of (price old new request keys) c = price_calls c
+calls_of (check document) c = check_calls c
+calls_of (resolve document key kind default context moment) c = resolve_calls c
 
 -- the calls that may run out of memory: those of the command, and reading the words
 abbrev pub can_want : Asked → Call → Bool

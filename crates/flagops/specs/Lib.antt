@@ -1,12 +1,16 @@
 pub mod Asked
 pub mod Bucket
+pub mod Check
 pub mod Commands
+pub mod Documents
 pub mod Files
 pub mod Loading
 pub mod Memory
+pub mod Moment
 pub mod Price
 pub mod Refusal
 pub mod Report
+pub mod Resolve
 pub mod Telling
 pub mod Totals
 pub mod Words

@@ -4,12 +4,13 @@ use Rattle.flag_text.specs.Fault as texts
 use Rattle.bucket_core.specs.Fault as rules
 use Rattle.book_core.specs.Fault as books
 use Rattle.price_core.specs.Fault as requests
+use Rattle.flag_defs.specs.Fault as documents
 use Rattle.flagops.specs.Files.{load_number, load_name}
 use Rattle.flagops.specs.declared.files.LoadFault.TheVariants.{Unreadable}
 use Rattle.flagops.specs.declared.refusal.Call.{Call}
 use Rattle.flagops.specs.declared.refusal.Call.TheVariants as call
 use Rattle.flagops.specs.declared.refusal.Refusal.{Refusal}
-use Rattle.flagops.specs.declared.refusal.Refusal.TheVariants.{WantOfMemory, Load, ReadTree, ReadRule, ReadRequest, Note, Price}
+use Rattle.flagops.specs.declared.refusal.Refusal.TheVariants.{WantOfMemory, Load, ReadTree, ReadRule, ReadRequest, Note, Price, ReadFlags}
 use Rattle.flagops.specs.declared.refusal.PriceMismatch.{PriceMismatch}
 use Rattle.flagops.specs.declared.refusal.PriceMismatch.TheVariants.{Weight, BadKeys}
 
@@ -22,6 +23,9 @@ call_name call.Bucket = codes "bucket"
 call_name call.ReadRequest = codes "Request::read"
 call_name call.Note = codes "note"
 call_name call.Price = codes "price"
+call_name call.ReadFlags = codes "read_flags"
+call_name call.Check = codes "check"
+call_name call.Resolve = codes "resolve"
 
 -- the calls that loading a tree makes
 abbrev pub loads_tree : Call → Bool
@@ -68,6 +72,23 @@ price_calls call.ReadRequest = true
 price_calls call.Note = true
 price_calls c = loads_rule c
 
+-- the calls that loading a flag document makes
+abbrev pub loads_flags : Call → Bool
+loads_flags call.Load = true
+loads_flags call.ReadFlags = true
+loads_flags c = false
+
+-- the calls that the command `check` makes
+abbrev pub check_calls : Call → Bool
+check_calls call.Check = true
+check_calls c = loads_flags c
+
+-- the calls that the command `resolve` makes
+abbrev pub resolve_calls : Call → Bool
+resolve_calls call.Resolve = true
+resolve_calls call.ReadTree = true
+resolve_calls c = loads_flags c
+
 -- the call that refused
 abbrev pub call_of : Refusal → Call
 call_of (WantOfMemory c) = c
@@ -77,6 +98,7 @@ call_of (ReadRule e) = call.ReadRule
 call_of (ReadRequest e) = call.ReadRequest
 call_of (Note e) = call.Note
 call_of (Price e) = call.Price
+call_of (ReadFlags e) = call.ReadFlags
 
 -- the number and the name of what the command `price` refuses
 abbrev pub mismatch_number : PriceMismatch → ℕ
@@ -96,6 +118,7 @@ number_of (ReadRule e) = rules.number_of e
 number_of (ReadRequest e) = requests.number_of e
 number_of (Note e) = books.number_of e
 number_of (Price e) = mismatch_number e
+number_of (ReadFlags e) = documents.number_of e
 
 abbrev pub name_of : Refusal → List ℕ
 name_of (WantOfMemory c) = codes "WantOfMemory"
@@ -105,6 +128,7 @@ name_of (ReadRule e) = rules.name_of e
 name_of (ReadRequest e) = requests.name_of e
 name_of (Note e) = books.name_of e
 name_of (Price e) = mismatch_name e
+name_of (ReadFlags e) = documents.name_of e
 
 -- memory ran out: each fault has this as its number 0
 abbrev pub is_want : Refusal → Bool
@@ -120,6 +144,11 @@ line_of r = line_with (call_name (call_of r)) (decimal (number_of r)) (name_of r
 -- the line where a call ran out of memory
 unfoldable pub want_line : Call → List ℕ
 want_line c = codes "refused " ++ (call_name c ++ codes " 0 WantOfMemory\n")
+
+-- What was returned, seen by `seen`, is one of these, unless memory ran out.
+abbrev pub GivesOne : {X Y : Type 0} → (X → Y) → Result X Refusal → (Result Y Refusal → Type 0) → Type 0
+GivesOne seen (Ok x) Wanted = Wanted (Ok (seen x))
+GivesOne seen (Err r) Wanted = is_want r ≡ false → Wanted (Err r)
 
 -- What was returned, seen by `seen`, is what the definition gives, unless memory ran out.
 abbrev pub GivesUnlessWant : {X Y : Type 0} → (X → Y) → Result X Refusal → Result Y Refusal → Type 0

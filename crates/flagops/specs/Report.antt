@@ -40,14 +40,19 @@ abbrev pub Reports : Option (List ℕ) → Option (List ℕ) → Bool → ℕ �
 Reports old new false status wanted = Appends old new wanted.text × (status ≡ wanted.status)
 Reports old new true status wanted = AppendsPart old new wanted.text × (status ≡ 1)
 
--- the report, unless one of these calls ran out of memory, which is reported in its place
-abbrev pub Answers : (Call → Bool) → Option (List ℕ) → Option (List ℕ) → Bool → ℕ → Report → Type 0
-Answers calls old new broken status wanted = Reports old new broken status wanted ⊎ ((c : Call) × (calls c ≡ true) × Reports old new broken status (want_report c))
+-- what a command may come to
+abbrev pub Outcomes : Type 1
+Outcomes = Result Report Refusal → Type 0
 
--- what is to be written: the report, or the line of one of these calls, which ran out of memory
-abbrev pub AnswersOrWants : (Call → Bool) → Result Outcome Call → Report → Type 0
-AnswersOrWants calls (Ok o) wanted = outcome_view o ≡ wanted
-AnswersOrWants calls (Err c) wanted = calls c ≡ true
+-- the report of one of these outcomes, unless one of these calls ran out of memory, which is reported in its place
+abbrev pub Answers : (Call → Bool) → Option (List ℕ) → Option (List ℕ) → Bool → ℕ → Outcomes → Type 0
+Answers calls old new broken status IsOutcome =
+    ((r : Result Report Refusal) × IsOutcome r × Reports old new broken status (report_of r)) ⊎ ((c : Call) × (calls c ≡ true) × Reports old new broken status (want_report c))
+
+-- what is to be written: the report of one of these outcomes, or the line of one of these calls, which ran out of memory
+abbrev pub AnswersOrWants : (Call → Bool) → Result Outcome Call → Outcomes → Type 0
+AnswersOrWants calls (Ok o) IsOutcome = (r : Result Report Refusal) × IsOutcome r × (outcome_view o ≡ report_of r)
+AnswersOrWants calls (Err c) IsOutcome = calls c ≡ true
 
 -- reading a file alone
 abbrev pub is_load : Call → Bool

@@ -1,13 +1,17 @@
 -- Which command the words ask for, by what `clap` reads of them.
-use Rattle.std.specs.Prelude.{◌≡◌, ◌⊎◌, true, List, [], ◌∷◌, codes, Option, Some, None, option_and_then, if◌then◌else◌}
+use Rattle.std.specs.Prelude.{◌≡◌, ◌⊎◌, ◌&&◌, ℕ, Bool, true, not, is_some, List, [], ◌∷◌, codes, Option, Some, None, option_and_then, if◌then◌else◌}
 use Rattle.std.specs.Str.{bytes_eq}
 use Rattle.clap.specs.Walk.{Row, Rule, Text, first_of}
 use Rattle.clap.specs.Simple.{App, Shape, new_app, new_rule, on_top, subcommand_of, with_rule, with_subcommand}
-use Rattle.clap.specs.Kinds.{Kinds, IsAmong}
+use Rattle.clap.specs.Kinds.{Kinds, IsAmong, or_else}
+use Rattle.clap.specs.declared.builder.value_parser.ValueParser.TheVariants.{Unsigned}
 use Rattle.clap.specs.declared.error.kind.ErrorKind.{ErrorKind}
-use Rattle.clap.specs.declared.error.kind.ErrorKind.TheVariants.{OutOfMemory}
+use Rattle.clap.specs.declared.error.kind.ErrorKind.TheVariants.{InvalidValue, OutOfMemory}
 use Rattle.clap.specs.Faults.{fault_of}
-use Rattle.flagops.specs.Asked.{Asked, bucket, price}
+use Rattle.flag_resolve.specs.Kind.{kind_named}
+use Rattle.flag_resolve.specs.declared.kind.Kind.{Kind}
+use Rattle.flagops.specs.Asked.{Asked, bucket, price, check, resolve}
+use Rattle.flagops.specs.Moment.{max_moment, moment_in}
 
 -- ---- what the program takes
 
@@ -22,6 +26,22 @@ bucket_app = with_rule (with_rule (new_app (codes "bucket")) (required (codes "R
 unfoldable pub price_app : App
 price_app = with_rule (with_rule (with_rule (with_rule (new_app (codes "price")) (required (codes "OLD"))) (required (codes "NEW"))) (required (codes "REQUEST"))) (required (codes "KEYS"))
 
+-- `check DOC`
+unfoldable pub check_app : App
+check_app = with_rule (new_app (codes "check")) (required (codes "DOC"))
+
+-- a number up to a bound that has to be there
+abbrev pub number : Text → ℕ → Rule
+number id most = record (required id) { parser = Some (Unsigned 0 most) }
+
+-- `resolve DOC KEY KIND ..`: the first words, which name a flag and the kind of its value
+abbrev pub resolve_begun : App
+resolve_begun = with_rule (with_rule (with_rule (new_app (codes "resolve")) (required (codes "DOC"))) (required (codes "KEY"))) (required (codes "KIND"))
+
+-- `resolve DOC KEY KIND DEFAULT CONTEXT MOMENT`
+unfoldable pub resolve_app : App
+resolve_app = with_rule (with_rule (with_rule resolve_begun (required (codes "DEFAULT"))) (required (codes "CONTEXT"))) (number (codes "MOMENT") max_moment)
+
 -- a command has to be named; there is a version, and no program's name before the words
 abbrev pub takes_commands : Shape → Shape
 takes_commands s = record s {
@@ -34,13 +54,11 @@ takes_commands s = record s {
 
 -- the program with its commands
 unfoldable pub flagops_app : App
-flagops_app = with_subcommand (with_subcommand (on_top takes_commands (new_app (codes "flagops"))) bucket_app.top) price_app.top
+flagops_app =
+    with_subcommand (with_subcommand (with_subcommand (with_subcommand (on_top takes_commands (new_app (codes "flagops"))) bucket_app.top) price_app.top) check_app.top)
+    resolve_app.top
 
 -- ---- what the words ask for
-
--- the kinds of mistake that the words make, or of help that they ask for
-unfoldable pub faults_of : List Text → Kinds
-faults_of words = fault_of flagops_app words
 
 -- what comes next, where there is something
 infixl 10 ◌>>=◌
@@ -62,13 +80,50 @@ price_in rows = do
   keys ← first_of (codes "KEYS") rows
   Some (price old new request keys)
 
+abbrev pub check_in : List Row → Option Asked
+check_in rows = do
+  document ← first_of (codes "DOC") rows
+  Some (check document)
+
+abbrev pub kind_in : List Row → Option Kind
+kind_in rows = do
+  word ← first_of (codes "KIND") rows
+  kind_named word
+
+abbrev pub resolve_in : List Row → Option Asked
+resolve_in rows = do
+  document ← first_of (codes "DOC") rows
+  key ← first_of (codes "KEY") rows
+  kind ← kind_in rows
+  default ← first_of (codes "DEFAULT") rows
+  context ← first_of (codes "CONTEXT") rows
+  word ← first_of (codes "MOMENT") rows
+  moment ← moment_in word
+  Some (resolve document key kind default context moment)
+
 -- a command by its name, with its words
 abbrev pub asked_in : Text × List Row → Option Asked
-asked_in (name, rows) = if bytes_eq name (codes "bucket") then bucket_in rows else (if bytes_eq name (codes "price") then price_in rows else None)
+asked_in (name, rows) =
+    if bytes_eq name (codes "resolve") then resolve_in rows else
+    (if bytes_eq name (codes "check") then check_in rows else
+    (if bytes_eq name (codes "price") then price_in rows else
+    (if bytes_eq name (codes "bucket") then bucket_in rows else None)))
 
 -- the same of the subcommand that was met, if one was
 abbrev pub asked_of : Option (Text × List Row) → Option Asked
 asked_of named = named >>= asked_in
+
+-- a kind of value that is none of the four is a mistake
+abbrev pub kind_fault_in : Text × List Row → Kinds
+kind_fault_in (name, rows) = if bytes_eq name (codes "resolve") && not (is_some (kind_in rows)) then InvalidValue ∷ [] else []
+
+abbrev pub kind_fault : Option (Text × List Row) → Kinds
+kind_fault None = []
+kind_fault (Some named) = kind_fault_in named
+
+-- the kinds of mistake that the words make, or of help that they ask for
+unfoldable pub faults_of : List Text → Kinds
+faults_of words = or_else (fault_of flagops_app words) (kind_fault (subcommand_of flagops_app words))
 
 -- words with a fault ask for no command
 abbrev pub if_faultless : {X : Type 0} → Kinds → Option X → Option X

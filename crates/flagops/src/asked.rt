@@ -1,3 +1,6 @@
+use crate::moment::Moment;
+use flag_resolve::Kind;
+
 /// A command with its words.
 #[derive(Clone, Copy, Debug, PartialEq, Eq)]
 pub enum Asked<'a> {
@@ -12,5 +15,18 @@ pub enum Asked<'a> {
         new: &'a str,
         request: &'a str,
         keys: &'a str,
+    },
+    /// Which flags of a document are good.
+    Check {
+        document: &'a str,
+    },
+    /// What the flag of a key resolves to.
+    Resolve {
+        document: &'a str,
+        key: &'a str,
+        kind: Kind,
+        default: &'a str,
+        context: &'a str,
+        moment: Moment,
     },
 }

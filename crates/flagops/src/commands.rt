@@ -1,16 +1,18 @@
 //! The table of the commands, and what each answers.
 ghost use Rattle.std.specs.Prelude.{◌≡◌, ◌||◌, IfSome};
-ghost use Rattle.flagops.specs.Commands.{calls_of, outcome_of};
+ghost use Rattle.flagops.specs.Commands.{calls_of, IsOutcome};
 ghost use Rattle.flagops.specs.Asked.{asked_view};
-ghost use Rattle.flagops.specs.Refusal.{ComesFrom, GivesUnlessWant, is_file_fault};
+ghost use Rattle.flagops.specs.Refusal.{ComesFrom, GivesOne, is_file_fault};
 ghost use Rattle.flagops.specs.Report.{outcome_view};
 
 use crate::asked::Asked;
 use crate::bucket::bucket;
+use crate::check::check;
 use crate::files::FileSet;
 use crate::outcome::Outcome;
 use crate::price::price;
 use crate::refusal::Refusal;
+use crate::resolve::resolve;
 use std::alloc::Global;
 use std::thread::Threads;
 
@@ -21,7 +23,7 @@ pub fn outcome<R: Threads + Sync, F: FileSet>(
     files: &mut F,
     asked: &Asked<'_>,
 ) -> Result<Outcome, Refusal>
-    ensures exact { IfSome (F.holding files.old) (λ at. GivesUnlessWant outcome_view result (outcome_of at (asked_view asked.now))) }
+    ensures exact { IfSome (F.holding files.old) (λ at. GivesOne outcome_view result (IsOutcome at (asked_view asked.now))) }
     ensures calls { ComesFrom (calls_of (asked_view asked.now)) result }
     ensures failed { F.has_failed files.new ≡ (F.has_failed files.old || is_file_fault result) }
     ensures kept { F.holding files.new ≡ F.holding files.old }
@@ -34,5 +36,16 @@ pub fn outcome<R: Threads + Sync, F: FileSet>(
             request,
             keys,
         } => price(rt, alloc, files, old, new, request, keys),
+        Asked::Check { document } => check(alloc, files, document),
+        Asked::Resolve {
+            document,
+            key,
+            kind,
+            default,
+            context,
+            moment,
+        } => resolve(
+            alloc, files, document, key, *kind, default, context, *moment,
+        ),
     }
 }

@@ -1,5 +1,6 @@
 //! From the path of a file to what it stands for.
-ghost use Rattle.std.specs.Prelude.{◌≡◌, ◌||◌, IfSome};
+ghost use Rattle.std.specs.Prelude.{◌≡◌, ◌||◌, true, IfOk, IfSome};
+ghost use Rattle.flag_text.specs.Shape.{is_whole};
 ghost use Rattle.flag_text.specs.View.{view};
 ghost use Rattle.flagops.specs.Refusal.{ComesFrom, GivesUnlessWant, is_file_fault, loads_rule, loads_tree};
 ghost use Rattle.flagops.specs.Loading.{rule_at, tree_at};
@@ -25,6 +26,7 @@ pub fn load_tree<F: FileSet>(
     limit: u32,
 ) -> Result<Tree, Refusal>
     ensures exact { IfSome (F.holding files.old) (λ at. GivesUnlessWant view result (tree_at at path.now limit)) }
+    ensures whole { IfOk result (λ t. is_whole (view t) ≡ true) }
     ensures calls { ComesFrom loads_tree result }
     ensures failed { F.has_failed files.new ≡ (F.has_failed files.old || is_file_fault result) }
     ensures kept { F.holding files.new ≡ F.holding files.old }

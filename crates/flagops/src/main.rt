@@ -9,13 +9,17 @@
 
 mod asked;
 mod bucket;
+mod check;
 mod commands;
+mod documents;
 mod files;
 mod loading;
+mod moment;
 mod outcome;
 mod price;
 mod refusal;
 mod report;
+mod resolve;
 mod run;
 mod system_files;
 #[cfg(test)]

@@ -5,6 +5,7 @@ ghost use Rattle.flagops.specs.Refusal.{call_of, call_name, is_want, number_of, 
 use crate::files::LoadFault;
 use book_core::BookFault;
 use bucket_core::RuleFault;
+use flag_defs::DefFault;
 use flag_text::TextFault;
 use price_core::PriceFault;
 use std::alloc::{AllocError, Global};
@@ -22,9 +23,18 @@ pub enum Call {
     ReadRule,
     /// The command `bucket` itself.
     Bucket,
+    /// `price_core::Request::read`.
     ReadRequest,
+    /// `book_core::Book::note`.
     Note,
+    /// The command `price` itself.
     Price,
+    /// `flag_defs::read_flags`.
+    ReadFlags,
+    /// The command `check` itself.
+    Check,
+    /// The command `resolve` itself.
+    Resolve,
 }
 
 impl Call {
@@ -41,6 +51,9 @@ impl Call {
             Call::ReadRequest => "Request::read",
             Call::Note => "note",
             Call::Price => "price",
+            Call::ReadFlags => "read_flags",
+            Call::Check => "check",
+            Call::Resolve => "resolve",
         }
     }
 }
@@ -90,6 +103,8 @@ pub enum Refusal {
     ReadRequest(PriceFault),
     Note(BookFault),
     Price(PriceMismatch),
+    /// Bytes are no flag document.
+    ReadFlags(DefFault),
 }
 
 impl Refusal {
@@ -105,6 +120,7 @@ impl Refusal {
             Refusal::ReadRequest(_) => Call::ReadRequest,
             Refusal::Note(_) => Call::Note,
             Refusal::Price(_) => Call::Price,
+            Refusal::ReadFlags(_) => Call::ReadFlags,
         }
     }
 
@@ -120,6 +136,7 @@ impl Refusal {
             Refusal::ReadRequest(fault) => fault.number(),
             Refusal::Note(fault) => fault.number(),
             Refusal::Price(fault) => fault.number(),
+            Refusal::ReadFlags(fault) => fault.number(),
         }
     }
 
@@ -135,6 +152,7 @@ impl Refusal {
             Refusal::ReadRequest(fault) => fault.name(),
             Refusal::Note(fault) => fault.name(),
             Refusal::Price(fault) => fault.name(),
+            Refusal::ReadFlags(fault) => fault.name(),
         }
     }
 

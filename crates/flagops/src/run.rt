@@ -2,7 +2,7 @@
 ghost use Rattle.std.specs.Prelude.{◌≡◌, ◌||◌, false, true, map, IfErr, IfOk, IfSome, IsSome, None, Ok, Err, Some};
 ghost use Rattle.clap.specs.Words.{kind_of};
 ghost use Rattle.flagops.specs.Asked.{asked_view};
-ghost use Rattle.flagops.specs.Commands.{calls_of, can_want, outcome_of};
+ghost use Rattle.flagops.specs.Commands.{calls_of, can_want, IsOutcome};
 ghost use Rattle.flagops.specs.Refusal.{call_of, is_want, unreadable};
 ghost use Rattle.flagops.specs.Report.{Answers, AnswersOrWants, is_load, outcome_view, report_of};
 ghost use Rattle.flagops.specs.Telling.{Tells, TellsWords};
@@ -36,10 +36,10 @@ pub fn run<R: AllocGlobal + Threads + Sync, S: AsStr, F: FileSet, O: Outlet, E: 
     requires out_whole { O.is_broken out.old ≡ false }
     requires err_whole { E.is_broken err.old ≡ false }
     ensures answers { IfSome (asked_by (map S.text words.now)) (λ asked. IfSome (F.holding files.old) (λ at.
-        Answers (can_want asked) (O.bytes out.old) (O.bytes out.new) (O.is_broken out.new) result (report_of (outcome_of at asked)))) }
+        Answers (can_want asked) (O.bytes out.old) (O.bytes out.new) (O.is_broken out.new) result (IsOutcome at asked))) }
     // Whatever the files hold, a read that failed is what is reported.
     ensures unread { F.has_failed files.old ≡ false → F.has_failed files.new ≡ true
-        → Answers is_load (O.bytes out.old) (O.bytes out.new) (O.is_broken out.new) result (report_of (Err unreadable)) }
+        → Answers is_load (O.bytes out.old) (O.bytes out.new) (O.is_broken out.new) result (λ r. r ≡ Err unreadable) }
     ensures quiet { IsSome (asked_by (map S.text words.now)) → E.bytes err.new ≡ E.bytes err.old }
     ensures tells { asked_by (map S.text words.now) ≡ None
         → TellsWords (O.bytes out.old) (O.bytes out.new) (O.is_broken out.new) (E.bytes err.old) (E.bytes err.new) result (map S.text words.now) }
@@ -62,8 +62,8 @@ fn answer<R: Threads + Sync, F: FileSet>(
     files: &mut F,
     asked: &Asked<'_>,
 ) -> Result<Outcome, Call>
-    ensures exact { IfSome (F.holding files.old) (λ at. AnswersOrWants (calls_of (asked_view asked.now)) result (report_of (outcome_of at (asked_view asked.now)))) }
-    ensures unread { F.has_failed files.old ≡ false → F.has_failed files.new ≡ true → AnswersOrWants is_load result (report_of (Err unreadable)) }
+    ensures exact { IfSome (F.holding files.old) (λ at. AnswersOrWants (calls_of (asked_view asked.now)) result (IsOutcome at (asked_view asked.now))) }
+    ensures unread { F.has_failed files.old ≡ false → F.has_failed files.new ≡ true → AnswersOrWants is_load result (λ r. r ≡ Err unreadable) }
     ensures kept { F.holding files.new ≡ F.holding files.old }
 {
     match outcome(rt, alloc, files, asked) {

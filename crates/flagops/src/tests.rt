@@ -1,4 +1,5 @@
 mod bucket;
+mod documents;
 mod endings;
 mod files;
 mod memory;

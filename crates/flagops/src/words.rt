@@ -1,13 +1,18 @@
 //! The words of the command line, as `clap` reads them.
 ghost use Rattle.std.specs.Prelude.{◌≡◌, Some, codes, IfOk, IfErr, map, false, option_map};
-ghost use Rattle.clap.specs.Simple.{new_app, on_top, with_rule};
+ghost use Rattle.clap.specs.Simple.{new_app, on_top, with_rule, with_subcommand};
 ghost use Rattle.clap.specs.Words.{app_of, found_of, kind_of, rows_of, rule_of, subcommand_rows_of};
 ghost use Rattle.clap.specs.declared.builder.command.Command.TheViews.{out-Command};
+ghost use Rattle.clap.specs.declared.error.kind.ErrorKind.TheVariants.{InvalidValue};
 ghost use Rattle.flagops.specs.Asked.{asked_view};
-ghost use Rattle.flagops.specs.Words.{IsToldBy, asked_by, asked_of, bucket_app, bucket_in, flagops_app, price_app, price_in, required, takes_commands};
+ghost use Rattle.flagops.specs.Words.{IsToldBy, asked_by, asked_of, bucket_app, bucket_in, check_app, check_in, flagops_app, number, price_app, price_in, required, resolve_app, resolve_begun, resolve_in, takes_commands};
 
 use crate::asked::Asked;
+use crate::moment::{LATEST_MOMENT, Moment};
+use clap::builder::ValueParser;
+use clap::error::ErrorKind;
 use clap::{Arg, ArgMatches, Command, Error};
+use flag_resolve::Kind;
 use std::alloc::{AllocError, Global};
 use std::convert::AsStr;
 
@@ -20,8 +25,8 @@ pub fn asked<'a, S: AsStr>(alloc: Global, words: &'a [S]) -> Result<Asked<'a>, E
     let matches = flagops(alloc)?.try_get_matches_from(words)?;
     match asked_of(&matches) {
         Some(asked) => Ok(asked),
-        // Words that `clap` takes name a command, with each of its words.
-        None => unreachable!(),
+        // Words that `clap` takes name a command with each of its words, and its check of a kind is made here.
+        None => Err(unknown_kind(alloc)?),
     }
 }
 
@@ -29,13 +34,28 @@ fn asked_of<'a>(matches: &ArgMatches<'a>) -> Option<Asked<'a>>
     ensures { option_map asked_view result ≡ asked_of (subcommand_rows_of matches.now) }
 {
     let (name, words) = matches.subcommand()?;
-    if name == "bucket" {
-        return bucket_in(words);
+    if name == "resolve" {
+        return resolve_in(words);
+    }
+    if name == "check" {
+        return check_in(words);
     }
     if name == "price" {
         return price_in(words);
     }
+    if name == "bucket" {
+        return bucket_in(words);
+    }
     None
+}
+
+fn unknown_kind(alloc: Global) -> Result<Error, AllocError>
+    ensures { IfOk result (λ e. kind_of e ≡ InvalidValue) }
+{
+    resolve(alloc)?.error(
+        ErrorKind::InvalidValue,
+        "invalid value for '<KIND>': it is bool, text, whole or object",
+    )
 }
 
 #[tactic(auto, using(crate::proofs::Matched::rows))]
@@ -63,14 +83,59 @@ fn price_in<'a>(words: &ArgMatches<'a>) -> Option<Asked<'a>>
     })
 }
 
+#[tactic(auto, using(crate::proofs::Matched::rows))]
+fn check_in<'a>(words: &ArgMatches<'a>) -> Option<Asked<'a>>
+    ensures { option_map asked_view result ≡ check_in (rows_of (found_of words.now)) }
+{
+    let document = words.get_str("DOC")?;
+    Some(Asked::Check { document })
+}
+
+#[tactic(auto, using(crate::proofs::Matched::rows))]
+fn resolve_in<'a>(words: &ArgMatches<'a>) -> Option<Asked<'a>>
+    ensures { option_map asked_view result ≡ resolve_in (rows_of (found_of words.now)) }
+{
+    let document = words.get_str("DOC")?;
+    let key = words.get_str("KEY")?;
+    let kind = Kind::named(words.get_str("KIND")?)?;
+    let default = words.get_str("DEFAULT")?;
+    let context = words.get_str("CONTEXT")?;
+    let moment = Moment::spelled(words.get_str("MOMENT")?)?;
+    Some(Asked::Resolve {
+        document,
+        key,
+        kind,
+        default,
+        context,
+        moment,
+    })
+}
+
 #[tactic(auto, unfolding(crate::specs::Words::flagops_app))]
 fn flagops<'a>(alloc: Global) -> Result<Command<'a>, AllocError>
     ensures { IfOk result (λ c. app_of c ≡ flagops_app) }
 {
     let program = program(alloc)?;
+    let program = with_rule_commands(alloc, program)?;
+    with_flag_commands(alloc, program)
+}
+
+/// The program with the commands on rules.
+fn with_rule_commands<'a>(alloc: Global, program: Command<'a>) -> Result<Command<'a>, AllocError>
+    ensures { IfOk result (λ c. app_of c ≡ with_subcommand (with_subcommand (app_of program.entry) bucket_app.top) price_app.top) }
+{
     program
         .subcommand(bucket(alloc)?)?
         .subcommand(price(alloc)?)
+}
+
+/// The program with the commands on flag documents.
+fn with_flag_commands<'a>(alloc: Global, program: Command<'a>) -> Result<Command<'a>, AllocError>
+    ensures { IfOk result (λ c. app_of c ≡ with_subcommand (with_subcommand (app_of program.entry) check_app.top) resolve_app.top) }
+{
+    program
+        .subcommand(check(alloc)?)?
+        .subcommand(resolve(alloc)?)
 }
 
 /// The program without its commands.
@@ -134,6 +199,57 @@ fn price<'a>(alloc: Global) -> Result<Command<'a>, AllocError>
     )
 }
 
+#[tactic(auto, unfolding(crate::specs::Words::check_app))]
+fn check<'a>(alloc: Global) -> Result<Command<'a>, AllocError>
+    ensures app { IfOk result (λ c. app_of c ≡ check_app) }
+    ensures local { IfOk result (λ c. (out-Command c).has_globals ≡ false) }
+{
+    let check = Command::new(alloc, "check")
+        .bin_name("flagops check")?
+        .about("Prints which flags of a document are good and which are broken");
+    with_word(alloc, check, "DOC", "The flag document")
+}
+
+#[tactic(auto, unfolding(crate::specs::Words::resolve_app))]
+fn resolve<'a>(alloc: Global) -> Result<Command<'a>, AllocError>
+    ensures app { IfOk result (λ c. app_of c ≡ resolve_app) }
+    ensures local { IfOk result (λ c. (out-Command c).has_globals ≡ false) }
+{
+    let resolve = resolve_begun(alloc)?;
+    let resolve = with_word(
+        alloc,
+        resolve,
+        "DEFAULT",
+        "What is given where the flag gives nothing, as JSON",
+    )?;
+    let resolve = with_word(
+        alloc,
+        resolve,
+        "CONTEXT",
+        "The file of the evaluation context",
+    )?;
+    with_number(
+        alloc,
+        resolve,
+        "MOMENT",
+        "The time of the evaluation, in seconds since 1970",
+        LATEST_MOMENT,
+    )
+}
+
+/// The command `resolve` with the words that name a flag and the kind of its value.
+fn resolve_begun<'a>(alloc: Global) -> Result<Command<'a>, AllocError>
+    ensures app { IfOk result (λ c. app_of c ≡ resolve_begun) }
+    ensures local { IfOk result (λ c. (out-Command c).has_globals ≡ false) }
+{
+    let resolve = Command::new(alloc, "resolve")
+        .bin_name("flagops resolve")?
+        .about("Prints what the flag of a key resolves to in a context");
+    let resolve = with_word(alloc, resolve, "DOC", "The flag document")?;
+    let resolve = with_word(alloc, resolve, "KEY", "The flag's key")?;
+    with_word(alloc, resolve, "KIND", "bool, text, whole or object")
+}
+
 /// The command with one more word, which has to be there.
 fn with_word<'a>(
     alloc: Global,
@@ -148,10 +264,33 @@ fn with_word<'a>(
     command.arg(required(alloc, name, help))
 }
 
+/// The command with one more number, which has to be there.
+fn with_number<'a>(
+    alloc: Global,
+    command: Command<'a>,
+    name: &'a str,
+    help: &'a str,
+    most: u64,
+) -> Result<Command<'a>, AllocError>
+    requires { (out-Command command).has_globals ≡ false }
+    ensures app { IfOk result (λ c. app_of c ≡ with_rule (app_of command.entry) (number name.entry.now most)) }
+    ensures local { IfOk result (λ c. (out-Command c).has_globals ≡ false) }
+{
+    command.arg(number(alloc, name, help, most))
+}
+
 /// A word that has to be there.
 fn required<'a>(alloc: Global, name: &'a str, help: &'a str) -> Arg<'a>
     ensures rule { rule_of result ≡ required name.entry.now }
     ensures local { result.global ≡ false }
 {
     Arg::new(alloc, name).required(true).help(help)
+}
+
+/// A number from 0 to a bound that has to be there.
+fn number<'a>(alloc: Global, name: &'a str, help: &'a str, most: u64) -> Arg<'a>
+    ensures rule { rule_of result ≡ number name.entry.now most }
+    ensures local { result.global ≡ false }
+{
+    required(alloc, name, help).value_parser(ValueParser::Unsigned(0, most))
 }

@@ -7,6 +7,7 @@ use crate::run::run;
 use flag_text::Outlet;
 use std::alloc::{AllocError, Global};
 use std::io;
+use std::thread::Threads;
 
 /// Files in memory; a path that is not listed cannot be read.
 #[derive(Drop)]
@@ -140,7 +141,7 @@ pub struct Ran {
 
 /// A run over one file `f` and an output that takes so many bytes.
 pub(super) fn run_with(
-    rt: &HostRuntime,
+    rt: &(impl AllocGlobal + Threads + Sync),
     words: &[&str],
     file: &[u8],
     room: usize,

@@ -3,10 +3,11 @@ use crate::files::FileSet;
 use crate::run::run;
 use std::alloc::AllocError;
 use std::test::Fail;
+use std::thread::Threads;
 
 /// `price` over four files.
 fn price(
-    rt: &HostRuntime,
+    rt: &(impl AllocGlobal + Threads + Sync),
     old: &[u8],
     new: &[u8],
     request: &[u8],
