@@ -9,8 +9,8 @@ use Rattle.clap.specs.declared.error.kind.ErrorKind.{ErrorKind}
 use Rattle.clap.specs.declared.error.kind.ErrorKind.TheVariants.{InvalidValue, OutOfMemory}
 use Rattle.clap.specs.declared.parser.matches.ArgMatches.{ArgMatches}
 use Rattle.flagops.specs.Asked.{Asked}
-use Rattle.flagops.proofs.Named.{IsRead, faultless}
-use Rattle.flagops.specs.Words.{IsToldBy, asked_by, asked_in, asked_of, faults_of, bucket_app, check_app, kind_fault, kind_in, price_app, resolve_app, resolve_in, flagops_app}
+use Rattle.flagops.proofs.Named.{faultless}
+use Rattle.flagops.specs.Words.{IsToldBy, asked_by, asked_of, faults_of, bucket_app, check_app, kind_fault, kind_in, price_app, resolve_app, resolve_in, flagops_app}
 
 pub ruleset rows = first_value-rows
 
