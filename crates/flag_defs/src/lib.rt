@@ -52,3 +52,6 @@ pub use flag::Flag;
 pub use flags::Flags;
 pub use laws::a_document_has_one_meaning;
 pub use print::print_flags;
+
+#[cfg(test)]
+mod tests;
