@@ -1,15 +1,15 @@
 -- Flows on arcs: group by group, and name by name.
-use Rattle.std.proofs.Common.{◌≡◌, ◌==◌, ◌&&◌, ◌||◌, ◌+◌, ◌*◌, ◌<◌, ◌≤◌, inl, inr, ⊎_elim, ℕ, zero, suc, List, [], ◌∷◌, ◌++◌, length, map, take, drop, get_or, Bool, true, false, not, cond, Some, sum_by, Bor, string_bytes, refl, sym, ap, ◌∙◌, subst, add-one, arith}
+use Rattle.std.proofs.Common.{◌≡◌, ◌==◌, ◌&&◌, ◌||◌, ◌+◌, ◌<◌, ◌≤◌, ℕ, zero, suc, List, [], ◌∷◌, ◌++◌, length, take, drop, get_or, Bool, true, false, not, cond, sum_by, Bor, string_bytes, refl, sym, ap, ◌∙◌, subst, add-one, arith}
 use Rattle.std.proofs.Math.Seq.{drop-cons}
 use Rattle.std.specs.Cmp.Lexicographic.{slice_cmp}
-use Rattle.std.specs.List.{AllByRecursion, list_all, sum, slice_get, slice_index_or}
+use Rattle.std.specs.List.{AllByRecursion, sum, slice_index_or}
 use Rattle.std.specs.List.Sorted.{IsStrictlySortedBy}
 use Rattle.std.specs.Map.{keys_of}
 use Rattle.std.specs.Ordering.{nat_cmp}
 use Rattle.std.specs.Prelude.{nat_le}
 use Rattle.std.specs.Str.{bytes_eq}
 use Rattle.std.specs.declared.cmp.Ordering.TheVariants.{Less}
-use Rattle.std.proofs.lemmas.Bool.{cases_Bool, and_parts, cond-true, cond-false, leb-true, eqb-true, eq-eqb, or_left, or_right, not_from_false, false_from_ne_true}
+use Rattle.std.proofs.lemmas.Bool.{and_parts, cond-true, cond-false, leb-true, eqb-true, eq-eqb, or_left, or_right, not_from_false, false_from_ne_true}
 use Rattle.std.proofs.lemmas.Cmp.{nat_list_cmp_total}
 use Rattle.std.proofs.lemmas.List.{length-map}
 use Rattle.std.proofs.lemmas.List.Folds.{list_all-append}
@@ -21,7 +21,7 @@ use Rattle.std.proofs.lemmas.Slice.Eq.{bytes_eq-Decides}
 use Rattle.price_core.specs.Limits.{limit_view, limits_view}
 use Rattle.price_core.specs.Pricing.{Pricing, is_forbidden}
 use Rattle.price_core.specs.declared.totals.Limit.{Limit}
-use Rattle.transport_core.specs.Assignment.{Arc, row_flows, arc_flows, spends_all, is_free_of, inflow, flow_cost}
+use Rattle.transport_core.specs.Assignment.{Arc, row_flows, arc_flows, spends_all, is_free_of, inflow}
 use Rattle.transport_core.specs.Groups.{GroupKey, row_view, rows_view}
 use Rattle.transport_core.proofs.Keys.{get-map, not_below_itself}
 use Rattle.transport_core.proofs.Points.{get_below}

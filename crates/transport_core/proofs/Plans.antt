@@ -1,6 +1,6 @@
 -- What an assignment says of the rules that have it, and a placement of cuts.
-use Rattle.std.proofs.Common.{◌≡◌, ◌==◌, ◌&&◌, ◌||◌, ⊎_elim, ℕ, zero, suc, ◌+◌, ◌*◌, ◌<◌, ◌≤◌, ℤ, pos, ◌+ℤ◌, List, [], ◌∷◌, ◌++◌, length, map, take, drop, Bool, true, false, not, cond, Option, Some, None, unwrap_or, find, sum_by, count_by, Bor, refl, sym, ap, ◌∙◌, subst, zero-add, arith}
-use Rattle.std.specs.List.{All, range_with_len, slice_get, list_all, list_any, sum, flat_map}
+use Rattle.std.proofs.Common.{◌≡◌, ◌==◌, ◌&&◌, ◌||◌, ⊎_elim, ℕ, zero, suc, ◌+◌, ◌*◌, ◌<◌, ◌≤◌, ℤ, pos, List, [], ◌∷◌, length, take, drop, Bool, true, false, not, cond, Option, Some, None, unwrap_or, find, sum_by, count_by, Bor, refl, sym, ap, ◌∙◌, subst, zero-add, arith}
+use Rattle.std.specs.List.{All, range_with_len, slice_get, list_all, list_any, sum}
 use Rattle.std.specs.Map.{keys_of, lookup}
 use Rattle.std.specs.Prelude.{nat_le}
 use Rattle.std.specs.Str.{bytes_eq}
@@ -16,17 +16,16 @@ use Rattle.bucket_core.specs.Rule.{Entries, total_weight, points, at, total_of}
 use Rattle.price_core.specs.Cost.{cost_of}
 use Rattle.price_core.specs.Limits.{Limits, AreLimits, low_of, high_of}
 use Rattle.price_core.specs.Pricing.{Pricing, price_of, is_forbidden}
-use Rattle.transport_core.specs.Assignment.{Arc, is_same_arc, row_flows, arc_flows, flows_of, arc_at, HasAssignment, spends_all, is_free_of, inflow, flow_cost, keeps_high, keeps_low, has_slack, IsPlaced, IsProved}
+use Rattle.transport_core.specs.Assignment.{Arc, is_same_arc, row_flows, arc_flows, flows_of, arc_at, HasAssignment, spends_all, is_free_of, inflow, flow_cost, has_slack, IsPlaced, IsProved}
 use Rattle.transport_core.specs.Certificate.{DualPrices, IsCertified}
 use Rattle.transport_core.specs.Deficient.{may_become, is_among, IsOver}
 use Rattle.transport_core.specs.Dual.{inputs_at}
 use Rattle.transport_core.specs.Fits.{Fits, IsLeast}
 use Rattle.transport_core.specs.Groups.{GroupKey, is_same_group, group_cmp, group_at, AreGroups, AreSizes, row_view, rows_view}
 use Rattle.transport_core.specs.Instance.{TransportProblem, AreGroupTotals}
-use Rattle.transport_core.specs.Refusals.{is_broken, pairs_of, first_broken}
-use Rattle.transport_core.specs.Rows.{amount_of, whole_amount, AreTotals}
-use Rattle.transport_core.specs.Sum.{sum_z}
-use Rattle.transport_core.proofs.Arcs.{Spends, spends, arcs_step, sum_step}
+use Rattle.transport_core.specs.Refusals.{is_broken, pairs_of}
+use Rattle.transport_core.specs.Rows.{whole_amount, AreTotals}
+use Rattle.transport_core.proofs.Arcs.{spends, sum_step}
 use Rattle.transport_core.proofs.Assigned.{weigh, weighed, row_there}
 use Rattle.transport_core.proofs.Certified.{certified, dual_sum-is, least_from}
 use Rattle.transport_core.proofs.Cuts.{reached}

@@ -11,6 +11,7 @@ use Rattle.transport_core.specs.Groups.{GroupKey, is_same_group, group_at}
 use Rattle.transport_core.specs.Instance.{TransportProblem}
 use Rattle.transport_core.specs.Refusals.{is_broken}
 use Rattle.transport_core.specs.Rows.{amount_of}
+use Rattle.transport_core.specs.declared.assignment.AssignmentRow as program
 
 -- an arc of the network: from a group to a name
 abbrev pub Arc : Type 0
@@ -30,6 +31,13 @@ arc_flows (g ∷ gs) names numbers = row_flows g names numbers ++ arc_flows gs n
 
 abbrev pub flows_of : TransportProblem → List ℕ → List (Arc × ℕ)
 flows_of p numbers = arc_flows (keys_of p.groups) (keys_of p.limits) numbers
+
+-- what a group gives a name, as the flow on their arc
+abbrev pub row_flow : program.AssignmentRow → Arc × ℕ
+row_flow r = (((r.name.now, r.count), r.variant.now), r.points)
+
+abbrev pub assigned_view : List program.AssignmentRow → List (Arc × ℕ)
+assigned_view rows = map row_flow rows
 
 -- the arc of a point: its group under the old rule, and its name under the new one
 abbrev pub arc_at : Entries → Entries → List (List ℕ) → ℕ → Arc

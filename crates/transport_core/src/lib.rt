@@ -27,7 +27,7 @@ mod rows;
 mod slack;
 mod totals;
 
-pub use assignment::Assignment;
+pub use assignment::{Assignment, AssignmentRow};
 pub use certificate::{Certificate, Cut, CutKind};
 pub use cut::check_cut;
 pub use fault::CheckFault;

@@ -1,15 +1,11 @@
-use Rattle.std.proofs.Common.{◌≡◌, ◌==◌, ◌&&◌, ◌||◌, not, ◌+◌, ◌*◌, ◌∷◌, ℕ, List, [], drop, length, get_or, Bool, true, cond, sum_by, string_bytes, refl, sym, ap, ◌∙◌, subst, arith}
-use Rattle.std.specs.List.{slice_index_or}
+use Rattle.std.proofs.Common.{◌&&◌, ◌+◌, drop, string_bytes, sym, ap, ◌∙◌, arith}
 use Rattle.std.specs.Map.{keys_of}
-use Rattle.std.specs.Str.{bytes_eq}
-use Rattle.price_core.specs.Limits.{limit_view, limits_view}
-use Rattle.price_core.specs.Pricing.{price_of, is_forbidden}
-use Rattle.transport_core.specs.Assignment.{Arc, row_flows, arc_flows, spends_all, is_free_of, inflow, flow_cost, keeps_high, keeps_low}
-use Rattle.transport_core.specs.Groups.{row_view, rows_view}
-use Rattle.transport_core.proofs.Arcs.{next_of, spends_here, free_here, sum_here, row_here, element_here, no_row, no_points, not_barred, row_inflow, name_at_place, width_of}
+use Rattle.price_core.specs.Limits.{limits_view}
+use Rattle.transport_core.specs.Assignment.{arc_flows, inflow, keeps_low}
+use Rattle.transport_core.specs.Groups.{rows_view}
+use Rattle.transport_core.proofs.Arcs.{name_at_place}
 use Rattle.transport_core.proofs.Ranges.{from_here}
 use Rattle.std.proofs.lemmas.Bool.{le-leb, lt-leb}
-use Rattle.std.proofs.lemmas.List.Sums.{sum_by-cons}
 use Rattle.transport_core.proofs.flows.keeps_low.Goals as goal
 
 pub returns-then-inflow-from : goal.returns-then-inflow-from

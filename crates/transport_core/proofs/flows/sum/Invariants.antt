@@ -1,4 +1,4 @@
-use Rattle.std.proofs.Common.{◌≡◌, ◌+◌, ◌*◌, ◌^◌, ◌≤◌, drop, sum_by, length}
+use Rattle.std.proofs.Common.{◌≡◌, ◌+◌, ◌*◌, ◌^◌, ◌≤◌, drop, length}
 use Rattle.std.specs.List.{sum}
 use Rattle.transport_core.specs.Instance.{max_names}
 use Rattle.transport_core.proofs.flows.sum.Given as goal

@@ -1,6 +1,5 @@
-use Rattle.std.proofs.Common.{◌≡◌, ◌+◌, ◌∷◌, ◌*◌, ◌&&◌, ℤ, pos, ◌+ℤ◌, ℕ, List, Bool, not, int_lt, drop, string_bytes, refl, sym, ap, ◌∙◌, subst, arith}
+use Rattle.std.proofs.Common.{◌+◌, ◌&&◌, ℤ, ℕ, List, Bool, not, drop, sym, ap, ◌∙◌, subst}
 use Rattle.std.specs.List.{list_all}
-use Rattle.price_core.specs.Pricing.{price_of, is_forbidden}
 use Rattle.transport_core.specs.Certificate.{alpha_row, alpha_view, beta_row}
 use Rattle.transport_core.specs.Groups.{GroupKey}
 use Rattle.transport_core.specs.Refusals.{is_broken, IsToll}
