@@ -256,9 +256,29 @@ fn exchanged_lines(rt: HostRuntime) -> Result<(), Fail> {
 \"The quick brown fox jumps over the lazy dog\"
 ";
     assert_eq!(rt; fault_of(alloc, file), Some(BookFileFault::Order(9)));
-    assert_eq!(rt; BookFileFault::Order(9).number(), 3);
-    assert_eq!(rt; BookFileFault::Order(9).name(), "Order");
-    assert_eq!(rt; BookFault::PageFull.number(), 1);
-    assert_eq!(rt; BookFault::PageFull.name(), "PageFull");
+    Ok(())
+}
+
+#[test]
+fn numbers_and_names(rt: HostRuntime) -> Result<(), Fail> {
+    for (fault, number, name) in [
+        (BookFault::PageFull, 1, "PageFull"),
+        (BookFault::InputTooLong, 2, "InputTooLong"),
+        (BookFault::LastCall, 3, "LastCall"),
+        (BookFault::Stranger, 4, "Stranger"),
+    ] {
+        assert_eq!(rt; fault.number(), number);
+        assert_eq!(rt; fault.name(), name);
+    }
+    for (fault, number, name) in [
+        (BookFileFault::Header, 1, "Header"),
+        (BookFileFault::Line(2), 2, "Line"),
+        (BookFileFault::Order(9), 3, "Order"),
+        (BookFileFault::InputTooLong(3), 4, "InputTooLong"),
+        (BookFileFault::PageFull(1_000_003), 5, "PageFull"),
+    ] {
+        assert_eq!(rt; fault.number(), number);
+        assert_eq!(rt; fault.name(), name);
+    }
     Ok(())
 }

@@ -4,6 +4,7 @@ use bucket_core::{Rule, read_rule};
 use flag_text::read_tree;
 use std::alloc::{AllocError, Global};
 use std::test::Fail;
+use std::thread::Threads;
 
 fn rule(alloc: Global, text: &[u8]) -> Result<Rule, Fail> {
     Ok(read_rule(alloc, &read_tree(alloc, text, 1000)?)?)
@@ -41,63 +42,125 @@ const INPUTS: [&str; 7] = [
     "Hello, world!",
 ];
 
+/// What the change from red 5, blue 5 to another rule costs the seven inputs, and the least forbidden point, none where
+/// the totals differ.
+fn priced(
+    rt: &(impl Threads + Sync),
+    alloc: Global,
+    new: &[u8],
+    request: &[u8],
+) -> Result<(u64, Option<u32>), Fail> {
+    let old = rule(alloc, b"[[\"red\",5],[\"blue\",5]]")?;
+    let new = rule(alloc, new)?;
+    let request = Request::read(alloc, request)?;
+    let inputs = exposure(alloc, INPUTS.as_slice())?;
+    let prices = request.prices();
+    let cost = switch_cost(rt, alloc, &old, &new, &inputs, prices)?;
+    if old.total() != new.total() {
+        return Ok((cost, None));
+    }
+    Ok((cost, first_forbidden(&old, &new, prices)))
+}
+
+const RED_3: &[u8] = b"[[\"red\",3],[\"blue\",7]]";
+
 #[test]
 fn prices_of_a_new_rule(rt: HostRuntime) -> Result<(), Fail> {
     let alloc = rt.alloc();
-    let old = rule(alloc, b"[[\"red\",5],[\"blue\",5]]")?;
-    let new = rule(alloc, b"[[\"red\",3],[\"blue\",7]]")?;
-    let smaller = rule(alloc, b"[[\"red\",1]]")?;
-    let seen = exposure(alloc, &INPUTS)?;
-    assert_eq!(rt; old.total(), new.total());
-    for (more, cost, forbidden) in [
-        (b"".as_slice(), 2, None),
-        (b",\"price\":1000000".as_slice(), 2000000, None),
+    for (request, want) in [
         (
-            b",\"price\":0,\"prices\":[[\"red\",\"blue\",7]]".as_slice(),
-            14,
-            None,
+            b"{\"plan\":1,\"flag\":\"color\",\"totals\":{}}".as_slice(),
+            (2, None),
         ),
-        (b",\"prices\":[[\"blue\",\"red\",7]]".as_slice(), 2, None),
-        (b",\"forbid\":[[\"blue\",\"red\"]]".as_slice(), 2, None),
         (
-            b",\"forbid\":[[\"red\",\"blue\"],[\"a\",\"b\"]]".as_slice(),
-            2,
-            Some(3),
+            b"{\"plan\":1,\"flag\":\"color\",\"totals\":{},\"price\":1000000}".as_slice(),
+            (2000000, None),
+        ),
+        (
+            b"{\"plan\":1,\"flag\":\"color\",\"totals\":{},\"price\":0,\"prices\":[[\"red\",\"blue\",7]]}".as_slice(),
+            (14, None),
+        ),
+        (
+            b"{\"plan\":1,\"flag\":\"color\",\"totals\":{},\"prices\":[[\"blue\",\"red\",7]]}".as_slice(),
+            (2, None),
+        ),
+        (
+            b"{\"plan\":1,\"flag\":\"color\",\"totals\":{},\"forbid\":[[\"blue\",\"red\"]]}".as_slice(),
+            (2, None),
+        ),
+        (
+            b"{\"plan\":1,\"flag\":\"color\",\"totals\":{},\"forbid\":[[\"red\",\"blue\"],[\"a\",\"b\"]]}".as_slice(),
+            (2, Some(3)),
         ),
     ] {
-        let mut text = Vec::from_slice(alloc, b"{\"plan\":1,\"flag\":\"color\",\"totals\":{}")?;
-        text.extend_from_slice(more)?;
-        text.push(b'}')?;
-        let request = Request::read(alloc, text.as_slice())?;
-        let prices = request.prices();
-        assert_eq!(rt;
-            switch_cost(&rt, alloc, &old, &new, &seen, prices)?,
-            cost,
-            "at {more:?}"
-        );
-        assert_eq!(rt;
-            first_forbidden(&old, &new, prices),
-            forbidden,
-            "at {more:?}"
-        );
-        assert_eq!(rt;
-            switch_cost(&rt, alloc, &old, &old, &seen, prices)?,
-            0,
-            "at {more:?}"
-        );
+        assert_eq!(rt; priced(&rt, alloc, RED_3, request)?, want);
     }
-    let request = Request::read(
-        alloc,
-        b"{\"plan\":2,\"flag\":\"color\",\"site\":4294967295,\"totals\":{},\"price\":3,\"x\":0}",
-    )?;
+    Ok(())
+}
+
+const DEAR: &[u8] =
+    b"{\"plan\":2,\"flag\":\"color\",\"site\":4294967295,\"totals\":{},\"price\":3,\"x\":0}";
+
+#[test]
+fn other_rules(rt: HostRuntime) -> Result<(), Fail> {
+    let alloc = rt.alloc();
+    let request = Request::read(alloc, DEAR)?;
     assert_eq!(rt; request.flag(), "color");
     assert_eq!(rt; request.site(), 4294967295);
-    // three of the inputs are blue in the old rule: those on the points 6, 7 and 7
-    assert_eq!(rt;
-        switch_cost(&rt, alloc, &old, &smaller, &seen, request.prices())?,
-        9
-    );
+    assert_eq!(rt; request.prices().price("red", "blue"), 3);
     assert_eq!(rt; request.prices().price("red", "red"), 0);
+    assert_eq!(rt; request.prices().forbidden("red", "blue"), false);
+    // the same variants at all points
+    assert_eq!(rt;
+        priced(&rt, alloc, b"[[\"red\",5],[\"blue\",5]]", DEAR)?,
+        (0, None)
+    );
+    // three of the inputs are blue in the old rule: those on the points 6, 7 and 7
+    assert_eq!(rt; priced(&rt, alloc, b"[[\"red\",1]]", DEAR)?, (9, None));
+    Ok(())
+}
+
+/// The fault of a request, none where it is read.
+fn refusal(alloc: Global, text: &[u8]) -> Option<PriceFault> {
+    Request::read(alloc, text).err()
+}
+
+#[test]
+fn requests(rt: HostRuntime) -> Result<(), Fail> {
+    let alloc = rt.alloc();
+    for text in [
+        b"{\"plan\":1,\"flag\":\"f\",\"totals\":{\"a\":2147483647}}".as_slice(),
+        b"{\"plan\":2,\"flag\":\"f\",\"totals\":{\"a\":[0,5],\"b\":7}}".as_slice(),
+        b"{\"plan\":3,\"plan\":1,\"flag\":\"f\",\"totals\":{}}".as_slice(),
+        b"{\"plan\":1,\"flag\":\"f\",\"totals\":{},\"price\":1000000}".as_slice(),
+    ] {
+        assert_eq!(rt; refusal(alloc, text), None);
+    }
+    Ok(())
+}
+
+#[test]
+fn no_requests(rt: HostRuntime) -> Result<(), Fail> {
+    let alloc = rt.alloc();
+    for text in [
+        b"{\"plan\":1,\"flag\":\"f\",\"totals\":{}".as_slice(),
+        b"[]".as_slice(),
+        b"{\"plan\":3,\"flag\":\"f\",\"totals\":{}}".as_slice(),
+        b"{\"flag\":\"f\",\"totals\":{}}".as_slice(),
+        b"{\"plan\":1,\"flag\":7,\"totals\":{}}".as_slice(),
+        b"{\"plan\":1,\"flag\":\"f\"}".as_slice(),
+        b"{\"plan\":1,\"flag\":\"f\",\"totals\":{\"a\":2147483648}}".as_slice(),
+        b"{\"plan\":1,\"flag\":\"f\",\"totals\":{\"a\":[0,5]}}".as_slice(),
+        b"{\"plan\":2,\"flag\":\"f\",\"totals\":{\"a\":[0,5,6]}}".as_slice(),
+        b"{\"plan\":1,\"flag\":\"f\",\"totals\":{},\"site\":null}".as_slice(),
+        b"{\"plan\":1,\"flag\":\"f\",\"totals\":{},\"site\":4294967296}".as_slice(),
+        b"{\"plan\":1,\"flag\":\"f\",\"totals\":{},\"price\":1.5}".as_slice(),
+        b"{\"plan\":1,\"flag\":\"f\",\"totals\":{},\"prices\":[[\"a\",\"b\"]]}".as_slice(),
+        b"{\"plan\":1,\"flag\":\"f\",\"totals\":{},\"forbid\":[[\"a\",\"b\"],[\"c\",\"c\"],[\"a\",\"b\"]]}".as_slice(),
+        b"{\"plan\":1,\"flag\":\"f\",\"totals\":{},\"prices\":[[\"a\",\"b\",1],[\"b\",\"a\",1],[\"a\",\"b\",1]]}".as_slice(),
+    ] {
+        assert_eq!(rt; refusal(alloc, text), Some(PriceFault::BadRequest));
+    }
     Ok(())
 }
 
@@ -106,100 +169,27 @@ fn requests_are_refused_in_order(rt: HostRuntime) -> Result<(), Fail> {
     let alloc = rt.alloc();
     for (text, want) in [
         (
-            b"{\"plan\":1,\"flag\":\"f\",\"totals\":{\"a\":2147483647}}".as_slice(),
-            None,
-        ),
-        (
-            b"{\"plan\":2,\"flag\":\"f\",\"totals\":{\"a\":[0,5],\"b\":7}}".as_slice(),
-            None,
-        ),
-        (
-            b"{\"plan\":3,\"plan\":1,\"flag\":\"f\",\"totals\":{}}".as_slice(),
-            None,
-        ),
-        (
-            b"{\"plan\":1,\"flag\":\"f\",\"totals\":{},\"price\":1000000}".as_slice(),
-            None,
-        ),
-        (
-            b"{\"plan\":1,\"flag\":\"f\",\"totals\":{}".as_slice(),
-            Some(PriceFault::BadRequest),
-        ),
-        (b"[]".as_slice(), Some(PriceFault::BadRequest)),
-        (
-            b"{\"plan\":3,\"flag\":\"f\",\"totals\":{}}".as_slice(),
-            Some(PriceFault::BadRequest),
-        ),
-        (
-            b"{\"flag\":\"f\",\"totals\":{}}".as_slice(),
-            Some(PriceFault::BadRequest),
-        ),
-        (
-            b"{\"plan\":1,\"flag\":7,\"totals\":{}}".as_slice(),
-            Some(PriceFault::BadRequest),
-        ),
-        (
-            b"{\"plan\":1,\"flag\":\"f\"}".as_slice(),
-            Some(PriceFault::BadRequest),
-        ),
-        (
-            b"{\"plan\":1,\"flag\":\"f\",\"totals\":{\"a\":2147483648}}".as_slice(),
-            Some(PriceFault::BadRequest),
-        ),
-        (
-            b"{\"plan\":1,\"flag\":\"f\",\"totals\":{\"a\":[0,5]}}".as_slice(),
-            Some(PriceFault::BadRequest),
-        ),
-        (
-            b"{\"plan\":2,\"flag\":\"f\",\"totals\":{\"a\":[0,5,6]}}".as_slice(),
-            Some(PriceFault::BadRequest),
-        ),
-        (
-            b"{\"plan\":1,\"flag\":\"f\",\"totals\":{},\"site\":null}".as_slice(),
-            Some(PriceFault::BadRequest),
-        ),
-        (
-            b"{\"plan\":1,\"flag\":\"f\",\"totals\":{},\"site\":4294967296}".as_slice(),
-            Some(PriceFault::BadRequest),
-        ),
-        (
-            b"{\"plan\":1,\"flag\":\"f\",\"totals\":{},\"price\":1.5}".as_slice(),
-            Some(PriceFault::BadRequest),
-        ),
-        (
-            b"{\"plan\":1,\"flag\":\"f\",\"totals\":{},\"prices\":[[\"a\",\"b\"]]}".as_slice(),
-            Some(PriceFault::BadRequest),
-        ),
-        (
-            b"{\"plan\":1,\"flag\":\"f\",\"totals\":{},\"forbid\":[[\"a\",\"b\"],[\"c\",\"c\"],[\"a\",\"b\"]]}".as_slice(),
-            Some(PriceFault::BadRequest),
-        ),
-        (
-            b"{\"plan\":1,\"flag\":\"f\",\"totals\":{},\"prices\":[[\"a\",\"b\",1],[\"b\",\"a\",1],[\"a\",\"b\",1]]}".as_slice(),
-            Some(PriceFault::BadRequest),
-        ),
-        (
             b"{\"plan\":1,\"flag\":\"f\",\"totals\":{},\"price\":-1,\"prices\":[[\"a\",\"a\",1]]}".as_slice(),
-            Some(PriceFault::SelfPair),
+            PriceFault::SelfPair,
         ),
         (
             b"{\"plan\":1,\"flag\":\"f\",\"totals\":{},\"forbid\":[[\"a\",\"a\"]]}".as_slice(),
-            Some(PriceFault::SelfPair),
+            PriceFault::SelfPair,
         ),
         (
             b"{\"plan\":1,\"flag\":\"f\",\"totals\":{},\"price\":1000001}".as_slice(),
-            Some(PriceFault::PriceRange),
+            PriceFault::PriceRange,
         ),
         (
             b"{\"plan\":2,\"flag\":\"f\",\"totals\":{\"a\":[4,3]},\"prices\":[[\"a\",\"b\",-1]]}".as_slice(),
-            Some(PriceFault::PriceRange),
+            PriceFault::PriceRange,
         ),
         (
             b"{\"plan\":2,\"flag\":\"f\",\"totals\":{\"a\":[4,3]}}".as_slice(),
-            Some(PriceFault::EmptyRange),
+            PriceFault::EmptyRange,
         ),
     ] {
-        assert_eq!(rt; Request::read(alloc, text).err(), want, "at {text:?}");
+        assert_eq!(rt; refusal(alloc, text), Some(want));
     }
     Ok(())
 }

@@ -313,3 +313,76 @@ fn deficient_on_the_instance(rt: HostRuntime) -> Result<(), Fail> {
     assert_eq!(rt; deficient(alloc, TOO_FEW, CutKind::Over, &["red"])?, None);
     Ok(())
 }
+
+const GREEN_4: &[u8] =
+    b"{\"plan\":1,\"flag\":\"color\",\"totals\":{\"red\":1,\"blue\":5,\"green\":4},\"forbid\":[[\"red\",\"green\"]]}";
+
+/// Whether the instance of the old rule red 5, blue 5 places the points by these numbers, and whether the certificate
+/// proves their cost.
+fn judged(
+    alloc: Global,
+    numbers: &[u32],
+    plan: &Certificate,
+) -> Result<Option<(bool, bool)>, Fail> {
+    let old = rule(alloc, b"[[\"red\",5],[\"blue\",5]]")?;
+    let request = Request::read(alloc, GREEN_4)?;
+    let variants = names(alloc, &["blue", "green", "red"])?;
+    let totals = request.totals(alloc, variants.as_slice())?;
+    let inputs = exposure(alloc, INPUTS.as_slice())?;
+    let spread = Assignment {
+        numbers: Vec::from_slice(alloc, numbers)?,
+    };
+    if old.total() > 1_000_000 || totals.entries().len() > 64 {
+        return Ok(None);
+    }
+    match Instance::make(alloc, &old, &totals, request.prices(), &inputs) {
+        Ok(instance) => Ok(Some((instance.places(&spread), instance.proves(&spread, plan)))),
+        Err(CheckFault::Totals) => Ok(None),
+        Err(fault) => Err(fault.into()),
+    }
+}
+
+/// What costs 3, by the groups blue with 0, 1 and 2 inputs and red with 0, 1 and 2, each with its points for blue, green and
+/// red: all red points but the one with two inputs become blue, and the blue ones with at most one input green.
+const CHEAPEST: [u32; 18] = [0, 3, 0, 0, 1, 0, 1, 0, 0, 2, 0, 0, 2, 0, 0, 0, 0, 1];
+
+#[test]
+fn proved_on_the_instance(rt: HostRuntime) -> Result<(), Fail> {
+    let alloc = rt.alloc();
+    let alpha = [
+        ("blue", 0, -1),
+        ("blue", 1, 0),
+        ("blue", 2, 0),
+        ("red", 0, 0),
+        ("red", 1, 1),
+        ("red", 2, 1),
+    ];
+    let beta = [("blue", 0), ("green", 1), ("red", -1)];
+    let plan = certificate(alloc, alpha.as_slice(), beta.as_slice(), 3)?;
+    for (numbers, want) in [
+        (CHEAPEST, (true, true)),
+        // a red point with one input stays red, in place of the one with two
+        (
+            [0, 3, 0, 0, 1, 0, 1, 0, 0, 2, 0, 0, 1, 0, 1, 1, 0, 0],
+            (true, false),
+        ),
+        // a red point becomes green
+        (
+            [1, 2, 0, 0, 1, 0, 1, 0, 0, 1, 1, 0, 2, 0, 0, 0, 0, 1],
+            (false, false),
+        ),
+        // a point has no place
+        (
+            [0, 3, 0, 0, 1, 0, 1, 0, 0, 2, 0, 0, 2, 0, 0, 0, 0, 0],
+            (false, false),
+        ),
+    ] {
+        assert_eq!(rt; judged(alloc, numbers.as_slice(), &plan)?, Some(want));
+    }
+    let free = certificate(alloc, alpha.as_slice(), ZERO.as_slice(), 0)?;
+    assert_eq!(rt;
+        judged(alloc, CHEAPEST.as_slice(), &free)?,
+        Some((true, false))
+    );
+    Ok(())
+}
