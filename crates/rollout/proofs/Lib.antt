@@ -1,7 +1,9 @@
+pub mod Copies
 pub mod Lengths
 pub mod Orders
 pub mod Outcomes
 pub mod ReadBack
 pub mod Refines
 pub mod RowsAgain
+pub mod Sites
 pub mod Whole

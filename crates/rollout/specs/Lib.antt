@@ -1,4 +1,5 @@
 pub mod Answer
+pub mod Applied
 pub mod Fault
 pub mod FileFault
 pub mod Lawful

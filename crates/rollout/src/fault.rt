@@ -1,8 +1,9 @@
 ghost use Rattle.std.specs.Prelude.{◌≡◌};
-ghost use Rattle.rollout.specs.Fault.{number_of, name_of, of_logic, of_price, of_rule};
+ghost use Rattle.rollout.specs.Fault.{number_of, name_of, of_document, of_logic, of_price, of_rule};
 ghost use Rattle.rollout.specs.declared.fault.RolloutFault.TheVariants.{WantOfMemory};
 
 use bucket_core::RuleFault;
+use flag_defs::DefFault;
 use logic_ast::LogicFault;
 use price_core::PriceFault;
 use std::alloc::{AllocError, AllocFailed};
@@ -135,6 +136,17 @@ impl From<RuleFault> for RolloutFault {
             RuleFault::NoWeight => RolloutFault::NoWeight,
             RuleFault::TooHeavy => RolloutFault::TotalTooLarge,
             RuleFault::BadRule => RolloutFault::Computed,
+        }
+    }
+}
+
+impl From<DefFault> for RolloutFault {
+    ghost from_gives = { λ f e. e ≡ of_document f };
+
+    fn from(fault: DefFault) -> RolloutFault {
+        match fault {
+            DefFault::WantOfMemory => RolloutFault::WantOfMemory,
+            _ => RolloutFault::TooLarge,
         }
     }
 }

@@ -8,8 +8,11 @@
 //!   refusal comes first in its order.
 //! - [`print_planned`] writes the text of `PlanFile`, [`read_planned`] reads exactly the files that `PlanFile` says, with each
 //!   refusal in its order, and what is printed of an answer that is in order reads as the answer.
+//!
+//! Not proved yet: [`apply`], which gives the flags with the rule at the site (`Applied`).
 #![tactic(auto)]
 
+mod application;
 mod fault;
 mod file_fault;
 mod form;
@@ -25,6 +28,7 @@ mod sums;
 mod verification;
 mod verify_fault;
 
+pub use application::apply;
 pub use fault::RolloutFault;
 pub use file_fault::PlanFileFault;
 pub use planned::Planned;
