@@ -8,6 +8,8 @@ use Rattle.logic_ast.specs.declared.fault.LogicFault.{LogicFault}
 use Rattle.logic_ast.specs.declared.fault.LogicFault.TheVariants as logic
 use Rattle.price_core.specs.declared.fault.PriceFault.{PriceFault}
 use Rattle.price_core.specs.declared.fault.PriceFault.TheVariants as price
+use Rattle.transport_plan.specs.declared.fault.PlanFault.{PlanFault}
+use Rattle.transport_plan.specs.declared.fault.PlanFault.TheVariants as plan
 use Rattle.rollout.specs.declared.fault.RolloutFault.{RolloutFault}
 use Rattle.rollout.specs.declared.fault.RolloutFault.TheVariants.{WantOfMemory, Request, UnknownFlag, NoSite, Computed, UnknownVariant, TotalsSum, TotalTooLarge, Undecided, NoWeight, TooLarge}
 
@@ -70,3 +72,8 @@ of_document document.WantOfMemory = WantOfMemory
 of_document document.NotJson = TooLarge
 of_document document.NoFlags = TooLarge
 of_document document.TooLarge = TooLarge
+
+-- of what is told of an instance
+abbrev pub of_plan : PlanFault → RolloutFault
+of_plan plan.WantOfMemory = WantOfMemory
+of_plan plan.Undecided = Undecided

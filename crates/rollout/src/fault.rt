@@ -1,5 +1,5 @@
 ghost use Rattle.std.specs.Prelude.{◌≡◌};
-ghost use Rattle.rollout.specs.Fault.{number_of, name_of, of_document, of_logic, of_price, of_rule};
+ghost use Rattle.rollout.specs.Fault.{number_of, name_of, of_document, of_logic, of_plan, of_price, of_rule};
 ghost use Rattle.rollout.specs.declared.fault.RolloutFault.TheVariants.{WantOfMemory};
 
 use bucket_core::RuleFault;
@@ -8,6 +8,7 @@ use logic_ast::LogicFault;
 use price_core::PriceFault;
 use std::alloc::{AllocError, AllocFailed};
 use thiserror::Error;
+use transport_plan::PlanFault;
 
 /// Why a rollout is refused. A request is tested for 1, 2, 3, 4, 9, 5, 6 and 7 in that order.
 #[derive(Clone, Copy, Debug, PartialEq, Eq, Error)]
@@ -147,6 +148,17 @@ impl From<DefFault> for RolloutFault {
         match fault {
             DefFault::WantOfMemory => RolloutFault::WantOfMemory,
             _ => RolloutFault::TooLarge,
+        }
+    }
+}
+
+impl From<PlanFault> for RolloutFault {
+    ghost from_gives = { λ f e. e ≡ of_plan f };
+
+    fn from(fault: PlanFault) -> RolloutFault {
+        match fault {
+            PlanFault::WantOfMemory => RolloutFault::WantOfMemory,
+            PlanFault::Undecided => RolloutFault::Undecided,
         }
     }
 }

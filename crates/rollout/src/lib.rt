@@ -9,7 +9,7 @@
 //! - [`print_planned`] writes the text of `PlanFile`, [`read_planned`] reads exactly the files that `PlanFile` says, with each
 //!   refusal in its order, and what is printed of an answer that is in order reads as the answer.
 //!
-//! Not proved yet: [`apply`], which gives the flags with the rule at the site (`Applied`).
+//! Not proved yet: [`apply`], which gives the flags with the rule at the site (`Applied`); [`plan`] and [`plan_refined`].
 #![tactic(auto)]
 
 mod application;
@@ -19,11 +19,13 @@ mod form;
 mod order;
 mod place;
 mod planned;
+mod planning;
 mod print;
 mod problem;
 mod read;
 mod refining;
 mod rows;
+mod spread;
 mod sums;
 mod verification;
 mod verify_fault;
@@ -32,6 +34,7 @@ pub use application::apply;
 pub use fault::RolloutFault;
 pub use file_fault::PlanFileFault;
 pub use planned::Planned;
+pub use planning::{plan, plan_refined};
 pub use print::print_planned;
 pub use read::read_planned;
 pub use verification::{verify, verify_refined};

@@ -3,6 +3,7 @@ use std::alloc::Global;
 use std::test::Fail;
 
 mod plan_files;
+mod plans;
 mod verdicts;
 
 // The plan that costs no recorded key a switch, of the old rule red 5, blue 5 and the totals red 3, blue 7.

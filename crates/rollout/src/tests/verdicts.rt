@@ -1,6 +1,6 @@
 //! What is told of answers, and the flags with a new rule.
 use super::*;
-use book_core::read_book;
+use book_core::{Book, read_book};
 use bucket_core::Rule;
 use flag_defs::{Flags, print_flags, read_flags};
 use std::thread::Threads;
@@ -13,8 +13,12 @@ const FREE_TOTALS: &str = "{\"plan\":1,\"flag\":\"color\",\"totals\":{\"red\":3,
 
 const RED: &str = "{\"none\":[\"red\"],\"plan\":1}";
 
+pub(super) fn book(alloc: Global) -> Result<Book, Fail> {
+    Ok(read_book(alloc, BOOK.as_bytes())?)
+}
+
 // The flag `color` with these buckets.
-fn color(alloc: Global, buckets: &str) -> Result<Flags, Fail> {
+pub(super) fn color(alloc: Global, buckets: &str) -> Result<Flags, Fail> {
     let text =
         "{\"flags\":{\"color\":{\"state\":\"ENABLED\",\"variants\":{\"red\":\"r\",\"blue\":\"b\",\"green\":\"g\"},\"defaultVariant\":\"red\",\"targeting\":{\"fractional\":[{\"var\":\"key\"},BUCKETS]}}}}";
     let text = text.replace(alloc, "BUCKETS", buckets)?;
@@ -30,7 +34,7 @@ fn told(
     plan: &str,
     m: u32,
 ) -> Result<Option<VerifyFault>, Fail> {
-    let book = read_book(alloc, BOOK.as_bytes())?;
+    let book = book(alloc)?;
     let planned = read_planned(alloc, plan.as_bytes())?;
     let answer = if m > 0 {
         verify_refined(rt, alloc, flags, request.as_bytes(), &book, &planned, m)
