@@ -4,5 +4,6 @@ pub mod Fault
 pub mod FileFault
 pub mod Lawful
 pub mod PlanFile
+pub mod Planned
 pub mod Verified
 pub mod VerifyFault
