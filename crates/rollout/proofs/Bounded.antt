@@ -1,5 +1,5 @@
 -- What a lawful request asks is small enough to be planned on.
-use Rattle.std.proofs.Common.{◌≡◌, ℕ, suc, ◌*◌, ◌≤◌, List, [], ◌∷◌, length, Bool, true, false, ◌&&◌, cond, nat_lt, nat_le, Option, Some, None, IfSome, Result, Ok, Err, Less, Equal, Greater, Ordering, refl, sym, ap, ◌∙◌, subst, arith}
+use Rattle.std.proofs.Common.{◌≡◌, ℕ, suc, ◌*◌, ◌≤◌, List, [], ◌∷◌, length, Bool, true, false, ◌&&◌, cond, nat_lt, nat_le, Option, Some, None, IfSome, Result, Ok, Err, Less, Equal, Greater, Ordering, refl, ap, ◌∙◌, subst, arith}
 use Rattle.std.specs.BTreeMap.{insert_entry}
 use Rattle.std.specs.Cmp.Lexicographic.{slice_cmp}
 use Rattle.std.specs.Map.{lookup}
@@ -9,7 +9,7 @@ use Rattle.std.proofs.lemmas.Bool.{ltb-false, leb-true}
 use Rattle.std.proofs.lemmas.Map.Entries.{All-lookup}
 use Rattle.flag_text.proofs.Bools.{left, right}
 use Rattle.flag_text.specs.Shape.{Members, no_members, member}
-use Rattle.bucket_core.specs.Rule.{Entries, total_weight, refinement}
+use Rattle.bucket_core.specs.Rule.{total_weight, refinement}
 use Rattle.bucket_core.proofs.Refined.{total_weight-refinement}
 use Rattle.logic_ast.specs.Expression.{Expression}
 use Rattle.logic_ast.specs.Sites.{parts_at}

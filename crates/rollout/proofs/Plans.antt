@@ -1,9 +1,8 @@
 -- What is answered is a plan.
-use Rattle.std.proofs.Common.{◌≡◌, ◌≢◌, ℕ, ℤ, pos, ◌<◌, ◌≤◌, ◌^◌, List, [], ◌∷◌, length, map, String, string_bytes, Global, Bool, true, ◌&&◌, Result, Ok, Err, Less, Equal, Greater, Ordering, refl, sym, ap, ◌∙◌, subst, arith}
+use Rattle.std.proofs.Common.{◌≡◌, ◌≢◌, ℕ, pos, ◌<◌, ◌^◌, List, [], ◌∷◌, true, Result, Ok, Err, Less, Equal, Greater, Ordering, refl, sym, subst, arith}
 use Rattle.std.specs.Cmp.Lexicographic.{slice_cmp}
 use Rattle.std.specs.List.{AllByRecursion}
 use Rattle.std.specs.List.Sorted.{IsStrictlySortedBy}
-use Rattle.std.specs.Map.{keys_of}
 use Rattle.std.specs.Ordering.{is_lt, nat_cmp}
 use Rattle.std.specs.Prelude.{MatchResult}
 use Rattle.std.proofs.lemmas.Bool.{lt-ltb}
@@ -26,10 +25,10 @@ use Rattle.transport_core.proofs.Deficits.{deficient_fits_none}
 use Rattle.transport_plan.specs.Solved.{IsCut, IsNeverOver}
 use Rattle.rollout.specs.Answer.{emit, none_exists, IsOrdered, planned_view}
 use Rattle.rollout.specs.Lawful.{Problem}
-use Rattle.rollout.specs.PlanFile.{rises, items_by, alpha_written, beta_written, entry_written, planned_written}
+use Rattle.rollout.specs.PlanFile.{rises, items_by, alpha_written, entry_written, planned_written}
 use Rattle.rollout.specs.Planned.{has_whole_numbers, IsUnderLast, IsPlan, IsUndecided, IsPlanned}
 use Rattle.rollout.specs.declared.fault.RolloutFault.{RolloutFault}
-use Rattle.rollout.specs.declared.fault.RolloutFault.TheVariants.{WantOfMemory, Undecided}
+use Rattle.rollout.specs.declared.fault.RolloutFault.TheVariants.{WantOfMemory}
 use Rattle.rollout.specs.declared.planned.Planned.{Planned}
 use Rattle.rollout.proofs.Orders.{weights_small}
 

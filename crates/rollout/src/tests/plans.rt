@@ -3,6 +3,7 @@ use super::verdicts::{book, color};
 use super::*;
 use book_core::{Book, read_book};
 use flag_defs::Flags;
+use price_core::PriceFault;
 use std::thread::Threads;
 
 const RED_3_BLUE_7: &str = "{\"plan\":1,\"flag\":\"color\",\"totals\":{\"red\":3,\"blue\":7}}";
@@ -40,6 +41,9 @@ fn refined(
     let book = book(alloc)?;
     let planned = plan_refined(rt, alloc, &flags, request.as_bytes(), &book, m)?;
     verify_refined(rt, alloc, &flags, request.as_bytes(), &book, &planned, m)?;
+    if let Planned::Emit(_, _) = planned {
+        verify(rt, alloc, &flags, request.as_bytes(), &book, &planned)?;
+    }
     text(alloc, &print_planned(alloc, &planned)?)
 }
 
@@ -50,23 +54,20 @@ fn text(alloc: Global, bytes: &[u8]) -> Result<String, Fail> {
     }
 }
 
-// The number and the name of the refusal of a plan on these buckets.
+// Why nothing is planned on these buckets.
 fn refusal(
     rt: &(impl Threads + Sync),
     alloc: Global,
     buckets: &str,
     request: &str,
     m: u32,
-) -> Result<(u32, &'static str), Fail> {
+) -> Result<Option<RolloutFault>, Fail> {
     if m == 0 {
         return Err("refined by 0".into());
     }
     let flags = color(alloc, buckets)?;
     let book = book(alloc)?;
-    match plan_refined(rt, alloc, &flags, request.as_bytes(), &book, m) {
-        Ok(_) => Ok((0, "planned")),
-        Err(fault) => Ok((fault.number(), fault.name())),
-    }
+    Ok(plan_refined(rt, alloc, &flags, request.as_bytes(), &book, m).err())
 }
 
 #[test]
@@ -207,47 +208,47 @@ fn refused_plans(rt: HostRuntime) -> Result<(), Fail> {
         (
             "{\"plan\":1,\"flag\":\"color\",\"totals\":{\"red\":[0,3],\"blue\":7}}",
             1,
-            (1, "Request"),
+            RolloutFault::Request(PriceFault::BadRequest),
         ),
         (
             "{\"plan\":2,\"flag\":\"color\",\"totals\":{\"red\":[4,3],\"blue\":7}}",
             1,
-            (1, "Request"),
+            RolloutFault::Request(PriceFault::EmptyRange),
         ),
         (
             "{\"plan\":1,\"flag\":\"nope\",\"totals\":{\"red\":3,\"blue\":7}}",
             1,
-            (2, "UnknownFlag"),
+            RolloutFault::UnknownFlag,
         ),
         (
             "{\"plan\":1,\"flag\":\"color\",\"site\":1,\"totals\":{\"red\":3,\"blue\":7}}",
             1,
-            (3, "NoSite"),
+            RolloutFault::NoSite,
         ),
         (
             "{\"plan\":1,\"flag\":\"color\",\"totals\":{\"red\":3,\"blue\":6,\"pink\":0}}",
             1,
-            (5, "UnknownVariant"),
+            RolloutFault::UnknownVariant,
         ),
         (
             "{\"plan\":1,\"flag\":\"color\",\"totals\":{\"red\":3,\"blue\":6}}",
             1,
-            (6, "TotalsSum"),
+            RolloutFault::TotalsSum,
         ),
         (
             "{\"plan\":2,\"flag\":\"color\",\"totals\":{\"red\":[0,3],\"blue\":[0,6]}}",
             1,
-            (6, "TotalsSum"),
+            RolloutFault::TotalsSum,
         ),
-        (RED_3_BLUE_7, 5, (6, "TotalsSum")),
+        (RED_3_BLUE_7, 5, RolloutFault::TotalsSum),
         (
             "{\"plan\":1,\"flag\":\"color\",\"totals\":{\"red\":500005,\"blue\":500005}}",
             100001,
-            (7, "TotalTooLarge"),
+            RolloutFault::TotalTooLarge,
         ),
     ] {
         let fault = refusal(&rt, alloc, FIVES, request, m)?;
-        assert_eq!(rt; fault, want, "of {m} at {request:?}");
+        assert_eq!(rt; fault, Some(want), "of {m} at {request:?}");
     }
     Ok(())
 }
@@ -259,17 +260,21 @@ fn refused_buckets(rt: HostRuntime) -> Result<(), Fail> {
         (
             "[{\"var\":\"v\"},5],[\"blue\",5]",
             RED_3_BLUE_7,
-            (4, "Computed"),
+            RolloutFault::Computed,
         ),
-        ("[\"red\",0],[\"blue\",0]", RED_3_BLUE_7, (9, "NoWeight")),
+        (
+            "[\"red\",0],[\"blue\",0]",
+            RED_3_BLUE_7,
+            RolloutFault::NoWeight,
+        ),
         (
             "[\"red\",500001],[\"blue\",500000]",
             "{\"plan\":1,\"flag\":\"color\",\"totals\":{\"red\":500000,\"blue\":500001}}",
-            (7, "TotalTooLarge"),
+            RolloutFault::TotalTooLarge,
         ),
     ] {
         let fault = refusal(&rt, alloc, buckets, request, 1)?;
-        assert_eq!(rt; fault, want, "at {buckets:?}");
+        assert_eq!(rt; fault, Some(want), "at {buckets:?}");
     }
     Ok(())
 }
