@@ -1,7 +1,12 @@
+pub mod Bounded
+pub mod Copies
 pub mod Lengths
 pub mod Orders
 pub mod Outcomes
+pub mod Plans
 pub mod ReadBack
 pub mod Refines
 pub mod RowsAgain
+pub mod Sites
+pub mod Spreading
 pub mod Whole

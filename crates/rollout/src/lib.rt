@@ -8,26 +8,38 @@
 //!   refusal comes first in its order.
 //! - [`print_planned`] writes the text of `PlanFile`, [`read_planned`] reads exactly the files that `PlanFile` says, with each
 //!   refusal in its order, and what is printed of an answer that is in order reads as the answer.
+//! - [`plan`] and [`plan_refined`] answer a lawful request with a canonical rule that costs the recorded inputs the least of
+//!   all that fit, and a certificate that proves it, or with a set of names which shows that none fits; a set under its low
+//!   limits only where no set is over its high ones (`Planned`). What is answered can be printed and read again. Where the
+//!   request is not lawful, they refuse as [`verify`] does. That they never answer `Undecided` is not proved yet.
+//!
+//! Not proved yet: [`apply`], which gives the flags with the rule at the site (`Applied`).
 #![tactic(auto)]
 
+mod application;
 mod fault;
 mod file_fault;
 mod form;
+mod numbers;
 mod order;
 mod place;
 mod planned;
+mod planning;
 mod print;
 mod problem;
 mod read;
 mod refining;
 mod rows;
+mod spread;
 mod sums;
 mod verification;
 mod verify_fault;
 
+pub use application::apply;
 pub use fault::RolloutFault;
 pub use file_fault::PlanFileFault;
 pub use planned::Planned;
+pub use planning::{plan, plan_refined};
 pub use print::print_planned;
 pub use read::read_planned;
 pub use verification::{verify, verify_refined};
