@@ -6,10 +6,12 @@
 //! - [`verify`] and [`verify_refined`] accept an answer exactly where the request is lawful (`Lawful`) and the checks accept
 //!   the answer (`Verified`): then the rule costs the recorded inputs the least of all rules that fit, or none fits. Each
 //!   refusal comes first in its order.
+//! - [`apply`] gives the flags with a rule at a site, or its first refusal (`Applied`): one flag changes, all others stay, and
+//!   what chooses alike under both rules resolves as before (`Change`).
 //! - [`print_planned`] writes the text of `PlanFile`, [`read_planned`] reads exactly the files that `PlanFile` says, with each
 //!   refusal in its order, and what is printed of an answer that is in order reads as the answer.
 //!
-//! Not proved yet: [`apply`], which gives the flags with the rule at the site (`Applied`); [`plan`] and [`plan_refined`].
+//! Not proved yet: [`plan`] and [`plan_refined`].
 #![tactic(auto)]
 
 mod application;
