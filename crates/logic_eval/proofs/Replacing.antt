@@ -1,14 +1,14 @@
 -- An evaluation in which one site gets another rule.
-use Rattle.std.proofs.Common.{◌≡◌, ℕ, ◌+◌, ◌<◌, Bool, true, false, not, cond, nat_lt, List, [], ◌∷◌, length, map, Option, Some, None, Result, Ok, Err, refl, sym, ap, ◌∙◌, subst, arith}
+use Rattle.std.proofs.Common.{◌≡◌, ℕ, ◌+◌, Bool, true, false, not, cond, nat_lt, List, [], ◌∷◌, map, Option, Some, None, Result, Ok, Err, refl, sym, ap, ◌∙◌, subst, arith}
 use Rattle.std.specs.Prelude.{IfSome}
 use Rattle.std.specs.List.{All, Contains, slice_get}
-use Rattle.std.proofs.lemmas.List.Elements.{All-head, All-tail, All-same}
+use Rattle.std.proofs.lemmas.List.Elements.{All-head, All-tail}
 use Rattle.bucket_core.specs.Rule.{Entries, total_weight, choice}
 use Rattle.flag_text.specs.Shape.{Shape}
 use Rattle.flag_text.proofs.Bools.{left}
 use Rattle.logic_ast.specs.Expression.{Expression}
-use Rattle.logic_ast.specs.Formed.{is_formed, is_well_formed}
-use Rattle.logic_ast.specs.Sites.{Site, preorder, entries_of, entries_at, if_site, if_entries, with_entries}
+use Rattle.logic_ast.specs.Formed.{is_formed}
+use Rattle.logic_ast.specs.Sites.{Site, preorder, entries_of, entries_at, if_entries}
 use Rattle.logic_ast.specs.Size.{is_too_big}
 use Rattle.logic_ast.specs.Writing.{written}
 use Rattle.logic_ast.specs.declared.fault.LogicFault.{LogicFault}
@@ -19,7 +19,7 @@ use Rattle.logic_eval.specs.Evaluation.{evaluation_of, meaning}
 use Rattle.logic_eval.specs.Laws.{with_total, each_reached, OneSiteReplaced}
 use Rattle.logic_eval.specs.Run.{Reach, Entry, Run, cost, reach, units_of, reached_of, with_reached, result_of, most_units}
 use Rattle.logic_eval.specs.Scope.{default_input, root_scope}
-use Rattle.logic_eval.proofs.Alike.{Agree, retraced, run_of, Same, alike}
+use Rattle.logic_eval.proofs.Alike.{Agree, retraced, run_of, alike}
 use Rattle.logic_eval.proofs.Answered.{at_place}
 
 units-retraced : (n total : ℕ) (t : List Entry) → units_of (retraced n total t) ≡ units_of t

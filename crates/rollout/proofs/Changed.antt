@@ -1,5 +1,5 @@
 -- One flag in the place of another of its key.
-use Rattle.std.proofs.Common.{◌≡◌, ◌≢◌, ℕ, Bool, true, false, cond, List, [], ◌∷◌, ◌++◌, Option, Some, None, Result, Ok, Err, append_assoc, refl, sym, ap, ◌∙◌}
+use Rattle.std.proofs.Common.{◌≡◌, ◌≢◌, ℕ, Bool, true, false, cond, List, [], ◌∷◌, ◌++◌, Some, Result, Ok, Err, append_assoc, refl, sym, ap, ◌∙◌}
 use Rattle.std.specs.BTreeMap.{is_at}
 use Rattle.std.specs.Cmp.Lexicographic.{slice_cmp}
 use Rattle.std.specs.List.{list_all, fold, AllByRecursion}
@@ -9,7 +9,6 @@ use Rattle.std.specs.Ordering.{is_lt, nat_cmp}
 use Rattle.std.specs.Str.{bytes_eq}
 use Rattle.std.specs.declared.cmp.Ordering.TheVariants.{Less}
 use Rattle.std.proofs.lemmas.Bool.{and_from}
-use Rattle.std.proofs.lemmas.Bool.Decides.{not_from_Decides}
 use Rattle.std.proofs.lemmas.Cmp.{nat_list_cmp_total, nat_list_eq_equiv}
 use Rattle.std.proofs.lemmas.List.{append-nil}
 use Rattle.std.proofs.lemmas.List.Sums.{fold-append}
@@ -21,7 +20,7 @@ use Rattle.book_core.proofs.Ordered.{insert_entry-found}
 use Rattle.book_core.proofs.Taken.{insert_entry-above}
 use Rattle.flag_defs.specs.Changes.{with_entry, by_key, with_site}
 use Rattle.flag_defs.specs.Definition.{Definition}
-use Rattle.flag_defs.specs.Document.{Definitions, limited, max_flags, max_bytes, printed}
+use Rattle.flag_defs.specs.Document.{Definitions, limited}
 use Rattle.flag_defs.specs.declared.fault.DefFault.{DefFault}
 use Rattle.rollout.specs.Change.{IsChanged, OthersStay}
 
