@@ -1,15 +1,17 @@
 //! A rule put in the place of a site's.
-ghost use Rattle.std.specs.Prelude.{◌≡◌, IfOk};
+ghost use Rattle.std.specs.Prelude.{◌≡◌, [], ◌∷◌, ◌++◌, IfOk};
 ghost use Rattle.flag_text.specs.Outcome.{GivesUnless};
-ghost use Rattle.flag_defs.specs.Flag.{entries_view};
-ghost use Rattle.flag_defs.specs.Flags.{flags_view, AreFlags};
+ghost use Rattle.flag_defs.specs.Changes.{by_key};
+ghost use Rattle.flag_defs.specs.Document.{limited};
+ghost use Rattle.flag_defs.specs.Flag.{entries_view, flag_view};
+ghost use Rattle.flag_defs.specs.Flags.{flags_view};
 ghost use Rattle.rollout.specs.Applied.{applied};
 ghost use Rattle.rollout.specs.Change.{IsChanged, OthersStay, ResolveAsBefore};
 
 use crate::fault::RolloutFault;
 use crate::place::has_names_of;
 use bucket_core::Rule;
-use flag_defs::{Flag, Flags};
+use flag_defs::{DefFault, Flag, Flags};
 use std::alloc::{AllocError, Global};
 
 /// The flags with the entries of the rule as the buckets of a site. The bucketing expression stays, and so do all other
@@ -39,17 +41,24 @@ pub fn apply(
     if !has_names_of(flag, rule.entries()) {
         return Err(RolloutFault::UnknownVariant);
     }
-    // what stays of resolutions is proved of rules whose total is from 1 to 2147483647, as that of each rule is
+    // what is proved of the other flags and of resolutions rests on both
+    prove!(flags.len() <= 10_000);
     prove!(rule.total() > 0);
+    Ok(with_flag(alloc, flags, key, changed)?)
+}
+
+/// The flags with this one in the place of the one of its key.
+fn with_flag(alloc: Global, flags: &Flags, key: &str, flag: Flag) -> Result<Flags, DefFault>
+    ensures exact { GivesUnless DefFault.WantOfMemory flags_view result (limited (by_key (flags_view flags.now ++ (key.now, flag_view flag) ∷ []))) }
+{
     let mut entries = copies(alloc, flags)?;
-    entries.push((String::from_str(alloc, key)?, changed))?;
-    Ok(Flags::make(alloc, entries)?)
+    entries.push((String::from_str(alloc, key)?, flag))?;
+    Flags::make(alloc, entries)
 }
 
 /// Copies of the flags with their keys.
 fn copies(alloc: Global, flags: &Flags) -> Result<Vec<(String, Flag)>, AllocError>
-    ensures same { IfOk result (λ v. entries_view v.items ≡ flags_view flags.now) }
-    ensures lawful { AreFlags (flags_view flags.now) }
+    ensures { IfOk result (λ v. entries_view v.items ≡ flags_view flags.now) }
 {
     let mut copies = Vec::new(alloc);
     for i in 0..flags.len() {
