@@ -1,4 +1,5 @@
 pub mod Bounded
+pub mod Changed
 pub mod Copies
 pub mod Lengths
 pub mod Orders
@@ -6,6 +7,7 @@ pub mod Outcomes
 pub mod Plans
 pub mod ReadBack
 pub mod Refines
+pub mod Resolved
 pub mod RowsAgain
 pub mod Sites
 pub mod Spreading

@@ -1,18 +1,24 @@
 //! A rule put in the place of a site's.
-ghost use Rattle.std.specs.Prelude.{◌≡◌, IfOk};
+ghost use Rattle.std.specs.Prelude.{◌≡◌, [], ◌∷◌, ◌++◌, IfOk};
 ghost use Rattle.flag_text.specs.Outcome.{GivesUnless};
-ghost use Rattle.flag_defs.specs.Flag.{entries_view};
+ghost use Rattle.flag_defs.specs.Changes.{by_key};
+ghost use Rattle.flag_defs.specs.Document.{limited};
+ghost use Rattle.flag_defs.specs.Flag.{entries_view, flag_view};
 ghost use Rattle.flag_defs.specs.Flags.{flags_view};
 ghost use Rattle.rollout.specs.Applied.{applied};
+ghost use Rattle.rollout.specs.Change.{IsChanged, OthersStay, ResolveAsBefore};
 
 use crate::fault::RolloutFault;
 use crate::place::has_names_of;
 use bucket_core::Rule;
-use flag_defs::{Flag, Flags};
+use flag_defs::{DefFault, Flag, Flags};
 use std::alloc::{AllocError, Global};
 
 /// The flags with the entries of the rule as the buckets of a site. The bucketing expression stays, and so do all other
 /// flags.
+///
+/// All other flags resolve as before. So does the flag itself wherever each input that its evaluation reaches at the site is
+/// given the same name by the old entries and by the rule: then only the site's totals differ among what was reached.
 ///
 /// It refuses, in this order, with `UnknownFlag`, `NoSite`, `Computed`, `UnknownVariant` (a name of the rule is none of the
 /// flag's variants) and `TooLarge` (the document is too large when it is printed).
@@ -24,6 +30,9 @@ pub fn apply(
     rule: &Rule,
 ) -> Result<Flags, RolloutFault>
     ensures exact { GivesUnless RolloutFault.WantOfMemory flags_view result (applied (flags_view flags.now) key.now site rule.now) }
+    ensures changed { IfOk result (λ new. IsChanged (flags_view flags.now) key.now site rule.now (flags_view new)) }
+    ensures others { IfOk result (λ new. OthersStay (flags_view flags.now) key.now (flags_view new)) }
+    ensures resolutions { IfOk result (λ new. ResolveAsBefore (flags_view flags.now) key.now site rule.now (flags_view new)) }
 {
     let Some(flag) = flags.get(key) else {
         return Err(RolloutFault::UnknownFlag);
@@ -32,13 +41,22 @@ pub fn apply(
     if !has_names_of(flag, rule.entries()) {
         return Err(RolloutFault::UnknownVariant);
     }
+    // what is proved of the other flags and of resolutions rests on both
+    prove!(flags.len() <= 10_000);
+    prove!(rule.total() > 0);
+    Ok(with_flag(alloc, flags, key, changed)?)
+}
+
+/// The flags with this one in the place of the one of its key.
+fn with_flag(alloc: Global, flags: &Flags, key: &str, flag: Flag) -> Result<Flags, DefFault>
+    ensures exact { GivesUnless DefFault.WantOfMemory flags_view result (limited (by_key (flags_view flags.now ++ (key.now, flag_view flag) ∷ []))) }
+{
     let mut entries = copies(alloc, flags)?;
-    entries.push((String::from_str(alloc, key)?, changed))?;
-    Ok(Flags::make(alloc, entries)?)
+    entries.push((String::from_str(alloc, key)?, flag))?;
+    Flags::make(alloc, entries)
 }
 
 /// Copies of the flags with their keys.
-#[tactic(auto, using(crate::proofs::Copies::take_next))]
 fn copies(alloc: Global, flags: &Flags) -> Result<Vec<(String, Flag)>, AllocError>
     ensures { IfOk result (λ v. entries_view v.items ≡ flags_view flags.now) }
 {

@@ -2,6 +2,7 @@ use super::*;
 use std::alloc::Global;
 use std::test::Fail;
 
+mod applied;
 mod plan_files;
 mod plans;
 mod verdicts;

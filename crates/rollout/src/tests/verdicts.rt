@@ -1,8 +1,7 @@
-//! What is told of answers, and the flags with a new rule.
+//! What is told of answers.
 use super::*;
 use book_core::{Book, read_book};
-use bucket_core::Rule;
-use flag_defs::{Flags, print_flags, read_flags};
+use flag_defs::{Flags, read_flags};
 use std::thread::Threads;
 use transport_core::CheckFault;
 
@@ -224,28 +223,5 @@ fn refined(rt: HostRuntime) -> Result<(), Fail> {
         let fault = told(&rt, alloc, &flags, request, plan, m)?;
         assert_eq!(rt; number_of(&fault), want, "of {m} at {request:?}");
     }
-    Ok(())
-}
-
-#[test]
-fn applies(rt: HostRuntime) -> Result<(), Fail> {
-    let alloc = rt.alloc();
-    let flags = color(alloc, "[\"red\",5],[\"blue\",5]")?;
-    let Planned::Emit(rule, _) = read_planned(alloc, FREE.as_bytes())? else {
-        return Err("no rule".into());
-    };
-    let changed = apply(alloc, &flags, "color", 0, &rule)?;
-    let want =
-        "{\"flags\":{\"color\":{\"defaultVariant\":\"red\",\"state\":\"ENABLED\",\"targeting\":{\"fractional\":[{\"var\":[\"key\"]},[\"red\",2],[\"blue\",2],[\"red\",1],[\"blue\",5]]},\"variants\":{\"blue\":\"b\",\"green\":\"g\",\"red\":\"r\"}}}}";
-    assert_eq!(rt; print_flags(alloc, &changed)?.as_slice(), want.as_bytes());
-    let fault = apply(alloc, &flags, "nope", 0, &rule).err();
-    assert_eq!(rt; fault, Some(RolloutFault::UnknownFlag));
-    let fault = apply(alloc, &flags, "color", 1, &rule).err();
-    assert_eq!(rt; fault, Some(RolloutFault::NoSite));
-    let mut entries = Vec::new(alloc);
-    entries.push((String::from_str(alloc, "pink")?, 1))?;
-    let pink = Rule::make(alloc, entries)?;
-    let fault = apply(alloc, &flags, "color", 0, &pink).err();
-    assert_eq!(rt; fault, Some(RolloutFault::UnknownVariant));
     Ok(())
 }

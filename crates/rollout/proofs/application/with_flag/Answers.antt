@@ -1,0 +1,13 @@
+use Rattle.std.proofs.Common.{ap, sym, subst}
+use Rattle.flag_text.specs.Outcome.{GivesUnless}
+use Rattle.flag_defs.specs.Changes.{by_key}
+use Rattle.flag_defs.specs.Document.{limited}
+use Rattle.flag_defs.specs.Flags.{flags_view}
+use Rattle.flag_defs.specs.declared.fault.DefFault.TheVariants.{WantOfMemory}
+use Rattle.rollout.proofs.Copies.{with_one}
+use Rattle.rollout.proofs.application.with_flag.Goals as goal
+
+pub returns : goal.returns
+returns c =
+    let one = with_one _ _ c.in_ok-from_str.field-0 c.args.flag (flags_view c.args.flags.now) c.args.key.now c.in_ok-push.ensures.items c.in_ok-entries.ensures c.in_ok-from_str.ensures.ok in
+    record { exact = subst (λ fs. GivesUnless WantOfMemory flags_view c.make.result (limited (by_key fs))) (sym one) c.make.ensures.exact }
