@@ -5,4 +5,5 @@ pub mod Hexadecimal
 pub mod Matched
 pub mod Named
 pub mod Spelled
+pub mod Verdicts
 pub mod Writes

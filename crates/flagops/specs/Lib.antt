@@ -6,11 +6,15 @@ pub mod Documents
 pub mod Files
 pub mod Loading
 pub mod Memory
-pub mod Moment
+pub mod Numbers
+pub mod Payload
+pub mod PlanFile
 pub mod Price
+pub mod Question
 pub mod Refusal
 pub mod Report
 pub mod Resolve
 pub mod Telling
 pub mod Totals
+pub mod Verify
 pub mod Words

@@ -1,5 +1,5 @@
 -- What a run writes and ends with.
-use Rattle.std.specs.Prelude.{◌≡◌, ℕ, Bool, true, false, List, Option, Result, Ok, Err, ◌⊎◌, string_bytes}
+use Rattle.std.specs.Prelude.{◌≡◌, ℕ, Bool, true, false, List, Option, Result, Ok, Err, ◌⊎◌}
 use Rattle.std.specs.Io.KnownBytes.{Appends}
 use Rattle.flag_text.specs.Outlet.{AppendsPart}
 use Rattle.flagops.specs.Refusal.{line_of, want_line}
@@ -25,7 +25,7 @@ status_number Refused = 1
 status_number Usage = 2
 
 abbrev pub outcome_view : Outcome → Report
-outcome_view o = record { text = string_bytes o.text; status = status_number o.status }
+outcome_view o = record { text = o.text.items; status = status_number o.status }
 
 -- a refusal is reported by its line, with status 1
 abbrev pub report_of : Result Report Refusal → Report

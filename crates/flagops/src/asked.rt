@@ -1,4 +1,4 @@
-use crate::moment::Moment;
+use crate::numbers::{Factor, Moment};
 use flag_resolve::Kind;
 
 /// A command with its words.
@@ -28,5 +28,13 @@ pub enum Asked<'a> {
         default: &'a str,
         context: &'a str,
         moment: Moment,
+    },
+    /// Whether the answer of a plan file is right.
+    Verify {
+        document: &'a str,
+        request: &'a str,
+        book: &'a str,
+        plan: &'a str,
+        refine: Option<Factor>,
     },
 }

@@ -13,6 +13,7 @@ use crate::outcome::Outcome;
 use crate::price::price;
 use crate::refusal::Refusal;
 use crate::resolve::resolve;
+use crate::verify::verify;
 use std::alloc::Global;
 use std::thread::Threads;
 
@@ -47,5 +48,12 @@ pub fn outcome<R: Threads + Sync, F: FileSet>(
         } => resolve(
             alloc, files, document, key, *kind, default, context, *moment,
         ),
+        Asked::Verify {
+            document,
+            request,
+            book,
+            plan,
+            refine,
+        } => verify(rt, alloc, files, document, request, book, plan, *refine),
     }
 }

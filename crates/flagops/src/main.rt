@@ -14,9 +14,12 @@ mod commands;
 mod documents;
 mod files;
 mod loading;
-mod moment;
+mod numbers;
 mod outcome;
+mod payload;
+mod plan_file;
 mod price;
+mod question;
 mod refusal;
 mod report;
 mod resolve;
@@ -25,6 +28,7 @@ mod system_files;
 #[cfg(test)]
 mod tests;
 mod totals;
+mod verify;
 mod words;
 
 use crate::refusal::Call;

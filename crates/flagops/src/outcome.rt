@@ -29,7 +29,7 @@ impl Status {
 #[derive(Debug, Drop)]
 pub struct Outcome {
     /// What goes to the output.
-    pub text: String,
+    pub text: Vec<u8>,
     /// The status where all of it was written.
     pub status: Status,
 }
