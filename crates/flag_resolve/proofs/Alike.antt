@@ -1,12 +1,14 @@
 -- A flag with another targeting that is evaluated to the same value resolves as before.
-use Rattle.std.proofs.Common.{◌≡◌, ℕ, List, [], map, Bool, true, false, if◌then◌else◌, is_none, Option, Some, None, option_and_then, Ok, refl, sym, ap, ◌∙◌}
+use Rattle.std.proofs.Common.{◌≡◌, ℕ, List, [], map, Bool, true, false, if◌then◌else◌, is_none, Option, Some, None, option_and_then, Result, Ok, Err, refl, sym, ap, ◌∙◌}
 use Rattle.flag_text.specs.Readers.{as_object}
 use Rattle.flag_text.specs.Shape.{Shape, null, boolean, whole, other, text, list, object}
 use Rattle.flag_defs.specs.Definition.{Rules, Definition, good}
 use Rattle.logic_ast.specs.Expression.{Expression}
 use Rattle.logic_eval.specs.Evaluation.{evaluation_of}
+use Rattle.logic_eval.specs.Laws.{each_reached}
 use Rattle.logic_eval.specs.Run.{Reach}
 use Rattle.logic_eval.specs.Scope.{Situation}
+use Rattle.logic_eval.specs.declared.fault.EvalFault.{EvalFault}
 use Rattle.flag_resolve.specs.Alike.{with_reached, ResolvesAlike, OthersStay}
 use Rattle.flag_resolve.specs.Kind.{is_of_kind}
 use Rattle.flag_resolve.specs.Resolution.{Asked, failed, variant_named, default_of, name_in, given, given_default, chosen, targeted, evaluated, defined, found, resolution_of}
@@ -41,17 +43,20 @@ targeted-alike f a r e g (text s) rs = chosen-alike f a (variant_named (targets 
 targeted-alike f a r e g (list ts) rs = refl
 targeted-alike f a r e g (object ms) rs = refl
 
-defined-alike : (f : Reach → Reach) (a : Asked) (r : Rules) (e g : Expression) (s : Situation) (v : Shape) (rs : List Reach) → evaluation_of e s ≡ Ok (v, rs) → evaluation_of g s ≡ Ok (v, map f rs)
+evaluated-alike : (f : Reach → Reach) (a : Asked) (r : Rules) (e g : Expression) (o : Result (Shape × List Reach) EvalFault) → evaluated a (targets r g) (each_reached f o) ≡ with_reached f (evaluated a (targets r e) o)
+evaluated-alike f a r e g (Ok outcome) = targeted-alike f a r e g outcome.0 outcome.1
+evaluated-alike f a r e g (Err fault) = refl
+
+defined-alike : (f : Reach → Reach) (a : Asked) (r : Rules) (e g : Expression) (s : Situation) → evaluation_of g s ≡ each_reached f (evaluation_of e s)
     → defined a (targets r g) s ≡ with_reached f (defined a (targets r e) s)
-defined-alike f a r e g s v rs before after =
-    either-alike f r.enabled _ _ _ _
-    (ap (evaluated a (targets r g)) after ∙ targeted-alike f a r e g v rs ∙ sym (ap (λ x. with_reached f (evaluated a (targets r e) x)) before)) refl
+defined-alike f a r e g s same =
+    either-alike f r.enabled _ _ _ _ (ap (evaluated a (targets r g)) same ∙ evaluated-alike f a r e g (evaluation_of e s)) refl
 
 pub alike : ResolvesAlike
 unfolding resolution_of
-alike before after r e g f a s v rs old new first second =
+alike before after r e g f a s old new same =
     either-alike f (is_none (as_object s.context)) _ _ _ _ refl
-    (ap (λ o. found a o s) new ∙ defined-alike f a r e g s v rs first second ∙ sym (ap (λ o. with_reached f (found a o s)) old))
+    (ap (λ o. found a o s) new ∙ defined-alike f a r e g s same ∙ sym (ap (λ o. with_reached f (found a o s)) old))
 
 pub others : OthersStay
 unfolding resolution_of

@@ -16,7 +16,7 @@ use Rattle.logic_ast.proofs.Numbered.{numbered-preorder, number-at}
 use Rattle.logic_eval.specs.declared.fault.EvalFault.{EvalFault}
 use Rattle.logic_eval.specs.declared.fault.EvalFault.TheVariants.{TooLong}
 use Rattle.logic_eval.specs.Evaluation.{evaluation_of, meaning}
-use Rattle.logic_eval.specs.Laws.{with_total, OneSiteReplaced}
+use Rattle.logic_eval.specs.Laws.{with_total, each_reached, OneSiteReplaced}
 use Rattle.logic_eval.specs.Run.{Reach, Entry, Run, cost, reach, units_of, reached_of, with_reached, result_of, most_units}
 use Rattle.logic_eval.specs.Scope.{default_input, root_scope}
 use Rattle.logic_eval.proofs.Alike.{Agree, retraced, run_of, Same, alike}
@@ -32,26 +32,14 @@ reached-retraced n total [] = refl
 reached-retraced n total (cost k ∷ t) = reached-retraced n total t
 reached-retraced n total (reach r ∷ t) = ap (λ rs. with_total n total r ∷ rs) (reached-retraced n total t)
 
-module _ (v : Shape) (rs : List Reach) where
-  -- what a run that gave a value reached
-  reached_by : (r : Run Shape) → result_of r ≡ Ok (v, rs) → reached_of r.trace ≡ rs
-  reached_by r h = go (nat_lt most_units (units_of r.trace)) r.ending h
-    where
-      go : (b : Bool) (e : Result Shape EvalFault) → cond b (Err TooLong) (with_reached (reached_of r.trace) e) ≡ Ok (v, rs) → reached_of r.trace ≡ rs
-      go true e g = absurd (cc)
-      go false (Ok w) g = let both : (let x : Shape × List Reach = (w, reached_of r.trace) in x) ≡ (v, rs) = cc in ap (λ (x : Shape × List Reach). x.1) both
-      go false (Err f) g = absurd (cc)
-
-  result-retraced : (n total : ℕ) (r : Run Shape) → result_of r ≡ Ok (v, rs) → result_of (run_of (retraced n total r.trace) r.ending) ≡ Ok (v, map (with_total n total) rs)
-  result-retraced n total r h = rw (units-retraced n total r.trace, reached-retraced n total r.trace) (go (nat_lt most_units (units_of r.trace)) r.ending h)
-    where
-      go : (b : Bool) (e : Result Shape EvalFault) → cond b (Err TooLong) (with_reached (reached_of r.trace) e) ≡ Ok (v, rs)
-          → cond b (Err TooLong) (with_reached (map (with_total n total) (reached_of r.trace)) e) ≡ Ok (v, map (with_total n total) rs)
-      go true e g = absurd (cc)
-      go false (Ok w) g =
-          let both : (let x : Shape × List Reach = (w, reached_of r.trace) in x) ≡ (v, rs) = cc in
-          ap (λ (x : Shape × List Reach). Ok (x.0, map (with_total n total) x.1)) both
-      go false (Err f) g = absurd (cc)
+result-retraced : (n total : ℕ) (r : Run Shape) → result_of (run_of (retraced n total r.trace) r.ending) ≡ each_reached (with_total n total) (result_of r)
+result-retraced n total r = rw (units-retraced n total r.trace, reached-retraced n total r.trace) (go (nat_lt most_units (units_of r.trace)) r.ending)
+  where
+    go : (b : Bool) (e : Result Shape EvalFault)
+        → cond b (Err TooLong) (with_reached (map (with_total n total) (reached_of r.trace)) e) ≡ each_reached (with_total n total) (cond b (Err TooLong) (with_reached (reached_of r.trace) e))
+    go true e = refl
+    go false (Ok w) = refl
+    go false (Err f) = refl
 
 agree-all : (n : ℕ) (old new : Entries) (rs : List Reach) → All (λ r. r.site ≡ n → choice new r.input ≡ choice old r.input) rs → Agree n old new rs
 agree-all n old new [] all = tt
@@ -72,10 +60,9 @@ known-at e n old h f s i is =
 
 pub one_site : OneSiteReplaced
 unfolding evaluation_of
-one_site e n old new s v rs formed at some_old small_old some_new small_new is all =
+one_site e n old new s formed at some some_new all =
     let h = left (is_formed 0 e) (not (is_too_big (written e))) formed in
     let run = meaning (default_input s) e (root_scope s) in
-    let reached = reached_by v rs run is in
-    let alike_all = alike n old new some_old some_new small_old small_new (default_input s) 0 e h (known-at e n old h at) (root_scope s) in
-    let second = alike_all.same (subst (Agree n old new) (sym reached) (agree-all n old new rs all)) in
-    ap result_of second ∙ result-retraced v rs n (total_weight new) run is
+    let alike_all = alike n old new some.some some_new.some some.small some_new.small (default_input s) 0 e h (known-at e n old h at) (root_scope s) in
+    let second = alike_all.same (agree-all n old new (reached_of run.trace) all) in
+    ap result_of second ∙ result-retraced n (total_weight new) run

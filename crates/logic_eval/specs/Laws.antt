@@ -1,7 +1,7 @@
 -- What the definition of an evaluation amounts to: which sites are reached, what a site gives, and what isn't evaluated.
-use Rattle.std.specs.Prelude.{ℕ, ◌≡◌, ◌<◌, ◌^◌, ◌==◌, if◌then◌else◌, true, false, List, map, Option, Some, Ok}
+use Rattle.std.specs.Prelude.{ℕ, ◌≡◌, ◌<◌, ◌^◌, ◌==◌, if◌then◌else◌, true, false, List, map, Option, Some, Result, Ok, Err}
 use Rattle.std.specs.List.{All}
-use Rattle.bucket_core.specs.Rule.{Entries, total_weight, choice}
+use Rattle.bucket_core.specs.Rule.{Entries, IsRuleTotal, total_weight, choice}
 use Rattle.flag_text.specs.Shape.{Shape}
 use Rattle.logic_ast.specs.Expression.{Expression, operation, fractional, Expressions, expression, By, Buckets}
 use Rattle.logic_ast.specs.Formed.{is_well_formed}
@@ -9,8 +9,9 @@ use Rattle.logic_ast.specs.Sites.{sites, entries_of, entries_at, with_entries}
 use Rattle.logic_ast.specs.declared.operator.Operator.TheVariants.{If, And, Or}
 use Rattle.logic_eval.specs.Evaluation.{evaluation_of, meaning, by_meaning, input}
 use Rattle.logic_eval.specs.Fractional.{by_input}
-use Rattle.logic_eval.specs.Run.{Reach, cost, after, ◌>>=◌}
-use Rattle.logic_eval.specs.Scope.{Situation}
+use Rattle.logic_eval.specs.Run.{Reach, cost, after, ◌>>=◌, reached_of}
+use Rattle.logic_eval.specs.Scope.{Situation, default_input, root_scope}
+use Rattle.logic_eval.specs.declared.fault.EvalFault.{EvalFault}
 use Rattle.logic_eval.specs.Truth.{is_true}
 
 -- A reached entry is of a site of the expression: it has the site's number, and the total weight of its entries where they are literal.
@@ -53,11 +54,20 @@ TrueEndsOr =
 abbrev pub with_total : ℕ → ℕ → Reach → Reach
 with_total n total r = if r.site == n then record { site = r.site; input = r.input; total = total } else r
 
--- Where one site gets another rule, and each input that reached it chooses as before, an evaluation gives the same value and
--- reaches the same sites by the same inputs: only that site's total is the new rule's.
+-- the sites that an evaluation reaches, also those that it reached before a fault
+abbrev pub reached_in : Expression → Situation → List Reach
+reached_in e s = reached_of (meaning (default_input s) e (root_scope s)).trace
+
+-- a fault, or the same value with each reached site changed
+abbrev pub each_reached : (Reach → Reach) → Result (Shape × List Reach) EvalFault → Result (Shape × List Reach) EvalFault
+each_reached f (Ok outcome) = Ok (outcome.0, map f outcome.1)
+each_reached f (Err fault) = Err fault
+
+-- Where one site gets another rule, and each input that reaches it chooses as before, an evaluation gives the same value, or
+-- the same fault, and reaches the same sites by the same inputs: only that site's total is the new rule's.
 abbrev pub OneSiteReplaced : Type 0
 OneSiteReplaced =
-    (e : Expression) (n : ℕ) (old new : Entries) (s : Situation) (v : Shape) (rs : List Reach)
-    → is_well_formed e ≡ true → entries_at n e ≡ Ok old → 0 < total_weight old → total_weight old < 2 ^ 31 → 0 < total_weight new → total_weight new < 2 ^ 31
-    → evaluation_of e s ≡ Ok (v, rs) → All (λ r. r.site ≡ n → choice new r.input ≡ choice old r.input) rs
-    → evaluation_of (with_entries n new e) s ≡ Ok (v, map (with_total n (total_weight new)) rs)
+    (e : Expression) (n : ℕ) (old new : Entries) (s : Situation)
+    → is_well_formed e ≡ true → entries_at n e ≡ Ok old → IsRuleTotal (total_weight old) → IsRuleTotal (total_weight new)
+    → All (λ r. r.site ≡ n → choice new r.input ≡ choice old r.input) (reached_in e s)
+    → evaluation_of (with_entries n new e) s ≡ each_reached (with_total n (total_weight new)) (evaluation_of e s)

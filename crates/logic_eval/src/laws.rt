@@ -14,8 +14,8 @@ pub fn a_branch_not_taken_is_not_evaluated()
     ensures true_argument { TrueEndsOr }
 {}
 
-/// Where one site gets another rule, and each input that reached it chooses as before, the evaluation gives the same value
-/// and reaches the same sites by the same inputs: only that site's total is the new rule's.
+/// Where one site gets another rule, and each input that reaches it chooses as before, the evaluation gives the same value or
+/// fault, and reaches the same sites by the same inputs: only that site's total is the new rule's.
 pub fn a_rule_that_chooses_alike_changes_nothing_else()
     ensures { OneSiteReplaced }
 {}

@@ -1,7 +1,11 @@
+pub mod Changed
+pub mod Copies
 pub mod Lengths
 pub mod Orders
 pub mod Outcomes
 pub mod ReadBack
 pub mod Refines
+pub mod Resolved
 pub mod RowsAgain
+pub mod Sites
 pub mod Whole

@@ -2,10 +2,14 @@
 use Rattle.std.specs.Prelude.{ℕ, List, codes}
 use Rattle.bucket_core.specs.declared.fault.RuleFault.{RuleFault}
 use Rattle.bucket_core.specs.declared.fault.RuleFault.TheVariants as rule
+use Rattle.flag_defs.specs.declared.fault.DefFault.{DefFault}
+use Rattle.flag_defs.specs.declared.fault.DefFault.TheVariants as document
 use Rattle.logic_ast.specs.declared.fault.LogicFault.{LogicFault}
 use Rattle.logic_ast.specs.declared.fault.LogicFault.TheVariants as logic
 use Rattle.price_core.specs.declared.fault.PriceFault.{PriceFault}
 use Rattle.price_core.specs.declared.fault.PriceFault.TheVariants as price
+use Rattle.transport_plan.specs.declared.fault.PlanFault.{PlanFault}
+use Rattle.transport_plan.specs.declared.fault.PlanFault.TheVariants as plan
 use Rattle.rollout.specs.declared.fault.RolloutFault.{RolloutFault}
 use Rattle.rollout.specs.declared.fault.RolloutFault.TheVariants.{WantOfMemory, Request, UnknownFlag, NoSite, Computed, UnknownVariant, TotalsSum, TotalTooLarge, Undecided, NoWeight, TooLarge}
 
@@ -61,3 +65,15 @@ of_rule rule.WantOfMemory = WantOfMemory
 of_rule rule.NoWeight = NoWeight
 of_rule rule.TooHeavy = TotalTooLarge
 of_rule rule.BadRule = Computed
+
+-- of what is told of a document
+abbrev pub of_document : DefFault → RolloutFault
+of_document document.WantOfMemory = WantOfMemory
+of_document document.NotJson = TooLarge
+of_document document.NoFlags = TooLarge
+of_document document.TooLarge = TooLarge
+
+-- of what is told of an instance
+abbrev pub of_plan : PlanFault → RolloutFault
+of_plan plan.WantOfMemory = WantOfMemory
+of_plan plan.Undecided = Undecided

@@ -1,4 +1,6 @@
 pub mod Answer
+pub mod Applied
+pub mod Change
 pub mod Fault
 pub mod FileFault
 pub mod Lawful

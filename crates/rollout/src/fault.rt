@@ -1,12 +1,14 @@
 ghost use Rattle.std.specs.Prelude.{◌≡◌};
-ghost use Rattle.rollout.specs.Fault.{number_of, name_of, of_logic, of_price, of_rule};
+ghost use Rattle.rollout.specs.Fault.{number_of, name_of, of_document, of_logic, of_plan, of_price, of_rule};
 ghost use Rattle.rollout.specs.declared.fault.RolloutFault.TheVariants.{WantOfMemory};
 
 use bucket_core::RuleFault;
+use flag_defs::DefFault;
 use logic_ast::LogicFault;
 use price_core::PriceFault;
 use std::alloc::{AllocError, AllocFailed};
 use thiserror::Error;
+use transport_plan::PlanFault;
 
 /// Why a rollout is refused. A request is tested for 1, 2, 3, 4, 9, 5, 6 and 7 in that order.
 #[derive(Clone, Copy, Debug, PartialEq, Eq, Error)]
@@ -135,6 +137,28 @@ impl From<RuleFault> for RolloutFault {
             RuleFault::NoWeight => RolloutFault::NoWeight,
             RuleFault::TooHeavy => RolloutFault::TotalTooLarge,
             RuleFault::BadRule => RolloutFault::Computed,
+        }
+    }
+}
+
+impl From<DefFault> for RolloutFault {
+    ghost from_gives = { λ f e. e ≡ of_document f };
+
+    fn from(fault: DefFault) -> RolloutFault {
+        match fault {
+            DefFault::WantOfMemory => RolloutFault::WantOfMemory,
+            _ => RolloutFault::TooLarge,
+        }
+    }
+}
+
+impl From<PlanFault> for RolloutFault {
+    ghost from_gives = { λ f e. e ≡ of_plan f };
+
+    fn from(fault: PlanFault) -> RolloutFault {
+        match fault {
+            PlanFault::WantOfMemory => RolloutFault::WantOfMemory,
+            PlanFault::Undecided => RolloutFault::Undecided,
         }
     }
 }

@@ -6,28 +6,37 @@
 //! - [`verify`] and [`verify_refined`] accept an answer exactly where the request is lawful (`Lawful`) and the checks accept
 //!   the answer (`Verified`): then the rule costs the recorded inputs the least of all rules that fit, or none fits. Each
 //!   refusal comes first in its order.
+//! - [`apply`] gives the flags with a rule at a site, or its first refusal (`Applied`): one flag changes, all others stay, and
+//!   what chooses alike under both rules resolves as before (`Change`).
 //! - [`print_planned`] writes the text of `PlanFile`, [`read_planned`] reads exactly the files that `PlanFile` says, with each
 //!   refusal in its order, and what is printed of an answer that is in order reads as the answer.
+//!
+//! Not proved yet: [`plan`] and [`plan_refined`].
 #![tactic(auto)]
 
+mod application;
 mod fault;
 mod file_fault;
 mod form;
 mod order;
 mod place;
 mod planned;
+mod planning;
 mod print;
 mod problem;
 mod read;
 mod refining;
 mod rows;
+mod spread;
 mod sums;
 mod verification;
 mod verify_fault;
 
+pub use application::apply;
 pub use fault::RolloutFault;
 pub use file_fault::PlanFileFault;
 pub use planned::Planned;
+pub use planning::{plan, plan_refined};
 pub use print::print_planned;
 pub use read::read_planned;
 pub use verification::{verify, verify_refined};

@@ -1,0 +1,61 @@
+//! A rule put in the place of a site's.
+ghost use Rattle.std.specs.Prelude.{◌≡◌, IfOk};
+ghost use Rattle.flag_text.specs.Outcome.{GivesUnless};
+ghost use Rattle.flag_defs.specs.Flag.{entries_view};
+ghost use Rattle.flag_defs.specs.Flags.{flags_view, AreFlags};
+ghost use Rattle.rollout.specs.Applied.{applied};
+ghost use Rattle.rollout.specs.Change.{IsChanged, OthersStay, ResolveAsBefore};
+
+use crate::fault::RolloutFault;
+use crate::place::has_names_of;
+use bucket_core::Rule;
+use flag_defs::{Flag, Flags};
+use std::alloc::{AllocError, Global};
+
+/// The flags with the entries of the rule as the buckets of a site. The bucketing expression stays, and so do all other
+/// flags.
+///
+/// All other flags resolve as before. So does the flag itself wherever each input that its evaluation reaches at the site is
+/// given the same name by the old entries and by the rule: then only the site's totals differ among what was reached.
+///
+/// It refuses, in this order, with `UnknownFlag`, `NoSite`, `Computed`, `UnknownVariant` (a name of the rule is none of the
+/// flag's variants) and `TooLarge` (the document is too large when it is printed).
+pub fn apply(
+    alloc: Global,
+    flags: &Flags,
+    key: &str,
+    site: u32,
+    rule: &Rule,
+) -> Result<Flags, RolloutFault>
+    ensures exact { GivesUnless RolloutFault.WantOfMemory flags_view result (applied (flags_view flags.now) key.now site rule.now) }
+    ensures changed { IfOk result (λ new. IsChanged (flags_view flags.now) key.now site rule.now (flags_view new)) }
+    ensures others { IfOk result (λ new. OthersStay (flags_view flags.now) key.now (flags_view new)) }
+    ensures resolutions { IfOk result (λ new. ResolveAsBefore (flags_view flags.now) key.now site rule.now (flags_view new)) }
+{
+    let Some(flag) = flags.get(key) else {
+        return Err(RolloutFault::UnknownFlag);
+    };
+    let changed = flag.with_site(alloc, site, rule)?;
+    if !has_names_of(flag, rule.entries()) {
+        return Err(RolloutFault::UnknownVariant);
+    }
+    // what stays of resolutions is proved of rules whose total is from 1 to 2147483647, as that of each rule is
+    prove!(rule.total() > 0);
+    let mut entries = copies(alloc, flags)?;
+    entries.push((String::from_str(alloc, key)?, changed))?;
+    Ok(Flags::make(alloc, entries)?)
+}
+
+/// Copies of the flags with their keys.
+fn copies(alloc: Global, flags: &Flags) -> Result<Vec<(String, Flag)>, AllocError>
+    ensures same { IfOk result (λ v. entries_view v.items ≡ flags_view flags.now) }
+    ensures lawful { AreFlags (flags_view flags.now) }
+{
+    let mut copies = Vec::new(alloc);
+    for i in 0..flags.len() {
+        let (key, flag) = flags.at(i);
+        let key = String::from_str(alloc, key)?;
+        copies.push((key, flag.copy(alloc)?))?;
+    }
+    Ok(copies)
+}
