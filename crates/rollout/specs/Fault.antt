@@ -8,6 +8,8 @@ use Rattle.logic_ast.specs.declared.fault.LogicFault.{LogicFault}
 use Rattle.logic_ast.specs.declared.fault.LogicFault.TheVariants as logic
 use Rattle.price_core.specs.declared.fault.PriceFault.{PriceFault}
 use Rattle.price_core.specs.declared.fault.PriceFault.TheVariants as price
+use Rattle.transport_core.specs.declared.fault.CheckFault.{CheckFault}
+use Rattle.transport_core.specs.declared.fault.CheckFault.TheVariants as check
 use Rattle.transport_plan.specs.declared.fault.PlanFault.{PlanFault}
 use Rattle.transport_plan.specs.declared.fault.PlanFault.TheVariants as plan
 use Rattle.rollout.specs.declared.fault.RolloutFault.{RolloutFault}
@@ -77,3 +79,8 @@ of_document document.TooLarge = TooLarge
 abbrev pub of_plan : PlanFault → RolloutFault
 of_plan plan.WantOfMemory = WantOfMemory
 of_plan plan.Undecided = Undecided
+
+-- of what is told of an answer that was made for the instance
+abbrev pub of_check : CheckFault → RolloutFault
+of_check check.WantOfMemory = WantOfMemory
+of_check fault = Undecided

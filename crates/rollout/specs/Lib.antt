@@ -5,6 +5,7 @@ pub mod Fault
 pub mod FileFault
 pub mod Lawful
 pub mod PlanFile
+pub mod Planned
 pub mod Refined
 pub mod Verified
 pub mod VerifyFault

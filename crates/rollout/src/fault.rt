@@ -1,5 +1,5 @@
 ghost use Rattle.std.specs.Prelude.{◌≡◌};
-ghost use Rattle.rollout.specs.Fault.{number_of, name_of, of_document, of_logic, of_plan, of_price, of_rule};
+ghost use Rattle.rollout.specs.Fault.{number_of, name_of, of_check, of_document, of_logic, of_plan, of_price, of_rule};
 ghost use Rattle.rollout.specs.declared.fault.RolloutFault.TheVariants.{WantOfMemory};
 
 use bucket_core::RuleFault;
@@ -8,6 +8,7 @@ use logic_ast::LogicFault;
 use price_core::PriceFault;
 use std::alloc::{AllocError, AllocFailed};
 use thiserror::Error;
+use transport_core::CheckFault;
 use transport_plan::PlanFault;
 
 /// Why a rollout is refused. A request is tested for 1, 2, 3, 4, 9, 5, 6 and 7 in that order.
@@ -159,6 +160,17 @@ impl From<PlanFault> for RolloutFault {
         match fault {
             PlanFault::WantOfMemory => RolloutFault::WantOfMemory,
             PlanFault::Undecided => RolloutFault::Undecided,
+        }
+    }
+}
+
+impl From<CheckFault> for RolloutFault {
+    ghost from_gives = { λ f e. e ≡ of_check f };
+
+    fn from(fault: CheckFault) -> RolloutFault {
+        match fault {
+            CheckFault::WantOfMemory => RolloutFault::WantOfMemory,
+            _ => RolloutFault::Undecided,
         }
     }
 }

@@ -10,14 +10,17 @@
 //!   what chooses alike under both rules resolves as before (`Change`).
 //! - [`print_planned`] writes the text of `PlanFile`, [`read_planned`] reads exactly the files that `PlanFile` says, with each
 //!   refusal in its order, and what is printed of an answer that is in order reads as the answer.
-//!
-//! Not proved yet: [`plan`] and [`plan_refined`].
+//! - [`plan`] and [`plan_refined`] answer a lawful request with a canonical rule that costs the recorded inputs the least of
+//!   all that fit, and a certificate that proves it, or with a set of names which shows that none fits; a set under its low
+//!   limits only where no set is over its high ones (`Planned`). What is answered can be printed and read again. Where the
+//!   request is not lawful, they refuse as [`verify`] does. That they never answer `Undecided` is not proved yet.
 #![tactic(auto)]
 
 mod application;
 mod fault;
 mod file_fault;
 mod form;
+mod numbers;
 mod order;
 mod place;
 mod planned;

@@ -1,8 +1,20 @@
 //! The answer of the planner to a request.
-ghost use Rattle.std.specs.Prelude.{◌<◌};
-ghost use Rattle.rollout.specs.Lawful.{IsRefining};
+ghost use Rattle.std.specs.Prelude.{◌≡◌, ◌≤◌, ◌<◌, true, length, IfOk, MatchResult};
+ghost use Rattle.bucket_core.specs.Canonical.{IsCanonical};
+ghost use Rattle.bucket_core.specs.Rule.{total_weight, names_view};
+ghost use Rattle.flag_defs.specs.Flags.{flags_view};
+ghost use Rattle.flag_text.specs.Shape.{is_whole};
+ghost use Rattle.transport_core.specs.Deficient.{IsDeficient};
+ghost use Rattle.transport_core.specs.Instance.{max_planned_total, max_names};
+ghost use Rattle.rollout.specs.Answer.{none_exists, IsOrdered, planned_view};
+ghost use Rattle.rollout.specs.Lawful.{IsRefining, problem_of, problem_view};
+ghost use Rattle.rollout.specs.PlanFile.{planned_written};
+ghost use Rattle.rollout.specs.Planned.{IsPlan, IsPlanned, IsUndecided, IsUnderLast};
+ghost use Rattle.rollout.specs.declared.refining.Refining.TheVariants.{Times};
 
 use crate::fault::RolloutFault;
+use crate::numbers::has_whole_numbers;
+use crate::order::names_rise;
 use crate::planned::Planned;
 use crate::problem::{Problem, problem_of};
 use crate::refining::Refining;
@@ -12,7 +24,7 @@ use bucket_core::Rule;
 use flag_defs::Flags;
 use std::alloc::Global;
 use std::thread::Threads;
-use transport_core::{Certificate, CheckFault, Instance, check_plan};
+use transport_core::{Certificate, Cut, Instance, check_plan};
 use transport_plan::{Solved, solve};
 
 /// The rule that meets a request and costs the recorded inputs the least, with its certificate, or a set of names which
@@ -26,7 +38,11 @@ pub fn plan(
     flags: &Flags,
     request: &[u8],
     book: &Book,
-) -> Result<Planned, RolloutFault> {
+) -> Result<Planned, RolloutFault>
+    ensures exact { IsPlanned (problem_of (Times 1) (flags_view flags.now) request.now book.now) result }
+    ensures ordered { IfOk result (λ a. IsOrdered (planned_view a)) }
+    ensures whole { IfOk result (λ a. is_whole (planned_written (planned_view a)) ≡ true) }
+{
     plan_by(rt, alloc, Refining::Times(1), flags, request, book)
 }
 
@@ -40,6 +56,9 @@ pub fn plan_refined(
     m: u32,
 ) -> Result<Planned, RolloutFault>
     requires { 0 < m }
+    ensures exact { IsPlanned (problem_of (Times m) (flags_view flags.now) request.now book.now) result }
+    ensures ordered { IfOk result (λ a. IsOrdered (planned_view a)) }
+    ensures whole { IfOk result (λ a. is_whole (planned_written (planned_view a)) ≡ true) }
 {
     plan_by(rt, alloc, Refining::Times(m), flags, request, book)
 }
@@ -53,49 +72,65 @@ fn plan_by(
     book: &Book,
 ) -> Result<Planned, RolloutFault>
     requires { IsRefining refining }
+    ensures exact { IsPlanned (problem_of refining (flags_view flags.now) request.now book.now) result }
+    ensures ordered { IfOk result (λ a. IsOrdered (planned_view a)) }
+    ensures whole { IfOk result (λ a. is_whole (planned_written (planned_view a)) ≡ true) }
 {
+    // Flags have at most 64 variants.
+    let _count = flags.len();
     let problem = problem_of(alloc, refining, flags, request, book)?;
-    let instance = instance_of(alloc, &problem)?;
+    plan_on(rt, alloc, &problem)
+}
+
+/// The answer to what a lawful request asks.
+fn plan_on(
+    rt: &(impl Threads + Sync),
+    alloc: Global,
+    problem: &Problem,
+) -> Result<Planned, RolloutFault>
+    requires small { total_weight problem.now.old ≤ max_planned_total }
+    requires few { length problem.now.totals ≤ max_names }
+    ensures exact { MatchResult result (λ a. IsPlan (problem_view problem.now) (planned_view a)) IsUndecided }
+    ensures ordered { IfOk result (λ a. IsOrdered (planned_view a)) }
+    ensures whole { IfOk result (λ a. is_whole (planned_written (planned_view a)) ≡ true) }
+{
+    let prices = problem.request.prices();
+    let Problem {
+        old,
+        totals,
+        exposure,
+        ..
+    } = problem;
+    let instance = Instance::make(alloc, old, totals, prices, exposure)?;
     match solve(alloc, &instance)? {
         Solved::Plan(assignment, certificate) => {
-            let rule = spread(
-                alloc,
-                &problem.old,
-                &problem.exposure,
-                &instance,
-                assignment,
-            )?;
-            emit(rt, alloc, &problem, rule, certificate)
+            let rule = spread(alloc, old, exposure, &instance, assignment)?;
+            emit(rt, alloc, problem, rule, certificate)
         }
-        Solved::None(cut) => Ok(Planned::NoneExists(cut)),
+        Solved::None(cut) => emit_none(problem, cut),
     }
 }
 
-fn instance_of(alloc: Global, problem: &Problem) -> Result<Instance<'_>, RolloutFault> {
-    let prices = problem.request.prices();
-    match Instance::make(
-        alloc,
-        &problem.old,
-        &problem.totals,
-        prices,
-        &problem.exposure,
-    ) {
-        Ok(instance) => Ok(instance),
-        Err(CheckFault::WantOfMemory) => Err(RolloutFault::WantOfMemory),
-        Err(_) => Err(RolloutFault::TotalsSum),
-    }
-}
-
-/// The rule as an answer, where the check accepts it.
+/// The rule as an answer, where the check accepts it and a file can hold its numbers.
 fn emit(
     rt: &(impl Threads + Sync),
     alloc: Global,
     problem: &Problem,
     rule: Rule,
     certificate: Certificate,
-) -> Result<Planned, RolloutFault> {
+) -> Result<Planned, RolloutFault>
+    requires { IsCanonical rule }
+    ensures exact { MatchResult result (λ a. IsPlan (problem_view problem.now) (planned_view a)) IsUndecided }
+    ensures ordered { IfOk result (λ a. IsOrdered (planned_view a)) }
+    ensures whole { IfOk result (λ a. is_whole (planned_written (planned_view a)) ≡ true) }
+{
+    let _total = rule.total();
+    let _limits = problem.totals.entries();
     let prices = problem.request.prices();
-    match check_plan(
+    if !has_whole_numbers(&certificate) {
+        return Err(RolloutFault::Undecided);
+    }
+    check_plan(
         rt,
         alloc,
         &problem.old,
@@ -104,9 +139,21 @@ fn emit(
         prices,
         &problem.exposure,
         &certificate,
-    ) {
-        Ok(()) => Ok(Planned::Emit(rule, certificate)),
-        Err(CheckFault::WantOfMemory) => Err(RolloutFault::WantOfMemory),
-        Err(_) => Err(RolloutFault::Undecided),
+    )?;
+    Ok(Planned::Emit(rule, certificate))
+}
+
+/// The set of names as an answer, where the names stand in order.
+fn emit_none(problem: &Problem, cut: Cut) -> Result<Planned, RolloutFault>
+    requires deficient { IsDeficient cut.kind problem.now.old problem.now.totals problem.now.request.prices (names_view cut.names.items) }
+    requires under_last { IsUnderLast (problem_view problem.now) (none_exists cut.kind (names_view cut.names.items)) }
+    ensures exact { MatchResult result (λ a. IsPlan (problem_view problem.now) (planned_view a)) IsUndecided }
+    ensures ordered { IfOk result (λ a. IsOrdered (planned_view a)) }
+    ensures whole { IfOk result (λ a. is_whole (planned_written (planned_view a)) ≡ true) }
+{
+    let _limits = problem.totals.entries();
+    if !names_rise(cut.names.as_slice()) {
+        return Err(RolloutFault::Undecided);
     }
+    Ok(Planned::NoneExists(cut))
 }

@@ -1,0 +1,159 @@
+-- What a lawful request asks is small enough to be planned on.
+use Rattle.std.proofs.Common.{◌≡◌, ℕ, suc, ◌*◌, ◌≤◌, List, [], ◌∷◌, length, Bool, true, false, ◌&&◌, cond, nat_lt, nat_le, Option, Some, None, IfSome, Result, Ok, Err, Less, Equal, Greater, Ordering, refl, sym, ap, ◌∙◌, subst, arith}
+use Rattle.std.specs.BTreeMap.{insert_entry}
+use Rattle.std.specs.Cmp.Lexicographic.{slice_cmp}
+use Rattle.std.specs.Map.{lookup}
+use Rattle.std.specs.Ordering.{match_ordering, nat_cmp}
+use Rattle.std.specs.Str.{bytes_eq}
+use Rattle.std.proofs.lemmas.Bool.{ltb-false, leb-true}
+use Rattle.std.proofs.lemmas.Map.Entries.{All-lookup}
+use Rattle.flag_text.proofs.Bools.{left, right}
+use Rattle.flag_text.specs.Shape.{Members, no_members, member}
+use Rattle.bucket_core.specs.Rule.{Entries, total_weight, refinement}
+use Rattle.bucket_core.proofs.Refined.{total_weight-refinement}
+use Rattle.logic_ast.specs.Expression.{Expression}
+use Rattle.logic_ast.specs.Sites.{parts_at}
+use Rattle.flag_defs.specs.Definition.{Definition, broken, good, member_count, are_variants}
+use Rattle.flag_defs.specs.Document.{Definitions}
+use Rattle.flag_defs.specs.Flag.{member_names, variant_names, targeting_in, is_definition}
+use Rattle.flag_defs.specs.Flags.{AreFlags}
+use Rattle.book_core.specs.Book.{Contents, inputs_on}
+use Rattle.book_core.specs.Site.{page_at}
+use Rattle.price_core.specs.Limits.{Limits, limits_of}
+use Rattle.price_core.specs.Request.{Asked, asked_of, limits_on, all_known}
+use Rattle.price_core.specs.declared.fault.PriceFault.TheVariants as price
+use Rattle.transport_core.specs.Instance.{max_planned_total, max_names}
+use Rattle.rollout.specs.Lawful.{Problem, Place, and_then, by_price, by_logic, or_refuse, place_in, place_of, has_names_of, limits_for, is_unmet, max_planned, factor, sized, weighed, problem_at, problem_of}
+use Rattle.rollout.specs.declared.fault.RolloutFault.{RolloutFault}
+use Rattle.rollout.specs.declared.fault.RolloutFault.TheVariants.{UnknownFlag, NoSite, UnknownVariant, TotalsSum, TotalTooLarge}
+use Rattle.rollout.specs.declared.refining.Refining.{Refining}
+
+-- what a result came of
+record Came {A B : Type 0} (r : Result A RolloutFault) (f : A → Result B RolloutFault) (b : B) : Type 0 where
+  from : A
+  was : r ≡ Ok from
+  gives : f from ≡ Ok b
+
+came : {A B : Type 0} (r : Result A RolloutFault) (f : A → Result B RolloutFault) (b : B) → and_then r f ≡ Ok b → Came r f b
+came (Ok a) f b h = record { from = a; was = refl; gives = h }
+came (Err e) f b h = cc
+
+-- ---- the flag
+
+found : (o : Option Definition) (flag : Definition) → or_refuse UnknownFlag o ≡ Ok flag → o ≡ Some flag
+found (Some x) flag h = cc
+found None flag h = cc
+
+flag_in : Definition → Result Place RolloutFault → Definition
+flag_in d (Ok place) = place.flag
+flag_in d (Err e) = d
+
+placed_in : (key : List ℕ) (site : ℕ) (flag : Definition) (targeting : Expression) (place : Place) → place_in key site flag targeting ≡ Ok place → flag ≡ place.flag
+unfolding flag_in
+placed_in key site flag targeting place h =
+    let parts = came (by_logic (parts_at site targeting)) (λ parts. and_then (by_logic (page_at key site targeting)) (λ page. Ok (record { flag = flag; entries = parts.1; page = page }))) place h in
+    let page = came (by_logic (page_at key site targeting)) (λ page. Ok (record { flag = flag; entries = parts.from.1; page = page })) place parts.gives in
+    ap (flag_in flag) page.gives
+
+placed : (flags : Definitions) (key : List ℕ) (site : ℕ) (place : Place) → place_of flags key site ≡ Ok place → lookup (bytes_eq key) flags ≡ Some place.flag
+placed flags key site place h =
+    let flag = came (or_refuse UnknownFlag (lookup (bytes_eq key) flags)) (λ flag. and_then (or_refuse NoSite (targeting_in flag)) (λ targeting. place_in key site flag targeting)) place h in
+    let targeting = came (or_refuse NoSite (targeting_in flag.from)) (λ targeting. place_in key site flag.from targeting) place flag.gives in
+    found (lookup (bytes_eq key) flags) flag.from flag.was ∙ ap Some (placed_in key site flag.from targeting.from place targeting.gives)
+
+-- ---- at most 64 names
+
+length-member_names : (ms : Members) → length (member_names ms) ≡ member_count ms
+length-member_names no_members = refl
+length-member_names (member k t ms) = ap suc (length-member_names ms)
+
+few_variants : (d : Definition) → is_definition d ≡ true → length (variant_names d) ≤ max_names
+few_variants broken h = omega arith
+few_variants (good r) h =
+    let n = member_count r.variants in
+    let numbered = left (nat_le 1 n && nat_le n 64) _ (left (are_variants r.variants) _ h) in
+    omega (arith, length-member_names r.variants, leb-true n 64 (right (nat_le 1 n) (nat_le n 64) numbered))
+
+length-insert_entry : {K X : Type 0} (R : K → K → Ordering) (es : List (K × X)) (k : K) (v : X) → length (insert_entry R es k v) ≤ suc (length es)
+length-insert_entry R [] k v = omega arith
+length-insert_entry R (e ∷ es) k v =
+    let later = length-insert_entry R es k v in
+    elim (R k e.0) as (λ o. length (match_ordering o ((k, v) ∷ e ∷ es) ((e.0, v) ∷ es) (e ∷ insert_entry R es k v)) ≤ suc (length (e ∷ es))) [
+      | Less ↦ omega arith
+      | Equal ↦ omega arith
+      | Greater ↦ omega arith
+    ]
+
+length-limits_on : (asked : Limits) (names : List (List ℕ)) → length (limits_on asked names) ≤ length names
+length-limits_on asked [] = omega arith
+length-limits_on asked (name ∷ names) =
+    let more = length-insert_entry (slice_cmp nat_cmp) (limits_on asked names) name (limits_of asked name) in
+    let later = length-limits_on asked names in
+    omega arith
+
+limits_in : Result Limits RolloutFault → Limits
+limits_in (Ok limits) = limits
+limits_in (Err e) = []
+
+limited : (place : Place) (asked : Asked) (limits : Limits) → limits_for place asked ≡ Ok limits → limits_on asked.totals (variant_names place.flag) ≡ limits
+unfolding limits_in
+limited place asked limits h = by (has_names_of place.flag place.entries) (all_known (variant_names place.flag) asked) h
+  where
+    by : (a b : Bool) → cond a (by_price (cond b (Ok (limits_on asked.totals (variant_names place.flag))) (Err price.UnknownVariant))) (Err UnknownVariant) ≡ Ok limits → limits_on asked.totals (variant_names place.flag) ≡ limits
+    by true true h = ap limits_in h
+    by true false h = cc
+    by false b h = cc
+
+-- ---- a total that is planned on
+
+sized_small : (limits : Limits) (n : ℕ) (u : Unit {0}) → sized limits n ≡ Ok u → n ≤ max_planned
+sized_small limits n u h = by (is_unmet limits n) (nat_lt max_planned n) refl h
+  where
+    by : (a b : Bool) → nat_lt max_planned n ≡ b → cond a (Err TotalsSum) (cond b (Err TotalTooLarge) (Ok tt)) ≡ Ok u → n ≤ max_planned
+    by true b is h = cc
+    by false true is h = cc
+    by false false is h = ltb-false max_planned n is
+
+-- ---- the whole
+
+problem_in : Problem → Result Problem RolloutFault → Problem
+problem_in d (Ok p) = p
+problem_in d (Err e) = d
+
+-- what is planned on, and with which limits
+record IsBounded (place : Place) (asked : Asked) (p : Problem) : Type 0 where
+  small : total_weight p.old ≤ max_planned
+  limits : limits_for place asked ≡ Ok p.limits
+
+bounded_at : (refining : Refining) (book : Contents) (asked : Asked) (place : Place) (p : Problem) → problem_at refining book asked place ≡ Ok p → IsBounded place asked p
+unfolding problem_in
+bounded_at refining book asked place p h =
+    let total = total_weight place.entries in
+    let k = factor refining total in
+    let problem : Limits → Problem = λ limits. record { old = refinement k place.entries; limits = limits; pricing = asked.prices; inputs = inputs_on book place.page } in
+    let weight = came (weighed place.entries) (λ _. and_then (limits_for place asked) (λ limits. and_then (sized limits (total * k)) (λ _. Ok (problem limits)))) p h in
+    let limits = came (limits_for place asked) (λ limits. and_then (sized limits (total * k)) (λ _. Ok (problem limits))) p weight.gives in
+    let size = came (sized limits.from (total * k)) (λ _. Ok (problem limits.from)) p limits.gives in
+    let is : problem limits.from ≡ p = ap (problem_in (problem limits.from)) size.gives in
+    record {
+      small = omega (arith, sized_small limits.from (total * k) size.from size.was, total_weight-refinement k place.entries, ap (λ (q : Problem). total_weight q.old) is);
+      limits = limits.was ∙ ap (λ (q : Problem). Ok q.limits) is;
+    }
+
+-- the bounds of an instance
+pub record IsSmall (p : Problem) : Type 0 where
+  pub small : total_weight p.old ≤ max_planned_total
+  pub few : length p.limits ≤ max_names
+
+pub lawful_small : (refining : Refining) (flags : Definitions) (bytes : List ℕ) (book : Contents) (p : Problem) → AreFlags flags → problem_of refining flags bytes book ≡ Ok p → IsSmall p
+lawful_small refining flags bytes book p lawful h =
+    let asked = came (by_price (asked_of bytes)) (λ asked. and_then (place_of flags asked.flag asked.site) (λ place. problem_at refining book asked place)) p h in
+    let place = came (place_of flags asked.from.flag asked.from.site) (λ place. problem_at refining book asked.from place) p asked.gives in
+    let bounds = bounded_at refining book asked.from place.from p place.gives in
+    let good = subst (λ o. IfSome o (λ d. is_definition d ≡ true)) (placed flags asked.from.flag asked.from.site place.from place.was) (All-lookup (λ d. is_definition d ≡ true) (bytes_eq asked.from.flag) flags lawful.each) in
+    let names = few_variants place.from.flag good in
+    let made = ap (λ (ls : Limits). length ls) (limited place.from asked.from p.limits bounds.limits) in
+    record {
+      small = bounds.small;
+      few = omega (arith, made, length-limits_on asked.from.totals (variant_names place.from.flag), names);
+    }

@@ -1,0 +1,18 @@
+use Rattle.std.proofs.Common.{sym, ap, ◌∙◌}
+use Rattle.std.specs.Cmp.Lexicographic.{slice_cmp}
+use Rattle.std.specs.Ordering.{nat_cmp}
+use Rattle.bucket_core.specs.Rule.{names_view}
+use Rattle.rollout.specs.Lawful.{problem_view}
+use Rattle.rollout.specs.PlanFile.{rises}
+use Rattle.rollout.proofs.Plans.{none_plan, sorted-rises, none_whole}
+use Rattle.rollout.proofs.planning.emit_none.Goals as goal
+
+pub returns-clause-exact : goal.returns-clause-exact
+returns-clause-exact c = none_plan (problem_view c.args.problem.now) c.args.cut.kind (names_view c.args.cut.names.items) c.entries-limits.ensures.lawful c.requires.deficient c.requires.under_last
+
+pub returns-clause-ordered : goal.returns-clause-ordered
+returns-clause-ordered c =
+    sorted-rises (names_view c.args.cut.names.items) (ap (λ ns. rises (slice_cmp nat_cmp) (names_view ns)) (sym c.as_slice.ensures.value) ∙ sym c.if-not-names_rise.ensures)
+
+pub returns-clause-whole : goal.returns-clause-whole
+returns-clause-whole c = none_whole c.args.cut.kind (names_view c.args.cut.names.items)

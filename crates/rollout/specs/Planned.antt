@@ -1,0 +1,42 @@
+-- What is planned of a rollout request.
+use Rattle.std.specs.Prelude.{◌≡◌, ◌≢◌, ℕ, pos, Bool, ◌&&◌, List, Result, Ok, Err}
+use Rattle.flag_text.specs.Shape.{is_in_range, items_are_whole}
+use Rattle.transport_core.specs.Certificate.{DualPrices}
+use Rattle.transport_core.specs.Deficient.{IsDeficient}
+use Rattle.transport_core.specs.declared.certificate.CutKind.TheVariants.{Over, Under}
+use Rattle.rollout.specs.Answer.{Answer, emit, none_exists, planned_view}
+use Rattle.rollout.specs.Lawful.{Problem}
+use Rattle.rollout.specs.PlanFile.{items_by, alpha_written, beta_written}
+use Rattle.rollout.specs.Verified.{Proves, Shows}
+use Rattle.rollout.specs.declared.fault.RolloutFault.{RolloutFault}
+use Rattle.rollout.specs.declared.fault.RolloutFault.TheVariants.{WantOfMemory, Undecided}
+use Rattle.rollout.specs.declared.planned.Planned.{Planned}
+
+-- alpha, beta and the cost are whole numbers that a file can hold
+abbrev pub has_whole_numbers : DualPrices → Bool
+has_whole_numbers c = is_in_range (pos c.cost) && (items_are_whole (items_by alpha_written c.alpha) && items_are_whole (items_by beta_written c.beta))
+
+-- a set is told as under its low limits only where no set is over its high ones
+abbrev pub IsUnderLast : Problem → Answer → Type 0
+IsUnderLast p (emit rule c) = Unit {0}
+IsUnderLast p (none_exists Over names) = Unit {0}
+IsUnderLast p (none_exists Under names) = (others : List (List ℕ)) → ¬ (IsDeficient Over p.old p.limits p.pricing others)
+
+-- an answer to what is asked
+pub record IsPlan (p : Problem) (answer : Answer) : Type 0 where
+  -- the rule fits and its certificate proves its cost, or the set is deficient by its kind
+  pub proves : Proves p answer
+  -- so the rule costs the recorded inputs the least of all that fit, or no rule fits
+  pub shows : Shows p answer
+  pub under_last : IsUnderLast p answer
+
+-- nothing was found that passes the checks, unless memory ran out
+abbrev pub IsUndecided : RolloutFault → Type 0
+IsUndecided e = e ≢ WantOfMemory → e ≡ Undecided
+
+-- What is planned: the refusal of the request where it is not lawful; else an answer, or Undecided. Want of memory may come of either.
+abbrev pub IsPlanned : Result Problem RolloutFault → Result Planned RolloutFault → Type 0
+IsPlanned (Err f) (Ok planned) = ⊥
+IsPlanned (Err f) (Err e) = e ≢ WantOfMemory → e ≡ f
+IsPlanned (Ok p) (Ok planned) = IsPlan p (planned_view planned)
+IsPlanned (Ok p) (Err e) = IsUndecided e
