@@ -6,4 +6,5 @@ pub mod Matched
 pub mod Named
 pub mod Spelled
 pub mod Verdicts
+pub mod Wants
 pub mod Writes

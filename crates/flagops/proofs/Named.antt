@@ -18,9 +18,9 @@ use Rattle.clap.specs.declared.error.kind.ErrorKind.TheVariants.{InvalidValue}
 use Rattle.flag_resolve.specs.Kind.{kind_named}
 use Rattle.flag_resolve.specs.declared.kind.Kind.{Kind}
 use Rattle.clap.specs.Walk.{Row, Rule, Text, answers_to, first_of, nothing_held, rows_after, settled, walk, walk_from}
-use Rattle.flagops.specs.Asked.{Asked, bucket, price, check, resolve, verify}
+use Rattle.flagops.specs.Asked.{Asked, bucket, price, check, resolve, verify, apply, plan}
 use Rattle.flagops.specs.Numbers.{max_32, max_moment, number_in}
-use Rattle.flagops.specs.Words.{asked_in, asked_of, bucket_app, check_app, flagops_app, kind_fault, price_app, refine_in, resolve_app, verify_app}
+use Rattle.flagops.specs.Words.{apply_app, asked_in, asked_of, bucket_app, check_app, flagops_app, kind_fault, plan_app, price_app, refine_in, resolve_app, verify_app}
 use Rattle.flagops.proofs.Filled.{Each, Filled, IsFull, Stores, filled_level, none_both, stores}
 
 -- ---- one command
@@ -190,11 +190,11 @@ refine_read rows p = elim (given_or_not Refine (codes "M") rows p) [
       (Some number.0, rw (given.1, number.1) refl)
 ]
 
-verify_read : (name : Text) (rows : List Row) (document request book plan : Text) (refine : Option ℕ) → name ≡ codes "verify"
-    → first_of (codes "DOC") rows ≡ Some document → first_of (codes "REQUEST") rows ≡ Some request → first_of (codes "BOOK") rows ≡ Some book → first_of (codes "PLAN") rows ≡ Some plan
-    → refine_in rows ≡ Some refine → asked_in (name, rows) ≡ Some (verify document request book plan refine)
-verify_read name rows document request book plan refine is document_is request_is book_is plan_is refine_is =
-    rw (is, document_is, request_is, book_is, plan_is, refine_is) refl
+verify_read : (name : Text) (rows : List Row) (document request book file : Text) (refine : Option ℕ) → name ≡ codes "verify"
+    → first_of (codes "DOC") rows ≡ Some document → first_of (codes "REQUEST") rows ≡ Some request → first_of (codes "BOOK") rows ≡ Some book → first_of (codes "PLAN") rows ≡ Some file
+    → refine_in rows ≡ Some refine → asked_in (name, rows) ≡ Some (verify document request book file refine)
+verify_read name rows document request book file refine is document_is request_is book_is file_is refine_is =
+    rw (is, document_is, request_is, book_is, file_is, refine_is) refl
 
 verify_asks : (s : Shape) → s.name ≡ codes "verify" → Each (Stores Refine) s.rules
     → ((rows : List Row) → HasGiven s rows → (is_given (codes "DOC") rows ≡ true) × (is_given (codes "REQUEST") rows ≡ true) × (is_given (codes "BOOK") rows ≡ true)
@@ -206,9 +206,48 @@ verify_asks s name stored given words e =
     let document = value_taken Refine (codes "DOC") rows full all.0 in
     let request = value_taken Refine (codes "REQUEST") rows full all.1 in
     let book = value_taken Refine (codes "BOOK") rows full all.2 in
-    let plan = value_taken Refine (codes "PLAN") rows full all.3 in
+    let file = value_taken Refine (codes "PLAN") rows full all.3 in
     let refine = refine_read rows full in
-    inl (verify document.0 request.0 book.0 plan.0 refine.0, verify_read s.name rows document.0 request.0 book.0 plan.0 refine.0 name document.1 request.1 book.1 plan.1 refine.1)
+    inl (verify document.0 request.0 book.0 file.0 refine.0, verify_read s.name rows document.0 request.0 book.0 file.0 refine.0 name document.1 request.1 book.1 file.1 refine.1)
+
+plan_read : (name : Text) (rows : List Row) (document request book : Text) (refine : Option ℕ) → name ≡ codes "plan"
+    → first_of (codes "DOC") rows ≡ Some document → first_of (codes "REQUEST") rows ≡ Some request → first_of (codes "BOOK") rows ≡ Some book
+    → refine_in rows ≡ Some refine → asked_in (name, rows) ≡ Some (plan document request book refine)
+plan_read name rows document request book refine is document_is request_is book_is refine_is = rw (is, document_is, request_is, book_is, refine_is) refl
+
+plan_asks : (s : Shape) → s.name ≡ codes "plan" → Each (Stores Refine) s.rules
+    → ((rows : List Row) → HasGiven s rows → (is_given (codes "DOC") rows ≡ true) × (is_given (codes "REQUEST") rows ≡ true) × (is_given (codes "BOOK") rows ≡ true)) → Asks s
+plan_asks s name stored given words e =
+    let rows = rows_after s.rules [] words in
+    let full = filled_level Refine s [] stored words false [] e in
+    let all = given rows (level_given s words e) in
+    let document = value_taken Refine (codes "DOC") rows full all.0 in
+    let request = value_taken Refine (codes "REQUEST") rows full all.1 in
+    let book = value_taken Refine (codes "BOOK") rows full all.2 in
+    let refine = refine_read rows full in
+    inl (plan document.0 request.0 book.0 refine.0, plan_read s.name rows document.0 request.0 book.0 refine.0 name document.1 request.1 book.1 refine.1)
+
+abbrev Site : Text → Text → Type 0
+Site = IsNumber (codes "SITE") 0 max_32
+
+apply_read : (name : Text) (rows : List Row) (document file key number : Text) (site : ℕ) → name ≡ codes "apply" → first_of (codes "DOC") rows ≡ Some document
+    → first_of (codes "PLAN") rows ≡ Some file → first_of (codes "FLAG") rows ≡ Some key → first_of (codes "SITE") rows ≡ Some number → number_in 0 max_32 number ≡ Some site
+    → asked_in (name, rows) ≡ Some (apply document file key site)
+apply_read name rows document file key number site is document_is file_is key_is number_is site_is = rw (is, document_is, file_is, key_is, number_is, site_is) refl
+
+apply_asks : (s : Shape) → s.name ≡ codes "apply" → Each (Stores Site) s.rules
+    → ((rows : List Row) → HasGiven s rows → (is_given (codes "DOC") rows ≡ true) × (is_given (codes "PLAN") rows ≡ true) × (is_given (codes "FLAG") rows ≡ true)
+    × (is_given (codes "SITE") rows ≡ true)) → Asks s
+apply_asks s name stored given words e =
+    let rows = rows_after s.rules [] words in
+    let full = filled_level Site s [] stored words false [] e in
+    let all = given rows (level_given s words e) in
+    let document = value_taken Site (codes "DOC") rows full all.0 in
+    let file = value_taken Site (codes "PLAN") rows full all.1 in
+    let key = value_taken Site (codes "FLAG") rows full all.2 in
+    let word = value_taken Site (codes "SITE") rows full all.3 in
+    let site = number_read 0 max_32 word.0 (word.2 refl) in
+    inl (apply document.0 file.0 key.0 site.0, apply_read s.name rows document.0 file.0 key.0 word.0 site.0 name document.1 file.1 key.1 word.1 site.1)
 
 -- ---- the program
 
@@ -216,7 +255,7 @@ abbrev AllAsk : List Shape → Type 0
 AllAsk = Each Asks
 
 each : AllAsk (built flagops_app).subs
-unfolding flagops_app bucket_app price_app check_app resolve_app verify_app
+unfolding flagops_app bucket_app price_app check_app resolve_app plan_app verify_app apply_app
 each = (
   bucket_asks _ refl refl (λ rows e. let rule = needed _ _ e in let key = needed _ _ rule.1 in (rule.0, key.0)),
   (
@@ -240,15 +279,34 @@ each = (
             let moment = needed _ _ context.1 in
             (document.0, key.0, kind.0, default.0, context.0, moment.0)),
         (
-          verify_asks _ refl
-              ((refl, λ v e h. cc), ((refl, λ v e h. cc), ((refl, λ v e h. cc), ((refl, λ v e h. cc), ((refl, λ v e h. passes _ _ e), ((refl, λ v e h. cc), tt))))))
+          plan_asks _ refl
+              ((refl, λ v e h. cc), ((refl, λ v e h. cc), ((refl, λ v e h. cc), ((refl, λ v e h. passes _ _ e), ((refl, λ v e h. cc), tt)))))
               (λ rows e.
               let document = needed _ _ e in
               let request = needed _ _ document.1 in
               let book = needed _ _ request.1 in
-              let plan = needed _ _ book.1 in
-              (document.0, request.0, book.0, plan.0)),
-          tt,
+              (document.0, request.0, book.0)),
+          (
+            verify_asks _ refl
+                ((refl, λ v e h. cc), ((refl, λ v e h. cc), ((refl, λ v e h. cc), ((refl, λ v e h. cc), ((refl, λ v e h. passes _ _ e), ((refl, λ v e h. cc), tt))))))
+                (λ rows e.
+                let document = needed _ _ e in
+                let request = needed _ _ document.1 in
+                let book = needed _ _ request.1 in
+                let file = needed _ _ book.1 in
+                (document.0, request.0, book.0, file.0)),
+            (
+              apply_asks _ refl
+                  ((refl, λ v e h. cc), ((refl, λ v e h. cc), ((refl, λ v e h. cc), ((refl, λ v e h. passes _ _ e), ((refl, λ v e h. cc), tt)))))
+                  (λ rows e.
+                  let document = needed _ _ e in
+                  let file = needed _ _ document.1 in
+                  let key = needed _ _ file.1 in
+                  let site = needed _ _ key.1 in
+                  (document.0, file.0, key.0, site.0)),
+              tt,
+            ),
+          ),
         ),
       ),
     ),
@@ -278,7 +336,7 @@ stopped a asks (Some p) e has = named a.subs p asks e has
 
 -- what words that `clap` finds no fault with ask for
 pub faultless : (words : List Text) → fault_of flagops_app words ≡ [] → IsRead (subcommand_of flagops_app words)
-unfolding flagops_app bucket_app price_app check_app resolve_app verify_app
+unfolding flagops_app bucket_app price_app check_app resolve_app plan_app verify_app apply_app
 faultless words e =
     let app = built flagops_app in
     let stop = (walk app.top.rules (names_of app) nothing_held words).stopped in

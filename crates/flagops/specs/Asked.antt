@@ -15,6 +15,10 @@ pub data Asked : Type 0 where
   resolve : List ℕ → List ℕ → Kind → List ℕ → List ℕ → ℕ → Asked
   -- a document, a request, a book and a plan, and the factor of a refinement if there is one
   verify : List ℕ → List ℕ → List ℕ → List ℕ → Option ℕ → Asked
+  -- a document, a request and a book, and the factor of a refinement if there is one
+  plan : List ℕ → List ℕ → List ℕ → Option ℕ → Asked
+  -- a document, a plan, a flag and a site
+  apply : List ℕ → List ℕ → List ℕ → ℕ → Asked
 
 -- the same, without where the words lie in memory
 abbrev pub asked_view : declared.Asked → Asked
@@ -22,4 +26,6 @@ asked_view (code.Bucket rule key) = bucket rule.now key.now
 asked_view (code.Price old new request keys) = price old.now new.now request.now keys.now
 asked_view (code.Check document) = check document.now
 asked_view (code.Resolve document key kind default context moment) = resolve document.now key.now kind default.now context.now moment.number
-asked_view (code.Verify document request book plan refine) = verify document.now request.now book.now plan.now (option_map (λ m. m.number) refine)
+asked_view (code.Verify document request book file refine) = verify document.now request.now book.now file.now (option_map (λ m. m.number) refine)
+asked_view (code.Apply document file key site) = apply document.now file.now key.now site
+asked_view (code.Plan document request book refine) = plan document.now request.now book.now (option_map (λ m. m.number) refine)

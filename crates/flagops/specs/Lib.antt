@@ -1,3 +1,4 @@
+pub mod Apply
 pub mod Asked
 pub mod Bucket
 pub mod Check
@@ -8,6 +9,7 @@ pub mod Loading
 pub mod Memory
 pub mod Numbers
 pub mod Payload
+pub mod Plan
 pub mod PlanFile
 pub mod Price
 pub mod Question

@@ -5,15 +5,16 @@ use Rattle.bucket_core.specs.Fault as rules
 use Rattle.book_core.specs.Fault as books
 use Rattle.price_core.specs.Fault as requests
 use Rattle.flag_defs.specs.Fault as documents
+use Rattle.rollout.specs.Fault as rollouts
 use Rattle.rollout.specs.FileFault as plan_files
 use Rattle.rollout.specs.VerifyFault as verdicts
 use Rattle.flagops.specs.Files.{load_number, load_name}
-use Rattle.flagops.specs.Payload.{file_items, verify_items}
+use Rattle.flagops.specs.Payload.{file_items, rollout_items, verify_items}
 use Rattle.flagops.specs.declared.files.LoadFault.TheVariants.{Unreadable}
 use Rattle.flagops.specs.declared.refusal.Call.{Call}
 use Rattle.flagops.specs.declared.refusal.Call.TheVariants as call
 use Rattle.flagops.specs.declared.refusal.Refusal.{Refusal}
-use Rattle.flagops.specs.declared.refusal.Refusal.TheVariants.{WantOfMemory, Load, LongBook, ReadTree, ReadRule, ReadRequest, Note, Price, ReadFlags, ReadBook, ReadPlanned, Verify}
+use Rattle.flagops.specs.declared.refusal.Refusal.TheVariants.{WantOfMemory, Load, LongBook, ReadTree, ReadRule, ReadRequest, Note, Price, ReadFlags, ReadBook, ReadPlanned, Verify, Apply, Plan, PrintPlanned}
 use Rattle.flagops.specs.declared.refusal.PriceMismatch.{PriceMismatch}
 use Rattle.flagops.specs.declared.refusal.PriceMismatch.TheVariants.{Weight, BadKeys}
 
@@ -32,6 +33,9 @@ call_name call.Resolve = codes "resolve"
 call_name call.ReadBook = codes "read_book"
 call_name call.ReadPlanned = codes "read_planned"
 call_name call.Verify = codes "verify"
+call_name call.Apply = codes "apply"
+call_name call.Plan = codes "plan"
+call_name call.PrintPlanned = codes "print_planned"
 
 -- the calls that loading a tree makes
 abbrev pub loads_tree : Call → Bool
@@ -123,6 +127,29 @@ verify_calls call.Verify = true
 verify_calls call.ReadPlanned = true
 verify_calls c = loads_question c
 
+-- the call of the command `apply` itself
+abbrev pub apply_itself : Call → Bool
+apply_itself call.Apply = true
+apply_itself c = false
+
+-- the calls that the command `apply` makes
+abbrev pub apply_calls : Call → Bool
+apply_calls call.Apply = true
+apply_calls call.ReadPlanned = true
+apply_calls c = loads_flags c
+
+-- the calls of the command `plan` over what it read
+abbrev pub prints_plan : Call → Bool
+prints_plan call.Plan = true
+prints_plan call.PrintPlanned = true
+prints_plan c = false
+
+-- the calls that the command `plan` makes
+abbrev pub plan_calls : Call → Bool
+plan_calls call.Plan = true
+plan_calls call.PrintPlanned = true
+plan_calls c = loads_question c
+
 -- the call that refused
 abbrev pub call_of : Refusal → Call
 call_of (WantOfMemory c) = c
@@ -137,6 +164,9 @@ call_of (ReadFlags e) = call.ReadFlags
 call_of (ReadBook e) = call.ReadBook
 call_of (ReadPlanned e) = call.ReadPlanned
 call_of (Verify e) = call.Verify
+call_of (Apply e) = call.Apply
+call_of (Plan e) = call.Plan
+call_of (PrintPlanned e) = call.PrintPlanned
 
 -- the number and the name of what the command `price` refuses
 abbrev pub mismatch_number : PriceMismatch → ℕ
@@ -161,6 +191,9 @@ number_of (ReadFlags e) = documents.number_of e
 number_of (ReadBook e) = books.file_number_of e
 number_of (ReadPlanned e) = plan_files.number_of e
 number_of (Verify e) = verdicts.number_of e
+number_of (Apply e) = rollouts.number_of e
+number_of (Plan e) = rollouts.number_of e
+number_of (PrintPlanned e) = plan_files.number_of e
 
 abbrev pub name_of : Refusal → List ℕ
 name_of (WantOfMemory c) = codes "WantOfMemory"
@@ -175,11 +208,16 @@ name_of (ReadFlags e) = documents.name_of e
 name_of (ReadBook e) = books.file_name_of e
 name_of (ReadPlanned e) = plan_files.name_of e
 name_of (Verify e) = verdicts.name_of e
+name_of (Apply e) = rollouts.name_of e
+name_of (Plan e) = rollouts.name_of e
+name_of (PrintPlanned e) = plan_files.name_of e
 
 -- what a fault says beyond its name, each item behind a blank
 abbrev pub payload_of : Refusal → List ℕ
 payload_of (ReadBook e) = file_items e
 payload_of (Verify e) = verify_items e
+payload_of (Apply e) = rollout_items e
+payload_of (Plan e) = rollout_items e
 payload_of r = []
 
 -- memory ran out: each fault has this as its number 0

@@ -5,7 +5,7 @@ use Rattle.flag_text.specs.Outlet.{AppendsPart}
 use Rattle.flagops.specs.Refusal.{line_of, want_line}
 use Rattle.flagops.specs.declared.outcome.Outcome.{Outcome}
 use Rattle.flagops.specs.declared.outcome.Status.{Status}
-use Rattle.flagops.specs.declared.outcome.Status.TheVariants.{Done, Refused, Usage}
+use Rattle.flagops.specs.declared.outcome.Status.TheVariants.{Done, Refused, Usage, NoneExists}
 use Rattle.flagops.specs.declared.refusal.Call.{Call}
 use Rattle.flagops.specs.declared.refusal.Call.TheVariants as call
 use Rattle.flagops.specs.declared.refusal.Refusal.{Refusal}
@@ -23,6 +23,7 @@ abbrev pub status_number : Status → ℕ
 status_number Done = 0
 status_number Refused = 1
 status_number Usage = 2
+status_number NoneExists = 3
 
 abbrev pub outcome_view : Outcome → Report
 outcome_view o = record { text = o.text.items; status = status_number o.status }

@@ -10,8 +10,8 @@ use Rattle.clap.specs.declared.error.kind.ErrorKind.TheVariants.{InvalidValue, O
 use Rattle.clap.specs.Faults.{fault_of}
 use Rattle.flag_resolve.specs.Kind.{kind_named}
 use Rattle.flag_resolve.specs.declared.kind.Kind.{Kind}
-use Rattle.flagops.specs.Asked.{Asked, bucket, price, check, resolve, verify}
-use Rattle.flagops.specs.Numbers.{max_32, max_moment, moment_in, factor_in}
+use Rattle.flagops.specs.Asked.{Asked, bucket, price, check, resolve, verify, apply, plan}
+use Rattle.flagops.specs.Numbers.{max_32, max_moment, moment_in, factor_in, number_in}
 
 -- ---- what the program takes
 
@@ -58,6 +58,15 @@ with_rollout a = with_rule (with_rule (with_rule a (required (codes "DOC"))) (re
 unfoldable pub verify_app : App
 verify_app = with_rule (with_rule (with_rollout (new_app (codes "verify"))) (required (codes "PLAN"))) refine_option
 
+-- `plan DOC REQUEST BOOK`, with `--refine M`
+unfoldable pub plan_app : App
+plan_app = with_rule (with_rollout (new_app (codes "plan"))) refine_option
+
+-- `apply DOC PLAN FLAG SITE`
+unfoldable pub apply_app : App
+apply_app =
+    with_rule (with_rule (with_rule (with_rule (new_app (codes "apply")) (required (codes "DOC"))) (required (codes "PLAN"))) (required (codes "FLAG"))) (number (codes "SITE") max_32)
+
 -- a command has to be named; there is a version, and no program's name before the words
 abbrev pub takes_commands : Shape → Shape
 takes_commands s = record s {
@@ -71,9 +80,9 @@ takes_commands s = record s {
 -- the program with its commands
 unfoldable pub flagops_app : App
 flagops_app =
-    with_subcommand
+    with_subcommand (with_subcommand (with_subcommand
     (with_subcommand (with_subcommand (with_subcommand (with_subcommand (on_top takes_commands (new_app (codes "flagops"))) bucket_app.top) price_app.top) check_app.top)
-    resolve_app.top) verify_app.top
+    resolve_app.top) plan_app.top) verify_app.top) apply_app.top
 
 -- ---- what the words ask for
 
@@ -131,9 +140,26 @@ verify_in rows = do
   document ← first_of (codes "DOC") rows
   request ← first_of (codes "REQUEST") rows
   book ← first_of (codes "BOOK") rows
-  plan ← first_of (codes "PLAN") rows
+  file ← first_of (codes "PLAN") rows
   factor ← refine_in rows
-  Some (verify document request book plan factor)
+  Some (verify document request book file factor)
+
+abbrev pub plan_in : List Row → Option Asked
+plan_in rows = do
+  document ← first_of (codes "DOC") rows
+  request ← first_of (codes "REQUEST") rows
+  book ← first_of (codes "BOOK") rows
+  factor ← refine_in rows
+  Some (plan document request book factor)
+
+abbrev pub apply_in : List Row → Option Asked
+apply_in rows = do
+  document ← first_of (codes "DOC") rows
+  file ← first_of (codes "PLAN") rows
+  key ← first_of (codes "FLAG") rows
+  word ← first_of (codes "SITE") rows
+  site ← number_in 0 max_32 word
+  Some (apply document file key site)
 
 -- a command by its name, with its words
 abbrev pub asked_in : Text × List Row → Option Asked
@@ -142,7 +168,9 @@ asked_in (name, rows) =
     (if bytes_eq name (codes "check") then check_in rows else
     (if bytes_eq name (codes "price") then price_in rows else
     (if bytes_eq name (codes "bucket") then bucket_in rows else
-    (if bytes_eq name (codes "verify") then verify_in rows else None))))
+    (if bytes_eq name (codes "verify") then verify_in rows else
+    (if bytes_eq name (codes "apply") then apply_in rows else
+    (if bytes_eq name (codes "plan") then plan_in rows else None))))))
 
 -- the same of the subcommand that was met, if one was
 abbrev pub asked_of : Option (Text × List Row) → Option Asked

@@ -37,4 +37,18 @@ pub enum Asked<'a> {
         plan: &'a str,
         refine: Option<Factor>,
     },
+    /// The answer of the planner to a request.
+    Plan {
+        document: &'a str,
+        request: &'a str,
+        book: &'a str,
+        refine: Option<Factor>,
+    },
+    /// The document with the rule of a plan file at a site.
+    Apply {
+        document: &'a str,
+        plan: &'a str,
+        key: &'a str,
+        site: u32,
+    },
 }

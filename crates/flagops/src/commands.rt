@@ -5,11 +5,13 @@ ghost use Rattle.flagops.specs.Asked.{asked_view};
 ghost use Rattle.flagops.specs.Refusal.{ComesFrom, GivesOne, is_file_fault};
 ghost use Rattle.flagops.specs.Report.{outcome_view};
 
+use crate::apply::apply;
 use crate::asked::Asked;
 use crate::bucket::bucket;
 use crate::check::check;
 use crate::files::FileSet;
 use crate::outcome::Outcome;
+use crate::plan::plan;
 use crate::price::price;
 use crate::refusal::Refusal;
 use crate::resolve::resolve;
@@ -55,5 +57,17 @@ pub fn outcome<R: Threads + Sync, F: FileSet>(
             plan,
             refine,
         } => verify(rt, alloc, files, document, request, book, plan, *refine),
+        Asked::Plan {
+            document,
+            request,
+            book,
+            refine,
+        } => plan(rt, alloc, files, document, request, book, *refine),
+        Asked::Apply {
+            document,
+            plan,
+            key,
+            site,
+        } => apply(alloc, files, document, plan, key, *site),
     }
 }

@@ -7,6 +7,7 @@
 //! where the output failed, or the line for want of memory.
 #![tactic(auto)]
 
+mod apply;
 mod asked;
 mod bucket;
 mod check;
@@ -17,6 +18,7 @@ mod loading;
 mod numbers;
 mod outcome;
 mod payload;
+mod plan;
 mod plan_file;
 mod price;
 mod question;

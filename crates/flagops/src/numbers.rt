@@ -1,6 +1,6 @@
 //! Numbers, as words of the command line.
 ghost use Rattle.std.specs.Prelude.{◌≡◌, ◌≤◌, ◌<◌, ◌^◌, ◌&&◌, nat_le, if◌then◌else◌, IfSome, Some, None, option_map};
-ghost use Rattle.flagops.specs.Numbers.{factor_in, moment_in, number_in};
+ghost use Rattle.flagops.specs.Numbers.{factor_in, max_32, moment_in, number_in};
 
 /// The latest moment, 2^53-1.
 pub const LATEST_MOMENT: u64 = 9_007_199_254_740_991;
@@ -42,6 +42,14 @@ impl Factor {
             number: number as u32,
         })
     }
+}
+
+/// The number of 32 bits that a word spells.
+pub fn spelled_32(word: &str) -> Option<u32>
+    ensures { result ≡ number_in 0 max_32 word.now }
+{
+    let number = spelled(word, 0, LARGEST_32)?;
+    Some(number as u32)
 }
 
 /// The number within the bounds that a word spells in decimal digits, perhaps after a plus.

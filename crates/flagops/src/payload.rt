@@ -16,7 +16,9 @@ pub fn payload(alloc: Global, refusal: &Refusal) -> Result<String, AllocError>
 {
     match refusal {
         Refusal::ReadBook(fault) => file_items(alloc, fault),
-        Refusal::Verify(VerifyFault::Request(fault)) => rollout_items(alloc, fault),
+        Refusal::Verify(VerifyFault::Request(fault))
+        | Refusal::Apply(fault)
+        | Refusal::Plan(fault) => rollout_items(alloc, fault),
         Refusal::Verify(VerifyFault::Check(fault)) => check_items(alloc, fault),
         _ => Ok(String::new(alloc)),
     }

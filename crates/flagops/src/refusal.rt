@@ -9,7 +9,7 @@ use bucket_core::RuleFault;
 use flag_defs::DefFault;
 use flag_text::TextFault;
 use price_core::PriceFault;
-use rollout::{PlanFileFault, VerifyFault};
+use rollout::{PlanFileFault, RolloutFault, VerifyFault};
 use std::alloc::{AllocError, Global};
 
 /// A call that can refuse, by the name that a refusal's line has.
@@ -43,6 +43,12 @@ pub enum Call {
     ReadPlanned,
     /// `rollout::verify` and the command around it.
     Verify,
+    /// `rollout::apply` and the command around it.
+    Apply,
+    /// `rollout::plan` and the command around it.
+    Plan,
+    /// `rollout::print_planned`.
+    PrintPlanned,
 }
 
 impl Call {
@@ -65,6 +71,9 @@ impl Call {
             Call::ReadBook => "read_book",
             Call::ReadPlanned => "read_planned",
             Call::Verify => "verify",
+            Call::Apply => "apply",
+            Call::Plan => "plan",
+            Call::PrintPlanned => "print_planned",
         }
     }
 }
@@ -124,6 +133,12 @@ pub enum Refusal {
     ReadPlanned(PlanFileFault),
     /// The answer of a plan file is not right, or its request is refused.
     Verify(VerifyFault),
+    /// The rule of a plan file cannot be put at the site.
+    Apply(RolloutFault),
+    /// The request is refused, or no answer to it was found.
+    Plan(RolloutFault),
+    /// The answer is too large for a plan file.
+    PrintPlanned(PlanFileFault),
 }
 
 impl Refusal {
@@ -143,6 +158,9 @@ impl Refusal {
             Refusal::ReadBook(_) => Call::ReadBook,
             Refusal::ReadPlanned(_) => Call::ReadPlanned,
             Refusal::Verify(_) => Call::Verify,
+            Refusal::Apply(_) => Call::Apply,
+            Refusal::Plan(_) => Call::Plan,
+            Refusal::PrintPlanned(_) => Call::PrintPlanned,
         }
     }
 
@@ -163,6 +181,9 @@ impl Refusal {
             Refusal::ReadBook(fault) => fault.number(),
             Refusal::ReadPlanned(fault) => fault.number(),
             Refusal::Verify(fault) => fault.number(),
+            Refusal::Apply(fault) => fault.number(),
+            Refusal::Plan(fault) => fault.number(),
+            Refusal::PrintPlanned(fault) => fault.number(),
         }
     }
 
@@ -183,6 +204,9 @@ impl Refusal {
             Refusal::ReadBook(fault) => fault.name(),
             Refusal::ReadPlanned(fault) => fault.name(),
             Refusal::Verify(fault) => fault.name(),
+            Refusal::Apply(fault) => fault.name(),
+            Refusal::Plan(fault) => fault.name(),
+            Refusal::PrintPlanned(fault) => fault.name(),
         }
     }
 

@@ -5,10 +5,10 @@ ghost use Rattle.clap.specs.Words.{app_of, found_of, kind_of, rows_of, rule_of, 
 ghost use Rattle.clap.specs.declared.builder.command.Command.TheViews.{out-Command};
 ghost use Rattle.clap.specs.declared.error.kind.ErrorKind.TheVariants.{InvalidValue};
 ghost use Rattle.flagops.specs.Asked.{asked_view};
-ghost use Rattle.flagops.specs.Words.{IsToldBy, asked_by, asked_of, bucket_app, bucket_in, check_app, check_in, flagops_app, number, option_number, price_app, price_in, refine_in, refine_option, required, resolve_app, resolve_begun, resolve_in, takes_commands, verify_app, verify_in, with_rollout};
+ghost use Rattle.flagops.specs.Words.{IsToldBy, apply_app, apply_in, asked_by, asked_of, bucket_app, bucket_in, check_app, check_in, flagops_app, number, option_number, plan_app, plan_in, price_app, price_in, refine_in, refine_option, required, resolve_app, resolve_begun, resolve_in, takes_commands, verify_app, verify_in, with_rollout};
 
 use crate::asked::Asked;
-use crate::numbers::{Factor, LARGEST_32, LATEST_MOMENT, Moment};
+use crate::numbers::{Factor, LARGEST_32, LATEST_MOMENT, Moment, spelled_32};
 use clap::builder::ValueParser;
 use clap::error::ErrorKind;
 use clap::{Arg, ArgMatches, Command, Error};
@@ -48,6 +48,12 @@ fn asked_of<'a>(matches: &ArgMatches<'a>) -> Option<Asked<'a>>
     }
     if name == "verify" {
         return verify_in(words);
+    }
+    if name == "apply" {
+        return apply_in(words);
+    }
+    if name == "plan" {
+        return plan_in(words);
     }
     None
 }
@@ -132,6 +138,38 @@ fn verify_in<'a>(words: &ArgMatches<'a>) -> Option<Asked<'a>>
     })
 }
 
+#[tactic(auto, using(crate::proofs::Matched::rows))]
+fn plan_in<'a>(words: &ArgMatches<'a>) -> Option<Asked<'a>>
+    ensures { option_map asked_view result ≡ plan_in (rows_of (found_of words.now)) }
+{
+    let document = words.get_str("DOC")?;
+    let request = words.get_str("REQUEST")?;
+    let book = words.get_str("BOOK")?;
+    let refine = refine_in(words)?;
+    Some(Asked::Plan {
+        document,
+        request,
+        book,
+        refine,
+    })
+}
+
+#[tactic(auto, using(crate::proofs::Matched::rows))]
+fn apply_in<'a>(words: &ArgMatches<'a>) -> Option<Asked<'a>>
+    ensures { option_map asked_view result ≡ apply_in (rows_of (found_of words.now)) }
+{
+    let document = words.get_str("DOC")?;
+    let plan = words.get_str("PLAN")?;
+    let key = words.get_str("FLAG")?;
+    let site = spelled_32(words.get_str("SITE")?)?;
+    Some(Asked::Apply {
+        document,
+        plan,
+        key,
+        site,
+    })
+}
+
 /// The factor of a refinement, if one is given; `None` where the word is no factor.
 #[tactic(auto, using(crate::proofs::Matched::rows))]
 fn refine_in(words: &ArgMatches<'_>) -> Option<Option<Factor>>
@@ -173,9 +211,12 @@ fn with_flag_commands<'a>(alloc: Global, program: Command<'a>) -> Result<Command
 
 /// The program with the commands on rollouts.
 fn with_rollout_commands<'a>(alloc: Global, program: Command<'a>) -> Result<Command<'a>, AllocError>
-    ensures { IfOk result (λ c. app_of c ≡ with_subcommand (app_of program.entry) verify_app.top) }
+    ensures { IfOk result (λ c. app_of c ≡ with_subcommand (with_subcommand (with_subcommand (app_of program.entry) plan_app.top) verify_app.top) apply_app.top) }
 {
-    program.subcommand(verify(alloc)?)
+    program
+        .subcommand(plan(alloc)?)?
+        .subcommand(verify(alloc)?)?
+        .subcommand(apply(alloc)?)
 }
 
 /// The program without its commands.
@@ -290,6 +331,18 @@ fn resolve_begun<'a>(alloc: Global) -> Result<Command<'a>, AllocError>
     with_word(alloc, resolve, "KIND", "bool, text, whole or object")
 }
 
+#[tactic(auto, unfolding(crate::specs::Words::plan_app))]
+fn plan<'a>(alloc: Global) -> Result<Command<'a>, AllocError>
+    ensures app { IfOk result (λ c. app_of c ≡ plan_app) }
+    ensures local { IfOk result (λ c. (out-Command c).has_globals ≡ false) }
+{
+    let plan = Command::new(alloc, "plan").bin_name("flagops plan")?.about(
+        "Prints the rule that a rollout request asks for and that switches the fewest",
+    );
+    let plan = with_rollout(alloc, plan)?;
+    with_refine(alloc, plan)
+}
+
 #[tactic(auto, unfolding(crate::specs::Words::verify_app))]
 fn verify<'a>(alloc: Global) -> Result<Command<'a>, AllocError>
     ensures app { IfOk result (λ c. app_of c ≡ verify_app) }
@@ -301,6 +354,26 @@ fn verify<'a>(alloc: Global) -> Result<Command<'a>, AllocError>
     let verify = with_rollout(alloc, verify)?;
     let verify = with_word(alloc, verify, "PLAN", "The plan file")?;
     with_refine(alloc, verify)
+}
+
+#[tactic(auto, unfolding(crate::specs::Words::apply_app))]
+fn apply<'a>(alloc: Global) -> Result<Command<'a>, AllocError>
+    ensures app { IfOk result (λ c. app_of c ≡ apply_app) }
+    ensures local { IfOk result (λ c. (out-Command c).has_globals ≡ false) }
+{
+    let apply = Command::new(alloc, "apply")
+        .bin_name("flagops apply")?
+        .about("Prints a document with the rule of a plan at a site of a flag");
+    let apply = with_word(alloc, apply, "DOC", "The flag document")?;
+    let apply = with_word(alloc, apply, "PLAN", "The plan file")?;
+    let apply = with_word(alloc, apply, "FLAG", "The flag's key")?;
+    with_number(
+        alloc,
+        apply,
+        "SITE",
+        "The number of the fractional operation, from 0",
+        LARGEST_32,
+    )
 }
 
 /// The command with the words that name a rollout.

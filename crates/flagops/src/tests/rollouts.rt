@@ -187,3 +187,75 @@ fn words_of_refine(rt: HostRuntime) -> Result<(), Fail> {
     }
     Ok(())
 }
+
+#[test]
+fn applies(rt: HostRuntime) -> Result<(), Fail> {
+    for (plan, key, site, status, report) in [
+        (
+            PLAN,
+            "color",
+            "0",
+            0,
+            "{\"flags\":{\"color\":{\"defaultVariant\":\"red\",\"state\":\"ENABLED\",\"targeting\":{\"fractional\":[{\"var\":[\"key\"]},[\"red\",2],[\"blue\",2],[\"red\",1],[\"blue\",5]]},\"variants\":{\"blue\":\"b\",\"green\":\"g\",\"red\":\"r\"}}}}\n",
+        ),
+        (PLAN, "colour", "0", 1, "refused apply 2 UnknownFlag\n"),
+        (PLAN, "color", "1", 1, "refused apply 3 NoSite\n"),
+        (PLAN, "color", "4294967296", 2, ""),
+        (
+            b"{\"none\":[\"red\"],\"plan\":1}".as_slice(),
+            "colour",
+            "7",
+            3,
+            "none\n",
+        ),
+        (
+            b"{}".as_slice(),
+            "color",
+            "0",
+            1,
+            "refused read_planned 1 BadPlan\n",
+        ),
+    ] {
+        let ran = run_over(&rt, &["apply", "d", "p", key, site], b"", b"", plan)?;
+        assert_eq!(rt; ran.out.as_slice(), report.as_bytes());
+        assert_eq!(rt; ran.status, status);
+    }
+    Ok(())
+}
+
+#[test]
+fn plans(rt: HostRuntime) -> Result<(), Fail> {
+    for (request, factor, status, ending) in [
+        (
+            REQUEST,
+            "1",
+            0,
+            ",\"cost\":0,\"plan\":1,\"rule\":[[\"red\",2],[\"blue\",2],[\"red\",1],[\"blue\",5]]}\n",
+        ),
+        (UNMET, "1", 3, "{\"none\":[\"red\"],\"plan\":1}\n"),
+        (UNMET_BY_5, "5", 3, "{\"none\":[\"red\"],\"plan\":1}\n"),
+        (REQUEST, "5", 1, "refused plan 6 TotalsSum\n"),
+        (
+            b"{\"plan\":2,\"flag\":\"color\",\"totals\":{\"red\":[1,2],\"blue\":[1,8],\"green\":[6,7]},\"forbid\":[[\"red\",\"green\"]]}".as_slice(),
+            "1",
+            3,
+            "{\"none\":[\"green\"],\"plan\":2,\"side\":\"under\"}\n",
+        ),
+        (
+            b"{\"plan\":2,\"flag\":\"color\",\"totals\":{\"red\":[4,3],\"blue\":7}}".as_slice(),
+            "1",
+            1,
+            "refused plan 1 Request 5 EmptyRange\n",
+        ),
+    ] {
+        let words = ["plan", "d", "r", "b", "--refine", factor];
+        let ran = run_over(&rt, words.as_slice(), request, BOOK, b"")?;
+        assert!(rt; ran.out.as_slice().ends_with(ending.as_bytes()));
+        assert_eq!(rt; ran.status, status);
+        if factor == "1" {
+            let again = run_over(&rt, &words[..4], request, BOOK, b"")?;
+            assert_eq!(rt; again.out.as_slice(), ran.out.as_slice());
+        }
+    }
+    Ok(())
+}
