@@ -5,4 +5,6 @@ pub mod Hexadecimal
 pub mod Matched
 pub mod Named
 pub mod Spelled
+pub mod Verdicts
+pub mod Wants
 pub mod Writes

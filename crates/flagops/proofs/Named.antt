@@ -18,9 +18,9 @@ use Rattle.clap.specs.declared.error.kind.ErrorKind.TheVariants.{InvalidValue}
 use Rattle.flag_resolve.specs.Kind.{kind_named}
 use Rattle.flag_resolve.specs.declared.kind.Kind.{Kind}
 use Rattle.clap.specs.Walk.{Row, Rule, Text, answers_to, first_of, nothing_held, rows_after, settled, walk, walk_from}
-use Rattle.flagops.specs.Asked.{Asked, bucket, price, check, resolve}
-use Rattle.flagops.specs.Moment.{max_moment, moment_in}
-use Rattle.flagops.specs.Words.{asked_in, asked_of, bucket_app, check_app, flagops_app, kind_fault, price_app, resolve_app}
+use Rattle.flagops.specs.Asked.{Asked, bucket, price, check, resolve, verify, apply, plan}
+use Rattle.flagops.specs.Numbers.{max_32, max_moment, number_in}
+use Rattle.flagops.specs.Words.{apply_app, asked_in, asked_of, bucket_app, check_app, flagops_app, kind_fault, plan_app, price_app, refine_in, resolve_app, verify_app}
 use Rattle.flagops.proofs.Filled.{Each, Filled, IsFull, Stores, filled_level, none_both, stores}
 
 -- ---- one command
@@ -130,20 +130,23 @@ check_asks s name stored given words e =
     let document = value_given (codes "DOC") rows full (given rows (level_given s words e)) in
     inl (check document.0, check_read s.name rows document.0 name document.1)
 
--- a moment is a number of at most so many
-abbrev Moment : Text → Text → Type 0
-Moment id v = bytes_eq id (codes "MOMENT") ≡ true → is_unsigned_in 0 max_moment v ≡ true
+-- each value of this argument is a number within these bounds
+abbrev IsNumber : Text → ℕ → ℕ → Text → Text → Type 0
+IsNumber name least most id v = bytes_eq id name ≡ true → is_unsigned_in least most v ≡ true
 
 passes : (b : Bool) (k : ErrorKind) → cond b [] (k ∷ []) ≡ [] → b ≡ true
 passes true k e = refl
 passes false k e = cc
 
-moment_read : (word : Text) → is_unsigned_in 0 max_moment word ≡ true → (n : ℕ) × (moment_in word ≡ Some n)
-moment_read word e = (digits_value 10 (without_leading_plus word), rw e refl)
+number_read : (least most : ℕ) (word : Text) → is_unsigned_in least most word ≡ true → (n : ℕ) × (number_in least most word ≡ Some n)
+number_read least most word e = (digits_value 10 (without_leading_plus word), rw e refl)
+
+abbrev Moment : Text → Text → Type 0
+Moment = IsNumber (codes "MOMENT") 0 max_moment
 
 resolve_read : (name : Text) (rows : List Row) (document key word default context number : Text) (moment : ℕ) (kind : Option Kind) → name ≡ codes "resolve"
     → first_of (codes "DOC") rows ≡ Some document → first_of (codes "KEY") rows ≡ Some key → first_of (codes "KIND") rows ≡ Some word → first_of (codes "DEFAULT") rows ≡ Some default
-    → first_of (codes "CONTEXT") rows ≡ Some context → first_of (codes "MOMENT") rows ≡ Some number → moment_in number ≡ Some moment → kind_named word ≡ kind → IsRead (Some (name, rows))
+    → first_of (codes "CONTEXT") rows ≡ Some context → first_of (codes "MOMENT") rows ≡ Some number → number_in 0 max_moment number ≡ Some moment → kind_named word ≡ kind → IsRead (Some (name, rows))
 resolve_read name rows document key word default context number moment (Some kind) is document_is key_is word_is default_is context_is number_is moment_is kind_is =
     inl (resolve document key kind default context moment, rw (is, document_is, key_is, word_is, kind_is, default_is, context_is, number_is, moment_is) refl)
 resolve_read name rows document key word default context number moment None is document_is key_is word_is default_is context_is number_is moment_is kind_is =
@@ -162,8 +165,89 @@ resolve_asks s name stored given words e =
     let default = value_taken Moment (codes "DEFAULT") rows full all.3 in
     let context = value_taken Moment (codes "CONTEXT") rows full all.4 in
     let moment = value_taken Moment (codes "MOMENT") rows full all.5 in
-    let number = moment_read moment.0 (moment.2 refl) in
+    let number = number_read 0 max_moment moment.0 (moment.2 refl) in
     resolve_read s.name rows document.0 key.0 kind.0 default.0 context.0 moment.0 number.0 (kind_named kind.0) name document.1 key.1 kind.1 default.1 context.1 moment.1 number.1 refl
+
+-- an argument that may be left out is not given, or has a value, which is as it has to be
+given_or_not : (P : Text → Text → Type 0) (id : Text) (rows : List Row) → Filled P rows → (first_of id rows ≡ None) ⊎ ((v : Text) × (first_of id rows ≡ Some v) × P id v)
+given_or_not P id [] p = inl refl
+given_or_not P id (r ∷ rs) p = go (bytes_eq r.id id) refl (given_or_not P id rs p.1)
+  where
+    go : (b : Bool) → bytes_eq r.id id ≡ b → (first_of id rs ≡ None) ⊎ ((v : Text) × (first_of id rs ≡ Some v) × P id v)
+        → (option_and_then (λ (x : Row). slice_get x.values 0) (cond b (Some r) (find (λ x. bytes_eq x.id id) rs)) ≡ None)
+        ⊎ ((v : Text) × (option_and_then (λ (x : Row). slice_get x.values 0) (cond b (Some r) (find (λ x. bytes_eq x.id id) rs)) ≡ Some v) × P id v)
+    go true is rest = inr (head_taken r.values p.0.0 (subst (λ (k : Text). Each (P k) r.values) ((bytes_eq-Decides r.id id).0 is) p.0.1))
+    go false is rest = rest
+
+abbrev Refine : Text → Text → Type 0
+Refine = IsNumber (codes "M") 1 max_32
+
+refine_read : (rows : List Row) → Filled Refine rows → (m : Option ℕ) × (refine_in rows ≡ Some m)
+refine_read rows p = elim (given_or_not Refine (codes "M") rows p) [
+  | inl none ↦ (None, rw none refl)
+  | inr given ↦
+      let number = number_read 1 max_32 given.0 (given.2 refl) in
+      (Some number.0, rw (given.1, number.1) refl)
+]
+
+verify_read : (name : Text) (rows : List Row) (document request book file : Text) (refine : Option ℕ) → name ≡ codes "verify"
+    → first_of (codes "DOC") rows ≡ Some document → first_of (codes "REQUEST") rows ≡ Some request → first_of (codes "BOOK") rows ≡ Some book → first_of (codes "PLAN") rows ≡ Some file
+    → refine_in rows ≡ Some refine → asked_in (name, rows) ≡ Some (verify document request book file refine)
+verify_read name rows document request book file refine is document_is request_is book_is file_is refine_is =
+    rw (is, document_is, request_is, book_is, file_is, refine_is) refl
+
+verify_asks : (s : Shape) → s.name ≡ codes "verify" → Each (Stores Refine) s.rules
+    → ((rows : List Row) → HasGiven s rows → (is_given (codes "DOC") rows ≡ true) × (is_given (codes "REQUEST") rows ≡ true) × (is_given (codes "BOOK") rows ≡ true)
+    × (is_given (codes "PLAN") rows ≡ true)) → Asks s
+verify_asks s name stored given words e =
+    let rows = rows_after s.rules [] words in
+    let full = filled_level Refine s [] stored words false [] e in
+    let all = given rows (level_given s words e) in
+    let document = value_taken Refine (codes "DOC") rows full all.0 in
+    let request = value_taken Refine (codes "REQUEST") rows full all.1 in
+    let book = value_taken Refine (codes "BOOK") rows full all.2 in
+    let file = value_taken Refine (codes "PLAN") rows full all.3 in
+    let refine = refine_read rows full in
+    inl (verify document.0 request.0 book.0 file.0 refine.0, verify_read s.name rows document.0 request.0 book.0 file.0 refine.0 name document.1 request.1 book.1 file.1 refine.1)
+
+plan_read : (name : Text) (rows : List Row) (document request book : Text) (refine : Option ℕ) → name ≡ codes "plan"
+    → first_of (codes "DOC") rows ≡ Some document → first_of (codes "REQUEST") rows ≡ Some request → first_of (codes "BOOK") rows ≡ Some book
+    → refine_in rows ≡ Some refine → asked_in (name, rows) ≡ Some (plan document request book refine)
+plan_read name rows document request book refine is document_is request_is book_is refine_is = rw (is, document_is, request_is, book_is, refine_is) refl
+
+plan_asks : (s : Shape) → s.name ≡ codes "plan" → Each (Stores Refine) s.rules
+    → ((rows : List Row) → HasGiven s rows → (is_given (codes "DOC") rows ≡ true) × (is_given (codes "REQUEST") rows ≡ true) × (is_given (codes "BOOK") rows ≡ true)) → Asks s
+plan_asks s name stored given words e =
+    let rows = rows_after s.rules [] words in
+    let full = filled_level Refine s [] stored words false [] e in
+    let all = given rows (level_given s words e) in
+    let document = value_taken Refine (codes "DOC") rows full all.0 in
+    let request = value_taken Refine (codes "REQUEST") rows full all.1 in
+    let book = value_taken Refine (codes "BOOK") rows full all.2 in
+    let refine = refine_read rows full in
+    inl (plan document.0 request.0 book.0 refine.0, plan_read s.name rows document.0 request.0 book.0 refine.0 name document.1 request.1 book.1 refine.1)
+
+abbrev Site : Text → Text → Type 0
+Site = IsNumber (codes "SITE") 0 max_32
+
+apply_read : (name : Text) (rows : List Row) (document file key number : Text) (site : ℕ) → name ≡ codes "apply" → first_of (codes "DOC") rows ≡ Some document
+    → first_of (codes "PLAN") rows ≡ Some file → first_of (codes "FLAG") rows ≡ Some key → first_of (codes "SITE") rows ≡ Some number → number_in 0 max_32 number ≡ Some site
+    → asked_in (name, rows) ≡ Some (apply document file key site)
+apply_read name rows document file key number site is document_is file_is key_is number_is site_is = rw (is, document_is, file_is, key_is, number_is, site_is) refl
+
+apply_asks : (s : Shape) → s.name ≡ codes "apply" → Each (Stores Site) s.rules
+    → ((rows : List Row) → HasGiven s rows → (is_given (codes "DOC") rows ≡ true) × (is_given (codes "PLAN") rows ≡ true) × (is_given (codes "FLAG") rows ≡ true)
+    × (is_given (codes "SITE") rows ≡ true)) → Asks s
+apply_asks s name stored given words e =
+    let rows = rows_after s.rules [] words in
+    let full = filled_level Site s [] stored words false [] e in
+    let all = given rows (level_given s words e) in
+    let document = value_taken Site (codes "DOC") rows full all.0 in
+    let file = value_taken Site (codes "PLAN") rows full all.1 in
+    let key = value_taken Site (codes "FLAG") rows full all.2 in
+    let word = value_taken Site (codes "SITE") rows full all.3 in
+    let site = number_read 0 max_32 word.0 (word.2 refl) in
+    inl (apply document.0 file.0 key.0 site.0, apply_read s.name rows document.0 file.0 key.0 word.0 site.0 name document.1 file.1 key.1 word.1 site.1)
 
 -- ---- the program
 
@@ -171,7 +255,7 @@ abbrev AllAsk : List Shape → Type 0
 AllAsk = Each Asks
 
 each : AllAsk (built flagops_app).subs
-unfolding flagops_app bucket_app price_app check_app resolve_app
+unfolding flagops_app bucket_app price_app check_app resolve_app plan_app verify_app apply_app
 each = (
   bucket_asks _ refl refl (λ rows e. let rule = needed _ _ e in let key = needed _ _ rule.1 in (rule.0, key.0)),
   (
@@ -194,7 +278,36 @@ each = (
             let context = needed _ _ default.1 in
             let moment = needed _ _ context.1 in
             (document.0, key.0, kind.0, default.0, context.0, moment.0)),
-        tt,
+        (
+          plan_asks _ refl
+              ((refl, λ v e h. cc), ((refl, λ v e h. cc), ((refl, λ v e h. cc), ((refl, λ v e h. passes _ _ e), ((refl, λ v e h. cc), tt)))))
+              (λ rows e.
+              let document = needed _ _ e in
+              let request = needed _ _ document.1 in
+              let book = needed _ _ request.1 in
+              (document.0, request.0, book.0)),
+          (
+            verify_asks _ refl
+                ((refl, λ v e h. cc), ((refl, λ v e h. cc), ((refl, λ v e h. cc), ((refl, λ v e h. cc), ((refl, λ v e h. passes _ _ e), ((refl, λ v e h. cc), tt))))))
+                (λ rows e.
+                let document = needed _ _ e in
+                let request = needed _ _ document.1 in
+                let book = needed _ _ request.1 in
+                let file = needed _ _ book.1 in
+                (document.0, request.0, book.0, file.0)),
+            (
+              apply_asks _ refl
+                  ((refl, λ v e h. cc), ((refl, λ v e h. cc), ((refl, λ v e h. cc), ((refl, λ v e h. passes _ _ e), ((refl, λ v e h. cc), tt)))))
+                  (λ rows e.
+                  let document = needed _ _ e in
+                  let file = needed _ _ document.1 in
+                  let key = needed _ _ file.1 in
+                  let site = needed _ _ key.1 in
+                  (document.0, file.0, key.0, site.0)),
+              tt,
+            ),
+          ),
+        ),
       ),
     ),
   ),
@@ -223,7 +336,7 @@ stopped a asks (Some p) e has = named a.subs p asks e has
 
 -- what words that `clap` finds no fault with ask for
 pub faultless : (words : List Text) → fault_of flagops_app words ≡ [] → IsRead (subcommand_of flagops_app words)
-unfolding flagops_app bucket_app price_app check_app resolve_app
+unfolding flagops_app bucket_app price_app check_app resolve_app plan_app verify_app apply_app
 faultless words e =
     let app = built flagops_app in
     let stop = (walk app.top.rules (names_of app) nothing_held words).stopped in

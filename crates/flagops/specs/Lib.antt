@@ -1,3 +1,4 @@
+pub mod Apply
 pub mod Asked
 pub mod Bucket
 pub mod Check
@@ -6,11 +7,16 @@ pub mod Documents
 pub mod Files
 pub mod Loading
 pub mod Memory
-pub mod Moment
+pub mod Numbers
+pub mod Payload
+pub mod Plan
+pub mod PlanFile
 pub mod Price
+pub mod Question
 pub mod Refusal
 pub mod Report
 pub mod Resolve
 pub mod Telling
 pub mod Totals
+pub mod Verify
 pub mod Words

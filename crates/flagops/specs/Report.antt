@@ -1,11 +1,11 @@
 -- What a run writes and ends with.
-use Rattle.std.specs.Prelude.{◌≡◌, ℕ, Bool, true, false, List, Option, Result, Ok, Err, ◌⊎◌, string_bytes}
+use Rattle.std.specs.Prelude.{◌≡◌, ℕ, Bool, true, false, List, Option, Result, Ok, Err, ◌⊎◌}
 use Rattle.std.specs.Io.KnownBytes.{Appends}
 use Rattle.flag_text.specs.Outlet.{AppendsPart}
 use Rattle.flagops.specs.Refusal.{line_of, want_line}
 use Rattle.flagops.specs.declared.outcome.Outcome.{Outcome}
 use Rattle.flagops.specs.declared.outcome.Status.{Status}
-use Rattle.flagops.specs.declared.outcome.Status.TheVariants.{Done, Refused, Usage}
+use Rattle.flagops.specs.declared.outcome.Status.TheVariants.{Done, Refused, Usage, NoneExists}
 use Rattle.flagops.specs.declared.refusal.Call.{Call}
 use Rattle.flagops.specs.declared.refusal.Call.TheVariants as call
 use Rattle.flagops.specs.declared.refusal.Refusal.{Refusal}
@@ -23,9 +23,10 @@ abbrev pub status_number : Status → ℕ
 status_number Done = 0
 status_number Refused = 1
 status_number Usage = 2
+status_number NoneExists = 3
 
 abbrev pub outcome_view : Outcome → Report
-outcome_view o = record { text = string_bytes o.text; status = status_number o.status }
+outcome_view o = record { text = o.text.items; status = status_number o.status }
 
 -- a refusal is reported by its line, with status 1
 abbrev pub report_of : Result Report Refusal → Report

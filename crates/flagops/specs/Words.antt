@@ -1,5 +1,5 @@
 -- Which command the words ask for, by what `clap` reads of them.
-use Rattle.std.specs.Prelude.{◌≡◌, ◌⊎◌, ◌&&◌, ℕ, true, not, is_some, List, [], ◌∷◌, codes, Option, Some, None, option_and_then, if◌then◌else◌}
+use Rattle.std.specs.Prelude.{◌≡◌, ◌⊎◌, ◌&&◌, ℕ, true, not, is_some, List, [], ◌∷◌, codes, Option, Some, None, option_and_then, option_map, if◌then◌else◌}
 use Rattle.std.specs.Str.{bytes_eq}
 use Rattle.clap.specs.Walk.{Row, Rule, Text, first_of}
 use Rattle.clap.specs.Simple.{App, Shape, new_app, new_rule, on_top, subcommand_of, with_rule, with_subcommand}
@@ -10,8 +10,8 @@ use Rattle.clap.specs.declared.error.kind.ErrorKind.TheVariants.{InvalidValue, O
 use Rattle.clap.specs.Faults.{fault_of}
 use Rattle.flag_resolve.specs.Kind.{kind_named}
 use Rattle.flag_resolve.specs.declared.kind.Kind.{Kind}
-use Rattle.flagops.specs.Asked.{Asked, bucket, price, check, resolve}
-use Rattle.flagops.specs.Moment.{max_moment, moment_in}
+use Rattle.flagops.specs.Asked.{Asked, bucket, price, check, resolve, verify, apply, plan}
+use Rattle.flagops.specs.Numbers.{max_32, max_moment, moment_in, factor_in, number_in}
 
 -- ---- what the program takes
 
@@ -42,6 +42,31 @@ resolve_begun = with_rule (with_rule (with_rule (new_app (codes "resolve")) (req
 unfoldable pub resolve_app : App
 resolve_app = with_rule (with_rule (with_rule resolve_begun (required (codes "DEFAULT"))) (required (codes "CONTEXT"))) (number (codes "MOMENT") max_moment)
 
+-- an option with a number within bounds, which may be left out
+abbrev pub option_number : Text → Text → ℕ → ℕ → Rule
+option_number id long least most = record (new_rule id) { long = Some long; parser = Some (Unsigned least most) }
+
+-- `--refine M`
+abbrev pub refine_option : Rule
+refine_option = option_number (codes "M") (codes "refine") 1 max_32
+
+-- `DOC REQUEST BOOK`: the words that name a rollout
+abbrev pub with_rollout : App → App
+with_rollout a = with_rule (with_rule (with_rule a (required (codes "DOC"))) (required (codes "REQUEST"))) (required (codes "BOOK"))
+
+-- `verify DOC REQUEST BOOK PLAN`, with `--refine M`
+unfoldable pub verify_app : App
+verify_app = with_rule (with_rule (with_rollout (new_app (codes "verify"))) (required (codes "PLAN"))) refine_option
+
+-- `plan DOC REQUEST BOOK`, with `--refine M`
+unfoldable pub plan_app : App
+plan_app = with_rule (with_rollout (new_app (codes "plan"))) refine_option
+
+-- `apply DOC PLAN FLAG SITE`
+unfoldable pub apply_app : App
+apply_app =
+    with_rule (with_rule (with_rule (with_rule (new_app (codes "apply")) (required (codes "DOC"))) (required (codes "PLAN"))) (required (codes "FLAG"))) (number (codes "SITE") max_32)
+
 -- a command has to be named; there is a version, and no program's name before the words
 abbrev pub takes_commands : Shape → Shape
 takes_commands s = record s {
@@ -55,8 +80,9 @@ takes_commands s = record s {
 -- the program with its commands
 unfoldable pub flagops_app : App
 flagops_app =
-    with_subcommand (with_subcommand (with_subcommand (with_subcommand (on_top takes_commands (new_app (codes "flagops"))) bucket_app.top) price_app.top) check_app.top)
-    resolve_app.top
+    with_subcommand (with_subcommand (with_subcommand
+    (with_subcommand (with_subcommand (with_subcommand (with_subcommand (on_top takes_commands (new_app (codes "flagops"))) bucket_app.top) price_app.top) check_app.top)
+    resolve_app.top) plan_app.top) verify_app.top) apply_app.top
 
 -- ---- what the words ask for
 
@@ -101,13 +127,50 @@ resolve_in rows = do
   moment ← moment_in word
   Some (resolve document key kind default context moment)
 
+-- a factor, where one is given
+abbrev pub if_given : Option Text → Option (Option ℕ)
+if_given None = Some None
+if_given (Some word) = option_map Some (factor_in word)
+
+abbrev pub refine_in : List Row → Option (Option ℕ)
+refine_in rows = if_given (first_of (codes "M") rows)
+
+abbrev pub verify_in : List Row → Option Asked
+verify_in rows = do
+  document ← first_of (codes "DOC") rows
+  request ← first_of (codes "REQUEST") rows
+  book ← first_of (codes "BOOK") rows
+  file ← first_of (codes "PLAN") rows
+  factor ← refine_in rows
+  Some (verify document request book file factor)
+
+abbrev pub plan_in : List Row → Option Asked
+plan_in rows = do
+  document ← first_of (codes "DOC") rows
+  request ← first_of (codes "REQUEST") rows
+  book ← first_of (codes "BOOK") rows
+  factor ← refine_in rows
+  Some (plan document request book factor)
+
+abbrev pub apply_in : List Row → Option Asked
+apply_in rows = do
+  document ← first_of (codes "DOC") rows
+  file ← first_of (codes "PLAN") rows
+  key ← first_of (codes "FLAG") rows
+  word ← first_of (codes "SITE") rows
+  site ← number_in 0 max_32 word
+  Some (apply document file key site)
+
 -- a command by its name, with its words
 abbrev pub asked_in : Text × List Row → Option Asked
 asked_in (name, rows) =
     if bytes_eq name (codes "resolve") then resolve_in rows else
     (if bytes_eq name (codes "check") then check_in rows else
     (if bytes_eq name (codes "price") then price_in rows else
-    (if bytes_eq name (codes "bucket") then bucket_in rows else None)))
+    (if bytes_eq name (codes "bucket") then bucket_in rows else
+    (if bytes_eq name (codes "verify") then verify_in rows else
+    (if bytes_eq name (codes "apply") then apply_in rows else
+    (if bytes_eq name (codes "plan") then plan_in rows else None))))))
 
 -- the same of the subcommand that was met, if one was
 abbrev pub asked_of : Option (Text × List Row) → Option Asked

@@ -1,4 +1,4 @@
-use crate::moment::Moment;
+use crate::numbers::{Factor, Moment};
 use flag_resolve::Kind;
 
 /// A command with its words.
@@ -28,5 +28,27 @@ pub enum Asked<'a> {
         default: &'a str,
         context: &'a str,
         moment: Moment,
+    },
+    /// Whether the answer of a plan file is right.
+    Verify {
+        document: &'a str,
+        request: &'a str,
+        book: &'a str,
+        plan: &'a str,
+        refine: Option<Factor>,
+    },
+    /// The answer of the planner to a request.
+    Plan {
+        document: &'a str,
+        request: &'a str,
+        book: &'a str,
+        refine: Option<Factor>,
+    },
+    /// The document with the rule of a plan file at a site.
+    Apply {
+        document: &'a str,
+        plan: &'a str,
+        key: &'a str,
+        site: u32,
     },
 }

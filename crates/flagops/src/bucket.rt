@@ -31,7 +31,7 @@ pub fn bucket<F: FileSet>(
     let rule = load_rule(alloc, files, rule)?;
     match lines(alloc, &rule, key) {
         Ok(text) => Ok(Outcome {
-            text,
+            text: text.into_bytes(),
             status: Status::Done,
         }),
         Err(AllocError) => Err(Refusal::WantOfMemory(Call::Bucket)),

@@ -25,7 +25,7 @@ pub fn check<F: FileSet>(alloc: Global, files: &mut F, document: &str) -> Result
     let flags = load_flags(alloc, files, document)?;
     match lines(alloc, &flags) {
         Ok(text) => Ok(Outcome {
-            text,
+            text: text.into_bytes(),
             status: Status::Done,
         }),
         Err(AllocError) => Err(Refusal::WantOfMemory(Call::Check)),

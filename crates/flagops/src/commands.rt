@@ -5,14 +5,17 @@ ghost use Rattle.flagops.specs.Asked.{asked_view};
 ghost use Rattle.flagops.specs.Refusal.{ComesFrom, GivesOne, is_file_fault};
 ghost use Rattle.flagops.specs.Report.{outcome_view};
 
+use crate::apply::apply;
 use crate::asked::Asked;
 use crate::bucket::bucket;
 use crate::check::check;
 use crate::files::FileSet;
 use crate::outcome::Outcome;
+use crate::plan::plan;
 use crate::price::price;
 use crate::refusal::Refusal;
 use crate::resolve::resolve;
+use crate::verify::verify;
 use std::alloc::Global;
 use std::thread::Threads;
 
@@ -47,5 +50,24 @@ pub fn outcome<R: Threads + Sync, F: FileSet>(
         } => resolve(
             alloc, files, document, key, *kind, default, context, *moment,
         ),
+        Asked::Verify {
+            document,
+            request,
+            book,
+            plan,
+            refine,
+        } => verify(rt, alloc, files, document, request, book, plan, *refine),
+        Asked::Plan {
+            document,
+            request,
+            book,
+            refine,
+        } => plan(rt, alloc, files, document, request, book, *refine),
+        Asked::Apply {
+            document,
+            plan,
+            key,
+            site,
+        } => apply(alloc, files, document, plan, key, *site),
     }
 }

@@ -12,7 +12,7 @@ use flag_text::{Tree, read_tree};
 use std::alloc::Global;
 
 /// The largest rule or plan file, in bytes.
-const RULE_LIMIT: u32 = 67_108_864;
+pub const RULE_LIMIT: u32 = 67_108_864;
 
 /// The largest request, key file, document or context, in bytes.
 pub const TEXT_LIMIT: u32 = 4_194_304;

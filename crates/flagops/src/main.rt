@@ -7,6 +7,7 @@
 //! where the output failed, or the line for want of memory.
 #![tactic(auto)]
 
+mod apply;
 mod asked;
 mod bucket;
 mod check;
@@ -14,9 +15,13 @@ mod commands;
 mod documents;
 mod files;
 mod loading;
-mod moment;
+mod numbers;
 mod outcome;
+mod payload;
+mod plan;
+mod plan_file;
 mod price;
+mod question;
 mod refusal;
 mod report;
 mod resolve;
@@ -25,6 +30,7 @@ mod system_files;
 #[cfg(test)]
 mod tests;
 mod totals;
+mod verify;
 mod words;
 
 use crate::refusal::Call;

@@ -10,6 +10,8 @@ pub enum Status {
     Refused,
     /// The words ask for no command.
     Usage,
+    /// The command did what it was asked, and there is no rule that fits.
+    NoneExists,
 }
 
 impl Status {
@@ -21,6 +23,7 @@ impl Status {
             Status::Done => 0,
             Status::Refused => 1,
             Status::Usage => 2,
+            Status::NoneExists => 3,
         }
     }
 }
@@ -29,7 +32,7 @@ impl Status {
 #[derive(Debug, Drop)]
 pub struct Outcome {
     /// What goes to the output.
-    pub text: String,
+    pub text: Vec<u8>,
     /// The status where all of it was written.
     pub status: Status,
 }

@@ -137,7 +137,7 @@ fn priced(
     }
     match lines(rt, alloc, old, new, prices, exposure) {
         Ok(text) => Ok(Outcome {
-            text,
+            text: text.into_bytes(),
             status: Status::Done,
         }),
         Err(AllocError) => Err(Refusal::WantOfMemory(Call::Price)),

@@ -3,11 +3,13 @@ ghost use Rattle.std.specs.Prelude.{◌≡◌, IfOk, string_bytes};
 ghost use Rattle.flagops.specs.Refusal.{call_of, call_name, is_want, number_of, name_of, line_of, mismatch_number, mismatch_name};
 
 use crate::files::LoadFault;
-use book_core::BookFault;
+use crate::payload::payload;
+use book_core::{BookFault, BookFileFault};
 use bucket_core::RuleFault;
 use flag_defs::DefFault;
 use flag_text::TextFault;
 use price_core::PriceFault;
+use rollout::{PlanFileFault, RolloutFault, VerifyFault};
 use std::alloc::{AllocError, Global};
 
 /// A call that can refuse, by the name that a refusal's line has.
@@ -35,6 +37,18 @@ pub enum Call {
     Check,
     /// The command `resolve` itself.
     Resolve,
+    /// `book_core::read_book`.
+    ReadBook,
+    /// `rollout::read_planned`.
+    ReadPlanned,
+    /// `rollout::verify` and the command around it.
+    Verify,
+    /// `rollout::apply` and the command around it.
+    Apply,
+    /// `rollout::plan` and the command around it.
+    Plan,
+    /// `rollout::print_planned`.
+    PrintPlanned,
 }
 
 impl Call {
@@ -54,6 +68,12 @@ impl Call {
             Call::ReadFlags => "read_flags",
             Call::Check => "check",
             Call::Resolve => "resolve",
+            Call::ReadBook => "read_book",
+            Call::ReadPlanned => "read_planned",
+            Call::Verify => "verify",
+            Call::Apply => "apply",
+            Call::Plan => "plan",
+            Call::PrintPlanned => "print_planned",
         }
     }
 }
@@ -90,12 +110,14 @@ impl PriceMismatch {
 }
 
 /// Why a command was refused: the call that refused, with its fault.
-#[derive(Clone, Copy, Debug, PartialEq, Eq)]
+#[derive(Debug, PartialEq, Eq, Drop)]
 pub enum Refusal {
     /// The program or a command ran out of memory between its calls.
     WantOfMemory(Call),
     /// A file was not read.
     Load(LoadFault),
+    /// A book file is larger than 2^40 bytes, and so counts as unreadable.
+    LongBook,
     /// A file is no tree.
     ReadTree(TextFault),
     /// A tree is no rule.
@@ -105,6 +127,18 @@ pub enum Refusal {
     Price(PriceMismatch),
     /// Bytes are no flag document.
     ReadFlags(DefFault),
+    /// Bytes are no book.
+    ReadBook(BookFileFault),
+    /// Bytes are no plan file.
+    ReadPlanned(PlanFileFault),
+    /// The answer of a plan file is not right, or its request is refused.
+    Verify(VerifyFault),
+    /// The rule of a plan file cannot be put at the site.
+    Apply(RolloutFault),
+    /// The request is refused, or no answer to it was found.
+    Plan(RolloutFault),
+    /// The answer is too large for a plan file.
+    PrintPlanned(PlanFileFault),
 }
 
 impl Refusal {
@@ -114,13 +148,19 @@ impl Refusal {
     {
         match self {
             Refusal::WantOfMemory(call) => *call,
-            Refusal::Load(_) => Call::Load,
+            Refusal::Load(_) | Refusal::LongBook => Call::Load,
             Refusal::ReadTree(_) => Call::ReadTree,
             Refusal::ReadRule(_) => Call::ReadRule,
             Refusal::ReadRequest(_) => Call::ReadRequest,
             Refusal::Note(_) => Call::Note,
             Refusal::Price(_) => Call::Price,
             Refusal::ReadFlags(_) => Call::ReadFlags,
+            Refusal::ReadBook(_) => Call::ReadBook,
+            Refusal::ReadPlanned(_) => Call::ReadPlanned,
+            Refusal::Verify(_) => Call::Verify,
+            Refusal::Apply(_) => Call::Apply,
+            Refusal::Plan(_) => Call::Plan,
+            Refusal::PrintPlanned(_) => Call::PrintPlanned,
         }
     }
 
@@ -131,12 +171,19 @@ impl Refusal {
         match self {
             Refusal::WantOfMemory(_) => 0,
             Refusal::Load(fault) => fault.number(),
+            Refusal::LongBook => LoadFault::Unreadable.number(),
             Refusal::ReadTree(fault) => fault.number(),
             Refusal::ReadRule(fault) => fault.number(),
             Refusal::ReadRequest(fault) => fault.number(),
             Refusal::Note(fault) => fault.number(),
             Refusal::Price(fault) => fault.number(),
             Refusal::ReadFlags(fault) => fault.number(),
+            Refusal::ReadBook(fault) => fault.number(),
+            Refusal::ReadPlanned(fault) => fault.number(),
+            Refusal::Verify(fault) => fault.number(),
+            Refusal::Apply(fault) => fault.number(),
+            Refusal::Plan(fault) => fault.number(),
+            Refusal::PrintPlanned(fault) => fault.number(),
         }
     }
 
@@ -147,12 +194,19 @@ impl Refusal {
         match self {
             Refusal::WantOfMemory(_) => "WantOfMemory",
             Refusal::Load(fault) => fault.name(),
+            Refusal::LongBook => LoadFault::Unreadable.name(),
             Refusal::ReadTree(fault) => fault.name(),
             Refusal::ReadRule(fault) => fault.name(),
             Refusal::ReadRequest(fault) => fault.name(),
             Refusal::Note(fault) => fault.name(),
             Refusal::Price(fault) => fault.name(),
             Refusal::ReadFlags(fault) => fault.name(),
+            Refusal::ReadBook(fault) => fault.name(),
+            Refusal::ReadPlanned(fault) => fault.name(),
+            Refusal::Verify(fault) => fault.name(),
+            Refusal::Apply(fault) => fault.name(),
+            Refusal::Plan(fault) => fault.name(),
+            Refusal::PrintPlanned(fault) => fault.name(),
         }
     }
 
@@ -171,6 +225,7 @@ impl Refusal {
         let call = self.call().name();
         let number = self.number();
         let name = self.name();
-        format!(in alloc; "refused {call} {number} {name}\n")
+        let payload = payload(alloc, self)?;
+        format!(in alloc; "refused {call} {number} {name}{payload}\n")
     }
 }

@@ -16,7 +16,7 @@ pub fn report<O: Outlet>(out: &mut O, outcome: &Outcome) -> u8
     ensures { Reports (O.bytes out.old) (O.bytes out.new) (O.is_broken out.new) result
         (outcome_view outcome.now) }
 {
-    if write_whole(out, outcome.text.as_bytes()) {
+    if write_whole(out, outcome.text.as_slice()) {
         outcome.status.number()
     } else {
         Status::Refused.number()

@@ -13,7 +13,7 @@ ghost use Rattle.flagops.specs.declared.refusal.Refusal.TheVariants.{ReadTree};
 use crate::documents::load_flags;
 use crate::files::FileSet;
 use crate::loading::{TEXT_LIMIT, load_tree};
-use crate::moment::Moment;
+use crate::numbers::Moment;
 use crate::outcome::{Outcome, Status};
 use crate::refusal::{Call, Refusal};
 use flag_defs::Flags;
@@ -43,7 +43,7 @@ pub fn resolve<F: FileSet>(
     let context = load_tree(alloc, files, context, TEXT_LIMIT)?;
     match line(alloc, &flags, key, kind, &default, &context, moment) {
         Ok(text) => Ok(Outcome {
-            text,
+            text: text.into_bytes(),
             status: Status::Done,
         }),
         Err(AllocError) => Err(Refusal::WantOfMemory(Call::Resolve)),

@@ -82,7 +82,7 @@ fn refused(alloc: Global, refusal: &Refusal) -> Result<Outcome, Call>
     }
     match refusal.line(alloc) {
         Ok(text) => Ok(Outcome {
-            text,
+            text: text.into_bytes(),
             status: Status::Refused,
         }),
         Err(_) => Err(refusal.call()),
@@ -106,7 +106,7 @@ fn tell<O: Outlet, E: Outlet>(alloc: Global, error: &clap::Error, out: &mut O, e
         return Status::Usage.number();
     }
     let outcome = Outcome {
-        text,
+        text: text.into_bytes(),
         status: Status::Done,
     };
     report(out, &outcome)

@@ -4,4 +4,5 @@ mod endings;
 mod files;
 mod memory;
 mod price;
+mod rollouts;
 mod words;

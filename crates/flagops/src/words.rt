@@ -5,10 +5,10 @@ ghost use Rattle.clap.specs.Words.{app_of, found_of, kind_of, rows_of, rule_of, 
 ghost use Rattle.clap.specs.declared.builder.command.Command.TheViews.{out-Command};
 ghost use Rattle.clap.specs.declared.error.kind.ErrorKind.TheVariants.{InvalidValue};
 ghost use Rattle.flagops.specs.Asked.{asked_view};
-ghost use Rattle.flagops.specs.Words.{IsToldBy, asked_by, asked_of, bucket_app, bucket_in, check_app, check_in, flagops_app, number, price_app, price_in, required, resolve_app, resolve_begun, resolve_in, takes_commands};
+ghost use Rattle.flagops.specs.Words.{IsToldBy, apply_app, apply_in, asked_by, asked_of, bucket_app, bucket_in, check_app, check_in, flagops_app, number, option_number, plan_app, plan_in, price_app, price_in, refine_in, refine_option, required, resolve_app, resolve_begun, resolve_in, takes_commands, verify_app, verify_in, with_rollout};
 
 use crate::asked::Asked;
-use crate::moment::{LATEST_MOMENT, Moment};
+use crate::numbers::{Factor, LARGEST_32, LATEST_MOMENT, Moment, spelled_32};
 use clap::builder::ValueParser;
 use clap::error::ErrorKind;
 use clap::{Arg, ArgMatches, Command, Error};
@@ -45,6 +45,15 @@ fn asked_of<'a>(matches: &ArgMatches<'a>) -> Option<Asked<'a>>
     }
     if name == "bucket" {
         return bucket_in(words);
+    }
+    if name == "verify" {
+        return verify_in(words);
+    }
+    if name == "apply" {
+        return apply_in(words);
+    }
+    if name == "plan" {
+        return plan_in(words);
     }
     None
 }
@@ -111,13 +120,75 @@ fn resolve_in<'a>(words: &ArgMatches<'a>) -> Option<Asked<'a>>
     })
 }
 
+#[tactic(auto, using(crate::proofs::Matched::rows))]
+fn verify_in<'a>(words: &ArgMatches<'a>) -> Option<Asked<'a>>
+    ensures { option_map asked_view result ≡ verify_in (rows_of (found_of words.now)) }
+{
+    let document = words.get_str("DOC")?;
+    let request = words.get_str("REQUEST")?;
+    let book = words.get_str("BOOK")?;
+    let plan = words.get_str("PLAN")?;
+    let refine = refine_in(words)?;
+    Some(Asked::Verify {
+        document,
+        request,
+        book,
+        plan,
+        refine,
+    })
+}
+
+#[tactic(auto, using(crate::proofs::Matched::rows))]
+fn plan_in<'a>(words: &ArgMatches<'a>) -> Option<Asked<'a>>
+    ensures { option_map asked_view result ≡ plan_in (rows_of (found_of words.now)) }
+{
+    let document = words.get_str("DOC")?;
+    let request = words.get_str("REQUEST")?;
+    let book = words.get_str("BOOK")?;
+    let refine = refine_in(words)?;
+    Some(Asked::Plan {
+        document,
+        request,
+        book,
+        refine,
+    })
+}
+
+#[tactic(auto, using(crate::proofs::Matched::rows))]
+fn apply_in<'a>(words: &ArgMatches<'a>) -> Option<Asked<'a>>
+    ensures { option_map asked_view result ≡ apply_in (rows_of (found_of words.now)) }
+{
+    let document = words.get_str("DOC")?;
+    let plan = words.get_str("PLAN")?;
+    let key = words.get_str("FLAG")?;
+    let site = spelled_32(words.get_str("SITE")?)?;
+    Some(Asked::Apply {
+        document,
+        plan,
+        key,
+        site,
+    })
+}
+
+/// The factor of a refinement, if one is given; `None` where the word is no factor.
+#[tactic(auto, using(crate::proofs::Matched::rows))]
+fn refine_in(words: &ArgMatches<'_>) -> Option<Option<Factor>>
+    ensures { option_map (λ o. option_map (λ m. m.number) o) result ≡ refine_in (rows_of (found_of words.now)) }
+{
+    match words.get_str("M") {
+        Some(word) => Some(Some(Factor::spelled(word)?)),
+        None => Some(None),
+    }
+}
+
 #[tactic(auto, unfolding(crate::specs::Words::flagops_app))]
 fn flagops<'a>(alloc: Global) -> Result<Command<'a>, AllocError>
     ensures { IfOk result (λ c. app_of c ≡ flagops_app) }
 {
     let program = program(alloc)?;
     let program = with_rule_commands(alloc, program)?;
-    with_flag_commands(alloc, program)
+    let program = with_flag_commands(alloc, program)?;
+    with_rollout_commands(alloc, program)
 }
 
 /// The program with the commands on rules.
@@ -136,6 +207,16 @@ fn with_flag_commands<'a>(alloc: Global, program: Command<'a>) -> Result<Command
     program
         .subcommand(check(alloc)?)?
         .subcommand(resolve(alloc)?)
+}
+
+/// The program with the commands on rollouts.
+fn with_rollout_commands<'a>(alloc: Global, program: Command<'a>) -> Result<Command<'a>, AllocError>
+    ensures { IfOk result (λ c. app_of c ≡ with_subcommand (with_subcommand (with_subcommand (app_of program.entry) plan_app.top) verify_app.top) apply_app.top) }
+{
+    program
+        .subcommand(plan(alloc)?)?
+        .subcommand(verify(alloc)?)?
+        .subcommand(apply(alloc)?)
 }
 
 /// The program without its commands.
@@ -250,6 +331,77 @@ fn resolve_begun<'a>(alloc: Global) -> Result<Command<'a>, AllocError>
     with_word(alloc, resolve, "KIND", "bool, text, whole or object")
 }
 
+#[tactic(auto, unfolding(crate::specs::Words::plan_app))]
+fn plan<'a>(alloc: Global) -> Result<Command<'a>, AllocError>
+    ensures app { IfOk result (λ c. app_of c ≡ plan_app) }
+    ensures local { IfOk result (λ c. (out-Command c).has_globals ≡ false) }
+{
+    let plan = Command::new(alloc, "plan").bin_name("flagops plan")?.about(
+        "Prints the rule that a rollout request asks for and that switches the fewest",
+    );
+    let plan = with_rollout(alloc, plan)?;
+    with_refine(alloc, plan)
+}
+
+#[tactic(auto, unfolding(crate::specs::Words::verify_app))]
+fn verify<'a>(alloc: Global) -> Result<Command<'a>, AllocError>
+    ensures app { IfOk result (λ c. app_of c ≡ verify_app) }
+    ensures local { IfOk result (λ c. (out-Command c).has_globals ≡ false) }
+{
+    let verify = Command::new(alloc, "verify")
+        .bin_name("flagops verify")?
+        .about("Prints what a plan proves, where it is right for a rollout request");
+    let verify = with_rollout(alloc, verify)?;
+    let verify = with_word(alloc, verify, "PLAN", "The plan file")?;
+    with_refine(alloc, verify)
+}
+
+#[tactic(auto, unfolding(crate::specs::Words::apply_app))]
+fn apply<'a>(alloc: Global) -> Result<Command<'a>, AllocError>
+    ensures app { IfOk result (λ c. app_of c ≡ apply_app) }
+    ensures local { IfOk result (λ c. (out-Command c).has_globals ≡ false) }
+{
+    let apply = Command::new(alloc, "apply")
+        .bin_name("flagops apply")?
+        .about("Prints a document with the rule of a plan at a site of a flag");
+    let apply = with_word(alloc, apply, "DOC", "The flag document")?;
+    let apply = with_word(alloc, apply, "PLAN", "The plan file")?;
+    let apply = with_word(alloc, apply, "FLAG", "The flag's key")?;
+    with_number(
+        alloc,
+        apply,
+        "SITE",
+        "The number of the fractional operation, from 0",
+        LARGEST_32,
+    )
+}
+
+/// The command with the words that name a rollout.
+fn with_rollout<'a>(alloc: Global, command: Command<'a>) -> Result<Command<'a>, AllocError>
+    requires { (out-Command command).has_globals ≡ false }
+    ensures app { IfOk result (λ c. app_of c ≡ with_rollout (app_of command.entry)) }
+    ensures local { IfOk result (λ c. (out-Command c).has_globals ≡ false) }
+{
+    let command = with_word(alloc, command, "DOC", "The flag document")?;
+    let command = with_word(alloc, command, "REQUEST", "The file of the rollout request")?;
+    with_word(
+        alloc,
+        command,
+        "BOOK",
+        "The book of the hash inputs that were recorded",
+    )
+}
+
+/// The command with the option of a refinement.
+fn with_refine<'a>(alloc: Global, command: Command<'a>) -> Result<Command<'a>, AllocError>
+    requires { (out-Command command).has_globals ≡ false }
+    ensures app { IfOk result (λ c. app_of c ≡ with_rule (app_of command.entry) refine_option) }
+    ensures local { IfOk result (λ c. (out-Command c).has_globals ≡ false) }
+{
+    let help = "What each weight of the old rule is multiplied by first";
+    command.arg(option_number(alloc, "M", "refine", help, 1, LARGEST_32))
+}
+
 /// The command with one more word, which has to be there.
 fn with_word<'a>(
     alloc: Global,
@@ -285,6 +437,24 @@ fn required<'a>(alloc: Global, name: &'a str, help: &'a str) -> Arg<'a>
     ensures local { result.global ≡ false }
 {
     Arg::new(alloc, name).required(true).help(help)
+}
+
+/// An option with a number within bounds, which may be left out.
+fn option_number<'a>(
+    alloc: Global,
+    name: &'a str,
+    long: &'a str,
+    help: &'a str,
+    least: u64,
+    most: u64,
+) -> Arg<'a>
+    ensures rule { rule_of result ≡ option_number name.entry.now long.entry.now least most }
+    ensures local { result.global ≡ false }
+{
+    Arg::new(alloc, name)
+        .long(long)
+        .help(help)
+        .value_parser(ValueParser::Unsigned(least, most))
 }
 
 /// A number from 0 to a bound that has to be there.

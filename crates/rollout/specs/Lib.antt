@@ -6,5 +6,6 @@ pub mod FileFault
 pub mod Lawful
 pub mod PlanFile
 pub mod Planned
+pub mod Refined
 pub mod Verified
 pub mod VerifyFault

@@ -1,0 +1,48 @@
+-- What the line of a refusal says beyond the name of its fault.
+use Rattle.std.specs.Prelude.{ℕ, List, [], ◌++◌, codes, decimal, string_bytes}
+use Rattle.flag_text.specs.Printing.{text_of}
+use Rattle.flag_text.specs.Shape.{text}
+use Rattle.book_core.specs.declared.fault.BookFileFault.{BookFileFault}
+use Rattle.book_core.specs.declared.fault.BookFileFault.TheVariants as book
+use Rattle.price_core.specs.Fault as requests
+use Rattle.rollout.specs.declared.fault.RolloutFault.{RolloutFault}
+use Rattle.rollout.specs.declared.fault.RolloutFault.TheVariants as rollout
+use Rattle.rollout.specs.declared.verify_fault.VerifyFault.{VerifyFault}
+use Rattle.rollout.specs.declared.verify_fault.VerifyFault.TheVariants.{Request, Check}
+use Rattle.transport_core.specs.declared.fault.CheckFault.{CheckFault}
+use Rattle.transport_core.specs.declared.fault.CheckFault.TheVariants as check
+
+-- a number, behind a blank
+abbrev pub number_item : ℕ → List ℕ
+number_item n = codes " " ++ decimal n
+
+-- a pair of names as JSON texts with a number between them, each behind a blank
+abbrev pub pair_items : List ℕ → ℕ → List ℕ → List ℕ
+pair_items name n other = codes " " ++ (text_of (text name) ++ (codes " " ++ (decimal n ++ (codes " " ++ text_of (text other)))))
+
+-- the number and the name of a fault, each behind a blank
+abbrev pub fault_items : ℕ → List ℕ → List ℕ
+fault_items n name = codes " " ++ (decimal n ++ (codes " " ++ name))
+
+-- the line of a book at fault
+abbrev pub file_items : BookFileFault → List ℕ
+file_items (book.Line n) = number_item n
+file_items (book.Order n) = number_item n
+file_items (book.InputTooLong n) = number_item n
+file_items (book.PageFull n) = number_item n
+file_items e = []
+
+-- the fault of the request
+abbrev pub rollout_items : RolloutFault → List ℕ
+rollout_items (rollout.Request e) = fault_items (requests.number_of e) (requests.name_of e)
+rollout_items e = []
+
+-- the point, or the pair of a group and a name
+abbrev pub check_items : CheckFault → List ℕ
+check_items (check.Forbidden point) = number_item point
+check_items (check.Slack name count variant) = pair_items (string_bytes name) count (string_bytes variant)
+check_items e = []
+
+abbrev pub verify_items : VerifyFault → List ℕ
+verify_items (Request e) = rollout_items e
+verify_items (Check e) = check_items e
