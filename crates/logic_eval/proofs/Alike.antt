@@ -1,9 +1,9 @@
 -- Where one site gets another rule that chooses alike, an evaluation is the same but for the totals of that site.
-use Rattle.std.proofs.Common.{◌≡◌, ◌≢◌, ℕ, suc, ◌+◌, ◌<◌, ◌^◌, Bool, true, false, not, ◌&&◌, ◌==◌, cond, nat_lt, List, [], ◌∷◌, ◌++◌, length, map, eqb, eqb-true, Option, Some, None, option_map, Result, Ok, Err, refl, sym, ap, ◌∙◌, arith, inl, inr}
-use Rattle.std.specs.Prelude.{if◌then◌else◌}
-use Rattle.std.specs.List.{All, Contains}
+use Rattle.std.proofs.Common.{◌≡◌, ℕ, suc, ◌+◌, ◌-◌, ◌<◌, ◌≤◌, ◌^◌, Bool, true, false, not, ◌==◌, cond, nat_lt, List, [], ◌∷◌, ◌++◌, eqb-true, Option, Some, None, Result, Ok, Err, refl, sym, ap, ◌∙◌, subst, append-nil, arith, inl, inr}
+use Rattle.std.specs.List.{Contains}
+use Rattle.std.proofs.lemmas.Bool.{cases_lt}
 use Rattle.std.proofs.lemmas.Grind.{common_steps}
-use Rattle.std.proofs.lemmas.List.Elements.{All-head, All-tail, Contains-append_left, Contains-append_right}
+use Rattle.std.proofs.lemmas.List.Elements.{Contains-append_left, Contains-append_right}
 use Rattle.bucket_core.specs.Rule.{Entries, total_weight, choice}
 use Rattle.flag_text.specs.Shape.{Shape, null, boolean, text, list}
 use Rattle.flag_text.specs.View.{items_of}
@@ -12,23 +12,22 @@ use Rattle.logic_ast.specs.Expression.{Expression, literal, operation, fractiona
 use Rattle.logic_ast.specs.Expression as ast
 use Rattle.logic_ast.specs.Formed.{is_list, expression_count, are_literals, is_formed, are_formed, by_is_formed, buckets_are_formed, bucket_is_formed}
 use Rattle.logic_ast.specs.Operator.{takes}
-use Rattle.logic_ast.specs.Sites.{Site, sites, sites_in_by, sites_in_bucket, preorder, preorder_in, preorder_in_by, preorder_in_buckets, preorder_in_bucket, entries_of, literal_buckets, with_entries, all_with_entries, by_with_entries, buckets_with_entries, bucket_with_entries}
+use Rattle.logic_ast.specs.Sites.{Site, sites, sites_in_by, sites_in_bucket, preorder, preorder_in, preorder_in_by, preorder_in_buckets, entries_of, literal_buckets, with_entries, all_with_entries, by_with_entries, buckets_with_entries, bucket_with_entries}
 use Rattle.logic_ast.specs.declared.operator.Operator.{Operator}
 use Rattle.logic_ast.specs.declared.operator.Operator.TheVariants as op
 use Rattle.logic_ast.proofs.Replaced.{entries_of-literal}
 use Rattle.logic_eval.specs.declared.fault.EvalFault.{EvalFault}
-use Rattle.logic_eval.specs.declared.fault.EvalFault.TheVariants.{TooLong}
 use Rattle.logic_eval.specs.Comparison.{bool_eq}
-use Rattle.logic_eval.specs.Evaluation.{part_of, pair, pairs, input, site, meaning, meanings, by_meaning, bucket_meanings, bucket_meaning}
+use Rattle.logic_eval.specs.Evaluation.{part_of, pairs, input, meaning, meanings, by_meaning, bucket_meanings}
 use Rattle.logic_eval.specs.Fractional.{buckets_of, chosen, reached, by_input, by_buckets, decided, given_input, made_input}
-use Rattle.logic_eval.specs.Laws.{with_total}
+use Rattle.logic_eval.specs.Laws.{with_total, paid_for}
 use Rattle.logic_eval.specs.Lists.{items_in}
-use Rattle.logic_eval.specs.Operators.{Meaning, values, found, variable_run, strict, conditional, first_of_truth, mapped, kept, occurs, is_empty, all_of, some_of, none_of, reduce_scope, reduced, as_list, over_items, over, start, over_from_start, operated, applied}
-use Rattle.logic_eval.specs.Run.{Reach, Entry, Run, cost, reach, ends, gives, faults, after, after_trace, continues, ◌>>=◌, reached_of, units_of, result_of, with_reached, most_units}
+use Rattle.logic_eval.specs.Operators.{Meaning, values, strict, conditional, first_of_truth, mapped, kept, occurs, is_empty, reduce_scope, reduced, over_items, over, start, over_from_start, operated, applied}
+use Rattle.logic_eval.specs.Run.{Reach, Entry, Run, cost, reach, ends, gives, after, after_trace, continues, ◌>>=◌, reached_of, units_of}
 use Rattle.logic_eval.specs.Scope.{size, variable}
 use Rattle.logic_eval.specs.Truth.{is_true}
 use Rattle.logic_eval.proofs.Branching.{literal_site}
-use Rattle.logic_eval.proofs.Budgets.{reached_of-append}
+use Rattle.logic_eval.proofs.Budgets.{reached_of-append, units_of-append}
 
 -- the inputs of site n choose alike
 abbrev pub Agree : ℕ → Entries → Entries → List Reach → Type 0
@@ -43,9 +42,42 @@ retraced n total (reach r ∷ t) = reach (with_total n total r) ∷ retraced n t
 abbrev pub run_of : {A : Type 0} → List Entry → Result A EvalFault → Run A
 run_of t e = record { trace = t; ending = e }
 
--- where the inputs choose alike, the second run is the first with the new totals
+-- the second run is the first with the new totals where the units pay for the first, and costs more than them where the first does
+abbrev pub Follows : ℕ → ℕ → {A : Type 0} → ℕ → Run A → Run A → Type 0
+Follows n total l r s = (units_of r.trace ≤ l → s ≡ run_of (retraced n total r.trace) r.ending) × (l < units_of r.trace → l < units_of s.trace)
+
+-- the second run follows the first as far as the inputs choose alike that are reached with these units
 pub record Same (n : ℕ) (old new : Entries) {A : Type 0} (r s : Run A) : Type 0 where
-  pub same : Agree n old new (reached_of r.trace) → s ≡ run_of (retraced n (total_weight new) r.trace) r.ending
+  pub same : (l : ℕ) → Agree n old new (reached_of (paid_for l r.trace)) → Follows n (total_weight new) l r s
+
+paid_for-all : (l : ℕ) (t u : List Entry) → units_of t ≤ l → paid_for l (t ++ u) ≡ t ++ paid_for (l - units_of t) u
+paid_for-all l [] u h = let e : l ≡ l - 0 = omega arith in ap (λ m. paid_for m u) e
+paid_for-all l (cost k ∷ t) u h =
+    let more : nat_lt l k ≡ false = grind arith in
+    let rest : l - k - units_of t ≡ l - (k + units_of t) = omega arith in
+    rw more (ap (λ x. cost k ∷ x) (paid_for-all (l - k) t u (omega arith) ∙ ap (λ m. t ++ paid_for m u) rest))
+paid_for-all l (reach r ∷ t) u h = ap (λ x. reach r ∷ x) (paid_for-all l t u h)
+
+pub paid_for-whole : (l : ℕ) (t : List Entry) → units_of t ≤ l → paid_for l t ≡ t
+paid_for-whole l t h = ap (paid_for l) (sym (append-nil t)) ∙ (paid_for-all l t [] h ∙ append-nil t)
+
+paid_for-part : (l : ℕ) (t u : List Entry) → l < units_of t → paid_for l (t ++ u) ≡ paid_for l t
+paid_for-part l [] u h = absurd (omega arith)
+paid_for-part l (cost k ∷ t) u h = elim (cases_lt l k) [
+  | inl less ↦ let e : nat_lt l k ≡ true = grind arith in rw e refl
+  | inr more ↦ let e : nat_lt l k ≡ false = grind arith in rw e (ap (λ x. cost k ∷ x) (paid_for-part (l - k) t u (omega arith)))
+]
+paid_for-part l (reach r ∷ t) u h = ap (λ x. reach r ∷ x) (paid_for-part l t u h)
+
+pub units-retraced : (n total : ℕ) (t : List Entry) → units_of (retraced n total t) ≡ units_of t
+units-retraced n total [] = refl
+units-retraced n total (cost k ∷ t) = ap (λ u. k + u) (units-retraced n total t)
+units-retraced n total (reach r ∷ t) = units-retraced n total t
+
+-- what comes next costs no less
+longer : {A B : Type 0} (t : List Entry) (e : Result A EvalFault) (f : A → Run B) → units_of t ≤ units_of (continues t e f).trace
+longer t (Ok v) f = omega (arith, units_of-append t (f v).trace)
+longer t (Err x) f = omega arith
 
 retraced-append : (n total : ℕ) (t u : List Entry) → retraced n total (t ++ u) ≡ retraced n total t ++ retraced n total u
 retraced-append n total [] u = refl
@@ -66,28 +98,51 @@ module _ (n : ℕ) (old new : Entries) where
 
   same-ends : {A : Type 0} (e : Result A EvalFault) → Same n old new (ends e) (ends e)
   unfolding ends
-  same-ends e = record { same = λ a. refl }
+  same-ends e = record { same = λ l a. ((λ le. refl), (λ lt. lt)) }
 
   same-gives : {A : Type 0} (v : A) → Same n old new (gives v) (gives v)
   same-gives v = same-ends (Ok v)
 
   same-cost : {A : Type 0} (k : ℕ) (r s : Run A) → Same n old new r s → Same n old new (after (cost k) r) (after (cost k) s)
   unfolding after
-  same-cost k r s h = record { same = λ a. ap (λ x. run_of (cost k ∷ x.trace) x.ending) (h.same a) }
+  same-cost {A} k r s h = record { same = λ l a. go l (nat_lt l k) refl a }
+    where
+      go : (l : ℕ) (b : Bool) → nat_lt l k ≡ b → Agree n old new (reached_of (cond b [] (cost k ∷ paid_for (l - k) r.trace)))
+          → Follows n (total_weight new) l (run_of (cost k ∷ r.trace) r.ending) (run_of (cost k ∷ s.trace) s.ending)
+      go l true is a = let less : l < k = grind (arith, is) in ((λ le. absurd (omega arith)), (λ lt. omega arith))
+      go l false is a =
+          let more : k ≤ l = grind (arith, is) in
+          let rest = h.same (l - k) a in
+          ((λ le. ap (λ x. run_of (cost k ∷ x.trace) x.ending) (rest.0 (omega arith))), (λ lt. let far : l - k < units_of s.trace = rest.1 (omega arith) in omega arith))
 
   same-bind : {A B : Type 0} (r s : Run A) (f g : A → Run B) → Same n old new r s → ((v : A) → Same n old new (f v) (g v)) → Same n old new (r >>= f) (s >>= g)
   unfolding ◌>>=◌
   same-bind {A} {B} r s f g h k = record { same = go r.trace r.ending h.same }
     where
-      go : (t : List Entry) (e : Result A EvalFault) → (Agree n old new (reached_of t) → s ≡ run_of (retraced n (total_weight new) t) e)
-          → Agree n old new (reached_of (continues t e f).trace) → continues s.trace s.ending g ≡ run_of (retraced n (total_weight new) (continues t e f).trace) (continues t e f).ending
-      go t (Ok v) is a =
-          let both : Agree n old new (reached_of t ++ reached_of (f v).trace) = rw reached_of-append at a in
-          let first = is (agree-left (reached_of t) (reached_of (f v).trace) both) in
-          let second = (k v).same (agree-right (reached_of t) (reached_of (f v).trace) both) in
-          ap (λ x. continues x.trace x.ending g) first
-          ∙ (ap (after_trace (retraced n (total_weight new) t)) second ∙ ap (λ u. run_of u (f v).ending) (sym (retraced-append n (total_weight new) t (f v).trace)))
-      go t (Err x) is a = ap (λ x. continues x.trace x.ending g) (is a)
+      go : (t : List Entry) (e : Result A EvalFault) → ((l : ℕ) → Agree n old new (reached_of (paid_for l t)) → Follows n (total_weight new) l (run_of t e) s)
+          → (l : ℕ) → Agree n old new (reached_of (paid_for l (continues t e f).trace)) → Follows n (total_weight new) l (continues t e f) (continues s.trace s.ending g)
+      go t (Ok v) is l a = elim (cases_lt l (units_of t)) [
+        | inl less ↦
+            let far : l < units_of s.trace = (is l (subst (λ x. Agree n old new (reached_of x)) (paid_for-part l t (f v).trace less) a)).1 less in
+            ((λ le. absurd (omega (arith, units_of-append t (f v).trace))), (λ lt. omega (arith, longer s.trace s.ending g)))
+        | inr more ↦
+            let rest = paid_for (l - units_of t) (f v).trace in
+            let both : Agree n old new (reached_of t ++ reached_of rest) =
+            subst (Agree n old new) (ap reached_of (paid_for-all l t (f v).trace more) ∙ reached_of-append t rest) a in
+            let start : Agree n old new (reached_of (paid_for l t)) = subst (λ x. Agree n old new (reached_of x)) (sym (paid_for-whole l t more)) (agree-left (reached_of t) (reached_of rest) both) in
+            let first : s ≡ run_of (retraced n (total_weight new) t) (Ok v) = (is l start).0 more in
+            let second = (k v).same (l - units_of t) (agree-right (reached_of t) (reached_of rest) both) in
+            let next : continues s.trace s.ending g ≡ after_trace (retraced n (total_weight new) t) (g v) = ap (λ x. continues x.trace x.ending g) first in
+            let cost_next : units_of (continues s.trace s.ending g).trace ≡ units_of t + units_of (g v).trace =
+            ap (λ x. units_of x.trace) next ∙ (units_of-append (retraced n (total_weight new) t) (g v).trace ∙ ap (λ m. m + units_of (g v).trace) (units-retraced n (total_weight new) t)) in (
+              (λ le. next ∙ (ap (after_trace (retraced n (total_weight new) t)) (second.0 (omega (arith, units_of-append t (f v).trace)))
+                  ∙ ap (λ u. run_of u (f v).ending) (sym (retraced-append n (total_weight new) t (f v).trace)))),
+              (λ lt. let far : l - units_of t < units_of (g v).trace = second.1 (omega (arith, units_of-append t (f v).trace)) in omega (arith, cost_next)),
+            )
+      ]
+      go t (Err x) is l a =
+          let first = is l a in
+          ((λ le. ap (λ x. continues x.trace x.ending g) (first.0 le)), (λ lt. let far : l < units_of s.trace = first.1 lt in omega (arith, longer s.trace s.ending g)))
 
   -- an expression whose sites have greater numbers is as it was
   mutual
@@ -129,7 +184,7 @@ module _ (n : ℕ) (old new : Entries) where
   -- a run that reaches site m, which is another
   same-reach : (m : ℕ) (s : List ℕ) (total : ℕ) (r : Run Shape) → (m == n) ≡ false → Same n old new r r → Same n old new (after (reach (record { site = m; input = s; total = total })) r) (after (reach (record { site = m; input = s; total = total })) r)
   unfolding after
-  same-reach m s total r other h = record { same = λ a. rw other (ap (λ x. run_of (reach (record { site = m; input = s; total = total }) ∷ x.trace) x.ending) (h.same a.1)) }
+  same-reach m s total r other h = record { same = λ l a. let rest = h.same l a.1 in ((λ le. rw other (ap (λ x. run_of (reach (record { site = m; input = s; total = total }) ∷ x.trace) x.ending) (rest.0 le))), (λ lt. lt)) }
 
   same-if : {A : Type 0} (b : Bool) (r s u v : Run A) → Same n old new r u → Same n old new s v → Same n old new (cond b r s) (cond b u v)
   same-if true r s u v h k = h
@@ -248,10 +303,10 @@ module _ (n : ℕ) (old new : Entries) where
     same-reached : (s : List ℕ) → Same n old new (reached n old s) (reached n new s)
     unfolding after
     same-reached s = record {
-      same = λ a.
+      same = λ l a.
           let here : (n == n) ≡ true = grind arith in
-          let chosen_same = (same-chosen (choice old s)).same a.1 in
-          rw (here, a.0 refl) (ap (λ x. run_of (reach (record { site = n; input = s; total = total_weight new }) ∷ x.trace) x.ending) chosen_same);
+          let chosen_same = (same-chosen (choice old s)).same l a.1 in
+          ((λ le. rw (here, a.0 refl) (ap (λ x. run_of (reach (record { site = n; input = s; total = total_weight new }) ∷ x.trace) x.ending) (chosen_same.0 le))), (λ lt. rw (a.0 refl) lt));
     }
 
     same-by_input : (i : Option (Result (List ℕ) EvalFault)) → Same n old new (by_input n i old) (by_input n i new)

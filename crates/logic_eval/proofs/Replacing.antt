@@ -1,5 +1,6 @@
 -- An evaluation in which one site gets another rule.
-use Rattle.std.proofs.Common.{◌≡◌, ℕ, ◌+◌, Bool, true, false, not, cond, nat_lt, List, [], ◌∷◌, map, Option, Some, None, Result, Ok, Err, refl, sym, ap, ◌∙◌, subst, arith}
+use Rattle.std.proofs.Common.{◌≡◌, ℕ, Bool, true, false, not, cond, nat_lt, List, [], ◌∷◌, map, Option, Some, None, Result, Ok, Err, refl, sym, ap, ◌∙◌, subst, arith, ◌<◌, inl, inr}
+use Rattle.std.proofs.lemmas.Bool.{cases_lt}
 use Rattle.std.specs.Prelude.{IfSome}
 use Rattle.std.specs.List.{All, Contains, slice_get}
 use Rattle.std.proofs.lemmas.List.Elements.{All-head, All-tail}
@@ -8,7 +9,7 @@ use Rattle.flag_text.specs.Shape.{Shape}
 use Rattle.flag_text.proofs.Bools.{left}
 use Rattle.logic_ast.specs.Expression.{Expression}
 use Rattle.logic_ast.specs.Formed.{is_formed}
-use Rattle.logic_ast.specs.Sites.{Site, preorder, entries_of, entries_at, if_entries}
+use Rattle.logic_ast.specs.Sites.{Site, preorder, entries_of, entries_at, if_entries, with_entries}
 use Rattle.logic_ast.specs.Size.{is_too_big}
 use Rattle.logic_ast.specs.Writing.{written}
 use Rattle.logic_ast.specs.declared.fault.LogicFault.{LogicFault}
@@ -16,16 +17,11 @@ use Rattle.logic_ast.proofs.Numbered.{numbered-preorder, number-at}
 use Rattle.logic_eval.specs.declared.fault.EvalFault.{EvalFault}
 use Rattle.logic_eval.specs.declared.fault.EvalFault.TheVariants.{TooLong}
 use Rattle.logic_eval.specs.Evaluation.{evaluation_of, meaning}
-use Rattle.logic_eval.specs.Laws.{with_total, each_reached, OneSiteReplaced}
+use Rattle.logic_eval.specs.Laws.{with_total, paid_for, each_reached, OneSiteReplaced, ReachedAreGiven}
 use Rattle.logic_eval.specs.Run.{Reach, Entry, Run, cost, reach, units_of, reached_of, with_reached, result_of, most_units}
 use Rattle.logic_eval.specs.Scope.{default_input, root_scope}
-use Rattle.logic_eval.proofs.Alike.{Agree, retraced, run_of, alike}
+use Rattle.logic_eval.proofs.Alike.{Agree, Follows, paid_for-whole, retraced, units-retraced, run_of, alike}
 use Rattle.logic_eval.proofs.Answered.{at_place}
-
-units-retraced : (n total : ℕ) (t : List Entry) → units_of (retraced n total t) ≡ units_of t
-units-retraced n total [] = refl
-units-retraced n total (cost k ∷ t) = ap (λ u. k + u) (units-retraced n total t)
-units-retraced n total (reach r ∷ t) = units-retraced n total t
 
 reached-retraced : (n total : ℕ) (t : List Entry) → reached_of (retraced n total t) ≡ map (with_total n total) (reached_of t)
 reached-retraced n total [] = refl
@@ -40,6 +36,19 @@ result-retraced n total r = rw (units-retraced n total r.trace, reached-retraced
     go true e = refl
     go false (Ok w) = refl
     go false (Err f) = refl
+
+too_long : (r : Run Shape) (l : ℕ) → most_units ≡ l → l < units_of r.trace → result_of r ≡ Err TooLong
+too_long r l is less =
+    let more : nat_lt l (units_of r.trace) ≡ true = grind arith in
+    let most : nat_lt most_units (units_of r.trace) ≡ true = ap (λ m. nat_lt m (units_of r.trace)) is ∙ more in
+    rw most refl
+
+-- the result of a run that follows another within the budget
+by_length : (n total l : ℕ) (r s : Run Shape) → most_units ≡ l → Follows n total l r s → result_of s ≡ each_reached (with_total n total) (result_of r)
+by_length n total l r s is h = elim (cases_lt l (units_of r.trace)) [
+  | inl less ↦ too_long s l is (h.1 less) ∙ sym (ap (each_reached (with_total n total)) (too_long r l is less))
+  | inr more ↦ ap result_of (h.0 more) ∙ result-retraced n total r
+]
 
 agree-all : (n : ℕ) (old new : Entries) (rs : List Reach) → All (λ r. r.site ≡ n → choice new r.input ≡ choice old r.input) rs → Agree n old new rs
 agree-all n old new [] all = tt
@@ -64,5 +73,24 @@ one_site e n old new s formed at some some_new all =
     let h = left (is_formed 0 e) (not (is_too_big (written e))) formed in
     let run = meaning (default_input s) e (root_scope s) in
     let alike_all = alike n old new some.some some_new.some some.small some_new.small (default_input s) 0 e h (known-at e n old h at) (root_scope s) in
-    let second = alike_all.same (agree-all n old new (reached_of run.trace) all) in
-    ap result_of second ∙ result-retraced n (total_weight new) run
+    let follows = alike_all.same most_units (agree-all n old new (reached_of (paid_for most_units run.trace)) all) in
+    by_length n (total_weight new) most_units run (meaning (default_input s) (with_entries n new e) (root_scope s)) refl follows
+
+-- what a run reached that gave a value
+given : (v : Shape) (rs : List Reach) (r : Run Shape) (l : ℕ) → most_units ≡ l → result_of r ≡ Ok (v, rs) → reached_of (paid_for l r.trace) ≡ rs
+given v rs r l is h = elim (cases_lt l (units_of r.trace)) [
+  | inl less ↦ let long : result_of r ≡ Err TooLong = too_long r l is less in absurd (no_value (result_of r) long h)
+  | inr more ↦ ap reached_of (paid_for-whole l r.trace more) ∙ by_end (nat_lt most_units (units_of r.trace)) r.ending h
+]
+  where
+    no_value : (x : Result (Shape × List Reach) EvalFault) → x ≡ Err TooLong → x ≡ Ok (v, rs) → ⊥
+    no_value x long h = cc
+
+    by_end : (b : Bool) (e : Result Shape EvalFault) → (let x : Result (Shape × List Reach) EvalFault = cond b (Err TooLong) (with_reached (reached_of r.trace) e) in x) ≡ Ok (v, rs) → reached_of r.trace ≡ rs
+    by_end true e g = absurd (cc)
+    by_end false (Ok w) g = let both : (let x : Shape × List Reach = (w, reached_of r.trace) in x) ≡ (v, rs) = cc in ap (λ (x : Shape × List Reach). x.1) both
+    by_end false (Err f) g = absurd (cc)
+
+pub reached_given : ReachedAreGiven
+unfolding evaluation_of
+reached_given e s v rs h = given v rs (meaning (default_input s) e (root_scope s)) most_units refl h

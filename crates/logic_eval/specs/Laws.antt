@@ -1,5 +1,5 @@
 -- What the definition of an evaluation amounts to: which sites are reached, what a site gives, and what isn't evaluated.
-use Rattle.std.specs.Prelude.{ℕ, ◌≡◌, ◌<◌, ◌^◌, ◌==◌, if◌then◌else◌, true, false, List, map, Option, Some, Result, Ok, Err}
+use Rattle.std.specs.Prelude.{ℕ, ◌≡◌, ◌<◌, ◌-◌, ◌^◌, ◌==◌, nat_lt, if◌then◌else◌, true, false, List, [], ◌∷◌, map, Option, Some, Result, Ok, Err}
 use Rattle.std.specs.List.{All}
 use Rattle.bucket_core.specs.Rule.{Entries, IsRuleTotal, total_weight, choice}
 use Rattle.flag_text.specs.Shape.{Shape}
@@ -9,7 +9,7 @@ use Rattle.logic_ast.specs.Sites.{sites, entries_of, entries_at, with_entries}
 use Rattle.logic_ast.specs.declared.operator.Operator.TheVariants.{If, And, Or}
 use Rattle.logic_eval.specs.Evaluation.{evaluation_of, meaning, by_meaning, input}
 use Rattle.logic_eval.specs.Fractional.{by_input}
-use Rattle.logic_eval.specs.Run.{Reach, cost, after, ◌>>=◌, reached_of}
+use Rattle.logic_eval.specs.Run.{Reach, Entry, cost, reach, after, ◌>>=◌, reached_of, most_units}
 use Rattle.logic_eval.specs.Scope.{Situation, default_input, root_scope}
 use Rattle.logic_eval.specs.declared.fault.EvalFault.{EvalFault}
 use Rattle.logic_eval.specs.Truth.{is_true}
@@ -54,9 +54,19 @@ TrueEndsOr =
 abbrev pub with_total : ℕ → ℕ → Reach → Reach
 with_total n total r = if r.site == n then record { site = r.site; input = r.input; total = total } else r
 
--- the sites that an evaluation reaches, also those that it reached before a fault
+-- the part of a trace that these units pay for
+abbrev pub paid_for : ℕ → List Entry → List Entry
+paid_for units [] = []
+paid_for units (cost n ∷ t) = if nat_lt units n then [] else cost n ∷ paid_for (units - n) t
+paid_for units (reach r ∷ t) = reach r ∷ paid_for units t
+
+-- the sites that an evaluation reaches before it ends: with a value, with a fault, or where its budget is spent
 abbrev pub reached_in : Expression → Situation → List Reach
-reached_in e s = reached_of (meaning (default_input s) e (root_scope s)).trace
+reached_in e s = reached_of (paid_for most_units (meaning (default_input s) e (root_scope s)).trace)
+
+-- Of an evaluation that gives a value they are the sites that it gives beside it.
+abbrev pub ReachedAreGiven : Type 0
+ReachedAreGiven = (e : Expression) (s : Situation) (v : Shape) (rs : List Reach) → evaluation_of e s ≡ Ok (v, rs) → reached_in e s ≡ rs
 
 -- a fault, or the same value with each reached site changed
 abbrev pub each_reached : (Reach → Reach) → Result (Shape × List Reach) EvalFault → Result (Shape × List Reach) EvalFault

@@ -1,5 +1,5 @@
 //! What holds of the definitions alone.
-ghost use Rattle.logic_eval.specs.Laws.{LiteralSiteChooses, TrueTestSkipsTheRest, FalseTestSkipsItsResult, FalseEndsAnd, TrueEndsOr, OneSiteReplaced};
+ghost use Rattle.logic_eval.specs.Laws.{LiteralSiteChooses, TrueTestSkipsTheRest, FalseTestSkipsItsResult, FalseEndsAnd, TrueEndsOr, OneSiteReplaced, ReachedAreGiven};
 
 /// A site whose entries are literal evaluates its bucketing expression alone, and gives what its rule chooses for the input.
 pub fn a_literal_site_chooses()
@@ -15,7 +15,9 @@ pub fn a_branch_not_taken_is_not_evaluated()
 {}
 
 /// Where one site gets another rule, and each input that reaches it chooses as before, the evaluation gives the same value or
-/// fault, and reaches the same sites by the same inputs: only that site's total is the new rule's.
+/// fault, and reaches the same sites by the same inputs: only that site's total is the new rule's. What it reaches is what it
+/// gives beside a value; of an evaluation that ends in a fault it is what came before the fault.
 pub fn a_rule_that_chooses_alike_changes_nothing_else()
-    ensures { OneSiteReplaced }
+    ensures replaced { OneSiteReplaced }
+    ensures reached { ReachedAreGiven }
 {}
