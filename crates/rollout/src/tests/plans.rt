@@ -278,3 +278,30 @@ fn refused_buckets(rt: HostRuntime) -> Result<(), Fail> {
     }
     Ok(())
 }
+
+// Totals of three names, where red may not become green.
+fn totals(alloc: Global, red: u32, blue: u32, green: u32) -> Result<String, Fail> {
+    Ok(format!(in alloc;
+        "{{\"plan\":1,\"flag\":\"color\",\"totals\":{{\"red\":{red},\"blue\":{blue},\"green\":{green}}},\"forbid\":[[\"red\",\"green\"]]}}"
+    )?)
+}
+
+// Only the five blue points may become green.
+#[test]
+fn all_totals(rt: HostRuntime) -> Result<(), Fail> {
+    let alloc = rt.alloc();
+    let flags = color(alloc, FIVES)?;
+    let book = book(alloc)?;
+    for red in 0..11 {
+        for green in 0..(11 - red) {
+            let request = totals(alloc, red, 10 - red - green, green)?;
+            let text = planned(&rt, alloc, &flags, request.as_str(), &book)?;
+            assert_eq!(rt;
+                text.as_str().contains("\"rule\""),
+                green <= 5,
+                "at {red} and {green}"
+            );
+        }
+    }
+    Ok(())
+}
