@@ -1,9 +1,11 @@
 use Rattle.std.proofs.Common.{sym, ap, ◌∙◌}
 use Rattle.std.specs.Cmp.Lexicographic.{slice_cmp}
 use Rattle.std.specs.Ordering.{nat_cmp}
+use Rattle.std.proofs.lemmas.Bool.{false≢true}
 use Rattle.bucket_core.specs.Rule.{names_view}
 use Rattle.rollout.specs.Lawful.{problem_view}
 use Rattle.rollout.specs.PlanFile.{rises}
+use Rattle.rollout.proofs.Orders.{rises-sorted}
 use Rattle.rollout.proofs.Plans.{none_plan, sorted-rises, none_whole}
 use Rattle.rollout.proofs.planning.emit_none.Goals as goal
 
@@ -16,3 +18,7 @@ returns-clause-ordered c =
 
 pub returns-clause-whole : goal.returns-clause-whole
 returns-clause-whole c = none_whole c.args.cut.kind (names_view c.args.cut.names.items)
+
+pub returns-then-not-names_rise-clause-undecided : goal.returns-then-not-names_rise-clause-undecided
+returns-then-not-names_rise-clause-undecided c = λ ordered.
+    false≢true (c.if-not-names_rise.ensures ∙ (ap (λ ns. rises (slice_cmp nat_cmp) (names_view ns)) c.as_slice.ensures.value ∙ rises-sorted (slice_cmp nat_cmp) (names_view c.args.cut.names.items) ordered))
