@@ -11,7 +11,6 @@ use crate::files::FileSet;
 use crate::outcome::{Outcome, Status};
 use crate::plan_file::load_planned;
 use crate::refusal::{Call, Refusal};
-use bucket_core::Rule;
 use flag_defs::{Flags, print_flags};
 use rollout::Planned;
 use std::alloc::{AllocError, Global};

@@ -1,8 +1,6 @@
 use super::memory::{MemoryFiles, run_with};
 use crate::files::FileSet;
 use crate::loading::load_tree;
-use crate::refusal::Refusal;
-use flag_text::TextFault;
 use std::test::Fail;
 
 #[test]
@@ -80,12 +78,15 @@ fn large(rt: HostRuntime) -> Result<(), Fail> {
     let mut files = MemoryFiles::new(alloc, true);
     files.write(alloc, "f", b"[[\"on\"]]")?;
     assert!(rt; load_tree(alloc, &mut files, "f", 8).is_ok());
-    let refusal = Refusal::ReadTree(TextFault::TooLarge);
-    assert!(rt; matches!(load_tree(alloc, &mut files, "f", 7), Err(r) if r == refusal));
-    assert_eq!(rt;
-        refusal.line(alloc)?.as_str(),
-        "refused read_tree 3 TooLarge\n"
-    );
+    match load_tree(alloc, &mut files, "f", 7) {
+        Err(refusal) => {
+            assert_eq!(rt;
+                refusal.line(alloc)?.as_str(),
+                "refused read_tree 3 TooLarge\n"
+            );
+        }
+        Ok(_tree) => assert!(rt; false, "a file above the limit"),
+    }
     Ok(())
 }
 
