@@ -38,6 +38,13 @@ def run(words, processors):
     return best, peak / 1024, report
 
 
+def asked(kind, weight, draws):
+    """A range around the weight: for one in four above it, for one in four below it."""
+    low = weight + draws.randrange(weight // 2) if kind == 0 else weight // 2
+    high = weight // 2 + draws.randrange(weight // 2) if kind == 1 else 2 * weight
+    return [low, high]
+
+
 page = {"by": None, "flag": "f", "site": 0}
 inputs = "".join(f'"user-{i:07}"\n' for i in range(1_000_000))
 book = put("book", f'{compact({"book": 1})}\n{compact(page)}\n{inputs}')
@@ -52,7 +59,7 @@ for names, total in ((8, 1_000), (8, 100_000), (64, 100_000), (64, 1_000_000)):
     pairs = [(old, new) for old in variants for new in variants if old != new]
     request = put("request.json", compact({
         "plan": 2, "flag": "f",
-        "totals": {name: [weight // 2 + draws.randrange(weight // 2), weight * 2] if i % 4 == 0 else [weight // 2, weight + draws.randrange(weight)] for i, (name, weight) in enumerate(zip(variants, weights))},
+        "totals": {name: asked(i % 4, weight, draws) for i, (name, weight) in enumerate(zip(variants, weights))},
         "prices": [[old, new, draws.randrange(1000)] for old, new in pairs],
         "forbid": [[old, new] for old, new in pairs if draws.randrange(10) == 0],
     }))
