@@ -1,4 +1,4 @@
-use Rattle.std.proofs.Common.{ap, sym, subst}
+use Rattle.std.proofs.Common.{sym, subst}
 use Rattle.flag_text.specs.Outcome.{GivesUnless}
 use Rattle.flag_defs.specs.Changes.{by_key}
 use Rattle.flag_defs.specs.Document.{limited}
