@@ -386,3 +386,30 @@ fn proved_on_the_instance(rt: HostRuntime) -> Result<(), Fail> {
     );
     Ok(())
 }
+
+#[test]
+fn rows_of_an_assignment(rt: HostRuntime) -> Result<(), Fail> {
+    let alloc = rt.alloc();
+    let old = rule(alloc, b"[[\"red\",5],[\"blue\",5]]")?;
+    let request = Request::read(alloc, GREEN_4)?;
+    let variants = names(alloc, &["blue", "green", "red"])?;
+    let totals = request.totals(alloc, variants.as_slice())?;
+    let inputs = exposure(alloc, INPUTS.as_slice())?;
+    let spread = Assignment {
+        numbers: Vec::from_slice(alloc, CHEAPEST.as_slice())?,
+    };
+    if old.total() > 1_000_000 || totals.entries().len() > 64 {
+        return Err("too large".into());
+    }
+    let instance = Instance::make(alloc, &old, &totals, request.prices(), &inputs)?;
+    let rows = spread.rows(alloc, &instance)?;
+    let row = AssignmentRow {
+        name: "blue",
+        count: 0,
+        variant: "green",
+        points: 3,
+    };
+    assert_eq!(rt; rows.len(), 18);
+    assert_eq!(rt; rows.get(1).copied(), Some(row));
+    Ok(())
+}
