@@ -30,6 +30,7 @@ mod system_files;
 #[cfg(test)]
 mod tests;
 mod totals;
+mod usage;
 mod verify;
 mod words;
 

@@ -21,7 +21,7 @@ use std::convert::AsStr;
 use std::thread::Threads;
 
 /// Does what the words after the program's name ask for, and gives the status to end with: 0
-/// done, 1 refused or the output failed, 2 words that ask for nothing.
+/// done, 1 refused or the output failed, 2 words that ask for nothing, 3 no rule fits.
 ///
 /// The report goes to `out`, whole before its first byte is written. `err` gets the text of
 /// `clap` on words that it refuses, and nothing else; help and the version, where they are asked
