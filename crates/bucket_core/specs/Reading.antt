@@ -39,7 +39,7 @@ buckets_of (item t ts) = option_and_then (λ b. option_map (λ bs. b ∷ bs) (bu
 abbrev pub rule_of_entries : Entries → Result Entries RuleFault
 rule_of_entries r = if nat_lt 0 (total_weight r) then (if nat_lt (total_weight r) (2 ^ 31) then Ok r else Err TooHeavy) else Err NoWeight
 
--- what is there, or BadRule
+-- what is there, or BadRule (in private contracts alone)
 abbrev pub or_bad : {X : Type 0} → Option X → Result X RuleFault
 or_bad None = Err BadRule
 or_bad (Some x) = Ok x

@@ -19,8 +19,5 @@ mod weights;
 
 pub use fault::RuleFault;
 pub use placing::{point, scale};
-pub use read::read_rule;
-pub use rule::Rule;
-
-#[cfg(test)]
-mod tests;
+pub use read::{literal_bucket, read_rule, weight_of};
+pub use rule::{MAX_TOTAL, Rule};

@@ -13,8 +13,8 @@ use crate::weights::{ends_of, is_canonical, refined, weigh, weight_of};
 use std::alloc::{AllocError, Global};
 use std::marker::Model;
 
-/// The largest total of a rule.
-pub(crate) const MAX_TOTAL: u32 = (1 << 31) - 1;
+/// The largest total of a rule, and the largest weight of a bucket.
+pub const MAX_TOTAL: u32 = (1 << 31) - 1;
 
 /// Names with weights, whose sum is from 1 to 2147483647. Entries may share a name, and an entry of weight 0 is kept.
 #[derive(Drop)]

@@ -1,5 +1,5 @@
 -- The members of what is read have names that rise strictly, so what reads as a tree is whole.
-use Rattle.std.proofs.Common.{◌≡◌, ℕ, pos, ◌^◌, List, length, Bool, true, false, ◌&&◌, cond, nat_lt, Option, Some, None, option_and_then, Ok, Err, Ordering, Less, Equal, Greater, nat_cmp, refl, ap, ◌∙◌, subst}
+use Rattle.std.proofs.Common.{◌≡◌, ℕ, pos, ◌^◌, List, length, Bool, true, false, ◌&&◌, cond, nat_lt, Option, Some, None, option_and_then, Result, Ok, Err, Ordering, Less, Equal, Greater, nat_cmp, refl, ap, ◌∙◌, subst}
 use Rattle.std.specs.Prelude.{ℤ, IfOk, if◌then◌else◌}
 use Rattle.std.specs.Str.{is_utf8}
 use Rattle.std.specs.Ordering.{match_ordering, ordering_reverse}
@@ -13,7 +13,11 @@ use Rattle.flag_text.proofs.Bools.{both, left, right, or_left, or_right, Holds, 
 use Rattle.flag_text.specs.Shape as shape
 use Rattle.flag_text.specs.Shape.{Shape, is_in_range, levels, has_other, items_have_other, members_have_other, comes_first, is_whole, items_are_whole, members_are_whole, is_tidy, items_are_tidy, members_are_tidy}
 use Rattle.flag_text.specs.Reading.{number_shape, shape_of, items_shape, members_shape, json_of, if_json, doc_of}
-use Rattle.flag_text.specs.declared.fault.TextFault.TheVariants.{TooLarge}
+use Rattle.flag_text.specs.Outcome.{GivesUnless}
+use Rattle.flag_text.specs.View.{view}
+use Rattle.flag_text.specs.declared.fault.TextFault.{TextFault}
+use Rattle.flag_text.specs.declared.fault.TextFault.TheVariants.{WantOfMemory, TooLarge}
+use Rattle.flag_text.specs.declared.tree.Tree.{Tree}
 
 abbrev pub leads : List ℕ → Members → Bool
 leads k no_members = true
@@ -170,3 +174,11 @@ is_tidy-doc_of bytes limit = from_doc (nat_lt limit (length bytes)) (json_of byt
 -- the names of what `doc_of` gives rise
 pub is_tidy-read : (bytes : List ℕ) (limit : ℕ) (t : Shape) → doc_of bytes limit ≡ Ok t → is_tidy t ≡ true
 is_tidy-read bytes limit t e = subst (λ r. IfOk r (λ x. is_tidy x ≡ true)) e (is_tidy-doc_of bytes limit)
+
+given : (o : Option Data) (r : Result Tree TextFault) → Holds rises o → GivesUnless WantOfMemory view r (if_json o) → IfOk r (λ t. is_tidy (view t) ≡ true)
+given o (Ok t) h e = subst (λ r. IfOk r (λ x. is_tidy x ≡ true)) e (from_json o h)
+given o (Err f) h e = tt
+
+-- the same of what a text is read as
+pub is_tidy-text : (bytes : List ℕ) (r : Result Tree TextFault) → GivesUnless WantOfMemory view r (if_json (read bytes)) → IfOk r (λ t. is_tidy (view t) ≡ true)
+is_tidy-text bytes r e = given (read bytes) r (rises-read bytes) e

@@ -33,8 +33,5 @@ pub use named::{member_by_halving, position_of};
 pub use outlet::{Outlet, WriteOutlet, write_whole};
 pub use print::print_tree;
 pub use push::push_text;
-pub use read::{read_doc, read_tree};
-pub use tree::Tree;
-
-#[cfg(test)]
-mod tests;
+pub use read::{read_doc, read_tree, whole_tree};
+pub use tree::{MAX_WHOLE, Tree, is_in_range};

@@ -30,9 +30,11 @@ impl Tree {
     }
 }
 
-pub(crate) const MAX_WHOLE: u64 = (1 << 53) - 1;
+/// The largest whole number: from there on a double no longer holds each integer.
+pub const MAX_WHOLE: u64 = (1 << 53) - 1;
 
-pub(crate) fn is_in_range(n: i64) -> bool
+/// Whether the number is from -(2^53-1) to 2^53-1.
+pub fn is_in_range(n: i64) -> bool
     ensures { result ≡ is_in_range n }
 {
     n.unsigned_abs() <= MAX_WHOLE

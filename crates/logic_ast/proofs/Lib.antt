@@ -7,8 +7,10 @@ pub mod Numbered
 pub mod Operators
 pub mod Places
 pub mod Readings
+pub mod Refusals
 pub mod Replaced
 pub mod Sizes
+pub mod Stripped
 pub mod Trees
 pub mod Views
 pub mod WellFormed

@@ -1,4 +1,5 @@
 -- The site of a number, the first from the left: it is the one at that place in preorder where the numbers are the places.
+-- It serves private contracts alone: the public ones are about `site_at`.
 use Rattle.std.specs.Prelude.{ℕ, ◌==◌, if◌then◌else◌, Option, Some, None}
 use Rattle.logic_ast.specs.Expression.{Expression, literal, list, operation, fractional, Expressions, no_expressions, expression, By, no_by, by, Buckets, no_buckets, bucket, Bucket, literal_bucket, computed_bucket}
 use Rattle.logic_ast.specs.Sites.{Site}

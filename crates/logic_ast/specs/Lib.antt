@@ -10,5 +10,6 @@ pub mod Reading
 pub mod Site
 pub mod Sites
 pub mod Size
+pub mod Stripped
 pub mod View
 pub mod Writing

@@ -1,4 +1,4 @@
--- The bucketing expression and the buckets of a site.
+-- The bucketing expression and the buckets of a site, in private contracts alone.
 use denote.Ref.{Bor}
 use Rattle.std.specs.Prelude.{Option, Box, Vec}
 use Rattle.std.specs.declared.alloc.Global.{Global}

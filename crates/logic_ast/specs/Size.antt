@@ -99,6 +99,8 @@ is_over s = nat_lt max_nodes s.nodes || nat_lt max_levels s.levels
 abbrev pub is_too_big : Shape → Bool
 is_too_big t = is_over (expression_size t)
 
+-- The two below serve private contracts alone.
+
 -- how many of the nodes are left, where there are at most so many levels and nodes
 abbrev pub left_after : ℕ → ℕ → Size → Option ℕ
 left_after levels nodes s = if nat_le s.levels levels && nat_le s.nodes nodes then Some (nodes - s.nodes) else None

@@ -30,6 +30,3 @@ pub use operator::{Operator, is_fractional};
 pub use read::read_expr;
 pub use replace::replace_site;
 pub use write::write_expr;
-
-#[cfg(test)]
-mod tests;

@@ -1,5 +1,6 @@
 //! The sites of an expression: its `fractional` operations, numbered in preorder from 0.
-ghost use Rattle.std.specs.Prelude.{◌≡◌, ◌<◌, ◌^◌, ℕ, None, IfSome, IsErrOf, option_map, length, string_bytes};
+ghost use Rattle.std.specs.Prelude.{◌≡◌, ◌<◌, ◌^◌, ℕ, None, Ok, Err, IfSome, IsErrOf, option_map, length, string_bytes};
+ghost use Rattle.std.specs.Option.{is_some};
 ghost use Rattle.bucket_core.specs.Rule.{entries_view};
 ghost use Rattle.flag_text.specs.Outcome.{GivesUnless};
 ghost use Rattle.logic_ast.specs.Expr.{view};
@@ -80,14 +81,18 @@ fn count_in_buckets(buckets: &Vec<Bucket<Node>>) -> u32
 
 /// The bucketing expression and the entries of site `n`.
 ///
-/// `NoSite` where there is no such site, then `Computed` where one of its buckets is not literal.
+/// `NoSite` where there is no such site, then `Computed` where one of its buckets is not literal. Neither takes memory.
 pub fn site(alloc: Global, expr: &Expr, n: u32) -> Result<Site, LogicFault>
     ensures exact { GivesUnless LogicFault.WantOfMemory site_view result (parts_at n (view expr.now)) }
     ensures no_site { site_at n (view expr.now) ≡ None → IsErrOf result LogicFault.NoSite }
+    ensures computed { parts_at n (view expr.now) ≡ Err LogicFault.Computed → IsErrOf result LogicFault.Computed }
 {
     let Some((by, buckets)) = find(&expr.root, n) else {
         return Err(LogicFault::NoSite);
     };
+    if !are_all_literal(buckets) {
+        return Err(LogicFault::Computed);
+    }
     let entries = entries_of(alloc, buckets)?;
     let by = match by {
         None => None,
@@ -97,6 +102,18 @@ pub fn site(alloc: Global, expr: &Expr, n: u32) -> Result<Site, LogicFault>
         }
     };
     Ok(Site { by, entries })
+}
+
+/// Whether all of these are literal.
+pub(crate) fn are_all_literal(buckets: &Vec<Bucket<Node>>) -> bool
+    ensures { result ≡ is_some (entries_of (buckets_view buckets.now.items)) }
+{
+    for bucket in buckets {
+        if let Bucket::Computed(_, _) = bucket {
+            return false;
+        }
+    }
+    true
 }
 
 fn entries_of(alloc: Global, buckets: &Vec<Bucket<Node>>) -> Result<Vec<(String, u64)>, LogicFault>
@@ -117,10 +134,11 @@ fn entries_of(alloc: Global, buckets: &Vec<Bucket<Node>>) -> Result<Vec<(String,
 
 /// The compact text of the bucketing expression of site `n`, where it has one.
 ///
-/// `NoSite` where there is no such site.
+/// `NoSite` where there is no such site. Neither that nor the answer of a site without one takes memory.
 pub fn by_text(alloc: Global, expr: &Expr, n: u32) -> Result<Option<String>, LogicFault>
     ensures exact { GivesUnless LogicFault.WantOfMemory (option_map string_bytes) result (by_text_at n (view expr.now)) }
     ensures no_site { site_at n (view expr.now) ≡ None → IsErrOf result LogicFault.NoSite }
+    ensures no_by { by_text_at n (view expr.now) ≡ Ok None → result ≡ Ok None }
 {
     let Some((by, _)) = find(&expr.root, n) else {
         return Err(LogicFault::NoSite);

@@ -7,7 +7,9 @@ ghost use Rattle.logic_ast.specs.Expr.{view};
 ghost use Rattle.logic_ast.specs.FirstFault.{expression_fault};
 ghost use Rattle.logic_ast.specs.Reading.{expression_from, object_from, expressions_from, arguments_from, site_from, by_from, buckets_from, bucket_from, computed_from, reading};
 ghost use Rattle.logic_ast.specs.Sites.{sites, sites_in, sites_in_by, sites_in_buckets, sites_in_bucket};
-ghost use Rattle.logic_ast.specs.Size.{is_too_big};
+ghost use Rattle.logic_ast.specs.Size.{full_size, expression_size, is_too_big};
+ghost use Rattle.logic_ast.specs.Stripped.{without_literals};
+ghost use Rattle.logic_ast.specs.Writing.{written};
 ghost use Rattle.logic_ast.specs.View.{node_view, nodes_view, boxed_view, buckets_view, bucket_view};
 
 use crate::check::{first_fault, is_list};
@@ -15,7 +17,8 @@ use crate::expr::Expr;
 use crate::fault::LogicFault;
 use crate::node::{Bucket, Node};
 use crate::operator::{Operator, is_fractional};
-use crate::size::{is_too_big, literal_entry};
+use crate::size::is_too_big;
+use bucket_core::literal_bucket;
 use flag_text::Tree;
 use std::alloc::{AllocError, Global};
 
@@ -24,9 +27,13 @@ use std::alloc::{AllocError, Global};
 /// `TooBig` (above 10,000 nodes or 100 levels, literal buckets left out) comes first, then the first of `UnknownOperator`
 /// and `BadArguments` in preorder; none of these takes memory. It takes time linear in the tree, and in one that is too big
 /// it stops at the limit.
+///
+/// What is counted (`size`) are the nodes and levels of the tree that [`write_expr`](crate::write_expr) writes for the
+/// expression without its literal buckets.
 pub fn read_expr(alloc: Global, tree: &Tree) -> Result<Expr, LogicFault>
     requires { is_whole (tree_view tree.now) ≡ true }
     ensures exact { GivesUnless LogicFault.WantOfMemory view result (reading (tree_view tree.now)) }
+    ensures size { IfOk result (λ e. expression_size (tree_view tree.now) ≡ full_size (written (without_literals (view e)))) }
     ensures too_big { is_too_big (tree_view tree.now) ≡ true → IsErrOf result LogicFault.TooBig }
     ensures faulty { is_too_big (tree_view tree.now) ≡ false → IfSome (expression_fault (tree_view tree.now)) (λ f. IsErrOf result f) }
 {
@@ -203,8 +210,11 @@ fn read_bucket(alloc: Global, parts: &[Tree], next: &mut u32) -> Result<Bucket<N
     ensures value { IfOk result (λ x. bucket_view x ≡ bucket_from next.old (items_view parts.now)) }
     ensures next { OnOk result (next.new ≡ next.old + sites_in_bucket (bucket_from next.old (items_view parts.now))) }
 {
-    match literal_entry(parts) {
-        Some((name, weight)) => Ok(Bucket::Literal(String::from_str(alloc, name)?, weight)),
+    match literal_bucket(parts) {
+        Some((name, weight)) => {
+            let name = String::from_str(alloc, name)?;
+            Ok(Bucket::Literal(name, weight as u32))
+        }
         None => read_computed(alloc, parts, next),
     }
 }

@@ -1,10 +1,9 @@
 //! Another rule at a site.
-ghost use Rattle.std.specs.Prelude.{◌≡◌, ◌≢◌, ◌<◌, ◌^◌, ℕ, None, Ok, IfOk, IsErrOf};
-ghost use Rattle.std.specs.Option.{is_some};
+ghost use Rattle.std.specs.Prelude.{◌≡◌, ◌≢◌, ◌<◌, ◌^◌, ℕ, None, Ok, Err, IfOk, IsErrOf};
 ghost use Rattle.bucket_core.specs.Rule.{Entries, total_weight, entries_view};
 ghost use Rattle.flag_text.specs.Outcome.{GivesUnless};
 ghost use Rattle.logic_ast.specs.Expr.{view};
-ghost use Rattle.logic_ast.specs.Sites.{site_at, entries_at, entries_of, literal_buckets, with_entries, all_with_entries, by_with_entries, buckets_with_entries, replaced};
+ghost use Rattle.logic_ast.specs.Sites.{site_at, entries_at, literal_buckets, with_entries, all_with_entries, by_with_entries, buckets_with_entries, replaced};
 ghost use Rattle.logic_ast.specs.Writing.{by_text_at};
 ghost use Rattle.logic_ast.specs.View.{node_view, nodes_view, boxed_view, buckets_view};
 
@@ -12,6 +11,7 @@ use crate::copy::by_lowered;
 use crate::expr::Expr;
 use crate::fault::LogicFault;
 use crate::find::find;
+use crate::lookup::are_all_literal;
 use crate::node::{Bucket, Node};
 use bucket_core::Rule;
 use std::alloc::{AllocError, Global};
@@ -19,10 +19,11 @@ use std::alloc::{AllocError, Global};
 /// The expression with the entries of the rule as the buckets of site `n`. The bucketing expression stays, and so does
 /// all else.
 ///
-/// `NoSite` where there is no such site, then `Computed` where one of its buckets is not literal.
+/// `NoSite` where there is no such site, then `Computed` where one of its buckets is not literal. Neither takes memory.
 pub fn replace_site(alloc: Global, expr: &Expr, n: u32, rule: &Rule) -> Result<Expr, LogicFault>
     ensures exact { GivesUnless LogicFault.WantOfMemory view result (replaced n rule.now (view expr.now)) }
     ensures no_site { site_at n (view expr.now) ≡ None → IsErrOf result LogicFault.NoSite }
+    ensures computed { replaced n rule.now (view expr.now) ≡ Err LogicFault.Computed → IsErrOf result LogicFault.Computed }
     ensures entries { IfOk result (λ e. entries_at n (view e) ≡ Ok rule.now) }
     ensures bucketing { IfOk result (λ e. by_text_at n (view e) ≡ by_text_at n (view expr.now)) }
     ensures others { IfOk result (λ e. (m : ℕ) → m ≢ n → entries_at m (view e) ≡ entries_at m (view expr.now)) }
@@ -38,17 +39,6 @@ pub fn replace_site(alloc: Global, expr: &Expr, n: u32, rule: &Rule) -> Result<E
     prove!(rule.total() < 1 << 31);
     let root = with_entries(alloc, &expr.root, n, rule.entries())?;
     Ok(Expr { root })
-}
-
-fn are_all_literal(buckets: &Vec<Bucket<Node>>) -> bool
-    ensures { result ≡ is_some (entries_of (buckets_view buckets.now.items)) }
-{
-    for bucket in buckets {
-        if let Bucket::Computed(_, _) = bucket {
-            return false;
-        }
-    }
-    true
 }
 
 #[cycle(replace)]

@@ -1,53 +1,21 @@
 //! Whether a tree is too big to be read as an expression.
 ghost use Rattle.std.specs.Prelude.{◌≡◌, option_map};
-ghost use Rattle.bucket_core.specs.Reading.{bucket_from as entry_of, bucket_with, weight_of};
 ghost use Rattle.flag_text.specs.View.{view, items_view, members_view};
 ghost use Rattle.logic_ast.specs.Size.{around, full_size, items_size, members_size, expression_size, object_size, expressions_size, arguments_size, site_size, buckets_size, bucket_parts_size, bucket_size, is_too_big, left_after, left_inside};
 
 use crate::operator::is_fractional;
+use bucket_core::literal_bucket;
 use flag_text::Tree;
 
 const MAX_NODES: u32 = 10_000;
 
 const MAX_LEVELS: u32 = 100;
 
-const WEIGHTS: i64 = 1 << 31;
-
 /// Whether the expression has more than 10,000 nodes or 100 levels. It stops where either is passed.
 pub(crate) fn is_too_big(tree: &Tree) -> bool
     ensures { result ≡ is_too_big (view tree.now) }
 {
     count(tree, MAX_LEVELS, MAX_NODES).is_none()
-}
-
-/// The name and the weight of a bucket of these parts, where it is literal.
-pub(crate) fn literal_entry(parts: &[Tree]) -> Option<(&str, u32)>
-    ensures { option_map (λ p. (p.0.now, p.1)) result ≡ entry_of (items_view parts.now) }
-{
-    match parts {
-        [] => None,
-        [name] => entry_with(name, Some(1)),
-        [name, weight] => entry_with(name, weight_of(weight)),
-        [_, _, _, ..] => None,
-    }
-}
-
-fn entry_with(name: &Tree, weight: Option<u32>) -> Option<(&str, u32)>
-    ensures { option_map (λ p. (p.0.now, p.1)) result ≡ bucket_with weight (view name.now) }
-{
-    match (name, weight) {
-        (Tree::Text(name), Some(weight)) => Some((name.as_str(), weight)),
-        _ => None,
-    }
-}
-
-fn weight_of(tree: &Tree) -> Option<u32>
-    ensures { result ≡ weight_of (view tree.now) }
-{
-    match tree {
-        Tree::Whole(weight) if 0 <= *weight && *weight < WEIGHTS => Some(*weight as u32),
-        _ => None,
-    }
 }
 
 /// What is left for the parts of a list or an object.
@@ -146,7 +114,7 @@ fn count_buckets(items: &[Tree], levels: u32, nodes: u32) -> Option<u32>
 fn count_bucket(parts: &[Tree], levels: u32, nodes: u32) -> Option<u32>
     ensures { result ≡ left_after levels nodes (bucket_size (items_view parts.now)) }
 {
-    if literal_entry(parts).is_some() {
+    if literal_bucket(parts).is_some() {
         return Some(nodes);
     }
     let (levels, nodes) = inside(levels, nodes)?;

@@ -4,6 +4,8 @@ ghost use Rattle.flag_text.specs.Shape.{is_whole, no_items, item};
 ghost use Rattle.flag_text.specs.View.{view as tree_view, items_view};
 ghost use Rattle.logic_ast.specs.Expr.{view};
 ghost use Rattle.logic_ast.specs.Reading.{reading};
+ghost use Rattle.logic_ast.specs.Size.{full_size, expression_size};
+ghost use Rattle.logic_ast.specs.Stripped.{without_literals};
 ghost use Rattle.logic_ast.specs.View.{node_view, nodes_view, boxed_view, buckets_view};
 ghost use Rattle.logic_ast.specs.Writing.{applied, pair, written, all_written, by_written, buckets_written};
 
@@ -17,6 +19,7 @@ use std::alloc::{AllocError, Global};
 pub fn write_expr(alloc: Global, expr: &Expr) -> Result<Tree, AllocError>
     ensures value { IfOk result (λ t. tree_view t ≡ written (view expr.now)) }
     ensures whole { IfOk result (λ t. is_whole (tree_view t) ≡ true) }
+    ensures size { IfOk result (λ t. expression_size (tree_view t) ≡ full_size (written (without_literals (view expr.now)))) }
     ensures reads_back { IfOk result (λ t. reading (tree_view t) ≡ Ok (view expr.now)) }
 {
     write_node(alloc, &expr.root)

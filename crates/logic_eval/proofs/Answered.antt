@@ -1,25 +1,25 @@
 -- Where an evaluation gives a value, it is whole, and what was reached is of the expression's sites.
-use Rattle.std.proofs.Common.{◌≡◌, ℕ, ◌+◌, ◌<◌, ◌^◌, Bool, true, false, not, cond, nat_lt, List, [], ◌∷◌, map, length, Option, Some, None, Result, Ok, Err, refl, sym, ap, ◌∙◌, subst, arith}
+use Rattle.std.proofs.Common.{◌≡◌, ◌<◌, ◌^◌, Bool, true, false, not, cond, nat_lt, List, [], ◌∷◌, map, length, Option, Some, None, Result, Ok, Err, refl, ap, ◌∙◌, subst, arith}
 use Rattle.std.specs.Prelude.{IfOk, IfSome}
 use Rattle.std.specs.List.{All, Contains, slice_get}
 use Rattle.std.specs.Result.{IsErrAnd}
 use Rattle.std.proofs.lemmas.List.Elements.{All-head}
 use Rattle.std.proofs.lemmas.Option.{slice_get-get_or}
-use Rattle.bucket_core.specs.Rule.{Entries, total_weight}
+use Rattle.bucket_core.specs.Rule.{Entries}
 use Rattle.flag_text.specs.Shape.{Shape, is_whole}
 use Rattle.flag_text.proofs.Bools.{left}
 use Rattle.logic_ast.specs.Expression.{Expression}
 use Rattle.logic_ast.specs.Formed.{is_formed, is_well_formed}
-use Rattle.logic_ast.specs.Sites.{Site, sites, preorder, entries_of, entries_at, if_site, if_entries}
+use Rattle.logic_ast.specs.Sites.{Site, sites, preorder, entries_of, if_entries}
 use Rattle.logic_ast.specs.Size.{is_too_big}
 use Rattle.logic_ast.specs.Writing.{written}
 use Rattle.logic_ast.specs.declared.fault.LogicFault.{LogicFault}
-use Rattle.logic_ast.proofs.Numbered.{are_numbered, length-preorder, numbered-preorder, number-at}
+use Rattle.logic_ast.proofs.Numbered.{length-preorder, numbered-preorder, number-at}
 use Rattle.logic_eval.specs.declared.fault.EvalFault.{EvalFault}
 use Rattle.logic_eval.specs.declared.fault.EvalFault.TheVariants.{TooLong}
 use Rattle.logic_eval.specs.Evaluation.{evaluation_of, meaning}
 use Rattle.logic_eval.specs.Laws.{IsOfSite}
-use Rattle.logic_eval.specs.Run.{Reach, Run, most_units, units_of, reached_of, with_reached, result_of}
+use Rattle.logic_eval.specs.Run.{Reach, Run, most_units, units_of, reached_of, with_reached}
 use Rattle.logic_eval.specs.Scope.{Situation, default_input, root_scope}
 use Rattle.logic_eval.proofs.Reaching.{IsReachOf, keeps-meaning}
 use Rattle.logic_eval.proofs.Runs.{Runs}

@@ -1,17 +1,15 @@
 -- What isn't evaluated of `if`, `and`, `or` and a site whose entries are literal.
-use Rattle.std.proofs.Common.{◌≡◌, ℕ, ◌+◌, ◌<◌, ◌^◌, pos, true, false, cond, nat_lt, List, [], ◌∷◌, ◌++◌, append-nil, Option, Some, None, option_map, option_and_then, Result, Ok, Err, refl, sym, ap, ◌∙◌, arith, inl, inr}
+use Rattle.std.proofs.Common.{◌≡◌, ℕ, ◌<◌, ◌^◌, pos, true, nat_lt, List, [], ◌∷◌, append-nil, Option, Some, None, option_map, option_and_then, Result, Ok, Err, refl, ap, ◌∙◌, arith}
 use Rattle.bucket_core.specs.Rule.{Entries, total_weight}
 use Rattle.bucket_core.proofs.Points.{total_weight-cons}
 use Rattle.flag_text.specs.Shape.{Shape, text, whole}
-use Rattle.logic_ast.specs.Expression.{Expression, operation, Expressions, no_expressions, expression, Buckets, no_buckets, bucket, literal_bucket, computed_bucket}
+use Rattle.logic_ast.specs.Expression.{no_expressions, expression, Buckets, no_buckets, bucket, literal_bucket, computed_bucket}
 use Rattle.logic_ast.specs.Sites.{entries_of}
 use Rattle.logic_eval.specs.declared.fault.EvalFault.{EvalFault}
-use Rattle.logic_eval.specs.Evaluation.{meaning, meanings, pairs, pair, bucket_meanings, input, site, by_meaning}
+use Rattle.logic_eval.specs.Evaluation.{pairs, bucket_meanings}
 use Rattle.logic_eval.specs.Fractional as buckets
 use Rattle.logic_eval.specs.Fractional.{buckets_of, not_too_heavy, by_input, by_buckets, decided}
-use Rattle.logic_eval.specs.Operators.{Meaning, conditional, first_of_truth}
-use Rattle.logic_eval.specs.Run.{Run, Entry, cost, ends, gives, after, after_trace, continues, ◌>>=◌}
-use Rattle.logic_eval.specs.Truth.{is_true}
+use Rattle.logic_eval.specs.Run.{Run, cost, ends, gives, after, after_trace, continues, ◌>>=◌}
 use Rattle.logic_eval.specs.Laws.{LiteralSiteChooses, TrueTestSkipsTheRest, FalseTestSkipsItsResult, FalseEndsAnd, TrueEndsOr}
 
 -- a run that gives a value, and runs after it that are the same at that value

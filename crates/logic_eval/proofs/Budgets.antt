@@ -1,7 +1,7 @@
 -- Paying for a run piece by piece.
-use Rattle.std.proofs.Common.{◌≡◌, ℕ, ◌+◌, ◌-◌, ◌<◌, ◌≤◌, Bool, true, false, List, [], ◌∷◌, ◌++◌, length, Result, Ok, Err, refl, sym, ap, ap₂, ◌∙◌, arith, append_assoc, append-nil, inl, inr, ltb}
+use Rattle.std.proofs.Common.{◌≡◌, ℕ, ◌+◌, ◌-◌, ◌<◌, ◌≤◌, true, false, List, [], ◌∷◌, ◌++◌, Result, Ok, Err, refl, sym, ap, ◌∙◌, arith, append_assoc, append-nil, inl, inr}
 use Rattle.std.proofs.lemmas.Bool.{cases_Bool, cases_lt}
-use Rattle.std.specs.Prelude.{nat_lt, if◌then◌else◌, cond}
+use Rattle.std.specs.Prelude.{nat_lt, if◌then◌else◌}
 use Rattle.logic_eval.specs.declared.fault.EvalFault.{EvalFault}
 use Rattle.logic_eval.specs.declared.fault.EvalFault.TheVariants.{TooLong}
 use Rattle.logic_eval.specs.Budget.{Progress, with_progress, paid, if_paid}

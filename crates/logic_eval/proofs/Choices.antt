@@ -1,5 +1,5 @@
 -- The total weight and the name at a point, bucket by bucket.
-use Rattle.std.proofs.Common.{◌≡◌, ℕ, ◌+◌, ◌-◌, ◌^◌, ◌<◌, ◌≤◌, List, [], ◌∷◌, length, get_or, drop, map, true, false, ◌≢◌, ◌++◌, Result, Ok, Err, eqb, eqb-true, Option, Some, None, option_map, option_and_then, refl, sym, ap, ◌∙◌, arith, inl, inr, add_assoc}
+use Rattle.std.proofs.Common.{◌≡◌, ℕ, ◌+◌, ◌-◌, ◌^◌, ◌<◌, ◌≤◌, List, [], ◌∷◌, length, get_or, drop, map, true, false, ◌≢◌, ◌++◌, Result, Ok, Err, eqb, eqb-true, Option, Some, None, option_map, option_and_then, refl, sym, ap, ◌∙◌, arith, inl, inr}
 use Rattle.std.specs.Prelude.{nat_lt}
 use Rattle.std.specs.Option.{option_map_or}
 use Rattle.std.proofs.lemmas.Bool.{cases_Bool}
@@ -13,7 +13,7 @@ use Rattle.logic_eval.specs.declared.fault.EvalFault.{EvalFault}
 use Rattle.logic_eval.specs.declared.fault.EvalFault.TheVariants.{BadBuckets}
 use Rattle.logic_eval.specs.declared.fractional.Share.{Share}
 use Rattle.logic_eval.specs.Budget.{Progress, paid}
-use Rattle.logic_eval.specs.Run.{Reach, Run, ends}
+use Rattle.logic_eval.specs.Run.{Run, ends}
 use Rattle.logic_eval.specs.Fractional.{entries_of, buckets_of, not_too_heavy, by_buckets, decided, input_result, reached, chosen}
 use Rattle.logic_eval.specs.Number.{below}
 use Rattle.logic_eval.specs.Views.{share_view}

@@ -1,5 +1,5 @@
 -- The exit of a `?`, where a fault is passed on.
-use Rattle.std.proofs.Common.{◌≡◌, ◌≢◌, Result, Ok, Err, refl, sym, ap, ◌∙◌}
+use Rattle.std.proofs.Common.{◌≡◌, ◌≢◌, Result, Ok, Err, sym, ap, ◌∙◌}
 use Rattle.std.specs.Result.{IsErrAnd}
 use Rattle.flag_text.specs.Outcome.{GivesUnless}
 use Rattle.logic_eval.specs.declared.fault.EvalFault.{EvalFault}

@@ -1,5 +1,5 @@
 -- A body that runs over the items of a list, item by item.
-use Rattle.std.proofs.Common.{◌≡◌, ◌≢◌, ℕ, suc, ◌+◌, ◌<◌, ◌≤◌, Bool, true, false, List, [], ◌∷◌, ◌++◌, length, get_or, drop, map, eqb, Option, Result, Ok, Err, refl, sym, ap, ◌∙◌, arith}
+use Rattle.std.proofs.Common.{◌≡◌, ◌≢◌, ℕ, ◌+◌, ◌<◌, ◌≤◌, Bool, true, false, List, [], ◌∷◌, ◌++◌, length, get_or, drop, map, Option, Ok, Err, refl, sym, ap, ◌∙◌, arith}
 use Rattle.std.proofs.lemmas.List.{map-append, get_or_default, drop_all}
 use Rattle.std.specs.Bool.{beq}
 use Rattle.std.specs.Prelude.{not}
@@ -16,7 +16,7 @@ use Rattle.logic_eval.specs.Comparison.{bool_eq}
 use Rattle.logic_eval.specs.Evaluation.{meaning, meanings}
 use Rattle.logic_eval.specs.Lists.{items_in}
 use Rattle.logic_eval.specs.Operators.{Meaning, mapped, kept, occurs, reduced, reduce_scope, all_of, over, over_items, over_from_start, start}
-use Rattle.logic_eval.specs.Run.{Run, gives, ◌>>=◌}
+use Rattle.logic_eval.specs.Run.{gives, ◌>>=◌}
 use Rattle.logic_eval.specs.Truth.{is_true}
 use Rattle.logic_eval.proofs.Budgets.{bind_ok, bind_err, paid-bind, paid-gives}
 use Rattle.logic_eval.proofs.Sizes.{drop_at}

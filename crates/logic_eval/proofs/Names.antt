@@ -1,13 +1,12 @@
 -- The names of `missing`.
-use Rattle.std.proofs.Common.{◌≡◌, ℕ, ◌+◌, ◌-◌, ◌<◌, ◌≤◌, List, [], ◌∷◌, length, get_or, drop, map, Option, Some, None, Ok, ℤ, pos, refl, sym, ap, ◌∙◌, arith, inl, inr, true, false}
-use Rattle.std.specs.Prelude.{filter, not, int_lt}
-use Rattle.std.proofs.lemmas.Bool.{cases_Bool}
+use Rattle.std.proofs.Common.{◌≡◌, ◌<◌, List, [], ◌∷◌, length, get_or, drop, map, Some, None, Ok, ℤ, pos, refl, sym, ap, ◌∙◌, arith, true, false}
+use Rattle.std.specs.Prelude.{filter, int_lt}
 use Rattle.flag_text.specs.declared.tree.Tree.{Tree}
 use Rattle.flag_text.specs.Readers.{as_list}
 use Rattle.flag_text.specs.Shape.{Shape, list}
 use Rattle.flag_text.specs.View.{view, items_view, items_of}
 use Rattle.logic_eval.specs.declared.value.Value.{Value}
-use Rattle.logic_eval.specs.Scope.{missing, is_missing, names_of, names_from, found_count, missing_unless}
+use Rattle.logic_eval.specs.Scope.{missing, is_missing, names_from, found_count, missing_unless}
 use Rattle.logic_eval.specs.Views.{value_view}
 use Rattle.logic_eval.proofs.Values.{shapes_of_items}
 

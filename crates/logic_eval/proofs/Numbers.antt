@@ -1,5 +1,5 @@
 -- Decimal digits, one by one.
-use Rattle.std.proofs.Common.{◌≡◌, ℕ, ◌+◌, ◌*◌, ◌-◌, ◌^◌, ◌<◌, ◌≤◌, suc, get_or, drop, drop-cons, Bool, true, false, List, [], ◌∷◌, length, Option, Some, None, option_and_then, refl, arith, inl, inr}
+use Rattle.std.proofs.Common.{◌≡◌, ℕ, ◌+◌, ◌*◌, ◌-◌, ◌<◌, ◌≤◌, suc, get_or, drop, drop-cons, true, List, [], ◌∷◌, length, None, option_and_then, refl, arith, inl, inr}
 use Rattle.std.specs.Char.{is_ascii_digit}
 use Rattle.std.proofs.lemmas.Bool.{cases_Bool, cases_lt}
 use Rattle.std.specs.Prelude.{nat_lt}

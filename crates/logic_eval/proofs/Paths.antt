@@ -1,5 +1,5 @@
 -- Steps of a path.
-use Rattle.std.proofs.Common.{◌≡◌, ℕ, ◌≢◌, ◌<◌, ◌≤◌, ◌+◌, length, get_or, take, drop, eqb, eqb-true, length-drop, inl, inr, arith, true, false, List, [], ◌∷◌, ◌++◌, map, Option, Some, None, option_map, option_and_then, Vec, String, string_bytes, Global, refl, sym, ap, ◌∙◌}
+use Rattle.std.proofs.Common.{◌≡◌, ℕ, ◌≢◌, ◌<◌, ◌≤◌, ◌+◌, length, get_or, take, drop, eqb, eqb-true, length-drop, inl, inr, arith, true, false, List, [], ◌∷◌, ◌++◌, map, Some, option_and_then, Vec, String, string_bytes, Global, refl, sym, ap, ◌∙◌}
 use Rattle.std.specs.Prelude.{slice_get, codes}
 use Rattle.std.specs.List.{slice_split, position_or_len, before_first, after_first}
 use Rattle.std.specs.Str.{bytes_eq}
@@ -15,10 +15,9 @@ use Rattle.std.proofs.lemmas.List.{get_or_default, drop_all, take_all}
 use Rattle.std.proofs.lemmas.List.Splits.{slice_split_none, slice_split_first}
 use Rattle.flag_text.specs.declared.tree.Tree.{Tree}
 use Rattle.flag_text.specs.declared.tree.Tree.TheVariants as tree
-use Rattle.flag_text.specs.Shape.{Shape, list, object, Members, no_members, member}
+use Rattle.flag_text.specs.Shape.{Shape, Members, no_members, member}
 use Rattle.flag_text.specs.View.{view, members_view}
-use Rattle.logic_eval.specs.Lists.{shapes_of}
-use Rattle.logic_eval.specs.Scope.{step, index_of, follow, is_dot, with_member}
+use Rattle.logic_eval.specs.Scope.{step, index_of, is_dot, with_member}
 use Rattle.logic_eval.specs.Views.{before}
 use Rattle.logic_eval.proofs.Sizes.{drop_at}
 use Rattle.logic_eval.proofs.Truths.{view_list}

@@ -1,10 +1,8 @@
 -- What an expression evaluates to in a whole scope is whole, and what it reaches is of its sites.
-use Rattle.std.proofs.Common.{◌≡◌, ℕ, suc, ◌+◌, ◌<◌, ◌^◌, pos, Bool, true, false, not, ◌&&◌, ◌==◌, cond, nat_lt, List, [], ◌∷◌, ◌++◌, length, map, Option, Some, None, option_map, option_and_then, Result, Ok, Err, refl, sym, ap, ◌∙◌, arith}
-use Rattle.std.specs.Prelude.{IfOk, IfSome, if◌then◌else◌}
+use Rattle.std.proofs.Common.{◌≡◌, ℕ, suc, ◌+◌, ◌^◌, pos, Bool, true, false, not, ◌==◌, cond, nat_lt, List, [], ◌∷◌, ◌++◌, Option, Some, None, option_map, Result, Ok, Err, refl, sym, ap, ◌∙◌, arith}
+use Rattle.std.specs.Prelude.{IfOk, IfSome}
 use Rattle.std.specs.List.{Contains}
-use Rattle.std.proofs.lemmas.Bool.{cases_Bool}
 use Rattle.std.proofs.lemmas.List.Elements.{Contains-append_left, Contains-append_right}
-use Rattle.bucket_core.specs.Reading.{weight_of, bucket_with}
 use Rattle.bucket_core.specs.Rule.{Entries, total_weight, choice}
 use Rattle.flag_text.specs.Shape.{Shape, null, boolean, whole, text, list, is_whole}
 use Rattle.flag_text.specs.View.{items_of}
@@ -13,17 +11,17 @@ use Rattle.logic_ast.specs.Expression.{Expression, literal, operation, fractiona
 use Rattle.logic_ast.specs.Expression as ast
 use Rattle.logic_ast.specs.Formed.{is_literal, is_list, expression_count, are_literals, is_formed, are_formed, by_is_formed, buckets_are_formed, bucket_is_formed}
 use Rattle.logic_ast.specs.Operator.{takes}
-use Rattle.logic_ast.specs.Sites.{Site, sites, sites_in_by, sites_in_bucket, preorder, preorder_in, preorder_in_by, preorder_in_buckets, preorder_in_bucket, entries_of}
+use Rattle.logic_ast.specs.Sites.{Site, sites, sites_in_by, sites_in_bucket, preorder, preorder_in, preorder_in_by, preorder_in_buckets, entries_of}
 use Rattle.logic_ast.specs.declared.operator.Operator.{Operator}
 use Rattle.logic_ast.specs.declared.operator.Operator.TheVariants as op
 use Rattle.logic_eval.specs.declared.fault.EvalFault.{EvalFault}
 use Rattle.logic_eval.specs.Comparison.{bool_eq}
-use Rattle.logic_eval.specs.Evaluation.{part_of, pair, pairs, input, site, meaning, meanings, by_meaning, bucket_meanings, bucket_meaning}
+use Rattle.logic_eval.specs.Evaluation.{part_of, pairs, input, meaning, meanings, by_meaning, bucket_meanings}
 use Rattle.logic_eval.specs.Fractional as buckets
 use Rattle.logic_eval.specs.Fractional.{buckets_of, not_too_heavy, chosen, reached, by_input, by_buckets, decided, given_input, made_input}
 use Rattle.logic_eval.specs.Lists.{items_in}
-use Rattle.logic_eval.specs.Operators.{Meaning, values, found, variable_run, strict, conditional, first_of_truth, mapped, kept, occurs, is_empty, all_of, some_of, none_of, reduce_scope, reduced, as_list, over_items, over, start, over_from_start, operated, applied}
-use Rattle.logic_eval.specs.Run.{Reach, Run, cost, reach, ends, gives, faults, after, ◌>>=◌}
+use Rattle.logic_eval.specs.Operators.{Meaning, values, variable_run, strict, conditional, first_of_truth, mapped, kept, occurs, is_empty, all_of, reduce_scope, reduced, over_items, over, start, over_from_start, operated, applied}
+use Rattle.logic_eval.specs.Run.{Reach, Run}
 use Rattle.logic_eval.specs.Scope.{size, variable}
 use Rattle.logic_eval.specs.Truth.{is_true}
 use Rattle.logic_eval.proofs.Choices.{buckets_entries}

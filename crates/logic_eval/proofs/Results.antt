@@ -1,5 +1,5 @@
 -- The result of a run is what one who pays for it sees.
-use Rattle.std.proofs.Common.{◌≡◌, ℕ, List, [], ◌++◌, ◌-◌, Option, Result, Ok, Err, true, false, refl, sym, ap, ◌∙◌, inl, inr}
+use Rattle.std.proofs.Common.{◌≡◌, ℕ, List, [], ◌++◌, ◌-◌, Option, Result, Ok, Err, refl, inl, inr}
 use Rattle.std.specs.Prelude.{nat_lt}
 use Rattle.std.proofs.lemmas.Bool.{cases_Bool}
 use Rattle.flag_text.specs.Shape.{Shape}
@@ -7,7 +7,7 @@ use Rattle.logic_ast.specs.Expression.{Expression}
 use Rattle.logic_eval.specs.declared.fault.EvalFault.{EvalFault}
 use Rattle.logic_eval.specs.Budget.{Progress, paid, with_progress}
 use Rattle.logic_eval.specs.Evaluation.{evaluation_of, meaning}
-use Rattle.logic_eval.specs.Run.{Reach, Entry, Run, result_of, units_of, reached_of, with_reached, most_units}
+use Rattle.logic_eval.specs.Run.{Reach, Run, result_of, units_of, reached_of, with_reached, most_units}
 use Rattle.logic_eval.specs.Scope.{Situation, default_input, root_scope}
 
 -- without what is left of the budget

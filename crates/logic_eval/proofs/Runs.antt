@@ -1,10 +1,10 @@
 -- What holds of the value of a run and of each site that it reaches.
-use Rattle.std.proofs.Common.{◌≡◌, List, [], ◌∷◌, ◌++◌, Result, Ok, Err, ◌∙◌}
+use Rattle.std.proofs.Common.{◌++◌, Result, Ok, Err}
 use Rattle.std.specs.Prelude.{ℕ, IfOk}
 use Rattle.std.specs.List.{All}
 use Rattle.std.proofs.lemmas.List.Elements.{All-nil, All-cons, All-append, All-same}
 use Rattle.logic_eval.specs.declared.fault.EvalFault.{EvalFault}
-use Rattle.logic_eval.specs.Run.{Reach, Entry, cost, reach, Run, ends, gives, faults, after, continues, ◌>>=◌, reached_of}
+use Rattle.logic_eval.specs.Run.{Reach, cost, reach, Run, ends, gives, faults, after, continues, ◌>>=◌, reached_of}
 use Rattle.logic_eval.proofs.Budgets.{reached_of-append}
 
 -- the value, if there is one, has P, and each reached site has Q

@@ -1,18 +1,13 @@
 -- The input and the buckets of a site, one by one.
-use Rattle.std.proofs.Common.{◌≡◌, ◌≢◌, ℕ, suc, ◌+◌, ◌<◌, List, [], ◌∷◌, length, get_or, drop, map, Option, Some, None, Result, Ok, Err, Vec, Box, String, Global, string_bytes, rules, refl, sym, ap, ◌∙◌, pos}
+use Rattle.std.proofs.Common.{◌≡◌, ℕ, ◌+◌, ◌<◌, List, [], ◌∷◌, length, get_or, drop, Option, Ok, Err, String, Global, string_bytes, ◌∙◌, pos}
 use Rattle.flag_text.specs.Shape.{Shape, text, whole}
-use Rattle.flag_text.specs.View.{view as tree_view}
 use Rattle.logic_ast.specs.declared.node.Node.{Node}
-use Rattle.logic_ast.specs.declared.node.Node.TheVariants as node
 use Rattle.logic_ast.specs.declared.node.Bucket.{Bucket}
 use Rattle.logic_ast.specs.declared.node.Bucket.TheVariants.{Literal, Computed}
 use Rattle.logic_ast.specs.View.{node_view, buckets_view}
 use Rattle.logic_eval.specs.declared.fault.EvalFault.{EvalFault}
 use Rattle.logic_eval.specs.Budget.{Progress, paid}
-use Rattle.logic_eval.specs.Evaluation.{meaning, bucket_meanings, pairs, pair, part_of}
-use Rattle.logic_eval.specs.Operators.{Meaning}
-use Rattle.logic_eval.specs.Run.{Run, gives}
-use Rattle.logic_eval.proofs.Branches.{node_view-literal}
+use Rattle.logic_eval.specs.Evaluation.{meaning, bucket_meanings, pairs, part_of}
 use Rattle.logic_eval.proofs.Budgets.{bind_ok, bind_err, paid-gives}
 use Rattle.logic_eval.proofs.Sizes.{drop_at}
 use Rattle.logic_eval.proofs.Values.{prepended, before_rest}

@@ -1,5 +1,5 @@
 -- Paying for the items and members of a value one after the other.
-use Rattle.std.proofs.Common.{◌≡◌, ℕ, suc, ◌+◌, ◌<◌, List, [], ◌∷◌, length, get_or, drop, drop-cons, add-one, map, Ok, Err, String, Global, Vec, rules, refl, sym, ap, ◌∙◌}
+use Rattle.std.proofs.Common.{◌≡◌, ℕ, suc, ◌+◌, ◌<◌, List, ◌∷◌, length, get_or, drop, drop-cons, add-one, Ok, Err, String, Global, Vec, rules, sym, ap}
 use Rattle.flag_text.specs.declared.tree.Tree.{Tree, the_lemmas}
 use Rattle.flag_text.specs.declared.tree.Tree.TheVariants as tree
 use Rattle.flag_text.specs.Shape.{object}

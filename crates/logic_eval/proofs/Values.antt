@@ -1,16 +1,16 @@
 -- Lists of values, one by one.
-use Rattle.std.proofs.Common.{◌≡◌, ℕ, suc, ◌+◌, ◌<◌, List, [], ◌∷◌, ◌++◌, length, get_or, drop, map, Option, Result, Ok, Err, Vec, Global, refl, sym, ap, ◌∙◌, append_assoc, append-nil}
+use Rattle.std.proofs.Common.{◌≡◌, ℕ, ◌+◌, ◌<◌, List, [], ◌∷◌, ◌++◌, length, get_or, drop, map, Option, Result, Ok, Err, Vec, Global, refl, sym, ap, ◌∙◌, append_assoc, append-nil}
 use Rattle.flag_text.specs.declared.tree.Tree.{Tree}
 use Rattle.flag_text.specs.declared.tree.Tree.TheVariants as tree
-use Rattle.flag_text.specs.Shape.{Shape, list}
-use Rattle.flag_text.specs.View.{view, items_of, items_view}
+use Rattle.flag_text.specs.Shape.{Shape}
+use Rattle.flag_text.specs.View.{view, items_of}
 use Rattle.logic_ast.specs.declared.node.Node.{Node}
 use Rattle.logic_ast.specs.View.{node_view, nodes_view}
 use Rattle.logic_eval.specs.declared.fault.EvalFault.{EvalFault}
 use Rattle.logic_eval.specs.Budget.{Progress, paid, if_paid}
 use Rattle.logic_eval.specs.Evaluation.{meaning, meanings}
 use Rattle.logic_eval.specs.Lists.{shapes_of, items_in}
-use Rattle.logic_eval.specs.Operators.{Meaning, values}
+use Rattle.logic_eval.specs.Operators.{values}
 use Rattle.logic_eval.specs.Run.{Run, gives, ◌>>=◌}
 use Rattle.logic_eval.proofs.Budgets.{paid-bind, paid-gives, bind_ok, bind_err}
 use Rattle.logic_eval.proofs.Sizes.{drop_at}

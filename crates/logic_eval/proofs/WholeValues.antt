@@ -1,16 +1,15 @@
 -- What an operator gives of whole values is whole.
-use Rattle.std.proofs.Common.{◌≡◌, ◌≢◌, ℕ, zero, suc, ◌+◌, ◌<◌, ◌^◌, ℤ, pos, negsuc, Bool, true, false, cond, nat_lt, List, [], ◌∷◌, ◌++◌, Option, Some, None, option_map, option_and_then, Result, Ok, Err, refl, sym, ap, ◌∙◌, arith, inl, inr}
-use Rattle.std.specs.Prelude.{◌+ℤ◌, ◌-ℤ◌, ◌*ℤ◌, neg_ℤ, int_rem, int_lt, filter, flat_map, codes, not, unwrap_or, slice_get, IfOk, IfSome, if◌then◌else◌}
+use Rattle.std.proofs.Common.{◌≡◌, ℕ, zero, suc, ◌<◌, ◌^◌, ℤ, pos, negsuc, Bool, true, false, cond, nat_lt, List, [], ◌∷◌, ◌++◌, Option, Some, None, option_and_then, Result, Ok, Err, refl, ap, ◌∙◌, arith}
+use Rattle.std.specs.Prelude.{◌+ℤ◌, ◌-ℤ◌, ◌*ℤ◌, neg_ℤ, int_rem, int_lt, filter, flat_map, codes, unwrap_or, slice_get, IfOk}
 use Rattle.std.specs.Int.{int_min, int_max}
 use Rattle.std.specs.Int.RustNames.{unsigned_abs}
 use Rattle.std.specs.Ordering.{int_eq, match_ordering, nat_cmp, ordering_reverse}
 use Rattle.std.specs.declared.cmp.Ordering.{Ordering}
 use Rattle.std.specs.declared.cmp.Ordering.TheVariants.{Less, Equal, Greater}
 use Rattle.std.specs.Cmp.Lexicographic.{slice_cmp}
-use Rattle.std.proofs.lemmas.Bool.{cases_Bool}
 use Rattle.std.proofs.lemmas.Cmp.{nat_list_cmp_total}
 use Rattle.std.proofs.lemmas.Int.{rem_below}
-use Rattle.flag_text.specs.Readers.{as_list, find_member}
+use Rattle.flag_text.specs.Readers.{as_list}
 use Rattle.flag_text.specs.Shape.{Shape, null, boolean, whole, other, text, list, object, Items, no_items, item, Members, no_members, member, is_in_range, comes_first, is_whole, items_are_whole, members_are_whole}
 use Rattle.flag_text.specs.View.{items_of}
 use Rattle.flag_text.proofs.Bools.{both, left, right, Holds}
@@ -18,12 +17,12 @@ use Rattle.flag_text.proofs.Halving.{is_whole-find_member, same_name}
 use Rattle.logic_ast.specs.declared.operator.Operator.{Operator}
 use Rattle.logic_ast.specs.declared.operator.Operator.TheVariants as op
 use Rattle.logic_eval.specs.declared.fault.EvalFault.{EvalFault}
-use Rattle.logic_eval.specs.Arithmetic.{if_number, step, folded, folded_from_first, sum, product, maximum, minimum, difference, remainder, remainder_of}
-use Rattle.logic_eval.specs.Lists.{shapes_of, items_in, parts_of, merged}
-use Rattle.logic_eval.specs.Number.{in_range, number_of, decimal_value, signed_value}
+use Rattle.logic_eval.specs.Arithmetic.{if_number, step, folded, folded_from_first, difference, remainder, remainder_of}
+use Rattle.logic_eval.specs.Lists.{shapes_of, items_in, parts_of}
+use Rattle.logic_eval.specs.Number.{in_range, number_of, signed_value}
 use Rattle.logic_eval.specs.Operators.{applied, argument, reduce_scope}
-use Rattle.logic_eval.specs.Scope.{Situation, with_member, flagd, with_flagd, root_scope, index_of, step as path_step, follow, find_text, find, variable, is_missing, names_from, names_of, missing, found_count, missing_unless, missing_some}
-use Rattle.logic_eval.specs.Text.{made, if_text, joined, part_result, part, piece}
+use Rattle.logic_eval.specs.Scope.{Situation, with_member, flagd, with_flagd, root_scope, index_of, step as path_step, follow, find, variable, is_missing, names_from, missing, found_count, missing_unless}
+use Rattle.logic_eval.specs.Text.{if_text, part_result, part}
 
 -- the values of a list are whole
 abbrev pub are_whole : List Shape → Bool

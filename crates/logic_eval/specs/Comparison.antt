@@ -1,9 +1,9 @@
 -- Equality and order of values (JsonLogic: `==`, `===`, `<`, `<=`, `>`, `>=`).
-use Rattle.std.specs.Prelude.{ℕ, ℤ, Bool, true, false, not, ◌&&◌, List, [], ◌∷◌, Option, Some, None, int_lt, int_le}
+use Rattle.std.specs.Prelude.{ℤ, Bool, true, false, not, ◌&&◌, List, [], ◌∷◌, Option, Some, None, int_lt, int_le}
 use Rattle.std.specs.Ordering.{int_eq, nat_cmp, is_lt, is_le}
 use Rattle.std.specs.Str.{bytes_eq}
 use Rattle.std.specs.Cmp.Lexicographic.{slice_cmp}
-use Rattle.flag_text.specs.Shape.{Shape, null, boolean, whole, other, text, list, object}
+use Rattle.flag_text.specs.Shape.{Shape, null, boolean, whole, text}
 use Rattle.logic_eval.specs.Number.{decimal_value, number_of, truth_number}
 
 abbrev pub bool_eq : Bool → Bool → Bool

@@ -1,6 +1,6 @@
 -- What an expression evaluates to: a value, and the sites that were reached, in their order.
 use Rattle.std.specs.Prelude.{ℕ, pos, List, [], ◌∷◌, Option, Some, None, Result}
-use Rattle.flag_text.specs.Shape.{Shape, whole, text, list}
+use Rattle.flag_text.specs.Shape.{Shape, whole, text}
 use Rattle.logic_ast.specs.Expression.{Expression, literal, operation, fractional, Expressions, no_expressions, expression, By, no_by, by, Buckets, no_buckets, bucket, Bucket, literal_bucket, computed_bucket}
 use Rattle.logic_ast.specs.Expression as ast
 use Rattle.logic_eval.specs.declared.fault.EvalFault.{EvalFault}

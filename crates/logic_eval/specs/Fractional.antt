@@ -1,12 +1,12 @@
 -- flagd: `fractional`.
-use Rattle.std.specs.Prelude.{ℕ, ◌<◌, ◌^◌, ◌==◌, List, [], ◌∷◌, length, nat_lt, if◌then◌else◌, Option, Some, None, option_map, option_and_then, Result, Ok, Err}
-use Rattle.flag_text.specs.Shape.{Shape, null, boolean, whole, other, text, list, object}
+use Rattle.std.specs.Prelude.{ℕ, ◌^◌, ◌==◌, List, [], ◌∷◌, nat_lt, if◌then◌else◌, Option, Some, None, option_map, option_and_then, Result, Ok, Err}
+use Rattle.flag_text.specs.Shape.{Shape, null, text}
 use Rattle.flag_text.specs.Readers.{as_text}
 use Rattle.bucket_core.specs.Reading.{weight_of, bucket_with}
 use Rattle.bucket_core.specs.Rule.{Entries, total_weight, choice}
 use Rattle.logic_eval.specs.declared.fault.EvalFault.{EvalFault}
 use Rattle.logic_eval.specs.declared.fault.EvalFault.TheVariants.{BadBuckets}
-use Rattle.logic_eval.specs.Run.{Reach, reach, Run, ends, gives, faults, after, ◌>>=◌}
+use Rattle.logic_eval.specs.Run.{reach, Run, ends, gives, faults, after, ◌>>=◌}
 use Rattle.logic_eval.specs.Text.{made}
 
 -- the buckets of these names and weights; none where a name is no text or a weight is no whole number from 0 to 2^31-1

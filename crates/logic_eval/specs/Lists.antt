@@ -1,7 +1,7 @@
 -- Lists (JsonLogic: `merge`, `in`).
-use Rattle.std.specs.Prelude.{ℕ, Bool, true, false, List, [], ◌∷◌, flat_map}
+use Rattle.std.specs.Prelude.{Bool, List, [], ◌∷◌, flat_map}
 use Rattle.std.specs.List.{list_any}
-use Rattle.flag_text.specs.Shape.{Shape, null, boolean, whole, other, text, list, object, Items, no_items, item}
+use Rattle.flag_text.specs.Shape.{Shape, list, Items, no_items, item}
 use Rattle.flag_text.specs.View.{items_of}
 use Rattle.logic_eval.specs.Comparison.{is_same}
 use Rattle.logic_eval.specs.Text.{both_texts, occurs_in}

@@ -1,7 +1,7 @@
 -- The number of a value, where it has one.
-use Rattle.std.specs.Prelude.{ℕ, ◌+◌, ◌*◌, ◌-◌, ◌^◌, ◌==◌, nat_lt, ℤ, pos, neg_ℤ, Bool, true, false, List, [], ◌∷◌, if◌then◌else◌, Option, Some, None, option_map, option_and_then}
+use Rattle.std.specs.Prelude.{ℕ, ◌+◌, ◌*◌, ◌-◌, ◌==◌, nat_lt, ℤ, pos, neg_ℤ, Bool, true, false, List, [], ◌∷◌, if◌then◌else◌, Option, Some, None, option_map, option_and_then}
 use Rattle.std.specs.Char.{is_ascii_digit}
-use Rattle.flag_text.specs.Shape.{Shape, null, boolean, whole, other, text, list, object, is_in_range}
+use Rattle.flag_text.specs.Shape.{Shape, whole, text, is_in_range}
 
 -- the number where it is from -(2^53-1) to 2^53-1
 abbrev pub in_range : ℤ → Option ℤ

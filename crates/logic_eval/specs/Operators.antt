@@ -1,6 +1,6 @@
 -- The operators over the meanings of their arguments, each by its JsonLogic or flagd name.
-use Rattle.std.specs.Prelude.{ℕ, pos, unwrap_or, slice_get, Bool, true, false, not, List, [], ◌∷◌, codes, if◌then◌else◌, Option, Some, None, Result, Ok, Err}
-use Rattle.flag_text.specs.Shape.{Shape, null, boolean, whole, other, text, list, object, Items, no_items, item, Members, no_members, member}
+use Rattle.std.specs.Prelude.{ℕ, unwrap_or, slice_get, Bool, true, false, not, List, [], ◌∷◌, codes, if◌then◌else◌, Result, Ok}
+use Rattle.flag_text.specs.Shape.{Shape, null, boolean, list, object, no_members, member}
 use Rattle.flag_text.specs.View.{items_of}
 use Rattle.logic_ast.specs.declared.operator.Operator.{Operator}
 use Rattle.logic_ast.specs.declared.operator.Operator.TheVariants as op

@@ -1,6 +1,5 @@
 -- What an evaluation gives: a trace of what it costs and of the sites that it reaches, and how it ends.
 use Rattle.std.specs.Prelude.{ℕ, ◌+◌, List, [], ◌∷◌, ◌++◌, nat_lt, if◌then◌else◌, Result, Ok, Err}
-use Rattle.flag_text.specs.Shape.{Shape}
 use Rattle.logic_eval.specs.declared.fault.EvalFault.{EvalFault}
 use Rattle.logic_eval.specs.declared.fault.EvalFault.TheVariants.{TooLong}
 

@@ -1,5 +1,5 @@
 -- The scope of an evaluation, and what a path finds in it (JsonLogic: `var`, `missing`, `missing_some`; flagd: `$flagd`, `targetingKey`).
-use Rattle.std.specs.Prelude.{ℕ, ◌+◌, ◌*◌, ◌/◌, ◌-◌, ◌==◌, suc, ℤ, pos, Bool, true, false, not, ◌||◌, List, [], ◌∷◌, ◌++◌, length, count_by, filter, codes, if◌then◌else◌, nat_lt, int_lt, Option, Some, None, unwrap_or, option_map, option_and_then, slice_get, Result, Ok, Err}
+use Rattle.std.specs.Prelude.{ℕ, ◌+◌, ◌/◌, ◌==◌, ℤ, pos, Bool, true, false, not, List, [], ◌∷◌, ◌++◌, length, filter, codes, if◌then◌else◌, int_lt, Option, Some, None, unwrap_or, option_map, option_and_then, slice_get, Result, Ok, Err}
 use Rattle.std.specs.Fmt.{signed_decimal}
 use Rattle.std.specs.List.{slice_split}
 use Rattle.std.specs.Ordering.{nat_cmp, match_ordering}

@@ -1,6 +1,6 @@
 -- Texts (JsonLogic: `cat`, `substr`, `in`; flagd: `starts_with`, `ends_with`).
-use Rattle.std.specs.Prelude.{ℕ, ◌+◌, ◌-◌, min, max, ◌==◌, ℤ, pos, negsuc, suc, Bool, true, false, ◌||◌, ◌&&◌, List, [], ◌∷◌, ◌++◌, length, take, drop, flat_map, nat_lt, if◌then◌else◌, Option, Some, None, option_map, option_and_then, Result, Ok, Err, codes, chars, encode_utf8_all, nat_eq}
-use Rattle.std.specs.List.{starts_with, ends_with}
+use Rattle.std.specs.Prelude.{ℕ, ◌+◌, ◌-◌, min, max, ◌==◌, ℤ, pos, negsuc, suc, Bool, true, false, ◌||◌, List, [], ◌∷◌, length, take, drop, flat_map, nat_lt, if◌then◌else◌, Option, Some, None, option_map, option_and_then, Result, Ok, Err, codes, chars, encode_utf8_all, nat_eq}
+use Rattle.std.specs.List.{starts_with}
 use Rattle.std.specs.Fmt.{signed_decimal}
 use Rattle.flag_text.specs.Shape.{Shape, null, boolean, whole, other, text, list, object}
 use Rattle.logic_eval.specs.declared.fault.EvalFault.{EvalFault}

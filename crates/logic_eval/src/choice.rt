@@ -7,7 +7,7 @@ ghost use Rattle.flag_text.specs.Outcome.{GivesUnless};
 ghost use Rattle.flag_text.specs.Shape.{null, text};
 ghost use Rattle.flag_text.specs.View.{view};
 ghost use Rattle.logic_eval.specs.declared.fault.EvalFault.TheVariants.{WantOfMemory};
-ghost use Rattle.logic_eval.specs.Budget.{paid};
+ghost use Rattle.logic_eval.specs.Budget.{Follows};
 ghost use Rattle.logic_eval.specs.Fractional.{entries_of, buckets_of, input_result, decided};
 ghost use Rattle.logic_eval.specs.Views.{progress, default_view, input_view, share_view};
 
@@ -16,11 +16,11 @@ use crate::fractional::{Input, Share};
 use crate::meter::{Meter, Reached};
 use crate::scope::Subject;
 use crate::text::MOST_BYTES;
-use bucket_core::point;
+use bucket_core::{point, weight_of};
 use flag_text::Tree;
 use std::alloc::{AllocError, Global};
 
-const MAX_TOTAL: u64 = (1 << 31) - 1;
+const MAX_TOTAL: u64 = bucket_core::MAX_TOTAL as u64;
 
 /// What the site gives: the name at the input's point, or null.
 pub(crate) fn decide(
@@ -30,7 +30,7 @@ pub(crate) fn decide(
     shares: &[Share],
     subject: Subject,
 ) -> Result<Tree, EvalFault>
-    ensures exact { GivesUnless WantOfMemory (λ t. (view t, progress meter.new)) result (paid (progress meter.old) (decided site (input_view (default_view subject.entry) input.entry) (map share_view shares.now))) }
+    ensures exact { Follows view (progress meter.old) (progress meter.new) result (decided site (input_view (default_view subject.entry) input.entry) (map share_view shares.now)) }
 {
     let Some(total) = total_of(shares) else {
         return Err(EvalFault::BadBuckets);
@@ -108,23 +108,6 @@ fn name_at<'a, 'b>(shares: &'a [Share<'b>], point: u32) -> Option<&'a str>
         left -= weight;
     }
     None
-}
-
-// A weight: a whole number from 0 to 2^31-1.
-fn weight_of(tree: &Tree) -> Option<u64>
-    ensures value { result ≡ weight_of (view tree.now) }
-    ensures small { IfSome result (λ n. n < 2 ^ 31) }
-{
-    match tree {
-        Tree::Whole(n) => {
-            if *n >= 0 && *n <= MAX_TOTAL as i64 {
-                Some(*n as u64)
-            } else {
-                None
-            }
-        }
-        _ => None,
-    }
 }
 
 // A name that is a text, and a weight.

@@ -6,7 +6,7 @@ ghost use Rattle.flag_text.specs.Shape.{is_whole};
 ghost use Rattle.flag_text.specs.View.{view as tree_view};
 ghost use Rattle.logic_ast.specs.Expr.{view};
 ghost use Rattle.logic_eval.specs.declared.fault.EvalFault.TheVariants.{WantOfMemory};
-ghost use Rattle.logic_eval.specs.Budget.{paid};
+ghost use Rattle.logic_eval.specs.Budget.{Follows};
 ghost use Rattle.logic_eval.specs.Evaluation.{evaluation_of, meaning};
 ghost use Rattle.logic_eval.specs.Laws.{IsOfSite};
 ghost use Rattle.logic_eval.specs.Scope.{flagd as flagd_of, default_input, root_scope};
@@ -64,7 +64,7 @@ fn evaluated<'a>(
     flagd: &'a Tree,
 ) -> Result<Tree, EvalFault>
     requires { tree_view flagd.now ≡ flagd_of (situation context.now) }
-    ensures exact { GivesUnless WantOfMemory (λ t. (tree_view t, progress meter.new)) result (paid (progress meter.old) (meaning (default_input (situation context.now)) (node_view node.now) (root_scope (situation context.now)))) }
+    ensures exact { Follows tree_view (progress meter.old) (progress meter.new) result (meaning (default_input (situation context.now)) (node_view node.now) (root_scope (situation context.now))) }
 {
     let value = evaluate(meter, node, context.scope(flagd), context.subject())?;
     Ok(value.into_tree(meter.alloc)?)

@@ -38,6 +38,3 @@ pub use laws::{
     a_rule_that_chooses_alike_changes_nothing_else,
 };
 pub use meter::Reached;
-
-#[cfg(test)]
-mod tests;

@@ -2,10 +2,8 @@
 ghost use Rattle.std.specs.Prelude.{◌≡◌, codes, if◌then◌else◌, string_bytes};
 ghost use Rattle.std.specs.Str.{bytes_eq};
 ghost use Rattle.flag_text.specs.Shape.{object};
-ghost use Rattle.flag_text.specs.Outcome.{GivesUnless};
 ghost use Rattle.flag_text.specs.View.{view, items_view, members_view};
-ghost use Rattle.logic_eval.specs.declared.fault.EvalFault.TheVariants.{WantOfMemory};
-ghost use Rattle.logic_eval.specs.Budget.{paid};
+ghost use Rattle.logic_eval.specs.Budget.{Follows};
 ghost use Rattle.logic_eval.specs.Run.{spends};
 ghost use Rattle.logic_eval.specs.Scope.{size, items_size, members_size, others_size, with_flagd};
 ghost use Rattle.logic_eval.specs.Views.{progress, scope_view};
@@ -37,7 +35,7 @@ pub(crate) struct Meter {
 impl Meter {
     /// Takes so many units from what is left.
     pub(crate) fn pay(&mut self, units: u64) -> Result<(), EvalFault>
-        ensures exact { GivesUnless WantOfMemory (λ u. (u, progress self.new)) result (paid (progress self.old) (spends units)) }
+        ensures exact { Follows (λ u. u) (progress self.old) (progress self.new) result (spends units) }
     {
         if units > self.left {
             return Err(EvalFault::TooLong);
@@ -50,7 +48,7 @@ impl Meter {
 /// Takes the size of a value from what is left: 1, 1 more for each 64 bytes of a text, and the sizes of the parts.
 #[cycle(pay)]
 pub(crate) fn pay_for(meter: &mut Meter, tree: &Tree) -> Result<(), EvalFault>
-    ensures exact { GivesUnless WantOfMemory (λ u. (u, progress meter.new)) result (paid (progress meter.old) (spends (size (view tree.now)))) }
+    ensures exact { Follows (λ u. u) (progress meter.old) (progress meter.new) result (spends (size (view tree.now))) }
 {
     match tree {
         Tree::Text(text) => meter.pay(1 + text.len() as u64 / 64),
@@ -68,7 +66,7 @@ pub(crate) fn pay_for(meter: &mut Meter, tree: &Tree) -> Result<(), EvalFault>
 
 #[cycle(pay)]
 fn pay_for_items(meter: &mut Meter, items: &Vec<Tree>) -> Result<(), EvalFault>
-    ensures exact { GivesUnless WantOfMemory (λ u. (u, progress meter.new)) result (paid (progress meter.old) (spends (items_size (items_view items.now.items)))) }
+    ensures exact { Follows (λ u. u) (progress meter.old) (progress meter.new) result (spends (items_size (items_view items.now.items))) }
 {
     for item in items {
         pay_for(meter, item)?;
@@ -78,7 +76,7 @@ fn pay_for_items(meter: &mut Meter, items: &Vec<Tree>) -> Result<(), EvalFault>
 
 #[cycle(pay)]
 fn pay_for_members(meter: &mut Meter, members: &Vec<(String, Tree)>) -> Result<(), EvalFault>
-    ensures exact { GivesUnless WantOfMemory (λ u. (u, progress meter.new)) result (paid (progress meter.old) (spends (members_size (members_view members.now.items)))) }
+    ensures exact { Follows (λ u. u) (progress meter.old) (progress meter.new) result (spends (members_size (members_view members.now.items))) }
 {
     for (_, member) in members {
         pay_for(meter, member)?;
@@ -88,7 +86,7 @@ fn pay_for_members(meter: &mut Meter, members: &Vec<(String, Tree)>) -> Result<(
 
 /// Takes the size of a scope, as a value, from what is left.
 pub(crate) fn pay_for_scope(meter: &mut Meter, scope: Scope) -> Result<(), EvalFault>
-    ensures exact { GivesUnless WantOfMemory (λ u. (u, progress meter.new)) result (paid (progress meter.old) (spends (size (scope_view scope.entry)))) }
+    ensures exact { Follows (λ u. u) (progress meter.old) (progress meter.new) result (spends (size (scope_view scope.entry))) }
 {
     match scope {
         Scope::Root(root) => pay_for_root(meter, root),
@@ -102,7 +100,7 @@ pub(crate) fn pay_for_scope(meter: &mut Meter, scope: Scope) -> Result<(), EvalF
 }
 
 fn pay_for_root(meter: &mut Meter, root: Root) -> Result<(), EvalFault>
-    ensures exact { GivesUnless WantOfMemory (λ u. (u, progress meter.new)) result (paid (progress meter.old) (spends (size (with_flagd (view root.entry.flagd.now) (object (members_view root.entry.members.now)))))) }
+    ensures exact { Follows (λ u. u) (progress meter.old) (progress meter.new) result (spends (size (with_flagd (view root.entry.flagd.now) (object (members_view root.entry.members.now))))) }
 {
     meter.pay(1)?;
     pay_for(meter, root.flagd)?;
@@ -111,7 +109,7 @@ fn pay_for_root(meter: &mut Meter, root: Root) -> Result<(), EvalFault>
 
 // The context's member `$flagd` is no part of the scope.
 fn pay_for_others(meter: &mut Meter, members: &[(String, Tree)]) -> Result<(), EvalFault>
-    ensures exact { GivesUnless WantOfMemory (λ u. (u, progress meter.new)) result (paid (progress meter.old) (spends (others_size (codes "$flagd") (members_view members.now)))) }
+    ensures exact { Follows (λ u. u) (progress meter.old) (progress meter.new) result (spends (others_size (codes "$flagd") (members_view members.now))) }
 {
     for (key, member) in members {
         pay_for_other(meter, key, member)?;
@@ -120,7 +118,7 @@ fn pay_for_others(meter: &mut Meter, members: &[(String, Tree)]) -> Result<(), E
 }
 
 fn pay_for_other(meter: &mut Meter, name: &String, member: &Tree) -> Result<(), EvalFault>
-    ensures exact { GivesUnless WantOfMemory (λ u. (u, progress meter.new)) result (paid (progress meter.old) (spends (if bytes_eq (string_bytes name.now) (codes "$flagd") then 0 else size (view member.now)))) }
+    ensures exact { Follows (λ u. u) (progress meter.old) (progress meter.new) result (spends (if bytes_eq (string_bytes name.now) (codes "$flagd") then 0 else size (view member.now))) }
 {
     if name.as_str() == "$flagd" {
         return Ok(());

@@ -1,22 +1,15 @@
 //! The number of a value, where it has one.
 ghost use Rattle.std.specs.Prelude.{◌≡◌, ◌<◌, ◌+◌, ◌*◌, option_and_then, IfSome};
-ghost use Rattle.flag_text.specs.Shape.{is_in_range};
 ghost use Rattle.flag_text.specs.View.{view};
 ghost use Rattle.logic_eval.specs.Number.{in_range, digits_value, decimal_value, number_of, below};
 
-use flag_text::Tree;
-
-const MAX_WHOLE: u64 = (1 << 53) - 1;
+use flag_text::{MAX_WHOLE, Tree, is_in_range};
 
 /// The number, where it is from -(2^53-1) to 2^53-1.
 pub(crate) fn in_range(n: i64) -> Option<i64>
     ensures { result ≡ in_range n }
 {
-    if n.unsigned_abs() <= MAX_WHOLE {
-        Some(n)
-    } else {
-        None
-    }
+    if is_in_range(n) { Some(n) } else { None }
 }
 
 // One more digit, where the value stays below the limit.

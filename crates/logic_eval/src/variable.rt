@@ -1,10 +1,8 @@
 //! `var`, and the whole scope as a value.
 ghost use Rattle.std.specs.Prelude.{◌≡◌, IfOk, OnOk, map, codes, option_map, string_bytes, unwrap_or};
-ghost use Rattle.flag_text.specs.Outcome.{GivesUnless};
 ghost use Rattle.flag_text.specs.Shape.{object, member, Members};
 ghost use Rattle.flag_text.specs.View.{view, members_view};
-ghost use Rattle.logic_eval.specs.declared.fault.EvalFault.TheVariants.{WantOfMemory};
-ghost use Rattle.logic_eval.specs.Budget.{paid};
+ghost use Rattle.logic_eval.specs.Budget.{Follows};
 ghost use Rattle.logic_eval.specs.Operators.{reduce_scope, found};
 ghost use Rattle.logic_eval.specs.Scope.{variable, with_flagd};
 ghost use Rattle.logic_eval.specs.Views.{progress, value_view, scope_view, before};
@@ -132,7 +130,7 @@ pub(crate) fn variable<'a>(
     scope: Scope<'a>,
     values: SmallVec<Value<'a>, 3>,
 ) -> Result<Value<'a>, EvalFault>
-    ensures exact { GivesUnless WantOfMemory (λ v. (value_view v, progress meter.new)) result (paid (progress meter.old) (found (variable (scope_view scope.entry) (map value_view values.entry.items)))) }
+    ensures exact { Follows value_view (progress meter.old) (progress meter.new) result (found (variable (scope_view scope.entry) (map value_view values.entry.items))) }
 {
     let place = located(meter.alloc, scope, values)?;
     match place {

@@ -9,6 +9,3 @@
 mod murmur3;
 
 pub use murmur3::hash;
-
-#[cfg(test)]
-mod tests;

@@ -1,21 +1,23 @@
-use Rattle.std.proofs.Common.{◌≡◌, Ok, ap, sym, ◌∙◌, true≢false, arith}
-use Rattle.flag_text.specs.Reading.{doc_of}
-use Rattle.flag_text.specs.View.{view}
-use Rattle.flag_text.proofs.Readings.{doc_of-read, doc_of-none}
-use Rattle.flag_text.proofs.Rising.{is_tidy-read}
+use Rattle.std.proofs.Common.{◌≡◌, ap, sym, ◌∙◌, arith}
+use Rattle.serde_json.specs.Read.{read}
+use Rattle.flag_text.specs.Reading.{if_json, doc_of}
+use Rattle.flag_text.proofs.Readings.{doc_of-utf8, doc_of-none, no_utf8}
+use Rattle.flag_text.proofs.Rising.{is_tidy-text}
 use Rattle.flag_text.proofs.read.read_doc.Goals as goal
 
-found : (c : goal.In_ok-value_tree-in-Ok) → doc_of c.args.bytes.now c.args.max ≡ Ok (view c.in_ok-value_tree-in-Ok.field-0)
-found c =
-    let is = c.in-Ok.ensures.ok in
-    doc_of-read c.args.bytes.now c.args.max _ (omega arith) is.0 is.1 ∙ ap Ok (sym c.in_ok-value_tree-in-Ok.ensures)
+same : (c : goal.After-text_tree) → if_json (read c.in-Ok.text.now) ≡ doc_of c.args.bytes.now c.args.max
+same c =
+    let read_as = c.in-Ok.ensures in
+    ap (λ bytes. if_json (read bytes)) read_as.0 ∙ sym (doc_of-utf8 c.args.bytes.now c.args.max (omega arith) read_as.1)
 
-pub returns-in_ok-value_tree-in-Ok-clause-exact : goal.returns-in_ok-value_tree-in-Ok-clause-exact
-returns-in_ok-value_tree-in-Ok-clause-exact c = found c
+pub returns-in-Ok-clause-exact : goal.returns-in-Ok-clause-exact
+returns-in-Ok-clause-exact c = rw (← same c) c.text_tree.ensures.exact
 
-pub returns-in_ok-value_tree-in-Ok-clause-tidy : goal.returns-in_ok-value_tree-in-Ok-clause-tidy
-returns-in_ok-value_tree-in-Ok-clause-tidy c = is_tidy-read c.args.bytes.now c.args.max _ (found c)
+pub returns-in-Ok-clause-tidy : goal.returns-in-Ok-clause-tidy
+returns-in-Ok-clause-tidy c = is_tidy-text c.in-Ok.text.now c.text_tree.result c.text_tree.ensures.exact
 
-pub returns-in-Err-2-clause-exact : goal.returns-in-Err-2-clause-exact
-returns-in-Err-2-clause-exact c = λ _.
-    doc_of-none c.args.bytes.now c.args.max (omega arith) (c.in-Err.ensures.err (λ m. true≢false (sym (c.if-is_memory.ensures.1 m))))
+pub returns-in-Ok-clause-no_text : goal.returns-in-Ok-clause-no_text
+returns-in-Ok-clause-no_text c = λ _ other. absurd (no_utf8 c.args.bytes.now c.in-Ok.ensures.1 other)
+
+pub returns-in-Err-clause-exact : goal.returns-in-Err-clause-exact
+returns-in-Err-clause-exact c = λ _. doc_of-none c.args.bytes.now c.args.max (omega arith) (λ u. absurd (c.in-Err.ensures u))

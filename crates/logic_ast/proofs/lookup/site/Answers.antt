@@ -10,6 +10,7 @@ use Rattle.logic_ast.specs.View.{by_of, node_view, boxed_view, buckets_view}
 use Rattle.logic_ast.specs.declared.expr.Expr.{Expr}
 use Rattle.logic_ast.specs.declared.node.Node.{Node}
 use Rattle.logic_ast.proofs.Inner.{not-none, parts_at-none, parts_at-some, if_entries-err, if_entries-ok, next-fits, own}
+use Rattle.logic_ast.proofs.Refusals.{computed-none, parts_at-absent, parts_at-literal}
 use Rattle.logic_ast.proofs.Written.{left}
 use Rattle.logic_ast.proofs.lookup.site.Goals as goal
 use Rattle.logic_ast.proofs.lookup.site.Goals.{in-None, in-Some-by+in_ok-root-in-Some-by}
@@ -17,7 +18,7 @@ use Rattle.logic_ast.proofs.lookup.site.Goals.{in-None, in-Some-by+in_ok-root-in
 pub returns-in_default : goal.returns-in_default
 returns-in_default c =
     let e = view c.args.expr.now in
-    record { exact = λ _. parts_at-none c.args.n e (left (is_formed 0 e) _ c.args.expr.now.well_formed) (sym c.find.ensures ∙ ap (option_map parts_view) c.in_default.is); no_site = λ _. refl }
+    record { exact = λ _. parts_at-none c.args.n e (left (is_formed 0 e) _ c.args.expr.now.well_formed) (sym c.find.ensures ∙ ap (option_map parts_view) c.in_default.is); no_site = λ _. refl; computed = λ refused. parts_at-absent c.args.n e (left (is_formed 0 e) _ c.args.expr.now.well_formed) (sym c.find.ensures ∙ ap (option_map parts_view) c.in_default.is) refused }
 
 pub returns-in_err-entries : goal.returns-in_err-entries
 returns-in_err-entries c =
@@ -31,6 +32,7 @@ returns-in_err-entries c =
           parts_at-some n e b bs (left (is_formed 0 e) _ c.args.expr.now.well_formed) (sym c.find.ensures ∙ ap (option_map parts_view) c.in-Some.is)
           ∙ if_entries-err (entries_of bs) (λ r. r) (λ r. let made : By × Entries = (by_lowered (suc n) b, r) in made) _ (c.in_err-entries.ensures other));
       no_site = λ none. not-none n e b bs (left (is_formed 0 e) _ c.args.expr.now.well_formed) (sym c.find.ensures ∙ ap (option_map parts_view) c.in-Some.is) none;
+      computed = λ refused. parts_at-literal c.args.n (view c.args.expr.now) (boxed_view c.in-Some.by.now) (buckets_view c.in-Some.buckets.now.items) (left (is_formed 0 (view c.args.expr.now)) _ c.args.expr.now.well_formed) (sym c.find.ensures ∙ ap (option_map parts_view) c.in-Some.is) (sym c.are_all_literal.ensures ∙ c.if-not-are_all_literal.false) refused;
     }
 
 pub overflow_add-n : goal.overflow_add-n
@@ -63,6 +65,7 @@ returns c =
       | in-None w ↦ record {
         exact = done (ap (λ (x : Option (Box Node Global)). by_lowered (suc n) (boxed_view x)) w.in-None.is ∙ sym (ap (λ (o : Option Expr). by_of (option_map view o)) w.by-is));
         no_site = λ none. not-none n e b bs (left (is_formed 0 e) _ c.args.expr.now.well_formed) (sym c.find.ensures ∙ ap (option_map parts_view) c.in-Some.is) none;
+        computed = λ refused. parts_at-literal c.args.n (view c.args.expr.now) (boxed_view c.in-Some.by.now) (buckets_view c.in-Some.buckets.now.items) (left (is_formed 0 (view c.args.expr.now)) _ c.args.expr.now.well_formed) (sym c.find.ensures ∙ ap (option_map parts_view) c.in-Some.is) (sym c.are_all_literal.ensures ∙ c.if-not-are_all_literal.false) refused;
       }
       | in-Some-by+in_ok-root-in-Some-by w ↦ record {
         exact = done
@@ -70,10 +73,28 @@ returns c =
             ∙ (ap by (sym (w.in_ok-root-in-Some-by.ensures ∙ (ap (λ x. lowered (n + 1) (node_view x)) w.deref.ensures ∙ ap (λ k. lowered k (node_view w.in-Some-by.by.value)) (add-one n))))
             ∙ sym (ap (λ (o : Option Expr). by_of (option_map view o)) w.by-is)));
         no_site = λ none. not-none n e b bs (left (is_formed 0 e) _ c.args.expr.now.well_formed) (sym c.find.ensures ∙ ap (option_map parts_view) c.in-Some.is) none;
+        computed = λ refused. parts_at-literal c.args.n (view c.args.expr.now) (boxed_view c.in-Some.by.now) (buckets_view c.in-Some.buckets.now.items) (left (is_formed 0 (view c.args.expr.now)) _ c.args.expr.now.well_formed) (sym c.find.ensures ∙ ap (option_map parts_view) c.in-Some.is) (sym c.are_all_literal.ensures ∙ c.if-not-are_all_literal.false) refused;
       }
     ]
 
 pub returns-in_err-root-in-Some-by-clause-no_site : goal.returns-in_err-root-in-Some-by-clause-no_site
 returns-in_err-root-in-Some-by-clause-no_site c =
+    let e = view c.args.expr.now in
+    λ none. not-none c.args.n e (boxed_view c.in-Some.by.now) (buckets_view c.in-Some.buckets.now.items) (left (is_formed 0 e) _ c.args.expr.now.well_formed) (sym c.find.ensures ∙ ap (option_map parts_view) c.in-Some.is) none
+
+pub returns-in_err-root-in-Some-by-clause-computed : goal.returns-in_err-root-in-Some-by-clause-computed
+returns-in_err-root-in-Some-by-clause-computed c = λ refused. parts_at-literal c.args.n (view c.args.expr.now) (boxed_view c.in-Some.by.now) (buckets_view c.in-Some.buckets.now.items) (left (is_formed 0 (view c.args.expr.now)) _ c.args.expr.now.well_formed) (sym c.find.ensures ∙ ap (option_map parts_view) c.in-Some.is) (sym c.are_all_literal.ensures ∙ c.if-not-are_all_literal.false) refused
+
+pub returns-then-not-are_all_literal-clause-exact : goal.returns-then-not-are_all_literal-clause-exact
+returns-then-not-are_all_literal-clause-exact c =
+    let n = c.args.n in
+    let e = view c.args.expr.now in
+    let b = boxed_view c.in-Some.by.now in
+    let bs = buckets_view c.in-Some.buckets.now.items in
+    λ _. parts_at-some n e b bs (left (is_formed 0 e) _ c.args.expr.now.well_formed) (sym c.find.ensures ∙ ap (option_map parts_view) c.in-Some.is)
+    ∙ computed-none (entries_of bs) (λ r. let made : By × Entries = (by_lowered (suc n) b, r) in made) (sym c.are_all_literal.ensures ∙ c.if-not-are_all_literal.true)
+
+pub returns-then-not-are_all_literal-clause-no_site : goal.returns-then-not-are_all_literal-clause-no_site
+returns-then-not-are_all_literal-clause-no_site c =
     let e = view c.args.expr.now in
     λ none. not-none c.args.n e (boxed_view c.in-Some.by.now) (buckets_view c.in-Some.buckets.now.items) (left (is_formed 0 e) _ c.args.expr.now.well_formed) (sym c.find.ensures ∙ ap (option_map parts_view) c.in-Some.is) none

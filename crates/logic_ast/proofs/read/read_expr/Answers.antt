@@ -1,6 +1,13 @@
 use Rattle.std.proofs.Common.{ap, sym, ◌∙◌, arith}
 use Rattle.flag_text.specs.View.{view}
-use Rattle.logic_ast.specs.Formed.{is_well_formed}
+use Rattle.logic_ast.specs.Formed.{is_formed, is_well_formed}
+use Rattle.logic_ast.specs.Reading.{expression_from}
+use Rattle.logic_ast.specs.Size.{full_size}
+use Rattle.logic_ast.specs.Stripped.{without_literals}
+use Rattle.logic_ast.specs.Writing.{written}
+use Rattle.logic_ast.proofs.Measured.{size-from}
+use Rattle.logic_ast.proofs.Stripped.{size-written}
+use Rattle.logic_ast.proofs.Written.{left}
 use Rattle.logic_ast.proofs.WellFormed.{numbers-fit, is_well_formed-from}
 use Rattle.logic_ast.proofs.read.read_expr.Goals as goal
 
@@ -11,3 +18,13 @@ pub invariant_of-result : goal.invariant_of-result
 invariant_of-result c =
     let tree = view c.args.tree.now in
     record { well_formed = ap is_well_formed c.in_ok-root.ensures.value ∙ is_well_formed-from tree c.requires (sym c.is_too_big.ensures ∙ c.if-is_too_big.false) (sym c.first_fault.ensures ∙ c.in_default.is) }
+
+pub returns-clause-size : goal.returns-clause-size
+returns-clause-size c =
+    let tree = view c.args.tree.now in
+    let read = expression_from 0 tree in
+    let no_fault = sym c.first_fault.ensures ∙ c.in_default.is in
+    let formed = is_well_formed-from tree c.requires (sym c.is_too_big.ensures ∙ c.if-is_too_big.false) no_fault in
+    sym (size-from 0 tree no_fault)
+    ∙ (size-written 0 read (left (is_formed 0 read) _ formed)
+    ∙ ap (λ e. full_size (written (without_literals e))) (sym c.in_ok-root.ensures.value))

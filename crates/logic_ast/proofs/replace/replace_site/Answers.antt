@@ -8,6 +8,7 @@ use Rattle.logic_ast.specs.Writing.{by_text_at}
 use Rattle.logic_ast.proofs.Changed.{entries_at-changed, by_text_at-changed, entries_at-kept}
 use Rattle.logic_ast.proofs.Inner.{not-none, at-some, replaced-none, replaced-some}
 use Rattle.logic_ast.proofs.Numbered.{numbered-preorder, literal-at}
+use Rattle.logic_ast.proofs.Refusals.{replaced-absent, replaced-literal}
 use Rattle.logic_ast.proofs.Replaced.{small-total, is_formed-with, is_well_formed-with, with_entries-again, if_entries-some, if_entries-none}
 use Rattle.logic_ast.proofs.Written.{left}
 use Rattle.logic_ast.proofs.replace.replace_site.Goals as goal
@@ -107,3 +108,14 @@ returns-clause-others c =
     let literal = literal-at 0 n n (preorder e) _ (numbered-preorder 0 e formed) place at.1 (sym c.are_all_literal.ensures ∙ c.if-not-are_all_literal.false) in
     let small = small-total r (omega (arith, c.total.ensures.value, c.total.ensures.allowed)) in
     λ m other. ap (entries_at m) made ∙ entries_at-kept m n r e other formed (is_formed-with 0 n r e small literal formed) literal
+
+pub returns-in_default-clause-computed : goal.returns-in_default-clause-computed
+returns-in_default-clause-computed c =
+    let e = view c.args.expr.now in
+    λ refused. replaced-absent c.args.n c.args.rule.now e (left (is_formed 0 e) _ c.args.expr.now.well_formed) (sym c.find.ensures ∙ ap (option_map parts_view) c.in_default.is) refused
+
+pub returns-in_err-root-clause-computed : goal.returns-in_err-root-clause-computed
+returns-in_err-root-clause-computed c = λ refused. replaced-literal c.args.n c.args.rule.now (view c.args.expr.now) (boxed_view c.in-Some.field-0-0.now) (buckets_view c.in-Some.buckets.now.items) (left (is_formed 0 (view c.args.expr.now)) _ c.args.expr.now.well_formed) (sym c.find.ensures ∙ ap (option_map parts_view) c.in-Some.is) (sym c.are_all_literal.ensures ∙ c.if-not-are_all_literal.false) refused
+
+pub returns-clause-computed : goal.returns-clause-computed
+returns-clause-computed c = λ refused. replaced-literal c.args.n c.args.rule.now (view c.args.expr.now) (boxed_view c.in-Some.field-0-0.now) (buckets_view c.in-Some.buckets.now.items) (left (is_formed 0 (view c.args.expr.now)) _ c.args.expr.now.well_formed) (sym c.find.ensures ∙ ap (option_map parts_view) c.in-Some.is) (sym c.are_all_literal.ensures ∙ c.if-not-are_all_literal.false) refused

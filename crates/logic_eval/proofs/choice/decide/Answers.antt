@@ -1,8 +1,7 @@
-use Rattle.std.proofs.Common.{◌≡◌, ◌≢◌, ◌++◌, ◌∷◌, [], ℕ, List, Option, Some, Ok, Result, map, string_bytes, option_map, ap, sym, refl, ◌∙◌, rules, arith}
+use Rattle.std.proofs.Common.{◌≡◌, ◌≢◌, ◌++◌, ◌∷◌, [], ℕ, List, Option, Some, Ok, Result, map, string_bytes, option_map, ap, sym, refl, ◌∙◌, rules}
 use Rattle.std.specs.Prelude.{option_copied}
 use Rattle.bucket_core.specs.Point.{point_of}
 use Rattle.bucket_core.specs.Rule.{Entries, at}
-use Rattle.flag_text.specs.Shape.{Shape}
 use Rattle.flag_text.specs.View.{view}
 use Rattle.logic_eval.specs.Fractional.{entries_of, input_result}
 use Rattle.logic_eval.specs.Run.{Reach}

@@ -1,4 +1,4 @@
-use Rattle.std.proofs.Common.{◌≡◌, ◌<◌, ◌≤◌, length, refl, sym, ap, ◌∙◌, arith}
+use Rattle.std.proofs.Common.{◌<◌, length, refl, sym, ap, ◌∙◌, arith}
 use Rattle.std.specs.Prelude.{option_copied}
 use Rattle.logic_eval.proofs.Choices.{name_here, name_later, no_entry, name_end}
 use Rattle.logic_eval.proofs.choice.name_at.Goals as goal

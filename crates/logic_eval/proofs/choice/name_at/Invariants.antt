@@ -1,4 +1,4 @@
-use Rattle.std.proofs.Common.{◌≡◌, drop, map, Some}
+use Rattle.std.proofs.Common.{◌≡◌, map, Some}
 use Rattle.bucket_core.specs.Rule.{Entries}
 use Rattle.logic_eval.specs.Fractional.{entries_of}
 use Rattle.logic_eval.specs.Views.{share_view}

@@ -1,4 +1,4 @@
-use Rattle.std.proofs.Common.{◌≡◌, ◌<◌, ◌≤◌, ◌+◌, map, drop, length, sym, ◌∙◌, arith}
+use Rattle.std.proofs.Common.{◌<◌, ◌+◌, map, drop, length, sym, ◌∙◌, arith}
 use Rattle.logic_eval.specs.Views.{share_view}
 use Rattle.logic_eval.proofs.Choices.{totals-start, totals_next, totals_none, totals_heavy, totals_end}
 use Rattle.logic_eval.proofs.choice.total_of.Goals as goal

@@ -1,8 +1,7 @@
-use Rattle.std.proofs.Common.{◌≡◌, ℕ, ◌+◌, ◌*◌, ◌<◌, ◌≤◌, List, [], ◌∷◌, ◌++◌, length, get_or, drop, map, Option, Some, Ok, pos, ap, ◌∙◌, sym, refl, arith, rules, true, false}
+use Rattle.std.proofs.Common.{◌≡◌, ℕ, ◌+◌, ◌*◌, ◌<◌, ◌≤◌, List, [], length, drop, map, Some, Ok, pos, ap, ◌∙◌, sym, refl, arith, rules, true, false}
 use Rattle.std.proofs.lemmas.List.{drop_all}
 use Rattle.flag_text.specs.Shape.{Shape, list, text, whole}
 use Rattle.flag_text.specs.View.{view, items_of}
-use Rattle.logic_ast.specs.declared.node.Node.{Node}
 use Rattle.logic_ast.specs.View.{node_view, nodes_view, boxed_view, buckets_view}
 use Rattle.logic_ast.proofs.Views.{node_view-fractional}
 use Rattle.logic_eval.specs.Budget.{paid}
@@ -10,15 +9,14 @@ use Rattle.logic_eval.specs.Comparison.{bool_eq}
 use Rattle.logic_eval.specs.Evaluation.{meaning, meanings, by_meaning, bucket_meanings, input, pairs, part_of}
 use Rattle.logic_eval.specs.Fractional.{decided}
 use Rattle.logic_eval.specs.Lists.{items_in}
-use Rattle.logic_eval.specs.Operators.{values, conditional, first_of_truth, operated, applied, mapped, kept, occurs, reduced, over, over_items, over_from_start, start}
-use Rattle.logic_eval.specs.Run.{Run, spends, ends}
-use Rattle.logic_eval.specs.Scope.{size}
+use Rattle.logic_eval.specs.Operators.{values, operated, applied, mapped, kept, occurs, reduced, over_items}
+use Rattle.logic_eval.specs.Run.{Run, ends}
 use Rattle.logic_eval.specs.Truth.{is_true}
 use Rattle.logic_eval.specs.Views.{progress, value_view, scope_view, default_view, input_view, share_view}
-use Rattle.logic_eval.proofs.Branches.{node_view-literal, node_view-list, node_view-operation, as_seen, found_ok, found_err, operated-other, conditional_err, conditional_true, conditional_false, conditional_last, conditional_end, first_of_truth_err, first_of_truth_found, first_of_truth_next, first_of_truth_last, first_of_truth_none}
+use Rattle.logic_eval.proofs.Branches.{node_view-literal, node_view-list, node_view-operation, as_seen, operated-other, conditional_err, conditional_true, conditional_false, conditional_end, first_of_truth_err, first_of_truth_found, first_of_truth_next, first_of_truth_none}
 use Rattle.logic_eval.proofs.Budgets.{bind_ok, bind_err, cost_ok, cost_err, paid-gives, ends_ok, ends_err}
 use Rattle.logic_eval.proofs.Exits.{exits, gives_same}
-use Rattle.logic_eval.proofs.Items.{pushed, bool_eq-same, bool_eq-other, mapped_ok, mapped_err, kept_true, kept_false, kept_err, occurs_found, occurs_next, occurs_err, reduced_ok, reduced_err, all_of_none, all_of_some, over_items-other, over_short, over_err, over_ok, reduce_short, reduce_err, reduce_start_err, reduce_ok, start_none, start_some}
+use Rattle.logic_eval.proofs.Items.{pushed, bool_eq-same, bool_eq-other, mapped_ok, mapped_err, kept_true, kept_false, kept_err, occurs_found, occurs_next, occurs_err, reduced_ok, reduced_err, all_of_none, all_of_some, over_items-other, over_short, over_err, over_ok, reduce_short, reduce_err, reduce_start_err, reduce_ok, start_none}
 use Rattle.logic_eval.proofs.Sites.{literal_ok, computed_name_err, computed_weight_err, computed_ok}
 use Rattle.logic_eval.proofs.Truths.{view_list, view_null, view_bool}
 use Rattle.logic_eval.proofs.Values.{values_ok, values_err, prepended, prepended-err, prepended-none, prepended_all, one_more}

@@ -1,8 +1,7 @@
-use Rattle.std.proofs.Common.{◌≡◌, ℕ, ◌*◌, List, length, drop, map, Option}
-use Rattle.flag_text.specs.Shape.{Shape}
+use Rattle.std.proofs.Common.{◌≡◌, ◌*◌, drop, map}
 use Rattle.flag_text.specs.View.{view}
 use Rattle.logic_ast.specs.View.{node_view, nodes_view, buckets_view}
-use Rattle.logic_eval.specs.Budget.{Progress, paid}
+use Rattle.logic_eval.specs.Budget.{paid}
 use Rattle.logic_eval.specs.Evaluation.{meaning, meanings, bucket_meanings, pairs}
 use Rattle.logic_eval.specs.Operators.{values, conditional, first_of_truth, mapped, kept, occurs, reduced}
 use Rattle.logic_eval.specs.Views.{progress, value_view, scope_view, default_view, share_view}

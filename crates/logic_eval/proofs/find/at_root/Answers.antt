@@ -1,8 +1,6 @@
-use Rattle.std.proofs.Common.{◌≡◌, true, false, Some, ap, sym, ◌∙◌, rules}
-use Rattle.std.specs.Prelude.{codes}
-use Rattle.std.specs.Str.{bytes_eq}
+use Rattle.std.proofs.Common.{sym, ◌∙◌}
 use Rattle.flag_text.specs.View.{view, members_view}
-use Rattle.logic_eval.proofs.Paths.{find-with_member, find-with_member_other, same_name, other_name}
+use Rattle.logic_eval.proofs.Paths.{same_name, other_name}
 use Rattle.logic_eval.proofs.find.at_root.Goals as goal
 
 pub returns-then-eq : goal.returns-then-eq

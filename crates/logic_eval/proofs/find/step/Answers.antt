@@ -1,4 +1,4 @@
-use Rattle.std.proofs.Common.{◌≡◌, ap, sym, ◌∙◌, option_and_then, map}
+use Rattle.std.proofs.Common.{ap, sym, ◌∙◌, option_and_then, map}
 use Rattle.std.specs.Prelude.{slice_get}
 use Rattle.flag_text.specs.View.{view}
 use Rattle.logic_eval.specs.Scope.{step, index_of}

@@ -1,11 +1,11 @@
-use Rattle.std.proofs.Common.{◌≡◌, ℕ, ◌<◌, ◌≤◌, List, [], length, drop, ap, ◌∙◌, sym, arith}
+use Rattle.std.proofs.Common.{◌≡◌, [], drop, ap, ◌∙◌, sym, arith}
 use Rattle.std.proofs.lemmas.List.{drop_all}
 use Rattle.flag_text.specs.View.{view, items_view, members_view}
 use Rattle.logic_eval.specs.Budget.{paid}
 use Rattle.logic_eval.specs.Run.{spends}
 use Rattle.logic_eval.specs.Scope.{size, items_size, members_size}
 use Rattle.logic_eval.specs.Views.{progress}
-use Rattle.logic_eval.proofs.Budgets.{spends_ok, spends_err, spends_within, spends_none}
+use Rattle.logic_eval.proofs.Budgets.{spends_ok, spends_err, spends_none}
 use Rattle.logic_eval.proofs.Exits.{exits, gives_same}
 use Rattle.logic_eval.proofs.Sizes.{view_object, items_ok, items_err, members_ok, members_err}
 use Rattle.logic_eval.proofs.Truths.{view_list}

@@ -1,5 +1,5 @@
-use Rattle.std.proofs.Common.{◌≡◌, true, false, cond, ap, sym, ◌∙◌, rules, string_bytes}
-use Rattle.std.specs.Prelude.{codes, if◌then◌else◌}
+use Rattle.std.proofs.Common.{◌≡◌, true, false, cond, ap, ◌∙◌, rules, string_bytes}
+use Rattle.std.specs.Prelude.{codes}
 use Rattle.std.specs.Str.{bytes_eq}
 use Rattle.flag_text.specs.View.{view}
 use Rattle.logic_eval.specs.Budget.{paid}

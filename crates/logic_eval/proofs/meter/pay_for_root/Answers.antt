@@ -1,4 +1,4 @@
-use Rattle.std.proofs.Common.{◌≡◌, ap, ◌∙◌}
+use Rattle.std.proofs.Common.{ap, ◌∙◌}
 use Rattle.flag_text.specs.View.{view, members_view}
 use Rattle.logic_eval.specs.Budget.{paid}
 use Rattle.logic_eval.specs.Run.{spends}

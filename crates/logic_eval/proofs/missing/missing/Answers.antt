@@ -1,7 +1,7 @@
-use Rattle.std.proofs.Common.{◌≡◌, ◌<◌, length, ap, sym, ◌∙◌, rules, arith}
+use Rattle.std.proofs.Common.{◌<◌, length, ap, sym, ◌∙◌, arith}
 use Rattle.std.proofs.lemmas.Result.{IfOk-weaker}
 use Rattle.flag_text.specs.Readers.{as_list}
-use Rattle.logic_eval.specs.Views.{value_view, scope_view}
+use Rattle.logic_eval.specs.Views.{scope_view}
 use Rattle.logic_eval.proofs.Names.{missing_list, missing_others}
 use Rattle.logic_eval.proofs.missing.missing.Goals as goal
 

@@ -1,7 +1,7 @@
 use Rattle.std.proofs.Common.{◌≡◌, ◌++◌, drop, map, filter}
 use Rattle.flag_text.specs.View.{view}
 use Rattle.logic_eval.specs.Scope.{is_missing}
-use Rattle.logic_eval.specs.Views.{value_view, scope_view}
+use Rattle.logic_eval.specs.Views.{scope_view}
 use Rattle.logic_eval.proofs.missing.missing_items.Given as goal
 
 abbrev pub invariant-loop-name : goal.invariant-loop-name

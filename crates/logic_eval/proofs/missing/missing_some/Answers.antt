@@ -1,4 +1,4 @@
-use Rattle.std.proofs.Common.{◌≡◌, ℤ, pos, List, Some, Ok, true, false, ap, sym, ◌∙◌, rules, map}
+use Rattle.std.proofs.Common.{◌≡◌, pos, List, Some, Ok, true, false, ap, sym, ◌∙◌, rules, map}
 use Rattle.std.proofs.lemmas.Int.{to_z-of_z}
 use mir.Syntax.{w64}
 use mir.Val.{SFits}

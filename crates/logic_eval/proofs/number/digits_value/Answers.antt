@@ -1,4 +1,4 @@
-use Rattle.std.proofs.Common.{◌≡◌, ℕ, ◌+◌, ◌*◌, ◌-◌, ◌<◌, ◌≤◌, true, None, List, length, get_or, option_and_then, rules, arith, sym, ap, ◌∙◌}
+use Rattle.std.proofs.Common.{◌≡◌, ℕ, ◌<◌, true, None, List, length, get_or, option_and_then, rules, sym, ap, ◌∙◌}
 use Rattle.std.specs.Char.{is_ascii_digit}
 use Rattle.logic_eval.specs.Number.{below, digits_value}
 use Rattle.logic_eval.proofs.Numbers.{digits_value_some, digits_after_passed}

@@ -1,4 +1,4 @@
-use Rattle.std.proofs.Common.{◌≡◌, ◌<◌, ◌^◌, drop, option_and_then}
+use Rattle.std.proofs.Common.{◌≡◌, ◌<◌, drop, option_and_then}
 use Rattle.logic_eval.specs.Number.{digits_after, below}
 use Rattle.logic_eval.proofs.number.digits_value.Given as goal
 

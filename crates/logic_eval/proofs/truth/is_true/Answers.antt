@@ -1,4 +1,4 @@
-use Rattle.std.proofs.Common.{◌≡◌, eqb, ap, sym, ◌∙◌}
+use Rattle.std.proofs.Common.{eqb, ap, sym, ◌∙◌}
 use Rattle.std.specs.Prelude.{not}
 use Rattle.flag_text.specs.View.{view}
 use Rattle.logic_eval.specs.Truth.{is_true}

@@ -1,4 +1,4 @@
-use Rattle.std.proofs.Common.{◌≡◌, ap, map, sym, ◌∙◌}
+use Rattle.std.proofs.Common.{ap, map, sym, ◌∙◌}
 use Rattle.flag_text.specs.View.{view}
 use Rattle.logic_eval.specs.Lists.{items_in}
 use Rattle.logic_eval.proofs.Values.{items_in_list}

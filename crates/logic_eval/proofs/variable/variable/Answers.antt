@@ -1,8 +1,6 @@
-use Rattle.std.proofs.Common.{◌≡◌, List, map, Option, Some, None, Ok, option_map, ap, sym, ◌∙◌}
+use Rattle.std.proofs.Common.{◌≡◌, map, Option, Ok, option_map, ap, sym, ◌∙◌}
 use Rattle.std.specs.Prelude.{unwrap_or}
-use Rattle.flag_text.specs.Shape.{Shape}
 use Rattle.logic_eval.specs.Budget.{paid}
-use Rattle.logic_eval.specs.Operators.{found}
 use Rattle.logic_eval.specs.Run.{spends}
 use Rattle.logic_eval.specs.Scope.{size, variable}
 use Rattle.logic_eval.specs.Views.{progress, value_view, scope_view}

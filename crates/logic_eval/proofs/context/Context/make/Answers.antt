@@ -1,4 +1,4 @@
-use Rattle.std.proofs.Common.{◌≡◌, true, ap, sym, ◌∙◌}
+use Rattle.std.proofs.Common.{ap, sym, ◌∙◌}
 use Rattle.flag_text.specs.Shape.{is_whole, members_are_whole}
 use Rattle.flag_text.specs.View.{view, members_view}
 use Rattle.logic_eval.proofs.Sizes.{view_object}

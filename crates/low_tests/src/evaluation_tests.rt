@@ -3,10 +3,11 @@ ghost use Rattle.std.specs.Prelude.{◌≡◌, true, IfOk};
 ghost use Rattle.flag_text.specs.Shape.{is_whole};
 ghost use Rattle.flag_text.specs.View.{view};
 
-use crate::{Context, Reached, eval};
 use flag_text::{Tree, print_tree, read_tree};
 use logic_ast::read_expr;
+use logic_eval::{Context, Reached, eval};
 use std::alloc::Global;
+use std::process::Abort;
 use std::test::Fail;
 
 const ROW: &[u8] = b"{\"a\":1,\"l\":[1,2,3]}";
@@ -59,10 +60,23 @@ fn outcome(alloc: Global, expression: &[u8], context: &[u8]) -> Result<String, F
     given(alloc, &tree(alloc, expression)?, &tree(alloc, context)?)
 }
 
+// Asserts what each expression gives in the context.
+fn give(
+    rt: &impl Abort,
+    alloc: Global,
+    context: &[u8],
+    rows: &[(&[u8], &str)],
+) -> Result<(), Fail> {
+    for (bytes, want) in rows {
+        let got = outcome(alloc, bytes, context)?;
+        assert_eq!(rt; got.as_str(), *want, "at {bytes:?}");
+    }
+    Ok(())
+}
+
 #[test]
 fn worked_vectors(rt: HostRuntime) -> Result<(), Fail> {
-    let alloc = rt.alloc();
-    for (bytes, want) in [
+    let rows = [
         (b"{\"var\":\"l.1\"}".as_slice(), "2"),
         (b"{\"var\":[\"b\",7]}".as_slice(), "7"),
         (b"{\"missing\":[\"a\",\"b\"]}".as_slice(), "[\"b\"]"),
@@ -109,17 +123,13 @@ fn worked_vectors(rt: HostRuntime) -> Result<(), Fail> {
             b"{\"if\":[true,\"x\",{\"fractional\":[\"test\",[\"x\"]]}]}".as_slice(),
             "\"x\"",
         ),
-    ] {
-        let got = outcome(alloc, bytes, ROW)?;
-        assert_eq!(rt; got.as_str(), want, "at {bytes:?}");
-    }
-    Ok(())
+    ];
+    give(&rt, rt.alloc(), ROW, &rows)
 }
 
 #[test]
 fn paths_and_truth(rt: HostRuntime) -> Result<(), Fail> {
-    let alloc = rt.alloc();
-    for (bytes, want) in [
+    let rows = [
         (b"{\"var\":\"o.p.q\"}".as_slice(), "\"r\""),
         (b"{\"var\":\"o.\"}".as_slice(), "5"),
         (b"{\"var\":[\"o..x\",2]}".as_slice(), "2"),
@@ -171,17 +181,13 @@ fn paths_and_truth(rt: HostRuntime) -> Result<(), Fail> {
             b"[{\"if\":[]},{\"if\":[5]},{\"if\":[0,1]},{\"if\":[0,1,1,2,3]},{\"if\":[0,1,0,2,3]}]".as_slice(),
             "[null,5,null,2,3]",
         ),
-    ] {
-        let got = outcome(alloc, bytes, WIDE)?;
-        assert_eq!(rt; got.as_str(), want, "at {bytes:?}");
-    }
-    Ok(())
+    ];
+    give(&rt, rt.alloc(), WIDE, &rows)
 }
 
 #[test]
 fn comparisons_and_arithmetic(rt: HostRuntime) -> Result<(), Fail> {
-    let alloc = rt.alloc();
-    for (bytes, want) in [
+    let rows = [
         (
             b"[{\"==\":[true,1]},{\"==\":[false,\"0\"]},{\"==\":[null,null]},{\"==\":[null,0]},{\"==\":[\"-0\",0]},{\"==\":[\"007\",7]}]".as_slice(),
             "[true,false,true,false,true,true]",
@@ -210,17 +216,13 @@ fn comparisons_and_arithmetic(rt: HostRuntime) -> Result<(), Fail> {
             b"{\"+\":[{\"fractional\":[\"a\",[1]]},\"x\"]}".as_slice(),
             "BadBuckets",
         ),
-    ] {
-        let got = outcome(alloc, bytes, WIDE)?;
-        assert_eq!(rt; got.as_str(), want, "at {bytes:?}");
-    }
-    Ok(())
+    ];
+    give(&rt, rt.alloc(), WIDE, &rows)
 }
 
 #[test]
 fn lists_and_texts(rt: HostRuntime) -> Result<(), Fail> {
-    let alloc = rt.alloc();
-    for (bytes, want) in [
+    let rows = [
         (
             b"[{\"filter\":[[0,1,2],{\"var\":\"\"}]},{\"map\":[5,1]},{\"filter\":[\"x\",1]}]".as_slice(),
             "[[1,2],[],[]]",
@@ -263,17 +265,13 @@ fn lists_and_texts(rt: HostRuntime) -> Result<(), Fail> {
             b"[{\"starts_with\":[\"abc\",\"ab\"]},{\"ends_with\":[\"abc\",\"bc\"]},{\"starts_with\":[\"a\",\"ab\"]},{\"ends_with\":[1,\"1\"]},{\"ends_with\":[\"\",\"\"]}]".as_slice(),
             "[true,true,false,false,true]",
         ),
-    ] {
-        let got = outcome(alloc, bytes, WIDE)?;
-        assert_eq!(rt; got.as_str(), want, "at {bytes:?}");
-    }
-    Ok(())
+    ];
+    give(&rt, rt.alloc(), WIDE, &rows)
 }
 
 #[test]
 fn versions_and_sites(rt: HostRuntime) -> Result<(), Fail> {
-    let alloc = rt.alloc();
-    for (bytes, want) in [
+    let rows = [
         (
             b"[{\"sem_ver\":[\"V1\",\"=\",\"1.0.0\"]},{\"sem_ver\":[\"1.2.3+a\",\"=\",\"1.2.3+b\"]},{\"sem_ver\":[\"1.2.3\",\"~\",\"1.2.9\"]},{\"sem_ver\":[\"1.2.3\",\"~\",\"1.3.0\"]},{\"sem_ver\":[\"1.0.0-a.2\",\"<\",\"1.0.0-a.10\"]}]".as_slice(),
             "[true,true,true,false,true]",
@@ -318,11 +316,8 @@ fn versions_and_sites(rt: HostRuntime) -> Result<(), Fail> {
             b"{\"fractional\":[{\"fractional\":[\"a\",[\"k\"]]},[{\"fractional\":[\"b\",[\"n\"]]}]]}".as_slice(),
             "\"n\" 1:a:1 2:b:1 0:k:1",
         ),
-    ] {
-        let got = outcome(alloc, bytes, WIDE)?;
-        assert_eq!(rt; got.as_str(), want, "at {bytes:?}");
-    }
-    Ok(())
+    ];
+    give(&rt, rt.alloc(), WIDE, &rows)
 }
 
 // A list of so many of the text.
@@ -341,15 +336,14 @@ fn repeated(alloc: Global, text: &str, count: usize) -> Result<String, Fail> {
 fn budget_of_units(rt: HostRuntime) -> Result<(), Fail> {
     let alloc = rt.alloc();
     let expression = b"{\"map\":[{\"var\":\"l\"},{\"var\":\"\"}]}";
-    let zeros = repeated(alloc, "0", 24_999)?;
-    let context = format!(in alloc; "{{\"l\":[{}]}}", zeros.as_str())?;
-    let want = format!(in alloc; "[{}]", zeros.as_str())?;
-    let got = outcome(alloc, expression, context.as_bytes())?;
-    assert!(rt; got.as_str() == want.as_str());
-    let zeros = repeated(alloc, "0", 25_000)?;
-    let context = format!(in alloc; "{{\"l\":[{}]}}", zeros.as_str())?;
-    let got = outcome(alloc, expression, context.as_bytes())?;
-    assert_eq!(rt; got.as_str(), "TooLong");
+    for (count, fits) in [(24_999, true), (25_000, false)] {
+        let zeros = repeated(alloc, "0", count)?;
+        let context = format!(in alloc; "{{\"l\":[{}]}}", zeros.as_str())?;
+        let all = format!(in alloc; "[{}]", zeros.as_str())?;
+        let want = if fits { all.as_str() } else { "TooLong" };
+        let got = outcome(alloc, expression, context.as_bytes())?;
+        assert!(rt; got.as_str() == want, "at {count}");
+    }
     Ok(())
 }
 
@@ -359,12 +353,11 @@ fn faults_and_the_budget(rt: HostRuntime) -> Result<(), Fail> {
     // A list of n zeros costs 4 + n here: the list of two 1, `var` 1, its path 1 and its value 1 + n. The sum that fails
     // costs 2.
     let expression = b"[{\"var\":\"l\"},{\"+\":\"x\"}]";
-    let context = format!(in alloc; "{{\"l\":[{}]}}", repeated(alloc, "0", 99_994)?.as_str())?;
-    let got = outcome(alloc, expression, context.as_bytes())?;
-    assert_eq!(rt; got.as_str(), "Arithmetic");
-    let context = format!(in alloc; "{{\"l\":[{}]}}", repeated(alloc, "0", 99_995)?.as_str())?;
-    let got = outcome(alloc, expression, context.as_bytes())?;
-    assert_eq!(rt; got.as_str(), "TooLong");
+    for (count, want) in [(99_994, "Arithmetic"), (99_995, "TooLong")] {
+        let context = format!(in alloc; "{{\"l\":[{}]}}", repeated(alloc, "0", count)?.as_str())?;
+        let got = outcome(alloc, expression, context.as_bytes())?;
+        assert_eq!(rt; got.as_str(), want, "at {count}");
+    }
     Ok(())
 }
 
@@ -376,18 +369,27 @@ fn long_texts(rt: HostRuntime) -> Result<(), Fail> {
         half.push_str("0123456789abcdef")?;
     }
     let long = half.as_str();
-    let expression = format!(in alloc; "{{\"cat\":[\"{}\",\"{}\"]}}", long, long)?;
-    let want = format!(in alloc; "\"{}{}\"", long, long)?;
-    let got = outcome(alloc, expression.as_bytes(), ROW)?;
-    assert!(rt; got.as_str() == want.as_str());
-    let expression = format!(in alloc; "{{\"cat\":[\"{}\",\"{}\",1]}}", long, long)?;
-    let got = outcome(alloc, expression.as_bytes(), ROW)?;
-    assert_eq!(rt; got.as_str(), "TextTooLong");
-    let context = format!(in alloc; "{{\"targetingKey\":\"{}{}\"}}", long, long)?;
-    let got = outcome(alloc, b"{\"fractional\":[[\"x\"]]}", context.as_bytes())?;
-    assert_eq!(rt; got.as_str(), "TextTooLong");
-    let got = outcome(alloc, b"{\"fractional\":[[\"x\",0]]}", context.as_bytes())?;
-    assert_eq!(rt; got.as_str(), "null");
+    let at_the_limit = format!(in alloc; "{{\"cat\":[\"{}\",\"{}\"]}}", long, long)?;
+    let above = format!(in alloc; "{{\"cat\":[\"{}\",\"{}\",1]}}", long, long)?;
+    let whole = format!(in alloc; "\"{}{}\"", long, long)?;
+    let key = format!(in alloc; "{{\"targetingKey\":\"{}{}\"}}", long, long)?;
+    for (expression, context, want) in [
+        (at_the_limit.as_bytes(), ROW, whole.as_str()),
+        (above.as_bytes(), ROW, "TextTooLong"),
+        (
+            b"{\"fractional\":[[\"x\"]]}".as_slice(),
+            key.as_bytes(),
+            "TextTooLong",
+        ),
+        (
+            b"{\"fractional\":[[\"x\",0]]}".as_slice(),
+            key.as_bytes(),
+            "null",
+        ),
+    ] {
+        let got = outcome(alloc, expression, context)?;
+        assert!(rt; got.as_str() == want);
+    }
     Ok(())
 }
 

@@ -1,4 +1,7 @@
-use super::*;
+use flag_text::{
+    TextFault, Tree, WriteOutlet, is_in_range, member_by_halving, position_of, print_tree,
+    push_text, read_doc, read_tree, whole_tree, write_whole,
+};
 use std::alloc::{AllocError, Global};
 use std::io;
 use std::io::Write;
@@ -93,9 +96,16 @@ fn whole_numbers(rt: HostRuntime) -> Result<(), Fail> {
         (b"1E-2".as_slice(), None),
     ] {
         let tree = read_doc(alloc, bytes, 100)?;
-        assert_eq!(rt; tree.as_whole(), want, "at {bytes:?}");
-        assert_eq!(rt; matches!(tree, Tree::Other), want.is_none(), "at {bytes:?}");
-        assert_eq!(rt; tree.is_whole(), want.is_some(), "at {bytes:?}");
+        let shown = (
+            tree.as_whole(),
+            matches!(tree, Tree::Other),
+            tree.is_whole(),
+        );
+        assert_eq!(rt;
+            shown,
+            (want, want.is_none(), want.is_some()),
+            "at {bytes:?}"
+        );
     }
     Ok(())
 }
@@ -132,19 +142,23 @@ fn readers(rt: HostRuntime) -> Result<(), Fail> {
         b"{\"t\": \"x\", \"b\": true, \"l\": [1], \"n\": -3}",
         100,
     )?;
-    assert_eq!(rt; tree.member("t").and_then(Tree::as_text), Some("x"));
-    assert_eq!(rt; tree.member("b").and_then(Tree::as_bool), Some(true));
-    assert_eq!(rt; tree.member("n").and_then(Tree::as_whole), Some(-3));
-    assert!(rt; tree.member("m").is_none());
-    assert_eq!(rt;
-        tree.member("l")
-            .and_then(Tree::as_list)
-            .map_or(0, |items| items.len()),
-        1
+    assert!(rt;
+        tree.member("t").and_then(Tree::as_text) == Some("x")
+            && tree.member("b").and_then(Tree::as_bool) == Some(true)
+            && tree.member("n").and_then(Tree::as_whole) == Some(-3)
+            && tree.member("m").is_none()
+            && tree
+                .member("l")
+                .and_then(Tree::as_list)
+                .map_or(0, |items| items.len())
+                == 1
+            && tree.as_object().map_or(0, |members| members.len()) == 4
     );
-    assert_eq!(rt; tree.as_object().map_or(0, |members| members.len()), 4);
-    assert_eq!(rt; TextFault::TooDeep.number(), 4);
-    assert_eq!(rt; TextFault::TooDeep.name(), "TooDeep");
+    assert!(rt; is_in_range(-9007199254740991) && !is_in_range(9007199254740992));
+    assert!(rt;
+        whole_tree(tree).is_ok() && whole_tree(Tree::Other).err() == Some(TextFault::NotWhole)
+    );
+    assert!(rt; TextFault::TooDeep.number() == 4 && TextFault::TooDeep.name() == "TooDeep");
     Ok(())
 }
 
@@ -220,11 +234,9 @@ fn deep_values(rt: HostRuntime) -> Result<(), Fail> {
             Tree::Object(members)
         };
     }
-    assert!(rt; tree.fits(DEEP));
-    assert!(rt; !tree.fits(DEEP - 1));
+    assert!(rt; tree.fits(DEEP) && !tree.fits(DEEP - 1));
     let copy = tree.copy(alloc)?;
-    assert!(rt; copy.equals(&tree));
-    assert!(rt; copy.is_whole());
+    assert!(rt; copy.equals(&tree) && copy.is_whole());
     let text = print_tree(alloc, &copy)?;
     assert_eq!(rt; text.len(), 4 + DEEP / 2 * 18);
     Ok(())

@@ -2,9 +2,9 @@ ghost use Rattle.std.specs.Prelude.{◌≡◌, true, IfOk};
 ghost use Rattle.flag_text.specs.Shape.{is_whole};
 ghost use Rattle.flag_text.specs.View.{view};
 
-use super::*;
 use bucket_core::{Rule, read_rule};
 use flag_text::{Tree, print_tree, read_tree};
+use logic_ast::{Expr, LogicFault, by_text, read_expr, replace_site, site, sites, write_expr};
 use std::alloc::Global;
 use std::test::Fail;
 
@@ -176,58 +176,101 @@ fn faults_in_preorder(rt: HostRuntime) -> Result<(), Fail> {
         let fault = read_expr(alloc, &tree(alloc, bytes)?).err();
         assert_eq!(rt; fault, Some(want), "at {bytes:?}");
     }
-    assert_eq!(rt; LogicFault::TooBig.number(), 3);
-    assert_eq!(rt; LogicFault::TooBig.name(), "TooBig");
+    assert!(rt; LogicFault::TooBig.number() == 3 && LogicFault::TooBig.name() == "TooBig");
+    Ok(())
+}
+
+// An inner site in the bucketing expression, one in a weight, and none in a literal object.
+const NESTED: &[u8] =
+    b"[{\"a\":{\"fractional\":[]},\"b\":1},{\"fractional\":[{\"cat\":[{\"fractional\":[null,[\"x\",2]]}]},[\"p\",1]]},{\"fractional\":[[\"q\",{\"fractional\":[[\"y\"]]}]]}]";
+
+/// The text of a site's bucketing expression, `none` where it has none, or the name of the refusal.
+fn by_shown(alloc: Global, expr: &Expr, n: u32) -> Result<String, Fail> {
+    match by_text(alloc, expr, n) {
+        Ok(Some(text)) => Ok(text),
+        Ok(None) => Ok(String::from_str(alloc, "none")?),
+        Err(fault) => Ok(String::from_str(alloc, fault.name())?),
+    }
+}
+
+/// How many entries a site has, and how many sites are inside its bucketing expression, or the name of the refusal.
+fn site_shown(alloc: Global, expr: &Expr, n: u32) -> Result<String, Fail> {
+    match site(alloc, expr, n) {
+        Ok(found) => {
+            let inside = match &found.by {
+                Some(by) => sites(by),
+                None => 0,
+            };
+            Ok(format!(in alloc; "{} {}", found.entries.len(), inside)?)
+        }
+        Err(fault) => Ok(String::from_str(alloc, fault.name())?),
+    }
+}
+
+/// The text with another rule at the site, or the name of the refusal.
+fn replaced_shown(alloc: Global, expr: &Expr, n: u32) -> Result<String, Fail> {
+    let rule = read_rule(alloc, &tree(alloc, b"[[\"u\",3],[\"v\"]]")?)?;
+    match replace_site(alloc, expr, n, &rule) {
+        Ok(other) => text(alloc, &other),
+        Err(fault) => Ok(String::from_str(alloc, fault.name())?),
+    }
+}
+
+#[test]
+fn sites_are_numbered_in_preorder(rt: HostRuntime) -> Result<(), Fail> {
+    let alloc = rt.alloc();
+    for (bytes, count) in [(A, 1), (NESTED, 4)] {
+        assert_eq!(rt; sites(&expression(alloc, bytes)?), count);
+    }
+    for (bytes, n, by, found, replaced) in [
+        (
+            A,
+            0,
+            "{\"var\":[\"key\"]}",
+            "2 0",
+            "{\"fractional\":[{\"var\":[\"key\"]},[\"u\",3],[\"v\",1]]}",
+        ),
+        (A, 1, "NoSite", "NoSite", "NoSite"),
+        (
+            NESTED,
+            0,
+            "{\"cat\":[{\"fractional\":[null,[\"x\",2]]}]}",
+            "1 1",
+            "[{\"a\":{\"fractional\":[]},\"b\":1},{\"fractional\":[{\"cat\":[{\"fractional\":[null,[\"x\",2]]}]},[\"u\",3],[\"v\",1]]},{\"fractional\":[[\"q\",{\"fractional\":[[\"y\",1]]}]]}]",
+        ),
+        (
+            NESTED,
+            1,
+            "null",
+            "1 0",
+            "[{\"a\":{\"fractional\":[]},\"b\":1},{\"fractional\":[{\"cat\":[{\"fractional\":[null,[\"u\",3],[\"v\",1]]}]},[\"p\",1]]},{\"fractional\":[[\"q\",{\"fractional\":[[\"y\",1]]}]]}]",
+        ),
+        (NESTED, 2, "none", "Computed", "Computed"),
+        (
+            NESTED,
+            3,
+            "none",
+            "1 0",
+            "[{\"a\":{\"fractional\":[]},\"b\":1},{\"fractional\":[{\"cat\":[{\"fractional\":[null,[\"x\",2]]}]},[\"p\",1]]},{\"fractional\":[[\"q\",{\"fractional\":[[\"u\",3],[\"v\",1]]}]]}]",
+        ),
+        (NESTED, 4, "NoSite", "NoSite", "NoSite"),
+    ] {
+        let expr = expression(alloc, bytes)?;
+        let text_is = by_shown(alloc, &expr, n)?.as_str() == by;
+        let site_is = site_shown(alloc, &expr, n)?.as_str() == found;
+        let other_is = replaced_shown(alloc, &expr, n)?.as_str() == replaced;
+        assert!(rt; text_is && site_is && other_is, "at site {n} of {bytes:?}");
+    }
     Ok(())
 }
 
 #[test]
-fn sites_of_an_expression(rt: HostRuntime) -> Result<(), Fail> {
+fn a_bucketing_expression_has_sites_of_its_own(rt: HostRuntime) -> Result<(), Fail> {
     let alloc = rt.alloc();
-    let expr = expression(alloc, A)?;
-    assert_eq!(rt; sites(&expr), 1);
-    let by = by_text(alloc, &expr, 0)?.ok_or("none")?;
-    assert_eq!(rt; by.as_str(), "{\"var\":[\"key\"]}");
-    assert!(rt; matches!(by_text(alloc, &expr, 1), Err(LogicFault::NoSite)));
-    // an inner site in the bucketing expression, one in a weight, and none in a literal object
-    let bytes =
-        b"[{\"a\":{\"fractional\":[]},\"b\":1},{\"fractional\":[{\"cat\":[{\"fractional\":[null,[\"x\",2]]}]},[\"p\",1]]},{\"fractional\":[[\"q\",{\"fractional\":[[\"y\"]]}]]}]";
-    let expr = expression(alloc, bytes)?;
-    assert_eq!(rt; sites(&expr), 4);
-    for (n, want) in [
-        (0, Some("{\"cat\":[{\"fractional\":[null,[\"x\",2]]}]}")),
-        (1, Some("null")),
-        (2, None),
-        (3, None),
-    ] {
-        let by = by_text(alloc, &expr, n)?;
-        assert_eq!(rt; by.as_ref().map(|s| s.as_str()), want, "at {n}");
-    }
-    let outer = site(alloc, &expr, 0)?;
-    assert_eq!(rt; outer.entries.len(), 1);
-    let by = outer.by.ok_or("none")?;
-    assert_eq!(rt; sites(&by), 1);
-    assert_eq!(rt; by_text(alloc, &by, 0)?.ok_or("none")?.as_str(), "null");
-    assert!(rt; matches!(site(alloc, &expr, 2), Err(LogicFault::Computed)));
-    assert!(rt; matches!(site(alloc, &expr, 4), Err(LogicFault::NoSite)));
-    let rule = read_rule(alloc, &tree(alloc, b"[[\"u\",3],[\"v\"]]")?)?;
-    let other = replace_site(alloc, &expr, 0, &rule)?;
-    assert_eq!(rt;
-        text(alloc, &other)?.as_str(),
-        "[{\"a\":{\"fractional\":[]},\"b\":1},{\"fractional\":[{\"cat\":[{\"fractional\":[null,[\"x\",2]]}]},[\"u\",3],[\"v\",1]]},{\"fractional\":[[\"q\",{\"fractional\":[[\"y\",1]]}]]}]"
-    );
-    assert!(rt;
-        matches!(
-            replace_site(alloc, &expr, 2, &rule),
-            Err(LogicFault::Computed)
-        )
-    );
-    assert!(rt;
-        matches!(
-            replace_site(alloc, &expr, 4, &rule),
-            Err(LogicFault::NoSite)
-        )
-    );
+    let by = site(alloc, &expression(alloc, NESTED)?, 0)?
+        .by
+        .ok_or("none")?;
+    assert_eq!(rt; by_shown(alloc, &by, 0)?.as_str(), "null");
     Ok(())
 }
 

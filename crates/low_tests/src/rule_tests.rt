@@ -1,8 +1,8 @@
 ghost use Rattle.std.specs.Prelude.{◌<◌, ◌^◌, IsTrue, length};
 ghost use Rattle.std.specs.List.{All};
 
-use super::*;
-use flag_text::read_tree;
+use bucket_core::{Rule, RuleFault, literal_bucket, point, read_rule, scale, weight_of};
+use flag_text::{Tree, read_tree};
 use std::alloc::{AllocError, Global};
 use std::test::Fail;
 
@@ -67,15 +67,27 @@ fn places_hashes_and_keys(rt: HostRuntime) {
 #[test]
 fn reads_rules(rt: HostRuntime) -> Result<(), Fail> {
     let alloc = rt.alloc();
-    let rule = rule_of(alloc, b"[[\"red\",50],[\"blue\",50]]")?;
-    assert_eq!(rt; rule.total(), 100);
-    assert_eq!(rt; rule.choose("test"), "blue");
-    assert!(rt; has_entries(&rule, &[("red", 50), ("blue", 50)]));
-    let rule = rule_of(alloc, b"[[\"on\"]]")?;
-    assert_eq!(rt; rule.choose("test"), "on");
-    assert!(rt; has_entries(&rule, &[("on", 1)]));
-    let rule = rule_of(alloc, b"[[\"a\",0],[\"a\",2147483647]]")?;
-    assert!(rt; has_entries(&rule, &[("a", 0), ("a", 2147483647)]));
+    for (text, entries, total, chosen) in [
+        (
+            b"[[\"red\",50],[\"blue\",50]]".as_slice(),
+            [("red", 50), ("blue", 50)].as_slice(),
+            100,
+            "blue",
+        ),
+        (b"[[\"on\"]]".as_slice(), [("on", 1)].as_slice(), 1, "on"),
+        (
+            b"[[\"a\",0],[\"a\",2147483647]]".as_slice(),
+            [("a", 0), ("a", 2147483647)].as_slice(),
+            2147483647,
+            "a",
+        ),
+    ] {
+        let rule = rule_of(alloc, text)?;
+        assert!(rt;
+            has_entries(&rule, entries) && rule.total() == total && rule.choose("test") == chosen,
+            "{text:?}"
+        );
+    }
     for (text, number, name) in [
         (b"[]".as_slice(), 1, "NoWeight"),
         (b"[[\"a\",0]]".as_slice(), 1, "NoWeight"),
@@ -97,11 +109,31 @@ fn reads_rules(rt: HostRuntime) -> Result<(), Fail> {
         match read_rule(alloc, &read_tree(alloc, text, 1000)?) {
             Ok(_) => assert!(rt; false, "a rule: {text:?}"),
             Err(fault) => {
-                assert_eq!(rt; fault.number(), number, "{text:?}");
-                assert_eq!(rt; fault.name(), name, "{text:?}");
+                assert!(rt;
+                    fault.number() == number && fault.name() == name,
+                    "{text:?}"
+                );
             }
         }
     }
+    Ok(())
+}
+
+#[test]
+fn literal_buckets(rt: HostRuntime) -> Result<(), Fail> {
+    let alloc = rt.alloc();
+    for (text, want) in [
+        (b"[\"a\"]".as_slice(), Some(("a", 1))),
+        (b"[\"a\",2147483647]".as_slice(), Some(("a", 2147483647))),
+        (b"[\"a\",2147483648]".as_slice(), None),
+        (b"[\"a\",1,1]".as_slice(), None),
+        (b"[]".as_slice(), None),
+    ] {
+        let tree = read_tree(alloc, text, 100)?;
+        let parts = tree.as_list().ok_or("no list")?;
+        assert!(rt; literal_bucket(parts) == want, "{text:?}");
+    }
+    assert!(rt; weight_of(&Tree::Whole(0)) == Some(0) && weight_of(&Tree::Whole(-1)).is_none());
     Ok(())
 }
 
@@ -118,10 +150,13 @@ fn finds_entries(rt: HostRuntime) -> Result<(), Fail> {
     ] {
         assert!(rt; p < rule.total());
         let found = rule.entry_at(p);
-        assert_eq!(rt; found, entry, "at {p}");
-        assert_eq!(rt; rule.end_of(found), end, "at {p}");
-        assert_eq!(rt; rule.entry_name(found), name, "at {p}");
-        assert_eq!(rt; rule.variant_at(p), name, "at {p}");
+        assert!(rt;
+            found == entry
+                && rule.end_of(found) == end
+                && rule.entry_name(found) == name
+                && rule.variant_at(p) == name,
+            "at {p}"
+        );
     }
     for (name, total) in [("a", 0), ("b", 3), ("d", 2), ("e", 0)] {
         assert_eq!(rt; rule.total_of(name), total, "of {name}");
@@ -139,8 +174,9 @@ fn refines(rt: HostRuntime) -> Result<(), Fail> {
         assert_eq!(rt; fine.choose(key), rule.choose(key));
     }
     let heavy = rule_of(alloc, b"[[\"a\",2147483647]]")?;
-    assert!(rt; matches!(heavy.refine(alloc, 2), Err(RuleFault::TooHeavy)));
-    assert!(rt; heavy.refine(alloc, 1).is_ok());
+    assert!(rt;
+        matches!(heavy.refine(alloc, 2), Err(RuleFault::TooHeavy)) && heavy.refine(alloc, 1).is_ok()
+    );
     Ok(())
 }
 
@@ -150,10 +186,12 @@ fn merges_points(rt: HostRuntime) -> Result<(), Fail> {
     let items = [0, 0, 1, 1, 0, 1, 1, 1, 1, 1];
     assert!(rt; are_red_or_blue(&items));
     let rule = red_and_blue(alloc, &items)?;
-    assert!(rt; has_entries(&rule, &[("red", 2), ("blue", 2), ("red", 1), ("blue", 5)]));
-    assert_eq!(rt; rule.total_of("red"), 3);
-    assert_eq!(rt; rule.total_of("blue"), 7);
-    assert!(rt; rule.is_canonical());
+    assert!(rt;
+        has_entries(&rule, &[("red", 2), ("blue", 2), ("red", 1), ("blue", 5)])
+            && rule.total_of("red") == 3
+            && rule.total_of("blue") == 7
+            && rule.is_canonical()
+    );
     for (text, want) in [
         (b"[[\"a\",1],[\"b\",2],[\"a\",3]]".as_slice(), true),
         (b"[[\"a\",1],[\"a\",2]]".as_slice(), false),
