@@ -93,13 +93,13 @@ lookup_alike [] page q alike = refl
 lookup_alike (e ∷ es) page q alike = rw (alike e.0, lookup_alike es page q alike) refl
 
 -- the inputs on a page once an input was put on a page
-inputs_on-with_input : (book : Contents) (page q : PageName) (input : List ℕ) → inputs_on (with_input book page input) q ≡ cond (page_eq q page) (insert_key bytes_cmp (inputs_on book page) input) (inputs_on book q)
+pub inputs_on-with_input : (book : Contents) (page q : PageName) (input : List ℕ) → inputs_on (with_input book page input) q ≡ cond (page_eq q page) (insert_key bytes_cmp (inputs_on book page) input) (inputs_on book q)
 unfolding inputs_on with_input
 inputs_on-with_input book page q input =
     let more = insert_key bytes_cmp (unwrap_or (lookup (is_at (page_cmp page)) book) []) input in
     ap (λ o. unwrap_or o []) (lookup-insert_entry pages_total book page q more) ∙ unwrap_cond (page_eq q page) more (lookup (is_at (page_cmp q)) book)
 
-same_page : (book : Contents) (page q : PageName) → page_eq q page ≡ true → inputs_on book q ≡ inputs_on book page
+pub same_page : (book : Contents) (page q : PageName) → page_eq q page ≡ true → inputs_on book q ≡ inputs_on book page
 unfolding inputs_on
 same_page book page q same =
     let tied : page_cmp q page ≡ Equal = (Equal-is (page_cmp q page)).0 same in
@@ -110,7 +110,7 @@ is_among-insert inputs input other =
     sym (is_among-by_order other (insert_key bytes_cmp inputs input)) ∙ any-insert_key nat_list_cmp_total inputs input other ∙ ap₂ (λ a b. a || b) (is_eq-slice_cmp other input) (is_among-by_order other inputs)
 
 -- which inputs a book holds with one more
-held_with : (book : Contents) (page q : PageName) (input other : List ℕ) → is_among other (inputs_on (with_input book page input) q) ≡ (is_among other (inputs_on book q) || (page_eq q page && bytes_eq other input))
+pub held_with : (book : Contents) (page q : PageName) (input other : List ℕ) → is_among other (inputs_on (with_input book page input) q) ≡ (is_among other (inputs_on book q) || (page_eq q page && bytes_eq other input))
 held_with book page q input other =
     let put = ap (is_among other) (inputs_on-with_input book page q input) in
     ⊎_elim

@@ -1,5 +1,5 @@
 -- What a note leaves is a book again.
-use Rattle.std.proofs.Common.{◌≡◌, ℕ, ◌<◌, ◌≤◌, Bool, true, false, cond, List, [], ◌∷◌, map, length, Some, Result, Ok, Err, IsOk, OnOk, OnErr, String, string_bytes, nat_lt, unwrap_or, ◌⊎◌, inl, inr, refl, ◌∙◌, arith}
+use Rattle.std.proofs.Common.{◌≡◌, ◌≢◌, ℕ, ◌<◌, ◌≤◌, Bool, true, false, cond, List, [], ◌∷◌, map, length, Some, Result, Ok, Err, IsOk, OnOk, OnErr, String, string_bytes, nat_lt, unwrap_or, ◌⊎◌, inl, inr, refl, sym, ◌∙◌, arith}
 use borrow.Author.Tests.{ltb-true, ltb-false, lt-ltb, le-ltb}
 use Rattle.std.specs.Cmp.Lexicographic.{slice_cmp, nat_list_cmp_total}
 use Rattle.std.specs.Ordering.{nat_cmp, match_ordering}
@@ -134,3 +134,7 @@ again_inserted keys input sorted among =
 -- what a definition gives may be written in another way
 pub gives_along : (r wanted other : Result Noted BookFault) → other ≡ wanted → GivesUnless WantOfMemory (λ reply. reply) r wanted → GivesUnless WantOfMemory (λ reply. reply) r other
 gives_along r wanted other same gives = rw same gives
+
+-- the same of an answer that takes no memory
+pub other_along : (r wanted other : Result Noted BookFault) → other ≡ wanted → (wanted ≢ Ok New → r ≡ wanted) → other ≢ Ok New → r ≡ other
+other_along r wanted other same given new = given (λ e. new (same ∙ e)) ∙ sym same

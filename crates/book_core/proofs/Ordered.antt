@@ -97,7 +97,7 @@ set_value-same test (e ∷ es) v found =
     ] found
 
 -- a key below all is in no entry
-none_below : {K X : Type 0} (R : K → K → Ordering) (k : K) (es : List (K × X)) → AllByRecursion (λ y. R k y ≡ Less) (keys_of es) → lookup (is_at (R k)) es ≡ None
+pub none_below : {K X : Type 0} (R : K → K → Ordering) (k : K) (es : List (K × X)) → AllByRecursion (λ y. R k y ≡ Less) (keys_of es) → lookup (is_at (R k)) es ≡ None
 none_below R k [] below = refl
 none_below R k (e ∷ es) below =
     let here : is_eq (R k e.0) ≡ false = ap is_eq below.0 in

@@ -17,7 +17,7 @@ use Rattle.std.proofs.lemmas.List.{length-map}
 use Rattle.book_core.specs.Page.{PageName, bytes_cmp}
 use Rattle.book_core.specs.Book.{Inputs, Contents, inputs_view, contents_view}
 use Rattle.book_core.specs.Lines.{line_view, with_line, with_page, last_of, TakesInputs}
-use Rattle.book_core.specs.Reading.{FileLine, begins, adds, Standing, comes_after, is_above, input_fault, first_fault, ends_page, leading, pages_in, unless, lines_book}
+use Rattle.book_core.specs.Reading.{FileLine, begins, Standing, comes_after, is_above, first_fault, ends_page, leading, pages_in, unless, lines_book}
 use Rattle.book_core.specs.declared.line.Line.{Line}
 use Rattle.book_core.specs.declared.fault.BookFileFault.{BookFileFault}
 use Rattle.book_core.specs.declared.fault.BookFileFault.TheVariants.{Line as LineFault, Order}

@@ -1,5 +1,5 @@
 -- Which book the bytes of a file stand for, and the first line at fault. A line is a JSON text (RFC 8259) and a line feed.
-use Rattle.std.specs.Prelude.{ℕ, ◌+◌, ◌^◌, ◌==◌, pos, List, [], ◌∷◌, ◌++◌, length, Bool, true, false, ◌&&◌, nat_lt, if◌then◌else◌, codes, Option, Some, None, option_map, option_and_then, Result, Ok, Err}
+use Rattle.std.specs.Prelude.{ℕ, ◌+◌, ◌^◌, ◌==◌, pos, List, [], ◌∷◌, ◌++◌, length, Bool, true, false, ◌&&◌, nat_lt, if◌then◌else◌, codes, Option, Some, None, option_and_then, Result, Ok, Err}
 use Rattle.std.specs.Option.{option_or}
 use Rattle.std.specs.Ordering.{is_lt}
 use Rattle.std.specs.List.{slice_split, list_all}
@@ -36,13 +36,11 @@ o >>= f = option_and_then f o
 
 -- the page that an object names; members besides these three are passed over
 unfoldable pub page_of : Shape → Option PageName
-page_of t =
-    option_and_then (λ flag.
-    option_and_then (λ site.
-    option_map (λ by. record { flag = flag; site = site; by = by })
-    (option_and_then by_of (member_of (codes "by") t)))
-    (option_and_then site_of (member_of (codes "site") t)))
-    (option_and_then as_text (member_of (codes "flag") t))
+page_of t = do
+  flag ← option_and_then as_text (member_of (codes "flag") t)
+  site ← option_and_then site_of (member_of (codes "site") t)
+  by ← option_and_then by_of (member_of (codes "by") t)
+  Some (record { flag = flag; site = site; by = by })
 
 -- an object that names no page is no line of a book
 abbrev pub page_line : Option PageName → FileLine

@@ -1,12 +1,12 @@
-ghost use Rattle.std.specs.Prelude.{◌≡◌, [], IfOk, OnOk, OnErr};
+ghost use Rattle.std.specs.Prelude.{◌≡◌, ◌≢◌, [], Ok, IfOk, OnOk, OnErr};
 ghost use Rattle.flag_text.specs.Outcome.{GivesUnless};
-ghost use Rattle.book_core.specs.Book.{IsBook, contents_view, inputs_on, input_count, reply_to, with_input};
+ghost use Rattle.book_core.specs.Book.{IsBook, contents_view, inputs_on, input_count, is_among, reply_to, with_input};
 
 use crate::exposure::Exposure;
 use crate::fault::BookFault;
 use crate::noted::Noted;
 use crate::page::Page;
-use crate::pages::{count_inputs, inputs_of, note_in};
+use crate::pages::{count_inputs, has_input, inputs_of, note_in};
 use std::alloc::{AllocError, Global};
 use std::collections::{BTreeMap, BTreeSet};
 use std::marker::Model;
@@ -40,11 +40,12 @@ impl Book {
     /// Notes an input on a page: New where it did not stand there, else Again. A new input is refused
     /// with InputTooLong where it has more than 1024 bytes, and with PageFull where the page has
     /// 1000000 inputs. A refusal leaves the book as it was. Cost: O(log pages + log inputs)
-    /// comparisons; memory is taken for a new input alone.
+    /// comparisons; memory is taken for a new input alone, so that every other answer is given whatever is left of it.
     pub fn note(&mut self, alloc: Global, page: &Page, input: &str) -> Result<Noted, BookFault>
         ensures exact { GivesUnless BookFault.WantOfMemory (λ reply. reply) result (reply_to self.old page.now input.now) }
         ensures noted { OnOk result (self.new ≡ with_input self.old page.now input.now) }
         ensures refused { OnErr result (self.new ≡ self.old) }
+        ensures no_memory { reply_to self.old page.now input.now ≢ Ok Noted.New → result ≡ reply_to self.old page.now input.now }
     {
         note_in(alloc, &mut self.pages, page, input)
     }
@@ -57,9 +58,17 @@ impl Book {
         inputs_of(alloc, &self.pages, page)
     }
 
+    /// Whether an input stands on a page. It takes no memory. Cost: O(log pages + log inputs) comparisons.
+    pub fn has(&self, page: &Page, input: &str) -> bool
+        ensures { result ≡ is_among input.now (inputs_on self.now page.now) }
+    {
+        has_input(&self.pages, page, input)
+    }
+
     /// The number of inputs on all pages. Cost: O(pages).
     pub fn inputs(&self) -> u128
-        ensures { result ≡ input_count self.now }
+        ensures count { result ≡ input_count self.now }
+        ensures lawful { IsBook self.now }
     {
         count_inputs(&self.pages)
     }

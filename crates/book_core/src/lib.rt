@@ -32,6 +32,3 @@ pub use noted::Noted;
 pub use page::Page;
 pub use print::print_book;
 pub use read::read_book;
-
-#[cfg(test)]
-mod tests;

@@ -1,6 +1,7 @@
-ghost use Rattle.std.specs.Prelude.{◌≡◌, IfOk};
+ghost use Rattle.std.specs.Prelude.{◌≡◌, None, IfOk, IsErrOf};
 ghost use Rattle.flag_text.specs.Outcome.{GivesUnless};
 ghost use Rattle.logic_ast.specs.Expr.{view};
+ghost use Rattle.logic_ast.specs.Sites.{site_at};
 ghost use Rattle.book_core.specs.Site.{page_at};
 
 use logic_ast::{Expr, LogicFault, by_text};
@@ -34,7 +35,8 @@ impl Page {
     /// targeting has no such site.
     #[tactic(auto, unfolding(crate::specs::Site::page_at))]
     pub fn of(alloc: Global, flag: &str, targeting: &Expr, site: u32) -> Result<Page, LogicFault>
-        ensures { GivesUnless LogicFault.WantOfMemory (λ page. page) result (page_at flag.now site (view targeting.now)) }
+        ensures exact { GivesUnless LogicFault.WantOfMemory (λ page. page) result (page_at flag.now site (view targeting.now)) }
+        ensures no_site { site_at site (view targeting.now) ≡ None → IsErrOf result LogicFault.NoSite }
     {
         let by = by_text(alloc, targeting, site)?;
         let flag = String::from_str(alloc, flag)?;

@@ -1,10 +1,10 @@
 //! The map from pages to inputs that a book keeps.
-ghost use Rattle.std.specs.Prelude.{◌≡◌, IfOk, OnOk, OnErr, None};
+ghost use Rattle.std.specs.Prelude.{◌≡◌, ◌≢◌, Ok, IfOk, OnOk, OnErr, None};
 ghost use Rattle.std.specs.BTreeMap.{get};
 ghost use Rattle.std.specs.BTreeSet.{insert_key};
 ghost use Rattle.flag_text.specs.Outcome.{GivesUnless};
 ghost use Rattle.book_core.specs.Page.{bytes_cmp, page_cmp};
-ghost use Rattle.book_core.specs.Book.{IsBook, IsExposure, input_count, inputs_on, page_reply, reply_to, with_input, inputs_view, contents_view};
+ghost use Rattle.book_core.specs.Book.{IsBook, IsExposure, input_count, inputs_on, is_among, page_reply, reply_to, with_input, inputs_view, contents_view};
 
 use crate::exposure::Exposure;
 use crate::fault::BookFault;
@@ -28,6 +28,7 @@ pub(crate) fn note_on(
     ensures exact { GivesUnless BookFault.WantOfMemory (λ reply. reply) result (page_reply (inputs_view inputs.old) input.now) }
     ensures noted { OnOk result (inputs_view inputs.new ≡ insert_key bytes_cmp (inputs_view inputs.old) input.now) }
     ensures refused { OnErr result (inputs_view inputs.new ≡ inputs_view inputs.old) }
+    ensures no_memory { page_reply (inputs_view inputs.old) input.now ≢ Ok Noted.New → result ≡ page_reply (inputs_view inputs.old) input.now }
 {
     if input.len() > MOST_BYTES {
         return Err(BookFault::InputTooLong);
@@ -53,6 +54,7 @@ pub(crate) fn note_in(
     ensures exact { GivesUnless BookFault.WantOfMemory (λ reply. reply) result (reply_to (contents_view pages.old.entries) page.now input.now) }
     ensures noted { OnOk result (contents_view pages.new.entries ≡ with_input (contents_view pages.old.entries) page.now input.now) }
     ensures refused { OnErr result (contents_view pages.new.entries ≡ contents_view pages.old.entries) }
+    ensures no_memory { reply_to (contents_view pages.old.entries) page.now input.now ≢ Ok Noted.New → result ≡ reply_to (contents_view pages.old.entries) page.now input.now }
 {
     match pages.get_mut(page) {
         Some(inputs) => note_on(alloc, inputs, input),
@@ -71,6 +73,7 @@ fn note_first(
     ensures exact { GivesUnless BookFault.WantOfMemory (λ reply. reply) result (reply_to (contents_view pages.old.entries) page.now input.now) }
     ensures noted { OnOk result (contents_view pages.new.entries ≡ with_input (contents_view pages.old.entries) page.now input.now) }
     ensures refused { OnErr result (contents_view pages.new.entries ≡ contents_view pages.old.entries) }
+    ensures no_memory { reply_to (contents_view pages.old.entries) page.now input.now ≢ Ok Noted.New → result ≡ reply_to (contents_view pages.old.entries) page.now input.now }
 {
     if input.len() > MOST_BYTES {
         return Err(BookFault::InputTooLong);
@@ -79,6 +82,16 @@ fn note_first(
     inputs.insert(String::from_str(alloc, input)?)?;
     pages.insert(page.copy(alloc)?, inputs)?;
     Ok(Noted::New)
+}
+
+/// Whether an input stands on a page.
+pub(crate) fn has_input(pages: &BTreeMap<Page, BTreeSet<String>>, page: &Page, input: &str) -> bool
+    ensures { result ≡ is_among input.now (inputs_on (contents_view pages.now.entries) page.now) }
+{
+    match pages.get(page) {
+        Some(inputs) => inputs.contains(input),
+        None => false,
+    }
 }
 
 /// The inputs on a page.

@@ -1,5 +1,5 @@
 -- What definitions mean, one by one and together.
-use Rattle.std.proofs.Common.{◌≡◌, ◌≤◌, ◌<◌, ℕ, zero, suc, ◌+◌, List, [], ◌∷◌, ◌++◌, length, drop, get_or, string_bytes, codes, Bool, true, false, ◌&&◌, ◌||◌, cond, nat_lt, Option, Some, None, Result, Err, Ok, Less, Ordering, refl, sym, ap, ◌∙◌, subst, arith}
+use Rattle.std.proofs.Common.{◌≡◌, ◌≤◌, ◌<◌, ℕ, zero, suc, ◌+◌, List, [], ◌∷◌, ◌++◌, length, drop, get_or, string_bytes, codes, Bool, true, false, ◌&&◌, ◌||◌, cond, nat_lt, Option, Some, None, Result, Err, Ok, Less, Ordering, inl, inr, refl, sym, ap, ◌∙◌, subst, arith}
 use Rattle.std.specs.Prelude.{◌≢◌, option_and_then}
 use Rattle.std.specs.Cmp.Lexicographic.{slice_cmp}
 use Rattle.std.specs.List.{AllByRecursion}
@@ -19,10 +19,12 @@ use Rattle.logic_ast.specs.Expression.{Expression}
 use Rattle.logic_ast.specs.Writing.{written}
 use Rattle.flag_defs.specs.Definition.{Definition, broken, good, Means, or_null, member_count}
 use Rattle.flag_defs.specs.Document.{Definitions, AllMean, FlagsMean, definition_written, definitions_written, with_default, with_targeting, state_text, or_no_members, evaluators_in, printed, limited, max_flags, max_bytes, flags_in, TextMeans, DocumentMeans}
-use Rattle.flag_defs.specs.Flag.{entries_view, flag_view, is_definition}
+use Rattle.flag_defs.specs.Flag.{entries_view, flag_view, is_definition, member_names}
 use Rattle.flag_defs.specs.Least.{least, members_least}
+use Rattle.flag_defs.specs.Measure.{plus}
 use Rattle.flag_defs.specs.Outline.{Outline, outline_of, rules_with}
-use Rattle.flag_defs.specs.Targeting.{IsWeight, IsGoodTargeting}
+use Rattle.flag_defs.specs.Targeting.{IsForecast, IsGoodTargeting}
+use Rattle.flag_defs.specs.Weighing.{DefinitionTakes, AllTake, AreLight, IsAmong}
 use Rattle.flag_text.specs.Outcome.{GivesUnless}
 use Rattle.flag_text.specs.Reading.{doc_of}
 use Rattle.flag_text.specs.declared.fault.TextFault.{TextFault}
@@ -32,8 +34,8 @@ use Rattle.flag_defs.specs.Flags.{flags_view, HoldsUnless}
 use Rattle.flag_defs.specs.declared.flags.Flags.{Flags}
 use Rattle.flag_defs.specs.declared.fault.DefFault.{DefFault}
 use Rattle.flag_defs.specs.declared.fault.DefFault.TheVariants.{WantOfMemory, NotJson, TooLarge}
-use Rattle.flag_defs.specs.declared.weigh.Weight.{Weight}
-use Rattle.flag_defs.specs.declared.weigh.Weight.TheVariants as weight
+use Rattle.flag_defs.specs.declared.forecast.Forecast.{Forecast}
+use Rattle.flag_defs.specs.declared.forecast.Forecast.TheVariants as forecast
 use Rattle.flag_defs.proofs.Counted.{counted, is_object}
 use Rattle.flag_defs.proofs.Least.{text_of-least}
 use Rattle.flag_defs.proofs.Outlines.{found, good_with, rules_lawful, broken_outline, broken_targeting}
@@ -41,10 +43,6 @@ use Rattle.flag_defs.proofs.Printed.{whole_document}
 use Rattle.flag_defs.proofs.Sorted.{Entry}
 
 -- ---- one definition
-
--- it is printed in so many bytes at least
-abbrev pub HasLeast : Members → Shape → ℕ → Type 0
-HasLeast evaluators t n = (d : Definition) × Means evaluators t d × (n ≤ least (definition_written d))
 
 pub not_object : (evaluators : Members) (t : Shape) → as_object t ≡ None → Means evaluators t broken
 not_object evaluators null h = tt
@@ -55,11 +53,11 @@ not_object evaluators (text s) h = tt
 not_object evaluators (list ts) h = tt
 not_object evaluators (object ms) h = cc
 
-pub not_object-least : (evaluators : Members) (t : Shape) → as_object t ≡ None → HasLeast evaluators t 0
-not_object-least evaluators t h = (broken, not_object evaluators t h, omega arith)
+pub not_object-takes : (evaluators : Members) (t : Shape) → as_object t ≡ None → DefinitionTakes evaluators t 0
+not_object-takes evaluators t h = (broken, not_object evaluators t h, refl, omega arith)
 
-pub object-least : (evaluators : Members) (t : Shape) (ms : Members) (n : ℕ) → as_object t ≡ Some ms → HasLeast evaluators (object ms) n → HasLeast evaluators t n
-object-least evaluators t ms n is h = subst (λ x. HasLeast evaluators x n) (sym (is_object t ms is)) h
+pub object-takes : (evaluators : Members) (t : Shape) (ms : Members) (n : ℕ) → as_object t ≡ Some ms → DefinitionTakes evaluators (object ms) n → DefinitionTakes evaluators t n
+object-takes evaluators t ms n is h = subst (λ x. DefinitionTakes evaluators x n) (sym (is_object t ms is)) h
 
 pub object-means : (evaluators : Members) (t : Shape) (ms : Members) (d : Definition) → as_object t ≡ Some ms → Means evaluators (object ms) d → Means evaluators t d
 object-means evaluators t ms d is h = subst (λ x. Means evaluators x d) (sym (is_object t ms is)) h
@@ -116,26 +114,23 @@ targeting_longer o e =
     omega (arith, default_longer o.default_variant rest)
 
 -- without an outline
-pub none-least : (evaluators ms : Members) → outline_of ms ≡ None → HasLeast evaluators (object ms) 0
-none-least evaluators ms h = (broken, broken_outline evaluators ms h, omega arith)
+pub none-takes : (evaluators ms : Members) → outline_of ms ≡ None → DefinitionTakes evaluators (object ms) 0
+none-takes evaluators ms h = (broken, broken_outline evaluators ms h, refl, omega arith)
 
-abbrev pub weight_bytes : Weight → ℕ
-weight_bytes weight.Broken = 0
-weight_bytes weight.Without = 0
-weight_bytes (weight.With n) = n
+abbrev pub forecast_bytes : Forecast → ℕ
+forecast_bytes forecast.Broken = 0
+forecast_bytes forecast.Without = 0
+forecast_bytes (forecast.With n) = n
 
-pub weighed-least : (evaluators ms : Members) (o : Outline) (w : Weight) → outline_of ms ≡ Some o → IsWeight evaluators (or_null (found (codes "targeting") ms)) w → HasLeast evaluators (object ms) (weight_bytes w)
-weighed-least evaluators ms o weight.Broken h w = (broken, broken_targeting evaluators ms w, omega arith)
-weighed-least evaluators ms o weight.Without h w = (good (rules_with o None), good_with evaluators ms o None h w, omega arith)
-weighed-least evaluators ms o (weight.With n) h w = (good (rules_with o (Some w.0)), good_with evaluators ms o (Some w.0) h w.1, omega (arith, w.2, targeting_longer o w.0))
+pub forecast-takes : (evaluators ms : Members) (o : Outline) (w : Forecast) → outline_of ms ≡ Some o → IsForecast evaluators (or_null (found (codes "targeting") ms)) w → DefinitionTakes evaluators (object ms) (forecast_bytes w)
+forecast-takes evaluators ms o forecast.Broken h w = (broken, broken_targeting evaluators ms w, refl, omega arith)
+forecast-takes evaluators ms o forecast.Without h w = (good (rules_with o None), good_with evaluators ms o None h w, refl, omega arith)
+forecast-takes evaluators ms o (forecast.With n) h w = (good (rules_with o (Some w.0)), good_with evaluators ms o (Some w.0) h w.1, w.3, omega (arith, w.2, targeting_longer o w.0))
 
-pub weighed-zero : (evaluators ms : Members) (o : Outline) (w : Weight) → outline_of ms ≡ Some o → IsWeight evaluators (or_null (found (codes "targeting") ms)) w → HasLeast evaluators (object ms) 0
-weighed-zero evaluators ms o w h is = let some = weighed-least evaluators ms o w h is in (some.0, some.1, omega arith)
-
-pub good_weight : (evaluators : Members) (t : Shape) (w : Weight) → (w ≡ weight.Broken → ⊥) → IsWeight evaluators t w → IsGoodTargeting evaluators t
-good_weight evaluators t weight.Broken n h = absurd (n refl)
-good_weight evaluators t weight.Without n h = (None, h)
-good_weight evaluators t (weight.With k) n h = (Some h.0, h.1)
+pub good_forecast : (evaluators : Members) (t : Shape) (w : Forecast) → (w ≡ forecast.Broken → ⊥) → IsForecast evaluators t w → IsGoodTargeting evaluators t
+good_forecast evaluators t forecast.Broken n h = absurd (n refl)
+good_forecast evaluators t forecast.Without n h = (None, h)
+good_forecast evaluators t (forecast.With k) n h = (Some h.0, h.1)
 
 -- ---- all definitions
 
@@ -146,17 +141,30 @@ all_mean_push evaluators [] m (f ∷ es) e a k h = absurd a
 all_mean_push evaluators (n ∷ ms) m [] e a k h = absurd a
 all_mean_push evaluators (n ∷ ms) m (f ∷ es) e a k h = (a.0, a.1, all_mean_push evaluators ms m es e a.2 k h)
 
+pub one_more-takes : (evaluators : Members) (ms : List Named) (i : ℕ) (x : Named) (bytes total new : ℕ) → i < length ms → x ≡ get_or ms i x → DefinitionTakes evaluators (view x.1) bytes
+    → AllTake evaluators (members_view (drop (i + 1) ms)) total → new ≡ plus bytes total → AllTake evaluators (members_view (drop i ms)) new
+one_more-takes evaluators ms i x bytes total new low is one all sum = subst (λ xs. AllTake evaluators (members_view xs) new) (sym (dropped ms i x low is)) (bytes, total, one, all, sum)
+
 -- they mean these, which are printed in so many bytes at least
 abbrev pub AllHaveLeast : Members → Members → ℕ → Type 0
 AllHaveLeast evaluators ms n = (fs : Definitions) × AllMean evaluators ms fs × (n ≤ members_least (definitions_written fs))
 
-pub one_more-least : (evaluators : Members) (ms : List Named) (i : ℕ) (x : Named) (bytes total new : ℕ) → i < length ms → x ≡ get_or ms i x → HasLeast evaluators (view x.1) bytes
-    → AllHaveLeast evaluators (members_view (drop (i + 1) ms)) total → new ≤ total + bytes → AllHaveLeast evaluators (members_view (drop i ms)) new
-one_more-least evaluators ms i x bytes total new low is one all le = (
-  (string_bytes x.0, one.0) ∷ all.0,
-  subst (λ xs. AllMean evaluators (members_view xs) ((string_bytes x.0, one.0) ∷ all.0)) (sym (dropped ms i x low is)) (refl, one.1, all.1),
-  omega (arith, le, one.2, all.2),
-)
+pub all_take-least : (evaluators ms : Members) (n : ℕ) → AllTake evaluators ms n → AllHaveLeast evaluators ms n
+all_take-least evaluators no_members n h = ([], tt, omega (arith, h))
+all_take-least evaluators (member k t ms) n h =
+    let rest = all_take-least evaluators ms h.1 h.3 in
+    let one = h.2 in
+    ((k, one.0) ∷ rest.0, (refl, one.1, rest.1), omega (arith, h.4, one.3, rest.2))
+
+-- each definition is among them
+pub among_at : (ms : List Named) (i : ℕ) (d : Named) → i < length ms → IsAmong (view (get_or ms i d).1) (members_view ms)
+among_at [] i d h = absurd (omega arith)
+among_at (m ∷ ms) zero d h = inl refl
+among_at (m ∷ ms) (suc i) d h = inr (among_at ms i d (omega arith))
+
+-- what was weighed and counted is light
+pub light : (evaluators : Members) (ms : List Named) (n : ℕ) → AllTake evaluators (members_view ms) n → n ≤ max_bytes → length ms ≤ max_flags → AreLight evaluators (members_view ms)
+light evaluators ms n all small few = record { bytes = n; total = all; small = small; few = omega (arith, few, counted ms) }
 
 lawful_means : (evaluators : Members) (t : Shape) (d : Definition) → Means evaluators t d → is_definition d ≡ true
 lawful_means evaluators t broken h = refl
@@ -209,6 +217,18 @@ rise_meant evaluators (member k t ms) (f ∷ fs) rise a = (
   rise_meant evaluators ms fs (right (comes_first k ms) (names_rise ms) rise) a.2,
 )
 
+-- so do the names of members alone
+above_names : (k : List ℕ) (ms : Members) → comes_first k ms ≡ true → names_rise ms ≡ true → AllByRecursion (λ y. slice_cmp nat_cmp k y ≡ Less) (member_names ms)
+above_names k no_members first rise = tt
+above_names k (member l t ms) first rise =
+    let less = less_if (slice_cmp nat_cmp k l) first in
+    (less, above_too k l (member_names ms) less (above_names l ms (left (comes_first l ms) (names_rise ms) rise) (right (comes_first l ms) (names_rise ms) rise)))
+
+pub rising_names : (ms : Members) → names_rise ms ≡ true → IsStrictlySortedBy (slice_cmp nat_cmp) (member_names ms)
+unfolding IsStrictlySortedBy
+rising_names no_members rise = tt
+rising_names (member k t ms) rise = (above_names k ms (left (comes_first k ms) (names_rise ms) rise) (right (comes_first k ms) (names_rise ms) rise), rising_names ms (right (comes_first k ms) (names_rise ms) rise))
+
 -- ---- limits
 
 limited_by : (a b : Bool) (fs : Definitions) → (a || b) ≡ true → Err TooLarge ≡ cond (a || b) (Err TooLarge) (Ok fs)
@@ -222,15 +242,17 @@ or_second true b h = refl
 or_second false b h = h
 
 -- too many definitions
-pub many_meant : (evaluators : Members) (ms : List Named) (n : ℕ) → AllHaveLeast evaluators (members_view ms) n → max_flags < length ms → FlagsMean evaluators (Some (members_view ms)) (Err TooLarge)
-many_meant evaluators ms n all h =
+pub many_meant : (evaluators : Members) (ms : List Named) (n : ℕ) → AllTake evaluators (members_view ms) n → max_flags < length ms → FlagsMean evaluators (Some (members_view ms)) (Err TooLarge)
+many_meant evaluators ms n takes h =
+    let all = all_take-least evaluators (members_view ms) n takes in
     let fs = all.0 in
     let count = count_meant evaluators (members_view ms) fs all.1 ∙ counted ms in
     (fs, all.1, limited_by (nat_lt max_flags (length fs)) (nat_lt max_bytes (length (printed fs))) fs (ap (λ b. b || nat_lt max_bytes (length (printed fs))) (passed max_flags (length fs) (subst (λ k. max_flags < k) (sym count) h))))
 
 -- too many bytes
-pub heavy_meant : (evaluators : Members) (ms : List Named) (n : ℕ) → names_rise (members_view ms) ≡ true → AllHaveLeast evaluators (members_view ms) n → max_bytes < n → FlagsMean evaluators (Some (members_view ms)) (Err TooLarge)
-heavy_meant evaluators ms n rise all h =
+pub heavy_meant : (evaluators : Members) (ms : List Named) (n : ℕ) → names_rise (members_view ms) ≡ true → AllTake evaluators (members_view ms) n → max_bytes < n → FlagsMean evaluators (Some (members_view ms)) (Err TooLarge)
+heavy_meant evaluators ms n rise takes h =
+    let all = all_take-least evaluators (members_view ms) n takes in
     let fs = all.0 in
     let document = object (member (codes "flags") (object (definitions_written fs)) no_members) in
     let long : least document ≤ length (printed fs) = text_of-least document (whole_document fs (rise_meant evaluators (members_view ms) fs rise all.1) (lawful_meant evaluators (members_view ms) fs all.1)) in

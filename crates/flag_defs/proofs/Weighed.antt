@@ -21,10 +21,10 @@ use Rattle.flag_defs.specs.Least.{least}
 use Rattle.flag_defs.specs.Measure.{capped, measure}
 use Rattle.flag_defs.specs.Readable.{reads, is_readable}
 use Rattle.flag_defs.specs.Table.{IsEndOf}
-use Rattle.flag_defs.specs.Targeting.{IsWeight, end_weight, is_nothing}
+use Rattle.flag_defs.specs.Targeting.{IsForecast, end_forecast, is_nothing}
 use Rattle.flag_defs.specs.declared.measure.Measure.{Measure}
-use Rattle.flag_defs.specs.declared.weigh.Weight.{Weight}
-use Rattle.flag_defs.specs.declared.weigh.Weight.TheVariants.{Broken, Without, With}
+use Rattle.flag_defs.specs.declared.forecast.Forecast.{Forecast}
+use Rattle.flag_defs.specs.declared.forecast.Forecast.TheVariants.{Broken, Without, With}
 use Rattle.flag_defs.proofs.Expanded.{object-form}
 use Rattle.flag_defs.proofs.Inlined.{map_some, and_then_some, one_form}
 use Rattle.flag_defs.proofs.Least.{bytes-counted, bytes-least}
@@ -57,7 +57,7 @@ bytes-written t e h =
 
 -- ---- the kinds of a form
 
-broken : (evaluators : Members) (t u : Shape) → IsInlined evaluators t u → targeting_of u ≡ None → IsWeight evaluators t Broken
+broken : (evaluators : Members) (t u : Shape) → IsInlined evaluators t u → targeting_of u ≡ None → IsForecast evaluators t Broken
 broken evaluators t u p none e h = let some = sym none ∙ (ap targeting_of (one_form evaluators t u h.0 p h.1) ∙ h.2) in cc
 
 -- the form of a tree that is no reference is replaced in its parts alone
@@ -67,7 +67,7 @@ form_at evaluators t h u end p = sym (inlined-is evaluators (end.same u p).0 h) 
 itself : (evaluators : Members) (t s u : Shape) → IsInlined evaluators t u → Some s ≡ Some u → IsInlined evaluators t s
 itself evaluators t s u p e = let same : u ≡ s = cc in subst (IsInlined evaluators t) same p
 
-other_kind : (evaluators : Members) (t s u : Shape) → IsInlined evaluators t u → Some s ≡ Some u → targeting_of s ≡ None → IsWeight evaluators t Broken
+other_kind : (evaluators : Members) (t s u : Shape) → IsInlined evaluators t u → Some s ≡ Some u → targeting_of s ≡ None → IsForecast evaluators t Broken
 other_kind evaluators t s u p e none = broken evaluators t s (itself evaluators t s u p e) none
 
 -- ---- objects
@@ -82,9 +82,9 @@ read_some true (Ok e) h = (refl, e, refl, refl)
 read_some true (Err f) h = cc
 read_some false r h = cc
 
-object_weight : (evaluators : Members) (t u : Shape) (m : Measure) (b : Bool) → IsInlined evaluators t u → measure u ≡ m → targeting_of u ≡ read_targeting u → is_readable u ≡ b
-    → IsWeight evaluators t (cond b (With m.bytes) Broken)
-object_weight evaluators t u m true p same kind h =
+object_forecast : (evaluators : Members) (t u : Shape) (m : Measure) (b : Bool) → IsInlined evaluators t u → measure u ≡ m → targeting_of u ≡ read_targeting u → is_readable u ≡ b
+    → IsForecast evaluators t (cond b (With m.bytes) Broken)
+object_forecast evaluators t u m true p same kind h =
     let r = read_some (is_whole u && not (has_reference u)) (reading u) h in
     let few = bytes-written u r.1 r.2 in (
       r.1,
@@ -92,7 +92,7 @@ object_weight evaluators t u m true p same kind h =
       subst (λ x. x.bytes ≤ least (written r.1)) same few,
       λ v q. ap (λ x. x.bytes) (sym same) ∙ (bytes-counted u ∙ ap (λ x. capped (least x)) (one_form evaluators t u v p q)),
     )
-object_weight evaluators t u m false p same kind h = broken evaluators t u p (kind ∙ read_none (is_whole u && not (has_reference u)) (reading u) h)
+object_forecast evaluators t u m false p same kind h = broken evaluators t u p (kind ∙ read_none (is_whole u && not (has_reference u)) (reading u) h)
 
 -- what has a member still has one
 object_kind : (r : List ℕ → Option Shape) (k : List ℕ) (x : Shape) (ms : Members) (u : Shape) (ns : Members) → members_replaced r (member k x ms) ≡ Some ns → object ns ≡ u → targeting_of u ≡ read_targeting u
@@ -102,30 +102,30 @@ object_kind r k x ms u ns e same =
     let is : object (member k a.0 b.0) ≡ u = ap object b.2 ∙ same in
     subst (λ v. targeting_of v ≡ read_targeting v) is refl
 
-pub weight_of_end : (evaluators : Members) (t h u : Shape) (m : Measure) → IsEndOf evaluators t h → IsInlined evaluators t u → measure u ≡ m → is_tidy u ≡ true → IsWeight evaluators t (end_weight h m)
-weight_of_end evaluators t null u m end p same tidy = (null, itself evaluators t null u p (form_at evaluators t null u end p), refl)
-weight_of_end evaluators t (boolean b) u m end p same tidy = other_kind evaluators t (boolean b) u p (form_at evaluators t (boolean b) u end p) refl
-weight_of_end evaluators t (whole n) u m end p same tidy = other_kind evaluators t (whole n) u p (form_at evaluators t (whole n) u end p) refl
-weight_of_end evaluators t other u m end p same tidy = other_kind evaluators t other u p (form_at evaluators t other u end p) refl
-weight_of_end evaluators t (text x) u m end p same tidy = other_kind evaluators t (text x) u p (form_at evaluators t (text x) u end p) refl
-weight_of_end evaluators t (list ts) u m end p same tidy =
+pub forecast_of_end : (evaluators : Members) (t h u : Shape) (m : Measure) → IsEndOf evaluators t h → IsInlined evaluators t u → measure u ≡ m → is_tidy u ≡ true → IsForecast evaluators t (end_forecast h m)
+forecast_of_end evaluators t null u m end p same tidy = (null, itself evaluators t null u p (form_at evaluators t null u end p), refl)
+forecast_of_end evaluators t (boolean b) u m end p same tidy = other_kind evaluators t (boolean b) u p (form_at evaluators t (boolean b) u end p) refl
+forecast_of_end evaluators t (whole n) u m end p same tidy = other_kind evaluators t (whole n) u p (form_at evaluators t (whole n) u end p) refl
+forecast_of_end evaluators t other u m end p same tidy = other_kind evaluators t other u p (form_at evaluators t other u end p) refl
+forecast_of_end evaluators t (text x) u m end p same tidy = other_kind evaluators t (text x) u p (form_at evaluators t (text x) u end p) refl
+forecast_of_end evaluators t (list ts) u m end p same tidy =
     let k = map_some list _ u (form_at evaluators t (list ts) u end p) in broken evaluators t u p (ap targeting_of (sym k.2))
-weight_of_end evaluators t (object no_members) u m end p same tidy =
+forecast_of_end evaluators t (object no_members) u m end p same tidy =
     (object no_members, itself evaluators t (object no_members) u p (form_at evaluators t (object no_members) u end p), refl)
-weight_of_end evaluators t (object (member k x ms)) u m end p same tidy =
+forecast_of_end evaluators t (object (member k x ms)) u m end p same tidy =
     let q = end.same u p in
     let form = object-form evaluators q.0 (member k x ms) u end.ends q.1 in
-    object_weight evaluators t u m (reads m) p same (object_kind (refer_at evaluators q.0) k x ms u form.0 form.1 form.2) (sym (reads-readable u tidy) ∙ ap reads same)
+    object_forecast evaluators t u m (reads m) p same (object_kind (refer_at evaluators q.0) k x ms u form.0 form.1 form.2) (sym (reads-readable u tidy) ∙ ap reads same)
 
 -- the same where the measure comes from a table
-pub weight_told : (evaluators : Members) (t h : Shape) (m : Measure) (w : Weight) → members_are_tidy evaluators ≡ true → is_tidy t ≡ true → IsEndOf evaluators t h
-    → ((u : Shape) × IsInlined evaluators t u × (measure u ≡ m)) → w ≡ end_weight h m → IsWeight evaluators t w
-weight_told evaluators t h m w all tidy end f is =
-    subst (IsWeight evaluators t) (sym is) (weight_of_end evaluators t h f.0 m end f.1 f.2 (form-tidy evaluators all t f.0 tidy f.1))
+pub forecast_told : (evaluators : Members) (t h : Shape) (m : Measure) (w : Forecast) → members_are_tidy evaluators ≡ true → is_tidy t ≡ true → IsEndOf evaluators t h
+    → ((u : Shape) × IsInlined evaluators t u × (measure u ≡ m)) → w ≡ end_forecast h m → IsForecast evaluators t w
+forecast_told evaluators t h m w all tidy end f is =
+    subst (IsForecast evaluators t) (sym is) (forecast_of_end evaluators t h f.0 m end f.1 f.2 (form-tidy evaluators all t f.0 tidy f.1))
 
 -- where there is no form, the flag is broken
-pub weight_none : (evaluators : Members) (t : Shape) → ((u : Shape) → ¬ IsInlined evaluators t u) → IsWeight evaluators t Broken
-weight_none evaluators t never e h = never h.0 h.1
+pub forecast_none : (evaluators : Members) (t : Shape) → ((u : Shape) → ¬ IsInlined evaluators t u) → IsForecast evaluators t Broken
+forecast_none evaluators t never e h = never h.0 h.1
 
 -- an object without members is no targeting
 empty-members : (ms : List Named) → (length ms == 0) ≡ is_nothing (object (members_view ms))
@@ -136,5 +136,5 @@ pub empty-object : (v : Vec Named Global) → (vec_len v == 0) ≡ is_nothing (v
 empty-object v = let n : vec_len v ≡ length v.items = omega (arith, v.ok.0) in ap (λ k. k == 0) n ∙ (empty-members v.items ∙ ap is_nothing (sym (view-object v)))
 
 -- an absent targeting is none
-pub weight_absent : (evaluators : Members) → IsWeight evaluators null Without
-weight_absent evaluators = (null, (0, refl), refl)
+pub forecast_absent : (evaluators : Members) → IsForecast evaluators null Without
+forecast_absent evaluators = (null, (0, refl), refl)

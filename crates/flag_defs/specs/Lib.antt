@@ -14,3 +14,4 @@ pub mod Readable
 pub mod Rules
 pub mod Table
 pub mod Targeting
+pub mod Weighing

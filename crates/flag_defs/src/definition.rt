@@ -1,36 +1,31 @@
 //! From a definition to a flag.
-ghost use Rattle.std.specs.Prelude.{◌≡◌, ◌≤◌, true, length, Option, Some, option_map, option_copied, string_bytes, IfOk};
-ghost use Rattle.flag_text.specs.Shape.{object, is_tidy, members_are_tidy, names_rise};
+ghost use Rattle.std.specs.Prelude.{◌≡◌, true, Option, Some, option_map, option_copied, string_bytes, IfOk};
+ghost use Rattle.flag_text.specs.Shape.{object, is_tidy, members_are_tidy};
 ghost use Rattle.flag_text.specs.View.{view as tree_view, members_view};
 ghost use Rattle.logic_ast.specs.Expr.{view};
-ghost use Rattle.flag_defs.specs.Definition.{Definition, Means, good};
-ghost use Rattle.flag_defs.specs.Document.{definition_written};
+ghost use Rattle.flag_defs.specs.Definition.{Means, good};
 ghost use Rattle.flag_defs.specs.Flag.{flag_view};
-ghost use Rattle.flag_defs.specs.Least.{least};
 ghost use Rattle.flag_defs.specs.Outline.{outline_view, rules_with};
 ghost use Rattle.flag_defs.specs.Rules.{are_rules};
-ghost use Rattle.flag_defs.specs.Table.{AreHeads, KnowsAll};
+ghost use Rattle.flag_defs.specs.Table.{IsTable};
+ghost use Rattle.flag_defs.specs.Weighing.{DefinitionTakes, IsWeighed};
 
 use crate::flag::Flag;
+use crate::forecast::{Forecast, targeting_forecast};
 use crate::members::copy_members;
 use crate::outline::{Outline, outline_of};
 use crate::rules::Rules;
 use crate::table::Known;
 use crate::targeting::read_targeting;
-use crate::weigh::{Weight, weigh_targeting};
 use flag_text::{Tree, member_by_halving};
 use logic_ast::Expr;
 use std::alloc::{AllocError, Global};
 
-/// In how many bytes what a definition means is printed at least. Nothing is expanded.
+/// In how many bytes the inlined form of a definition's targeting is printed at least. Nothing is expanded.
 pub(crate) fn least_bytes(definition: &Tree, evaluators: &[(String, Tree)], table: &Known) -> u32
-    requires rising { names_rise (members_view evaluators.now) ≡ true }
-    requires each { length table.now.measures.items ≡ length evaluators.now }
-    requires heads { AreHeads evaluators.now table.now.measures.items table.now.heads.items }
-    requires knows_all { KnowsAll (members_view evaluators.now) table.now.measures.items }
+    requires table { IsTable evaluators.now table.now }
     requires tidy { is_tidy (tree_view definition.now) ≡ true }
-    requires evaluators_tidy { members_are_tidy (members_view evaluators.now) ≡ true }
-    ensures { (d : Definition) × Means (members_view evaluators.now) (tree_view definition.now) d × (result ≤ least (definition_written d)) }
+    ensures { DefinitionTakes (members_view evaluators.now) (tree_view definition.now) result }
 {
     match definition.as_object() {
         Some(members) => least_of_members(members, evaluators, table),
@@ -39,36 +34,30 @@ pub(crate) fn least_bytes(definition: &Tree, evaluators: &[(String, Tree)], tabl
 }
 
 fn least_of_members(members: &[(String, Tree)], evaluators: &[(String, Tree)], table: &Known) -> u32
-    requires rising { names_rise (members_view evaluators.now) ≡ true }
-    requires each { length table.now.measures.items ≡ length evaluators.now }
-    requires heads { AreHeads evaluators.now table.now.measures.items table.now.heads.items }
-    requires knows_all { KnowsAll (members_view evaluators.now) table.now.measures.items }
+    requires table { IsTable evaluators.now table.now }
     requires tidy { members_are_tidy (members_view members.now) ≡ true }
-    requires evaluators_tidy { members_are_tidy (members_view evaluators.now) ≡ true }
-    ensures { (d : Definition) × Means (members_view evaluators.now) (object (members_view members.now)) d × (result ≤ least (definition_written d)) }
+    ensures { DefinitionTakes (members_view evaluators.now) (object (members_view members.now)) result }
 {
     let Some(_outline) = outline_of(members) else {
         return 0;
     };
-    match weigh_targeting(member_by_halving(members, "targeting"), evaluators, table) {
-        Weight::With(bytes) => bytes,
-        Weight::Broken | Weight::Without => 0,
+    match targeting_forecast(member_by_halving(members, "targeting"), evaluators, table) {
+        Forecast::With(bytes) => bytes,
+        Forecast::Broken => 0,
+        Forecast::Without => 0,
     }
 }
 
-/// The flag of a definition.
+/// The flag of a definition. The condition is that it was weighed with all others of its document.
 pub(crate) fn read_flag(
     alloc: Global,
     definition: &Tree,
     evaluators: &[(String, Tree)],
     table: &Known,
 ) -> Result<Flag, AllocError>
-    requires rising { names_rise (members_view evaluators.now) ≡ true }
-    requires each { length table.now.measures.items ≡ length evaluators.now }
-    requires heads { AreHeads evaluators.now table.now.measures.items table.now.heads.items }
-    requires knows_all { KnowsAll (members_view evaluators.now) table.now.measures.items }
+    requires table { IsTable evaluators.now table.now }
     requires tidy { is_tidy (tree_view definition.now) ≡ true }
-    requires evaluators_tidy { members_are_tidy (members_view evaluators.now) ≡ true }
+    requires weighed { IsWeighed (members_view evaluators.now) (tree_view definition.now) }
     ensures { IfOk result (λ f. Means (members_view evaluators.now) (tree_view definition.now) (flag_view f)) }
 {
     match definition.as_object() {
@@ -83,19 +72,16 @@ fn read_members(
     evaluators: &[(String, Tree)],
     table: &Known,
 ) -> Result<Flag, AllocError>
-    requires rising { names_rise (members_view evaluators.now) ≡ true }
-    requires each { length table.now.measures.items ≡ length evaluators.now }
-    requires heads { AreHeads evaluators.now table.now.measures.items table.now.heads.items }
-    requires knows_all { KnowsAll (members_view evaluators.now) table.now.measures.items }
+    requires table { IsTable evaluators.now table.now }
     requires tidy { members_are_tidy (members_view members.now) ≡ true }
-    requires evaluators_tidy { members_are_tidy (members_view evaluators.now) ≡ true }
+    requires weighed { IsWeighed (members_view evaluators.now) (object (members_view members.now)) }
     ensures { IfOk result (λ f. Means (members_view evaluators.now) (object (members_view members.now)) (flag_view f)) }
 {
     let Some(outline) = outline_of(members) else {
         return Ok(Flag { rules: None });
     };
     let targeting = member_by_halving(members, "targeting");
-    if let Weight::Broken = weigh_targeting(targeting, evaluators, table) {
+    if let Forecast::Broken = targeting_forecast(targeting, evaluators, table) {
         return Ok(Flag { rules: None });
     }
     let targeting = read_targeting(alloc, targeting, evaluators, table)?;

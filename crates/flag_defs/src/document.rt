@@ -1,20 +1,21 @@
 //! From the bytes of a document to its flags.
-ghost use Rattle.std.specs.Prelude.{◌≡◌, ◌≤◌, ◌<◌, true, length, Some, option_map, option_and_then, IfOk, IsErrOf};
+ghost use Rattle.std.specs.Prelude.{◌≡◌, ◌<◌, true, length, Some, option_map, option_and_then, IfOk, IsErrOf};
 ghost use Rattle.flag_text.specs.Readers.{as_object, member_of};
-ghost use Rattle.flag_text.specs.Shape.{is_tidy, members_are_tidy, names_rise};
+ghost use Rattle.flag_text.specs.Shape.{is_tidy, members_are_tidy};
 ghost use Rattle.flag_text.specs.View.{view, members_view};
-ghost use Rattle.flag_defs.specs.Document.{Definitions, AllMean, DocumentMeans, FlagsMean, definitions_written, evaluators_in, flags_in, max_bytes};
+ghost use Rattle.flag_defs.specs.Document.{AllMean, DocumentMeans, FlagsMean, evaluators_in, flags_in, max_bytes};
 ghost use Rattle.flag_defs.specs.Fault.{of_text};
 ghost use Rattle.flag_defs.specs.Flag.{entries_view};
 ghost use Rattle.flag_defs.specs.Flags.{HoldsUnless};
-ghost use Rattle.flag_defs.specs.Least.{members_least};
-ghost use Rattle.flag_defs.specs.Table.{AreHeads, KnowsAll};
+ghost use Rattle.flag_defs.specs.Table.{IsTable};
+ghost use Rattle.flag_defs.specs.Weighing.{AllTake, AreLight};
 
 use crate::definition::{least_bytes, read_flag};
 use crate::fault::DefFault;
 use crate::flag::Flag;
 use crate::flags::Flags;
 use crate::limits::{MAX_BYTES, MAX_FLAGS, limited};
+use crate::measure::plus;
 use crate::table::{Known, table};
 use flag_text::{TextFault, Tree, read_doc};
 use std::alloc::{AllocError, Global};
@@ -89,50 +90,40 @@ fn read_definitions(
     if definitions.len() > MAX_FLAGS {
         return Err(DefFault::TooLarge);
     }
-    if least > MAX_BYTES {
+    if least as usize > MAX_BYTES {
         return Err(DefFault::TooLarge);
     }
     let flags = read_all(alloc, definitions, evaluators, &known)?;
     limited(alloc, flags)
 }
 
-/// In how many bytes all definitions together are printed at least.
-fn least_of_all(
-    definitions: &[(String, Tree)],
-    evaluators: &[(String, Tree)],
-    table: &Known,
-) -> usize
-    requires rising { names_rise (members_view evaluators.now) ≡ true }
-    requires each { length table.now.measures.items ≡ length evaluators.now }
-    requires heads { AreHeads evaluators.now table.now.measures.items table.now.heads.items }
-    requires knows_all { KnowsAll (members_view evaluators.now) table.now.measures.items }
+/// In how many bytes the inlined forms of all targetings together are printed at least, up to the most that is counted.
+fn least_of_all(definitions: &[(String, Tree)], evaluators: &[(String, Tree)], table: &Known) -> u32
+    requires table { IsTable evaluators.now table.now }
     requires tidy { members_are_tidy (members_view definitions.now) ≡ true }
-    requires evaluators_tidy { members_are_tidy (members_view evaluators.now) ≡ true }
-    ensures { (fs : Definitions) × AllMean (members_view evaluators.now) (members_view definitions.now) fs × (result ≤ members_least (definitions_written fs)) }
+    ensures { AllTake (members_view evaluators.now) (members_view definitions.now) result }
 {
-    let mut least: usize = 0;
+    let mut least = 0;
     let mut left = definitions.len();
     while left > 0 {
         left -= 1;
         let bytes = least_bytes(&definitions[left].1, evaluators, table);
-        least = least.saturating_add(bytes as usize);
+        least = plus(bytes, least);
     }
     least
 }
 
-/// The flags of all definitions, under their keys.
+/// The flags of all definitions, under their keys. The condition is that they are few, and that what their targetings take
+/// when they are expanded was added up and found small.
 fn read_all(
     alloc: Global,
     definitions: &[(String, Tree)],
     evaluators: &[(String, Tree)],
     table: &Known,
 ) -> Result<Vec<(String, Flag)>, AllocError>
-    requires rising { names_rise (members_view evaluators.now) ≡ true }
-    requires each { length table.now.measures.items ≡ length evaluators.now }
-    requires heads { AreHeads evaluators.now table.now.measures.items table.now.heads.items }
-    requires knows_all { KnowsAll (members_view evaluators.now) table.now.measures.items }
+    requires table { IsTable evaluators.now table.now }
     requires tidy { members_are_tidy (members_view definitions.now) ≡ true }
-    requires evaluators_tidy { members_are_tidy (members_view evaluators.now) ≡ true }
+    requires light { AreLight (members_view evaluators.now) (members_view definitions.now) }
     ensures { IfOk result (λ v. AllMean (members_view evaluators.now) (members_view definitions.now) (entries_view v.items)) }
 {
     let mut flags = Vec::with_capacity(alloc, definitions.len())?;

@@ -1,10 +1,9 @@
 //! From a reference straight to the tree that it stands for.
 ghost use Rattle.std.specs.Prelude.{◌≡◌, ◌<◌, true, length, is_some};
 ghost use Rattle.std.specs.List.{HoldsAt};
-ghost use Rattle.flag_text.specs.Shape.{names_rise};
 ghost use Rattle.flag_text.specs.View.{view, members_view};
 ghost use Rattle.flag_defs.specs.Measure.{known, measured};
-ghost use Rattle.flag_defs.specs.Table.{AreHeads, IsEndOf};
+ghost use Rattle.flag_defs.specs.Table.{IsEndOf, IsTable};
 
 use crate::references::reference_in;
 use crate::table::Known;
@@ -16,9 +15,7 @@ pub(crate) fn end_of<'a>(
     evaluators: &'a [(String, Tree)],
     table: &Known,
 ) -> &'a Tree
-    requires rising { names_rise (members_view evaluators.now) ≡ true }
-    requires each { length table.now.measures.items ≡ length evaluators.now }
-    requires heads { AreHeads evaluators.now table.now.measures.items table.now.heads.items }
+    requires table { IsTable evaluators.now table.now }
     requires found { is_some (measured (known (members_view evaluators.now) table.now.measures.items) (view tree.now)) ≡ true }
     ensures { IsEndOf (members_view evaluators.now) (view tree.now) (view result.now) }
 {

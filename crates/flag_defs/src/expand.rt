@@ -1,9 +1,8 @@
 //! Trees with their references replaced.
-ghost use Rattle.std.specs.Prelude.{◌≡◌, true, length, IfOk};
-ghost use Rattle.flag_text.specs.Shape.{names_rise};
+ghost use Rattle.std.specs.Prelude.{IfOk};
 ghost use Rattle.flag_text.specs.View.{view, items_view, members_view};
 ghost use Rattle.flag_defs.specs.Inlining.{IsInlined};
-ghost use Rattle.flag_defs.specs.Table.{AreHeads, KnowsAll};
+ghost use Rattle.flag_defs.specs.Table.{IsTable};
 ghost use Rattle.flag_defs.specs.Targeting.{HasForm, ItemsHaveForms, MembersHaveForms, AreInlined, MembersAreInlined};
 
 use crate::ends::end_of;
@@ -21,10 +20,7 @@ pub(crate) fn expanded(
     table: &Known,
     most: usize,
 ) -> Result<Tree, AllocError>
-    requires rising { names_rise (members_view evaluators.now) ≡ true }
-    requires each { length table.now.measures.items ≡ length evaluators.now }
-    requires heads { AreHeads evaluators.now table.now.measures.items table.now.heads.items }
-    requires knows_all { KnowsAll (members_view evaluators.now) table.now.measures.items }
+    requires table { IsTable evaluators.now table.now }
     requires form { HasForm (members_view evaluators.now) most (view tree.now) }
     ensures { IfOk result (λ t. IsInlined (members_view evaluators.now) (view tree.now) (view t)) }
 {
@@ -50,10 +46,7 @@ fn expanded_items(
     table: &Known,
     most: usize,
 ) -> Result<Vec<Tree>, AllocError>
-    requires rising { names_rise (members_view evaluators.now) ≡ true }
-    requires each { length table.now.measures.items ≡ length evaluators.now }
-    requires heads { AreHeads evaluators.now table.now.measures.items table.now.heads.items }
-    requires knows_all { KnowsAll (members_view evaluators.now) table.now.measures.items }
+    requires table { IsTable evaluators.now table.now }
     requires forms { ItemsHaveForms (members_view evaluators.now) most (items_view items.now.items) }
     ensures { IfOk result (λ v. AreInlined (members_view evaluators.now) (items_view items.now.items) (items_view v.items)) }
 {
@@ -73,10 +66,7 @@ fn expanded_members(
     table: &Known,
     most: usize,
 ) -> Result<Vec<(String, Tree)>, AllocError>
-    requires rising { names_rise (members_view evaluators.now) ≡ true }
-    requires each { length table.now.measures.items ≡ length evaluators.now }
-    requires heads { AreHeads evaluators.now table.now.measures.items table.now.heads.items }
-    requires knows_all { KnowsAll (members_view evaluators.now) table.now.measures.items }
+    requires table { IsTable evaluators.now table.now }
     requires forms { MembersHaveForms (members_view evaluators.now) most (members_view members.now.items) }
     ensures { IfOk result (λ v. MembersAreInlined (members_view evaluators.now) (members_view members.now.items) (members_view v.items)) }
 {

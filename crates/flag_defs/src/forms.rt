@@ -1,10 +1,10 @@
 //! Whether a tree has an inlined form, and the measure of this form.
-ghost use Rattle.std.specs.Prelude.{◌≡◌, true, length, MatchOption};
-ghost use Rattle.flag_text.specs.Shape.{Shape, names_rise};
+ghost use Rattle.std.specs.Prelude.{◌≡◌, MatchOption};
+ghost use Rattle.flag_text.specs.Shape.{Shape};
 ghost use Rattle.flag_text.specs.View.{view, members_view};
 ghost use Rattle.flag_defs.specs.Inlining.{IsInlined};
 ghost use Rattle.flag_defs.specs.Measure.{measure};
-ghost use Rattle.flag_defs.specs.Table.{KnowsAll};
+ghost use Rattle.flag_defs.specs.Table.{IsTable};
 
 use crate::measure::Measure;
 use crate::measuring::measured;
@@ -17,9 +17,7 @@ pub(crate) fn measure_of(
     evaluators: &[(String, Tree)],
     table: &Known,
 ) -> Option<Measure>
-    requires rising { names_rise (members_view evaluators.now) ≡ true }
-    requires each { length table.now.measures.items ≡ length evaluators.now }
-    requires knows_all { KnowsAll (members_view evaluators.now) table.now.measures.items }
+    requires table { IsTable evaluators.now table.now }
     ensures { MatchOption result
         ((u : Shape) → ¬ IsInlined (members_view evaluators.now) (view tree.now) u)
         (λ m. (u : Shape) × IsInlined (members_view evaluators.now) (view tree.now) u × (measure u ≡ m)) }

@@ -9,8 +9,8 @@
 //!   out. A definition means one thing (`Definition`): it is good with its rules, or broken where there are none. Its
 //!   targeting is read with all references replaced (`Inlining`); where a reference names nothing or leads back to itself,
 //!   the flag is broken. [`a_document_has_one_meaning`] is the law that makes this exact.
-//! - Before a targeting is expanded it is known whether it breaks its flag, and in how many bytes all flags are printed at
-//!   least (`Measure`, `Targeting`, `Least`).
+//! - Before a targeting is expanded it is known whether it breaks its flag, and in how many bytes all of them together are
+//!   printed at least; whatever expands asks for that sum within the limit (`Measure`, `Targeting`, `Weighing`).
 //! - [`print_flags`] writes `printed` (`Document`): keys sorted, targetings inlined, a broken flag as `{}`. What it writes
 //!   is a document that means these flags.
 //! - Each reader of a flag gives the part that it names (`Flag`), [`Flags::get`] what is looked up, [`Flags::make`] the map
@@ -27,6 +27,7 @@ mod fault;
 mod find;
 mod flag;
 mod flags;
+mod forecast;
 mod forms;
 mod kind;
 mod laws;
@@ -43,7 +44,6 @@ mod site;
 mod table;
 mod targeting;
 mod walk;
-mod weigh;
 mod write;
 
 pub use document::read_flags;
@@ -52,6 +52,3 @@ pub use flag::Flag;
 pub use flags::Flags;
 pub use laws::a_document_has_one_meaning;
 pub use print::print_flags;
-
-#[cfg(test)]
-mod tests;

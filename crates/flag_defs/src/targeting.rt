@@ -1,18 +1,18 @@
 //! The expression of a flag's targeting.
-ghost use Rattle.std.specs.Prelude.{◌≡◌, true, length, Option, Some, option_map, IfOk};
-ghost use Rattle.flag_text.specs.Shape.{names_rise};
+ghost use Rattle.std.specs.Prelude.{◌≡◌, Option, Some, option_map, IfOk};
 ghost use Rattle.flag_text.specs.View.{view as tree_view, members_view};
 ghost use Rattle.logic_ast.specs.Expr.{view};
 ghost use Rattle.logic_ast.specs.Expression.{Expression};
 ghost use Rattle.flag_defs.specs.Definition.{or_null, targeting_of, HasTargeting};
-ghost use Rattle.flag_defs.specs.Table.{AreHeads, KnowsAll};
+ghost use Rattle.flag_defs.specs.Table.{IsTable};
 ghost use Rattle.flag_defs.specs.Targeting.{IsGoodTargeting};
+ghost use Rattle.flag_defs.specs.Weighing.{HasWeighed};
 
 use crate::expand::expanded;
+use crate::forecast::is_nothing;
 use crate::table::Known;
-use crate::weigh::is_nothing;
 use flag_text::Tree;
-use logic_ast::{Expr, read_expr};
+use logic_ast::{Expr, LogicFault, read_expr};
 use std::alloc::{AllocError, Global};
 
 /// The most levels of the form of a targeting that can be read: one more than its expression may have, since a literal
@@ -20,17 +20,16 @@ use std::alloc::{AllocError, Global};
 const MAX_LEVELS: usize = 101;
 
 /// The expression of a flag's targeting, with its references replaced, where it has one. The condition is that the targeting
-/// does not break the flag. It fails only where memory runs out.
+/// does not break the flag, and that all targetings of the document were weighed and found light. It fails only where
+/// memory runs out.
 pub(crate) fn read_targeting(
     alloc: Global,
     targeting: Option<&Tree>,
     evaluators: &[(String, Tree)],
     table: &Known,
 ) -> Result<Option<Expr>, AllocError>
-    requires rising { names_rise (members_view evaluators.now) ≡ true }
-    requires each { length table.now.measures.items ≡ length evaluators.now }
-    requires heads { AreHeads evaluators.now table.now.measures.items table.now.heads.items }
-    requires knows_all { KnowsAll (members_view evaluators.now) table.now.measures.items }
+    requires table { IsTable evaluators.now table.now }
+    requires weighed { HasWeighed (members_view evaluators.now) (or_null (option_map (λ t. tree_view t.now) targeting)) }
     requires good { IsGoodTargeting (members_view evaluators.now) (or_null (option_map (λ t. tree_view t.now) targeting)) }
     ensures { IfOk result (λ e. HasTargeting (members_view evaluators.now) (or_null (option_map (λ t. tree_view t.now) targeting.entry)) (option_map view e)) }
 {
@@ -53,6 +52,9 @@ fn read_form(alloc: Global, form: &Tree) -> Result<Option<Expr>, AllocError>
     }
     match read_expr(alloc, form) {
         Ok(expression) => Ok(Some(expression)),
-        Err(_) => Err(AllocError),
+        Err(fault) => match fault {
+            LogicFault::WantOfMemory => Err(AllocError),
+            _ => unreachable!(),
+        },
     }
 }

@@ -28,6 +28,3 @@ pub use laws::the_same_value_resolves_alike;
 pub use print::print_resolution;
 pub use reason::Reason;
 pub use resolution::Resolution;
-
-#[cfg(test)]
-mod tests;

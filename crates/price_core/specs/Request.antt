@@ -136,17 +136,21 @@ barred_in t = option_and_then once_each (pairs_in bar_parts (member_of (codes "f
 
 -- ---- the whole
 
+infixl 10 ◌>>=◌
+abbrev ◌>>=◌ : {A B : Type 0} → Option A → (A → Option B) → Option B
+o >>= f = option_and_then f o
+
 -- the request that a tree is, if each of its members is of its form
 abbrev pub written_of : Shape → Option Written
-written_of t =
-    option_and_then (λ ranges.
-    option_and_then (λ flag.
-    option_and_then (λ site.
-    option_and_then (λ usual.
-    option_and_then (λ totals.
-    option_and_then (λ named.
-    option_map (λ barred. record { flag = flag; site = site; totals = totals; usual = usual; named = named; barred = barred })
-    (barred_in t)) (named_in t)) (totals_in ranges t)) (usual_in t)) (site_in t)) (flag_in t)) (form_in t)
+written_of t = do
+  ranges ← form_in t
+  flag ← flag_in t
+  site ← site_in t
+  usual ← usual_in t
+  totals ← totals_in ranges t
+  named ← named_in t
+  barred ← barred_in t
+  Some (record { flag = flag; site = site; totals = totals; usual = usual; named = named; barred = barred })
 
 -- a change from a variant to itself
 abbrev pub is_self_pair : Pair → Bool

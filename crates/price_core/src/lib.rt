@@ -26,6 +26,3 @@ pub use fault::PriceFault;
 pub use prices::Prices;
 pub use request::Request;
 pub use totals::{Limit, Totals};
-
-#[cfg(test)]
-mod tests;

@@ -1,4 +1,4 @@
-ghost use Rattle.std.specs.Prelude.{◌≡◌, ◌≤◌, ◌&&◌, true, IfSome, map, string_bytes};
+ghost use Rattle.std.specs.Prelude.{◌≡◌, ◌<◌, ◌≤◌, ◌&&◌, true, IfSome, IsErrOf, length, map, string_bytes};
 ghost use Rattle.std.specs.Cmp.Lexicographic.{slice_cmp};
 ghost use Rattle.std.specs.List.{list_any, list_all};
 ghost use Rattle.std.specs.List.Sorted.{IsStrictlySortedBy};
@@ -9,7 +9,7 @@ ghost use Rattle.flag_text.specs.Shape.{is_whole};
 ghost use Rattle.flag_text.specs.View.{view};
 ghost use Rattle.price_core.specs.Limits.{limits_view};
 ghost use Rattle.price_core.specs.Pricing.{IsPricing, max_price, entries_view};
-ghost use Rattle.price_core.specs.Request.{IsWritten, draft_view, is_self_pair, as_price, as_prices, if_in_range, is_range, judged, request_of, asked_of, is_known, pair_is_known, totals_of};
+ghost use Rattle.price_core.specs.Request.{IsWritten, draft_view, is_self_pair, as_price, as_prices, if_in_range, is_range, judged, max_request, request_of, asked_of, is_known, pair_is_known, totals_of};
 
 use crate::change::Change;
 use crate::draft::{Draft, written};
@@ -50,8 +50,10 @@ impl Model for Request {
 impl Request {
     /// The request that a JSON text of at most 4,194,304 bytes stands for. It refuses first what
     /// is no request, then a pair of equal names, then a price out of range, then an empty range.
+    /// A longer text is refused before memory is taken.
     pub fn read(alloc: Global, bytes: &[u8]) -> Result<Request, PriceFault>
         ensures exact { GivesUnless PriceFault.WantOfMemory (λ r. r) result (asked_of bytes.now) }
+        ensures large { max_request < length bytes.now → IsErrOf result PriceFault.BadRequest }
     {
         let tree = read_tree(alloc, bytes, MAX_REQUEST)?;
         requested(alloc, &tree)

@@ -1,4 +1,4 @@
-use Rattle.std.proofs.Common.{◌≡◌, [], map, string_bytes, refl, ap, ◌∙◌, arith}
+use Rattle.std.proofs.Common.{◌≡◌, [], map, string_bytes, refl, sym, ap, ◌∙◌, arith}
 use Rattle.std.specs.BTreeMap.{insert_entry}
 use Rattle.std.specs.BTreeSet.{insert_key}
 use Rattle.book_core.specs.Page.{bytes_cmp, page_cmp}
@@ -30,3 +30,33 @@ returns-clause-noted c =
     ∙ ap (insert_key bytes_cmp []) c.in_ok-from_str.ensures.ok in
     ap contents_view (c.in_ok-insert-2.ensures.entries ∙ ap (λ k. insert_entry page_cmp es k set) c.in_ok-copy.ensures)
     ∙ page_added es c.args.page.now set input c.requires one
+
+pub returns-then-input-gt-MOST_BYTES-clause-no_memory : goal.returns-then-input-gt-MOST_BYTES-clause-no_memory
+returns-then-input-gt-MOST_BYTES-clause-no_memory c = λ _.
+    let none = inputs_on-none c.args.pages.now.entries c.args.page.now c.requires in
+    sym (reply_to-on (contents_view c.args.pages.now.entries) c.args.page.now c.args.input.now [] none ∙ long_reply [] c.args.input.now c.if-input-gt-MOST_BYTES.true)
+
+pub returns-in_err-from_str-clause-no_memory : goal.returns-in_err-from_str-clause-no_memory
+returns-in_err-from_str-clause-no_memory c = λ other.
+    let none = inputs_on-none c.args.pages.now.entries c.args.page.now c.requires in
+    absurd (other (reply_to-on (contents_view c.args.pages.now.entries) c.args.page.now c.args.input.now [] none ∙ new_reply [] c.args.input.now c.if-input-gt-MOST_BYTES.false refl (omega arith)))
+
+pub returns-in_err-insert-clause-no_memory : goal.returns-in_err-insert-clause-no_memory
+returns-in_err-insert-clause-no_memory c = λ other.
+    let none = inputs_on-none c.args.pages.now.entries c.args.page.now c.requires in
+    absurd (other (reply_to-on (contents_view c.args.pages.now.entries) c.args.page.now c.args.input.now [] none ∙ new_reply [] c.args.input.now c.if-input-gt-MOST_BYTES.false refl (omega arith)))
+
+pub returns-in_err-copy-clause-no_memory : goal.returns-in_err-copy-clause-no_memory
+returns-in_err-copy-clause-no_memory c = λ other.
+    let none = inputs_on-none c.args.pages.now.entries c.args.page.now c.requires in
+    absurd (other (reply_to-on (contents_view c.args.pages.now.entries) c.args.page.now c.args.input.now [] none ∙ new_reply [] c.args.input.now c.if-input-gt-MOST_BYTES.false refl (omega arith)))
+
+pub returns-in_err-insert-2-clause-no_memory : goal.returns-in_err-insert-2-clause-no_memory
+returns-in_err-insert-2-clause-no_memory c = λ other.
+    let none = inputs_on-none c.args.pages.now.entries c.args.page.now c.requires in
+    absurd (other (reply_to-on (contents_view c.args.pages.now.entries) c.args.page.now c.args.input.now [] none ∙ new_reply [] c.args.input.now c.if-input-gt-MOST_BYTES.false refl (omega arith)))
+
+pub returns-clause-no_memory : goal.returns-clause-no_memory
+returns-clause-no_memory c = λ other.
+    let none = inputs_on-none c.args.pages.now.entries c.args.page.now c.requires in
+    absurd (other (reply_to-on (contents_view c.args.pages.now.entries) c.args.page.now c.args.input.now [] none ∙ new_reply [] c.args.input.now c.if-input-gt-MOST_BYTES.false refl (omega arith)))

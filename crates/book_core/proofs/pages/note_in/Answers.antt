@@ -4,7 +4,7 @@ use Rattle.std.specs.BTreeMap.{is_at}
 use Rattle.book_core.specs.Page.{page_cmp}
 use Rattle.book_core.specs.Book.{inputs_view, contents_view}
 use Rattle.book_core.proofs.Paged.{inputs_on-found, reply_to-on, noted_page, kept_page}
-use Rattle.book_core.proofs.Noting.{gives_along}
+use Rattle.book_core.proofs.Noting.{gives_along, other_along}
 use Rattle.book_core.proofs.pages.note_in.Goals as goal
 
 pub returns-in-Some-clause-exact : goal.returns-in-Some-clause-exact
@@ -29,3 +29,10 @@ returns-in-Some-clause-refused c =
     let found : lookup (is_at (page_cmp c.args.page.now)) es ≡ Some inputs = sym c.in-Some.ensures.value in
     let w = c.note_on.new.inputs in
     kept_page c.note_on.result es _ c.args.page.now inputs w found (c.get_mut.follows.holds w).0 c.note_on.ensures.refused
+
+pub returns-in-Some-clause-no_memory : goal.returns-in-Some-clause-no_memory
+returns-in-Some-clause-no_memory c =
+    let es = c.args.pages.now.entries in
+    let inputs = c.in-Some.inputs.now in
+    let found : lookup (is_at (page_cmp c.args.page.now)) es ≡ Some inputs = sym c.in-Some.ensures.value in
+    other_along c.note_on.result _ _ (reply_to-on (contents_view es) c.args.page.now c.args.input.now (inputs_view inputs) (inputs_on-found es c.args.page.now inputs found)) c.note_on.ensures.no_memory

@@ -38,3 +38,37 @@ returns-clause-noted c =
     let keys = c.args.inputs.now.keys in
     let key = c.in_ok-from_str.field-0 in
     ap (map string_bytes) c.in_ok-insert.ensures.keys ∙ insert_key-map string_bytes bytes_cmp keys key ∙ ap (insert_key bytes_cmp (inputs_view c.args.inputs.now)) c.in_ok-from_str.ensures.ok
+
+pub returns-then-contains-clause-no_memory : goal.returns-then-contains-clause-no_memory
+returns-then-contains-clause-no_memory c = λ _.
+    let keys = c.args.inputs.now.keys in
+    let among : is_among c.args.input.now (inputs_view c.args.inputs.now) ≡ true = sym (is_among-texts c.args.input.now keys) ∙ sym c.contains.ensures ∙ c.if-contains.true in
+    sym (again_reply (inputs_view c.args.inputs.now) c.args.input.now c.if-input-gt-MOST_BYTES.false among)
+
+pub returns-then-full-clause-no_memory : goal.returns-then-full-clause-no_memory
+returns-then-full-clause-no_memory c = λ _.
+    let keys = c.args.inputs.now.keys in
+    let among : is_among c.args.input.now (inputs_view c.args.inputs.now) ≡ false = sym (is_among-texts c.args.input.now keys) ∙ sym c.contains.ensures ∙ c.if-contains.false in
+    let full : most_inputs ≤ length (inputs_view c.args.inputs.now) = rw length-map (omega (arith, c.len-full.ensures.len)) in
+    sym (full_reply (inputs_view c.args.inputs.now) c.args.input.now c.if-input-gt-MOST_BYTES.false among full)
+
+pub returns-in_err-from_str-clause-no_memory : goal.returns-in_err-from_str-clause-no_memory
+returns-in_err-from_str-clause-no_memory c = λ other.
+    let keys = c.args.inputs.now.keys in
+    let among : is_among c.args.input.now (inputs_view c.args.inputs.now) ≡ false = sym (is_among-texts c.args.input.now keys) ∙ sym c.contains.ensures ∙ c.if-contains.false in
+    let room : length (inputs_view c.args.inputs.now) < most_inputs = rw length-map (omega (arith, c.len-full.ensures.len)) in
+    absurd (other (new_reply (inputs_view c.args.inputs.now) c.args.input.now c.if-input-gt-MOST_BYTES.false among room))
+
+pub returns-in_err-insert-clause-no_memory : goal.returns-in_err-insert-clause-no_memory
+returns-in_err-insert-clause-no_memory c = λ other.
+    let keys = c.args.inputs.now.keys in
+    let among : is_among c.args.input.now (inputs_view c.args.inputs.now) ≡ false = sym (is_among-texts c.args.input.now keys) ∙ sym c.contains.ensures ∙ c.if-contains.false in
+    let room : length (inputs_view c.args.inputs.now) < most_inputs = rw length-map (omega (arith, c.len-full.ensures.len)) in
+    absurd (other (new_reply (inputs_view c.args.inputs.now) c.args.input.now c.if-input-gt-MOST_BYTES.false among room))
+
+pub returns-clause-no_memory : goal.returns-clause-no_memory
+returns-clause-no_memory c = λ other.
+    let keys = c.args.inputs.now.keys in
+    let among : is_among c.args.input.now (inputs_view c.args.inputs.now) ≡ false = sym (is_among-texts c.args.input.now keys) ∙ sym c.contains.ensures ∙ c.if-contains.false in
+    let room : length (inputs_view c.args.inputs.now) < most_inputs = rw length-map (omega (arith, c.len-full.ensures.len)) in
+    absurd (other (new_reply (inputs_view c.args.inputs.now) c.args.input.now c.if-input-gt-MOST_BYTES.false among room))

@@ -4,9 +4,9 @@ use Rattle.flag_text.specs.Shape.{is_tidy}
 use Rattle.flag_text.specs.View.{members_view}
 use Rattle.flag_defs.specs.Definition.{or_null}
 use Rattle.flag_defs.specs.Outline.{outline_view}
-use Rattle.flag_defs.specs.Targeting.{IsWeight}
-use Rattle.flag_defs.specs.declared.weigh.Weight.TheVariants.{With}
-use Rattle.flag_defs.proofs.Meant.{tidy_targeting, weighed-least, weighed-zero}
+use Rattle.flag_defs.specs.Targeting.{IsForecast}
+use Rattle.flag_defs.specs.declared.forecast.Forecast.TheVariants.{Broken, Without, With}
+use Rattle.flag_defs.proofs.Meant.{tidy_targeting, forecast-takes}
 use Rattle.flag_defs.proofs.Outlines.{found}
 use Rattle.flag_defs.proofs.definition.least_of_members.Goals as goal
 
@@ -16,19 +16,26 @@ outline_of-requires c = names_rise-tidy (members_view c.args.members.now) c.requ
 pub member_by_halving-requires : goal.member_by_halving-requires
 member_by_halving-requires c = record { rising = names_rise-tidy (members_view c.args.members.now) c.requires.tidy }
 
-pub weigh_targeting-requires-clause-tidy : goal.weigh_targeting-requires-clause-tidy
-weigh_targeting-requires-clause-tidy c = ap (λ o. is_tidy (or_null o)) c.member_by_halving.ensures.found ∙ tidy_targeting (members_view c.args.members.now) c.requires.tidy
+pub targeting_forecast-requires-clause-tidy : goal.targeting_forecast-requires-clause-tidy
+targeting_forecast-requires-clause-tidy c = ap (λ o. is_tidy (or_null o)) c.member_by_halving.ensures.found ∙ tidy_targeting (members_view c.args.members.now) c.requires.tidy
 
 pub returns-in-With : goal.returns-in-With
 returns-in-With c =
     let evaluators = members_view c.args.evaluators.now in
     let ms = members_view c.args.members.now in
-    let weighed = subst (λ o. IsWeight evaluators (or_null o) c.weigh_targeting.result) c.member_by_halving.ensures.found c.weigh_targeting.ensures in
-    weighed-least evaluators ms (outline_view c.in-Some._outline) (With c.in-With.bytes) (sym c.outline_of.ensures ∙ ap (option_map outline_view) c.in-Some.is) (subst (IsWeight evaluators (or_null (found (codes "targeting") ms))) c.in-With.is weighed)
+    let known = subst (λ o. IsForecast evaluators (or_null o) c.targeting_forecast.result) c.member_by_halving.ensures.found c.targeting_forecast.ensures in
+    forecast-takes evaluators ms (outline_view c.in-Some._outline) (With c.in-With.bytes) (sym c.outline_of.ensures ∙ ap (option_map outline_view) c.in-Some.is) (subst (IsForecast evaluators (or_null (found (codes "targeting") ms))) c.in-With.is known)
 
 pub returns-in-Broken : goal.returns-in-Broken
 returns-in-Broken c =
     let evaluators = members_view c.args.evaluators.now in
     let ms = members_view c.args.members.now in
-    let weighed = subst (λ o. IsWeight evaluators (or_null o) c.weigh_targeting.result) c.member_by_halving.ensures.found c.weigh_targeting.ensures in
-    weighed-zero evaluators ms (outline_view c.in-Some._outline) c.weigh_targeting.result (sym c.outline_of.ensures ∙ ap (option_map outline_view) c.in-Some.is) weighed
+    let known = subst (λ o. IsForecast evaluators (or_null o) c.targeting_forecast.result) c.member_by_halving.ensures.found c.targeting_forecast.ensures in
+    forecast-takes evaluators ms (outline_view c.in-Some._outline) Broken (sym c.outline_of.ensures ∙ ap (option_map outline_view) c.in-Some.is) (subst (IsForecast evaluators (or_null (found (codes "targeting") ms))) c.in-Broken.is known)
+
+pub returns-in-Without : goal.returns-in-Without
+returns-in-Without c =
+    let evaluators = members_view c.args.evaluators.now in
+    let ms = members_view c.args.members.now in
+    let known = subst (λ o. IsForecast evaluators (or_null o) c.targeting_forecast.result) c.member_by_halving.ensures.found c.targeting_forecast.ensures in
+    forecast-takes evaluators ms (outline_view c.in-Some._outline) Without (sym c.outline_of.ensures ∙ ap (option_map outline_view) c.in-Some.is) (subst (IsForecast evaluators (or_null (found (codes "targeting") ms))) c.in-Without.is known)

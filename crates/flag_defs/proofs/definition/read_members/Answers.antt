@@ -1,12 +1,12 @@
 use Rattle.std.proofs.Common.{codes, option_map, ap, sym, subst, ◌∙◌}
 use Rattle.flag_text.proofs.Halving.{names_rise-tidy}
-use Rattle.flag_text.specs.Shape.{is_tidy}
+use Rattle.flag_text.specs.Shape.{object, is_tidy}
 use Rattle.flag_text.specs.View.{members_view}
 use Rattle.logic_ast.specs.Expr.{view}
 use Rattle.flag_defs.specs.Definition.{or_null}
 use Rattle.flag_defs.specs.Outline.{outline_view}
-use Rattle.flag_defs.specs.Targeting.{IsWeight}
-use Rattle.flag_defs.proofs.Meant.{tidy_targeting, good_weight}
+use Rattle.flag_defs.specs.Targeting.{IsForecast}
+use Rattle.flag_defs.proofs.Meant.{tidy_targeting, good_forecast}
 use Rattle.flag_defs.proofs.Outlines.{found, broken_targeting, lawful_with}
 use Rattle.flag_defs.proofs.definition.read_members.Goals as goal
 
@@ -16,23 +16,25 @@ outline_of-requires c = names_rise-tidy (members_view c.args.members.now) c.requ
 pub member_by_halving-targeting-requires : goal.member_by_halving-targeting-requires
 member_by_halving-targeting-requires c = record { rising = names_rise-tidy (members_view c.args.members.now) c.requires.tidy }
 
-pub weigh_targeting-requires-clause-tidy : goal.weigh_targeting-requires-clause-tidy
-weigh_targeting-requires-clause-tidy c = ap (λ o. is_tidy (or_null o)) c.member_by_halving-targeting.ensures.found ∙ tidy_targeting (members_view c.args.members.now) c.requires.tidy
+pub targeting_forecast-requires-clause-tidy : goal.targeting_forecast-requires-clause-tidy
+targeting_forecast-requires-clause-tidy c = ap (λ o. is_tidy (or_null o)) c.member_by_halving-targeting.ensures.found ∙ tidy_targeting (members_view c.args.members.now) c.requires.tidy
 
 pub returns-in-Broken : goal.returns-in-Broken
 returns-in-Broken c =
     let evaluators = members_view c.args.evaluators.now in
     let ms = members_view c.args.members.now in
-    let weighed = subst (λ o. IsWeight evaluators (or_null o) c.weigh_targeting.result) c.member_by_halving-targeting.ensures.found c.weigh_targeting.ensures in
-    broken_targeting evaluators ms (subst (IsWeight evaluators (or_null (found (codes "targeting") ms))) c.in-Broken.is weighed)
+    let weighed = subst (λ o. IsForecast evaluators (or_null o) c.targeting_forecast.result) c.member_by_halving-targeting.ensures.found c.targeting_forecast.ensures in
+    broken_targeting evaluators ms (subst (IsForecast evaluators (or_null (found (codes "targeting") ms))) c.in-Broken.is weighed)
 
 pub read_targeting-requires : goal.read_targeting-requires
 read_targeting-requires c = record {
-  rising = c.requires.rising;
-  each = c.requires.each;
-  heads = c.requires.heads;
-  knows_all = c.requires.knows_all;
-  good = good_weight (members_view c.args.evaluators.now) _ c.weigh_targeting.result c.in_default-weigh_targeting.not-Broken c.weigh_targeting.ensures;
+  table = c.requires.table;
+  weighed = record {
+    definition = object (members_view c.args.members.now);
+    weighed = c.requires.weighed;
+    is = ap or_null (sym c.member_by_halving-targeting.ensures.found);
+  };
+  good = good_forecast (members_view c.args.evaluators.now) _ c.targeting_forecast.result c.in_default-targeting_forecast.not-Broken c.targeting_forecast.ensures;
 }
 
 pub good_flag-requires : goal.good_flag-requires

@@ -1,6 +1,7 @@
 use Rattle.std.proofs.Common.{◌≡◌, ◌<◌, ◌+◌, ◌-◌, drop, length, sym, subst, arith}
 use Rattle.flag_text.specs.View.{view, members_view}
-use Rattle.flag_defs.proofs.Meant.{AllHaveLeast, HasLeast, one_more-least, tidy_at}
+use Rattle.flag_defs.specs.Weighing.{DefinitionTakes, AllTake}
+use Rattle.flag_defs.proofs.Meant.{one_more-takes, tidy_at}
 use Rattle.flag_defs.proofs.document.least_of_all.Goals as goal
 
 pub least_bytes-bytes-requires-clause-tidy : goal.least_bytes-bytes-requires-clause-tidy
@@ -15,8 +16,8 @@ loop-left-preserved c =
     let x = c.index-definitions-left.result in
     let low : i < length ds = omega (arith, c.loop-left.invariant.0, c.loop-left-test.true) in
     let next : c.loop-left.left ≡ i + 1 = omega (arith, c.loop-left-test.true) in
-    let one = subst (λ y. HasLeast evaluators (view y.1) c.least_bytes-bytes.result) (sym c.index-definitions-left.is) c.least_bytes-bytes.ensures in (
+    let one = subst (λ y. DefinitionTakes evaluators (view y.1) c.least_bytes-bytes.result) (sym c.index-definitions-left.is) c.least_bytes-bytes.ensures in (
       omega (arith, c.loop-left.invariant.0),
-      one_more-least evaluators ds i x c.least_bytes-bytes.result c.loop-left.least c.saturating_add-least.result low c.index-definitions-left.is one
-          (subst (λ k. AllHaveLeast evaluators (members_view (drop k ds)) c.loop-left.least) next c.loop-left.invariant.1) (omega (arith, c.saturating_add-least.ensures)),
+      one_more-takes evaluators ds i x c.least_bytes-bytes.result c.loop-left.least c.plus-least.result low c.index-definitions-left.is one
+          (subst (λ k. AllTake evaluators (members_view (drop k ds)) c.loop-left.least) next c.loop-left.invariant.1) c.plus-least.ensures,
     )

@@ -5,7 +5,8 @@ use Rattle.flag_text.specs.View.{view, members_view}
 use Rattle.flag_text.proofs.Views.{Named}
 use Rattle.flag_defs.specs.Document.{AllMean}
 use Rattle.flag_defs.specs.Flag.{entries_view}
-use Rattle.flag_defs.proofs.Meant.{all_mean_push, tidy_at}
+use Rattle.flag_defs.specs.Weighing.{IsAmong}
+use Rattle.flag_defs.proofs.Meant.{all_mean_push, among_at, tidy_at}
 use Rattle.flag_defs.proofs.Sorted.{Entry}
 use Rattle.flag_defs.proofs.document.read_all.Goals as goal
 
@@ -13,6 +14,15 @@ pub read_flag-requires-clause-tidy : goal.read_flag-requires-clause-tidy
 read_flag-requires-clause-tidy c =
     let x = c.loop-key-item.result in
     ap (λ (y : Named). is_tidy (view y.1)) c.loop-key-item.is ∙ tidy_at c.args.definitions.now c.loop-key.key-index x c.loop-key-test.true c.requires.tidy
+
+pub read_flag-requires-clause-weighed : goal.read_flag-requires-clause-weighed
+read_flag-requires-clause-weighed c =
+    let ds = c.args.definitions.now in
+    let x = c.loop-key-item.result in record {
+      definitions = members_view ds;
+      light = c.requires.light;
+      among = subst (λ (y : Named). IsAmong (view y.1) (members_view ds)) (sym c.loop-key-item.is) (among_at ds c.loop-key.key-index x c.loop-key-test.true);
+    }
 
 pub loop-key-preserved : goal.loop-key-preserved
 loop-key-preserved c =

@@ -12,8 +12,8 @@ tree_at-requires c =
     let j = c.in-Some-position_of.i in
     let at = c.in-Some-position_of.ensures in
     let m = some_member ms j at.within in
-    let is : c.index.result.now ≡ get_or heads j 0 = c.index.ensures ∙ any_default heads j c.index.result.now 0 (omega (arith, c.requires.heads.each, at.within)) in
-    let below = end_within ms c.args.table.now.measures.items heads (view c.args.tree.now) c.in-Some.name.now j m c.requires.rising c.requires.each c.requires.heads at.within
+    let is : c.index.result.now ≡ get_or heads j 0 = c.index.ensures ∙ any_default heads j c.index.result.now 0 (omega (arith, c.requires.table.heads.each, at.within)) in
+    let below = end_within ms c.args.table.now.measures.items heads (view c.args.tree.now) c.in-Some.name.now j m c.requires.table.rising c.requires.table.each c.requires.table.heads at.within
     (sym c.in-Some.ensures) c.requires.found (at.named m) in
     subst (λ n. n < length ms) (sym is) below
 
@@ -24,9 +24,9 @@ returns-in-Some-position_of c =
     let j = c.in-Some-position_of.i in
     let at = c.in-Some-position_of.ensures in
     let m = some_member ms j at.within in
-    let is : c.index.result.now ≡ get_or heads j 0 = c.index.ensures ∙ any_default heads j c.index.result.now 0 (omega (arith, c.requires.heads.each, at.within)) in
+    let is : c.index.result.now ≡ get_or heads j 0 = c.index.ensures ∙ any_default heads j c.index.result.now 0 (omega (arith, c.requires.table.heads.each, at.within)) in
     subst (IsEndOf (members_view ms) (view c.args.tree.now)) (sym (c.tree_at.ensures m ∙ ap (λ n. view (get_or ms n m).1) is))
-    (end_there ms c.args.table.now.measures.items heads (view c.args.tree.now) c.in-Some.name.now j m c.requires.rising c.requires.each c.requires.heads at.within (sym c.in-Some.ensures) c.requires.found
+    (end_there ms c.args.table.now.measures.items heads (view c.args.tree.now) c.in-Some.name.now j m c.requires.table.rising c.requires.table.each c.requires.table.heads at.within (sym c.in-Some.ensures) c.requires.found
     (at.named m) (at.found m))
 
 pub returns-in-None : goal.returns-in-None

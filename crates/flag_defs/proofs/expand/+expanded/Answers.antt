@@ -10,7 +10,7 @@ use Rattle.flag_defs.proofs.expand.+expanded.Goals as goal
 
 pub expanded-end_of-end-requires-clause-found : goal.expanded-end_of-end-requires-clause-found
 expanded-end_of-end-requires-clause-found t c =
-    ap is_some (form-measured (members_view c.args.evaluators.now) c.args.table.now.measures.items c.requires.knows_all (view c.args.tree.now) c.requires.form.0 c.requires.form.1)
+    ap is_some (form-measured (members_view c.args.evaluators.now) c.args.table.now.measures.items c.requires.table.knows_all (view c.args.tree.now) c.requires.form.0 c.requires.form.1)
 
 pub expanded-overflow_sub-most : goal.expanded-overflow_sub-most
 expanded-overflow_sub-most t c =
@@ -19,7 +19,7 @@ expanded-overflow_sub-most t c =
 pub expanded-expanded_items-requires : goal.expanded-expanded_items-requires
 expanded-expanded_items-requires t c =
     let f = list-end (members_view c.args.evaluators.now) c.args.most (view c.args.tree.now) c.end_of-end.result.now c.in-List.items c.in-List.is c.end_of-end.ensures c.requires.form in
-    (omega (arith, c.decreases, f.0), (c.requires.rising, (c.requires.each, (c.requires.heads, (c.requires.knows_all, f.1)))))
+    (omega (arith, c.decreases, f.0), (c.requires.table, f.1))
 
 pub expanded-overflow_sub-most-in-Object : goal.expanded-overflow_sub-most-in-Object
 expanded-overflow_sub-most-in-Object t c =
@@ -28,7 +28,7 @@ expanded-overflow_sub-most-in-Object t c =
 pub expanded-expanded_members-requires : goal.expanded-expanded_members-requires
 expanded-expanded_members-requires t c =
     let f = object-end (members_view c.args.evaluators.now) c.args.most (view c.args.tree.now) c.end_of-end.result.now c.in-Object.members c.in-Object.is c.end_of-end.ensures c.requires.form in
-    (omega (arith, c.decreases, f.0), (c.requires.rising, (c.requires.each, (c.requires.heads, (c.requires.knows_all, f.1)))))
+    (omega (arith, c.decreases, f.0), (c.requires.table, f.1))
 
 pub expanded-returns-in_ok-forms-in-List : goal.expanded-returns-in_ok-forms-in-List
 expanded-returns-in_ok-forms-in-List t c =
@@ -54,7 +54,7 @@ expanded_items-expanded-requires t c =
     let f = item-form evaluators c.args.most items c.loop-item.item-index c.item-item.result within
     (subst (λ xs. ItemsHaveForms evaluators c.args.most (items_view xs)) (sym c.deref-item-items.ensures.value) c.requires.forms) in
     let here : HasForm evaluators c.args.most (view c.item-item.result) = subst (λ x. HasForm evaluators c.args.most (view x)) (sym c.item-item.is) f in
-    (omega (arith, c.decreases), (c.requires.rising, (c.requires.each, (c.requires.heads, (c.requires.knows_all, here)))))
+    (omega (arith, c.decreases), (c.requires.table, here))
 
 pub expanded_items-loop-item-preserved : goal.expanded_items-loop-item-preserved
 expanded_items-loop-item-preserved t c =
@@ -75,7 +75,7 @@ expanded_members-expanded-requires t c =
     let f = member-form evaluators c.args.most members c.loop-name.name-index c.loop-name-item.result within
     (subst (λ xs. MembersHaveForms evaluators c.args.most (members_view xs)) (sym c.deref-name-items.ensures.value) c.requires.forms) in
     let here : HasForm evaluators c.args.most (view c.loop-name-item.result.1) = subst (λ x. HasForm evaluators c.args.most (view x.1)) (sym c.loop-name-item.is) f in
-    (omega (arith, c.decreases), (c.requires.rising, (c.requires.each, (c.requires.heads, (c.requires.knows_all, here)))))
+    (omega (arith, c.decreases), (c.requires.table, here))
 
 pub expanded_members-loop-name-preserved : goal.expanded_members-loop-name-preserved
 expanded_members-loop-name-preserved t c =

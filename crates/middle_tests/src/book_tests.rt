@@ -1,4 +1,7 @@
-use super::*;
+//! Books: what is noted and counted, their limits and their files.
+use book_core::{
+    Book, BookFault, BookFileFault, Noted, Page, a_book_is_its_calls, counts, print_book, read_book,
+};
 use flag_text::read_tree;
 use logic_ast::{LogicFault, read_expr};
 use std::alloc::{AllocError, Global};
@@ -39,7 +42,8 @@ fn fault_of(alloc: Global, bytes: &[u8]) -> Option<BookFileFault> {
 fn notes_and_counts(rt: HostRuntime) -> Result<(), Fail> {
     let alloc = rt.alloc();
     let mut book = Book::new(alloc);
-    assert!(rt; print_book(alloc, &book)?.as_slice() == b"{\"book\":1}\n".as_slice());
+    let empty = print_book(alloc, &book)?;
+    assert!(rt; empty.as_slice() == b"{\"book\":1}\n".as_slice());
     let color = page(alloc, "color", 0, Some(BY))?;
     for (input, want) in [
         ("test", Noted::New),
@@ -52,35 +56,43 @@ fn notes_and_counts(rt: HostRuntime) -> Result<(), Fail> {
         ("The quick brown fox jumps over the lazy dog", Noted::New),
         ("", Noted::Again),
     ] {
-        assert_eq!(rt; book.note(alloc, &color, input)?, want);
+        assert!(rt; book.note(alloc, &color, input)? == want, "at {input}");
     }
-    assert_eq!(rt; book.inputs(), 7);
     let exposure = book.exposure(alloc, &color.copy(alloc)?)?;
     let counts = counts(alloc, &exposure, 10)?;
-    assert_eq!(rt;
-        counts.as_slice(),
-        [1, 1, 0, 0, 2, 0, 1, 2, 0, 0].as_slice()
+    let other = book.exposure(alloc, &page(alloc, "color", 1, Some(BY))?)?;
+    let printed = print_book(alloc, &book)?;
+    assert!(rt;
+        book.inputs() == 7
+            && counts.as_slice() == [1, 1, 0, 0, 2, 0, 1, 2, 0, 0].as_slice()
+            && other.inputs().is_empty()
+            && book.has(&color, "!C")
+            && !book.has(&color, "!CE")
+            && printed.as_slice() == FILE
     );
-    assert!(rt; print_book(alloc, &book)?.as_slice() == FILE);
+    a_book_is_its_calls();
+    Ok(())
+}
+
+#[test]
+fn pages_of_the_sites_of_a_targeting(rt: HostRuntime) -> Result<(), Fail> {
+    let alloc = rt.alloc();
     let tree = read_tree(
         alloc,
         b"{\"fractional\":[{\"var\":\"key\"},[\"red\",5],[\"blue\",5]]}",
         100,
     )?;
     let targeting = read_expr(alloc, &tree)?;
-    assert_eq!(rt; Page::of(alloc, "color", &targeting, 0)?, color);
-    assert_eq!(rt;
-        Page::of(alloc, "color", &targeting, 1),
-        Err(LogicFault::NoSite)
+    let color = page(alloc, "color", 0, Some(BY))?;
+    let refused = Page::of(alloc, "color", &targeting, 1).err();
+    assert!(rt;
+        Page::of(alloc, "color", &targeting, 0)? == color && refused == Some(LogicFault::NoSite)
     );
-    let other = page(alloc, "color", 1, Some(BY))?;
-    assert!(rt; book.exposure(alloc, &other)?.inputs().is_empty());
-    a_book_is_its_calls();
     Ok(())
 }
 
 #[test]
-fn limits(rt: HostRuntime) -> Result<(), Fail> {
+fn an_input_has_1024_bytes_and_a_page_1000000_inputs(rt: HostRuntime) -> Result<(), Fail> {
     let alloc = rt.alloc();
     let mut book = Book::new(alloc);
     let first = page(alloc, "", 0, None)?;
@@ -88,42 +100,48 @@ fn limits(rt: HostRuntime) -> Result<(), Fail> {
     for _ in 0..1024 {
         longest.push('a')?;
     }
-    assert_eq!(rt; book.note(alloc, &first, longest.as_str())?, Noted::New);
+    let noted = book.note(alloc, &first, longest.as_str())?;
     longest.push('a')?;
-    for page in [&first, &page(alloc, "", 1, None)?] {
-        assert_eq!(rt;
-            book.note(alloc, page, longest.as_str()),
-            Err(BookFault::InputTooLong)
-        );
-    }
-    assert_eq!(rt; book.inputs(), 1);
+    let too_long = Err(BookFault::InputTooLong);
+    assert!(rt;
+        noted == Noted::New
+            && book.note(alloc, &first, longest.as_str()) == too_long
+            && book.note(alloc, &page(alloc, "", 1, None)?, longest.as_str()) == too_long
+            && book.inputs() == 1
+    );
     for i in 1..1_000_000 {
         let input = format!(in alloc; "{i}")?;
-        assert_eq!(rt; book.note(alloc, &first, input.as_str())?, Noted::New);
+        assert!(rt;
+            book.note(alloc, &first, input.as_str())? == Noted::New,
+            "at {i}"
+        );
     }
-    assert_eq!(rt;
-        book.note(alloc, &first, "1000000"),
-        Err(BookFault::PageFull)
+    assert!(rt;
+        book.note(alloc, &first, "1000000") == Err(BookFault::PageFull)
+            && book.note(alloc, &first, "999999")? == Noted::Again
+            && book.inputs() == 1_000_000
     );
-    assert_eq!(rt; book.note(alloc, &first, "999999")?, Noted::Again);
-    assert_eq!(rt; book.inputs(), 1_000_000);
     Ok(())
 }
 
 #[test]
-fn files(rt: HostRuntime) -> Result<(), Fail> {
+fn a_book_reads_as_it_was_printed_and_not_in_part(rt: HostRuntime) -> Result<(), Fail> {
     let alloc = rt.alloc();
-    assert!(rt; print_book(alloc, &read_book(alloc, FILE)?)?.as_slice() == FILE);
+    let printed = print_book(alloc, &read_book(alloc, FILE)?)?;
+    assert!(rt; printed.as_slice() == FILE);
     prefixes(&rt, alloc);
+    Ok(())
+}
+
+#[test]
+fn faults_of_the_lines_of_a_file(rt: HostRuntime) -> Result<(), Fail> {
+    let alloc = rt.alloc();
     let long = format!(in alloc;
-        "{{\"book\":1}}\n{{\"by\":null,\"flag\":\"\",\"site\":0}}\n\"{:a>1025}\"\n",
+        "{{\"by\":null,\"flag\":\"\",\"site\":0}}\n\"{:a>1025}\"\n",
         ""
     )?;
-    assert_eq!(rt;
-        fault_of(alloc, long.as_bytes()),
-        Some(BookFileFault::InputTooLong(3))
-    );
     for (rest, want) in [
+        (long.as_str(), Some(BookFileFault::InputTooLong(3))),
         ("", None),
         ("\"a\"\n", Some(BookFileFault::Line(2))),
         (
@@ -184,8 +202,13 @@ fn files(rt: HostRuntime) -> Result<(), Fail> {
         ),
     ] {
         let file = format!(in alloc; "{{\"book\":1}}\n{rest}")?;
-        assert_eq!(rt; fault_of(alloc, file.as_bytes()), want);
+        assert!(rt; fault_of(alloc, file.as_bytes()) == want, "at {rest}");
     }
+    Ok(())
+}
+
+#[test]
+fn first_lines_of_a_file(rt: HostRuntime) {
     for (bytes, want) in [
         (b" { \"book\" : 1 } \n".as_slice(), None),
         (
@@ -196,9 +219,8 @@ fn files(rt: HostRuntime) -> Result<(), Fail> {
         (b"{\"book\":1.0}\n".as_slice(), Some(BookFileFault::Header)),
         (b"\n".as_slice(), Some(BookFileFault::Header)),
     ] {
-        assert_eq!(rt; fault_of(alloc, bytes), want);
+        assert!(rt; fault_of(rt.alloc(), bytes) == want, "at {bytes:?}");
     }
-    Ok(())
 }
 
 /// The book is cut at each byte.
@@ -214,7 +236,7 @@ fn prefixes(rt: &impl Abort, alloc: Global) {
         } else {
             None
         };
-        assert_eq!(rt; fault_of(alloc, &FILE[..i]), want, "at {i}");
+        assert!(rt; fault_of(alloc, &FILE[..i]) == want, "at {i}");
         if FILE[i] == b'\n' && line < 100 {
             line += 1;
         }
@@ -222,7 +244,7 @@ fn prefixes(rt: &impl Abort, alloc: Global) {
 }
 
 #[test]
-fn full_page(rt: HostRuntime) -> Result<(), Fail> {
+fn a_file_has_1000000_inputs_on_a_page(rt: HostRuntime) -> Result<(), Fail> {
     let alloc = rt.alloc();
     let mut file = String::from_str(
         alloc,
@@ -232,19 +254,15 @@ fn full_page(rt: HostRuntime) -> Result<(), Fail> {
         let line = format!(in alloc; "\"{i:07}\"\n")?;
         file.push_str(line.as_str())?;
     }
-    let book = read_book(alloc, file.as_bytes())?;
-    assert_eq!(rt; book.inputs(), 1_000_000);
+    let count = read_book(alloc, file.as_bytes())?.inputs();
     file.push_str("\"1000000\"\n")?;
-    assert_eq!(rt;
-        fault_of(alloc, file.as_bytes()),
-        Some(BookFileFault::PageFull(1_000_003))
-    );
+    let fault = fault_of(alloc, file.as_bytes());
+    assert!(rt; count == 1_000_000 && fault == Some(BookFileFault::PageFull(1_000_003)));
     Ok(())
 }
 
 #[test]
-fn exchanged_lines(rt: HostRuntime) -> Result<(), Fail> {
-    let alloc = rt.alloc();
+fn exchanged_lines(rt: HostRuntime) {
     let file = b"{\"book\":1}
 {\"by\":\"{\\\"var\\\":[\\\"key\\\"]}\",\"flag\":\"color\",\"site\":0}
 \"\"
@@ -255,20 +273,18 @@ fn exchanged_lines(rt: HostRuntime) -> Result<(), Fail> {
 \"test\"
 \"The quick brown fox jumps over the lazy dog\"
 ";
-    assert_eq!(rt; fault_of(alloc, file), Some(BookFileFault::Order(9)));
-    Ok(())
+    assert!(rt; fault_of(rt.alloc(), file) == Some(BookFileFault::Order(9)));
 }
 
 #[test]
-fn numbers_and_names(rt: HostRuntime) -> Result<(), Fail> {
+fn numbers_and_names_of_faults(rt: HostRuntime) {
     for (fault, number, name) in [
         (BookFault::PageFull, 1, "PageFull"),
         (BookFault::InputTooLong, 2, "InputTooLong"),
         (BookFault::LastCall, 3, "LastCall"),
         (BookFault::Stranger, 4, "Stranger"),
     ] {
-        assert_eq!(rt; fault.number(), number);
-        assert_eq!(rt; fault.name(), name);
+        assert!(rt; fault.number() == number && fault.name() == name, "{name}");
     }
     for (fault, number, name) in [
         (BookFileFault::Header, 1, "Header"),
@@ -277,8 +293,6 @@ fn numbers_and_names(rt: HostRuntime) -> Result<(), Fail> {
         (BookFileFault::InputTooLong(3), 4, "InputTooLong"),
         (BookFileFault::PageFull(1_000_003), 5, "PageFull"),
     ] {
-        assert_eq!(rt; fault.number(), number);
-        assert_eq!(rt; fault.name(), name);
+        assert!(rt; fault.number() == number && fault.name() == name, "{name}");
     }
-    Ok(())
 }

@@ -3,12 +3,12 @@ use Rattle.flag_text.specs.Shape.{Shape}
 use Rattle.flag_text.specs.View.{view, members_view}
 use Rattle.flag_text.specs.declared.tree.Tree.{Tree}
 use Rattle.flag_defs.specs.Definition.{or_null}
-use Rattle.flag_defs.specs.Targeting.{IsWeight}
-use Rattle.flag_defs.specs.declared.weigh.Weight.TheVariants.{Without}
-use Rattle.flag_defs.proofs.Weighed.{weight_absent}
-use Rattle.flag_defs.proofs.weigh.weigh_targeting.Goals as goal
+use Rattle.flag_defs.specs.Targeting.{IsForecast}
+use Rattle.flag_defs.specs.declared.forecast.Forecast.TheVariants.{Without}
+use Rattle.flag_defs.proofs.Weighed.{forecast_absent}
+use Rattle.flag_defs.proofs.forecast.targeting_forecast.Goals as goal
 
 pub returns-in-None : goal.returns-in-None
 returns-in-None c =
     let seen : Option (Bor Tree) → Option Shape = λ o. option_map (λ t. view t.now) o in
-    subst (λ o. IsWeight (members_view c.args.evaluators.now) (or_null (seen o)) Without) (sym c.in-None.is) (weight_absent (members_view c.args.evaluators.now))
+    subst (λ o. IsForecast (members_view c.args.evaluators.now) (or_null (seen o)) Without) (sym c.in-None.is) (forecast_absent (members_view c.args.evaluators.now))
