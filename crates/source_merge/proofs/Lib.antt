@@ -1,0 +1,4 @@
+pub mod Lent
+pub mod Limits
+pub mod Merged
+pub mod Viewed

@@ -1,0 +1,8 @@
+use Rattle.std.proofs.Common.{◌≡◌, drop, fold}
+use Rattle.flag_defs.specs.Changes.{with_entry}
+use Rattle.flag_defs.specs.Flags.{flags_view}
+use Rattle.source_merge.specs.Merge.{lent_view}
+use Rattle.source_merge.proofs.choice.choose.Given as goal
+
+abbrev pub invariant-loop-i : goal.invariant-loop-i
+invariant-loop-i l = fold with_entry (lent_view l.chosen.entries) (drop l.i (flags_view l.flags)) ≡ fold with_entry (lent_view l.initial.chosen.entries) (flags_view l.flags)

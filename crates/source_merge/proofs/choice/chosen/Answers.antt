@@ -1,0 +1,7 @@
+use Rattle.std.proofs.Common.{◌∙◌}
+use Rattle.source_merge.proofs.Lent.{begun}
+use Rattle.source_merge.proofs.choice.chosen.Goals as goal
+
+pub loop-document-init : goal.loop-document-init
+loop-document-init c =
+    begun c.args.documents.now.entries c.new-chosen.result.entries c.into_iter-document-iterator.result c.new-chosen.ensures.empty (c.into_iter-document-iterator.ensures.into_iter_gives ∙ c.values-document-items.ensures.rest)

@@ -1,0 +1,9 @@
+use Rattle.std.proofs.Common.{◌≡◌, fold}
+use Rattle.flag_defs.specs.Changes.{by_key, with_entry}
+use Rattle.source_merge.specs.Merge.{all_entries, lent_view}
+use Rattle.source_merge.specs.Sources.{entries_view}
+use Rattle.source_merge.proofs.Lent.{document_entries}
+use Rattle.source_merge.proofs.choice.chosen.Given as goal
+
+abbrev pub invariant-loop-document : goal.invariant-loop-document
+invariant-loop-document l = fold with_entry (lent_view l.chosen.entries) (document_entries l.document-iterator) ≡ by_key (all_entries (entries_view l.documents.entries))

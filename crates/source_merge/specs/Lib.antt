@@ -1,0 +1,5 @@
+pub mod Fault
+pub mod Merge
+pub mod Outcome
+pub mod Sources
+pub mod View
