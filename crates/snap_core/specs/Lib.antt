@@ -1,0 +1,9 @@
+pub mod Agreement
+pub mod Event
+pub mod Fault
+pub mod History
+pub mod Hub
+pub mod HubView
+pub mod Opening
+pub mod World
+pub mod WorldView
