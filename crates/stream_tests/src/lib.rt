@@ -1,0 +1,5 @@
+//! The tests of the crates of streams, in a crate of their own, so that those are proved once.
+#![tactic(auto)]
+
+#[cfg(test)]
+mod frame_tests;

@@ -1,0 +1,7 @@
+pub mod Fault
+pub mod Feed
+pub mod Frames
+pub mod Header
+pub mod Received
+pub mod Resolves
+pub mod Stage
