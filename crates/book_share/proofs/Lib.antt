@@ -1,0 +1,4 @@
+pub mod Counting
+pub mod Held
+pub mod Replaying
+pub mod Telling

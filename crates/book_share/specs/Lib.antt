@@ -1,0 +1,4 @@
+pub mod Fault
+pub mod Told
+pub mod Limits
+pub mod Sealed

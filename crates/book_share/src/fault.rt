@@ -1,0 +1,98 @@
+ghost use Rattle.std.specs.Prelude.{◌≡◌};
+ghost use Rattle.book_share.specs.declared.fault.SealFault.TheVariants.{WantOfMemory as SealWantOfMemory};
+ghost use Rattle.book_share.specs.Fault.{name_of, number_of, seal_name_of, seal_number_of};
+
+use std::alloc::{AllocError, AllocFailed};
+use thiserror::Error;
+
+/// Why there are no blanks for so many seats.
+#[derive(Clone, Copy, Debug, PartialEq, Eq, Error)]
+pub enum SeatsFault {
+    /// Memory was wanted and refused; it has no place in an order of refusals.
+    #[error("out of memory")]
+    WantOfMemory,
+    /// A book has a seat at least.
+    #[error("a book has a seat at least")]
+    NoSeats,
+    /// A book has at most 64 seats.
+    #[error("a book has at most 64 seats")]
+    TooManySeats,
+}
+
+/// Why a shared book was not sealed, or a page not frozen.
+#[derive(Clone, Copy, Debug, PartialEq, Eq, Error)]
+pub enum SealFault {
+    /// Memory was wanted and refused; it has no place in an order of refusals.
+    #[error("out of memory")]
+    WantOfMemory,
+    /// Not all seats of the book were handed back; this is looked at first.
+    #[error("a seat of the book is missing")]
+    SeatMissing,
+    /// The book and what its seats were told are not the same.
+    #[error("the book and what its seats were told disagree")]
+    Disagrees,
+}
+
+impl SeatsFault {
+    /// The number that a refusal is printed with, from 0 for want of memory.
+    pub fn number(&self) -> u32
+        ensures { result ≡ number_of self.now }
+    {
+        match self {
+            SeatsFault::WantOfMemory => 0,
+            SeatsFault::NoSeats => 1,
+            SeatsFault::TooManySeats => 2,
+        }
+    }
+
+    /// The name that a refusal is printed with: the variant's.
+    pub fn name(&self) -> &'static str
+        ensures { result.now ≡ name_of self.now }
+    {
+        match self {
+            SeatsFault::WantOfMemory => "WantOfMemory",
+            SeatsFault::NoSeats => "NoSeats",
+            SeatsFault::TooManySeats => "TooManySeats",
+        }
+    }
+}
+
+impl SealFault {
+    /// The number that a refusal is printed with, from 0 for want of memory.
+    pub fn number(&self) -> u32
+        ensures { result ≡ seal_number_of self.now }
+    {
+        match self {
+            SealFault::WantOfMemory => 0,
+            SealFault::SeatMissing => 1,
+            SealFault::Disagrees => 3,
+        }
+    }
+
+    /// The name that a refusal is printed with: the variant's.
+    pub fn name(&self) -> &'static str
+        ensures { result.now ≡ seal_name_of self.now }
+    {
+        match self {
+            SealFault::WantOfMemory => "WantOfMemory",
+            SealFault::SeatMissing => "SeatMissing",
+            SealFault::Disagrees => "Disagrees",
+        }
+    }
+}
+
+impl From<AllocError> for SealFault {
+    ghost from_gives = { λ _ e. e ≡ SealWantOfMemory };
+
+    fn from(_e: AllocError) -> SealFault {
+        SealFault::WantOfMemory
+    }
+}
+
+impl<T: Drop> From<AllocFailed<T>> for SealFault {
+    ghost from_gives = { λ _ e. e ≡ SealWantOfMemory };
+
+    fn from(_e: AllocFailed<T>) -> SealFault {
+        SealFault::WantOfMemory
+    }
+}
