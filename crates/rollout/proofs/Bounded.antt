@@ -29,12 +29,12 @@ use Rattle.rollout.specs.declared.fault.RolloutFault.TheVariants.{UnknownFlag, N
 use Rattle.rollout.specs.declared.refining.Refining.{Refining}
 
 -- what a result came of
-record Came {A B : Type 0} (r : Result A RolloutFault) (f : A → Result B RolloutFault) (b : B) : Type 0 where
-  from : A
-  was : r ≡ Ok from
-  gives : f from ≡ Ok b
+pub record Came {A B : Type 0} (r : Result A RolloutFault) (f : A → Result B RolloutFault) (b : B) : Type 0 where
+  pub from : A
+  pub was : r ≡ Ok from
+  pub gives : f from ≡ Ok b
 
-came : {A B : Type 0} (r : Result A RolloutFault) (f : A → Result B RolloutFault) (b : B) → and_then r f ≡ Ok b → Came r f b
+pub came : {A B : Type 0} (r : Result A RolloutFault) (f : A → Result B RolloutFault) (b : B) → and_then r f ≡ Ok b → Came r f b
 came (Ok a) f b h = record { from = a; was = refl; gives = h }
 came (Err e) f b h = cc
 

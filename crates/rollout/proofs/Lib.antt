@@ -1,14 +1,10 @@
 pub mod Bounded
 pub mod Changed
 pub mod Copies
-pub mod Lengths
-pub mod Orders
 pub mod Outcomes
 pub mod Plans
-pub mod ReadBack
 pub mod Refines
 pub mod Resolved
-pub mod RowsAgain
 pub mod Sites
 pub mod Spreading
-pub mod Whole
+pub mod Verifies

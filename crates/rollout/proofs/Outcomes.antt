@@ -1,8 +1,8 @@
 -- What is told of an answer, by what its parts told.
 use Rattle.std.proofs.Common.{◌≡◌, ◌≢◌, Result, Ok, Err, refl, sym, ap, subst}
 use Rattle.transport_core.specs.declared.fault.CheckFault.{CheckFault}
-use Rattle.rollout.specs.Answer.{Answer}
-use Rattle.rollout.specs.Lawful.{Problem}
+use Rattle.plan_text.specs.Answer.{Answer}
+use Rattle.rollout.specs.Lawful.{Problem, IsLawful}
 use Rattle.rollout.specs.Verified.{Proves, Shows, Denies, IsOutcome, IsShown}
 use Rattle.rollout.specs.declared.fault.RolloutFault.{RolloutFault}
 use Rattle.rollout.specs.declared.fault.RolloutFault.TheVariants as fault
@@ -33,5 +33,5 @@ outcome_check r p a e is h = rw is h
 pub outcome_right : (r : Result Problem RolloutFault) (p : Problem) (a : Answer) → r ≡ Ok p → Proves p a → IsOutcome r a (Ok tt)
 outcome_right r p a is h = rw is h
 
-pub shown_right : (r : Result Problem RolloutFault) (p : Problem) (a : Answer) → r ≡ Ok p → Shows p a → IsShown r a
-shown_right r p a is h = rw is h
+pub shown_right : (r : Result Problem RolloutFault) (p : Problem) (a : Answer) → r ≡ Ok p → IsLawful p → Shows p a → IsShown r a
+shown_right r p a is lawful h = rw is (lawful, h)

@@ -5,10 +5,8 @@ use Rattle.std.specs.List.{AllByRecursion}
 use Rattle.std.specs.List.Sorted.{IsStrictlySortedBy}
 use Rattle.std.specs.Ordering.{is_lt, nat_cmp}
 use Rattle.std.specs.Prelude.{MatchResult}
-use Rattle.std.proofs.lemmas.Bool.{lt-ltb}
 use Rattle.std.proofs.lemmas.Cmp.{nat_list_cmp_total}
-use Rattle.flag_text.proofs.Bools.{both, left, right}
-use Rattle.flag_text.specs.Shape.{text, is_in_range, is_whole, items_are_whole}
+use Rattle.flag_text.proofs.Bools.{left, right}
 use Rattle.book_core.proofs.Ordered.{below_all}
 use Rattle.bucket_core.specs.Canonical.{IsCanonical}
 use Rattle.bucket_core.specs.Rule.{Entries, IsRuleTotal, total_weight, names_view}
@@ -16,6 +14,7 @@ use Rattle.price_core.specs.Limits.{AreLimits}
 use Rattle.price_core.specs.Pricing.{Pricing}
 use Rattle.transport_core.specs.Certificate.{DualPrices, IsCertified}
 use Rattle.transport_core.specs.Deficient.{IsDeficient, IsOver}
+use Rattle.transport_core.specs.Fits.{IsLeast}
 use Rattle.transport_core.specs.Groups.{AreSizes}
 use Rattle.transport_core.specs.Instance.{TransportProblem}
 use Rattle.transport_core.specs.declared.certificate.Cut.{Cut}
@@ -23,14 +22,13 @@ use Rattle.transport_core.specs.declared.certificate.CutKind.{CutKind}
 use Rattle.transport_core.specs.declared.certificate.CutKind.TheVariants.{Over, Under}
 use Rattle.transport_core.proofs.Deficits.{deficient_fits_none}
 use Rattle.transport_plan.specs.Solved.{IsCut, IsNeverOver}
-use Rattle.rollout.specs.Answer.{emit, none_exists, IsOrdered, planned_view}
-use Rattle.rollout.specs.Lawful.{Problem}
-use Rattle.rollout.specs.PlanFile.{rises, items_by, alpha_written, entry_written, planned_written}
-use Rattle.rollout.specs.Planned.{has_whole_numbers, IsUnderLast, IsPlan, IsUndecided, IsPlanned}
+use Rattle.plan_text.specs.Answer.{emit, none_exists, IsOrdered, planned_view}
+use Rattle.rollout.specs.Lawful.{Problem, IsLawful}
+use Rattle.plan_text.specs.PlanFile.{rises}
+use Rattle.rollout.specs.Planned.{IsUnderLast, IsPlan, IsUndecided, IsPlanned}
 use Rattle.rollout.specs.declared.fault.RolloutFault.{RolloutFault}
 use Rattle.rollout.specs.declared.fault.RolloutFault.TheVariants.{WantOfMemory}
-use Rattle.rollout.specs.declared.planned.Planned.{Planned}
-use Rattle.rollout.proofs.Orders.{weights_small}
+use Rattle.plan_text.specs.declared.planned.Planned.{Planned}
 
 -- ---- names that rise are sorted
 
@@ -59,39 +57,22 @@ sorted-rises (x ∷ y ∷ ys) h =
     let less = lt_is (slice_cmp nat_cmp x y) (left (is_lt (slice_cmp nat_cmp x y)) _ h) in
     rise-cons x (y ∷ ys) (less, below_all nat_list_cmp_total x y ys less (rise-head y ys later)) later
 
--- ---- whole numbers
-
-entry_whole : (e : List ℕ × ℕ) → e.1 < 2 ^ 31 → is_whole (entry_written e) ≡ true
-entry_whole e small = rw (lt-ltb e.1 (2 ^ 53) (omega arith)) refl
-
-entries_whole : (rule : Entries) → AllByRecursion (λ e. e.1 < 2 ^ 31) rule → items_are_whole (items_by entry_written rule) ≡ true
-entries_whole [] small = refl
-entries_whole (e ∷ es) small = both (is_whole (entry_written e)) _ (entry_whole e small.0) (entries_whole es small.1)
-
-names_whole : (names : List (List ℕ)) → items_are_whole (items_by text names) ≡ true
-names_whole [] = refl
-names_whole (name ∷ names) = names_whole names
-
-pub emit_whole : (rule : Entries) (c : DualPrices) → IsRuleTotal (total_weight rule) → has_whole_numbers c ≡ true → is_whole (planned_written (emit rule c)) ≡ true
-emit_whole rule c total h =
-    let cost = left (is_in_range (pos c.cost)) _ h in
-    let rows = right (is_in_range (pos c.cost)) _ h in
-    let alpha = left (items_are_whole (items_by alpha_written c.alpha)) _ rows in
-    let beta = right (items_are_whole (items_by alpha_written c.alpha)) _ rows in
-    let entries = entries_whole rule (weights_small (2 ^ 31) rule total.small) in
-    both _ _ alpha (both _ _ beta (both _ _ cost (both _ _ entries refl)))
-
-pub none_whole : (kind : CutKind) (names : List (List ℕ)) → is_whole (planned_written (none_exists kind names)) ≡ true
-none_whole Over names = both _ _ (names_whole names) refl
-none_whole Under names = both _ _ (names_whole names) refl
-
 -- ---- plans
 
-pub none_plan : (p : Problem) (kind : CutKind) (names : List (List ℕ)) → AreLimits p.limits → IsDeficient kind p.old p.limits p.pricing names → IsUnderLast p (none_exists kind names) → IsPlan p (none_exists kind names)
-none_plan p kind names lawful deficient under_last = record {
+pub none_plan : (p : Problem) (kind : CutKind) (names : List (List ℕ)) → 0 < total_weight p.old → AreLimits p.limits → IsDeficient kind p.old p.limits p.pricing names → IsUnderLast p (none_exists kind names) → IsPlan p (none_exists kind names)
+none_plan p kind names some lawful deficient under_last = record {
+  lawful = record { some = some; limits = lawful };
   proves = deficient;
   shows = λ rule fits. deficient_fits_none kind p.old rule p.limits p.pricing names lawful deficient fits;
   under_last = under_last;
+}
+
+pub emit_plan : (p : Problem) (prices : Pricing) (rule : Entries) (c : DualPrices) → 0 < total_weight p.old → AreLimits p.limits → prices ≡ p.pricing → IsCertified p.old rule p.limits prices p.inputs c → IsLeast p.old rule p.limits prices p.inputs → IsPlan p (emit rule c)
+emit_plan p prices rule c some lawful same certified least = record {
+  lawful = record { some = some; limits = lawful };
+  proves = subst (λ q. IsCertified p.old rule p.limits q p.inputs c) same certified;
+  shows = subst (λ q. IsLeast p.old rule p.limits q p.inputs) same least;
+  under_last = tt;
 }
 
 -- ---- of the instance

@@ -13,7 +13,7 @@ use Rattle.flag_defs.specs.Flag.{flag_view, variant_of, variant_names, targeting
 use Rattle.book_core.specs.Book.{Contents, Inputs, inputs_on}
 use Rattle.book_core.specs.Page.{PageName}
 use Rattle.book_core.specs.Site.{page_at}
-use Rattle.price_core.specs.Limits.{Limits}
+use Rattle.price_core.specs.Limits.{Limits, AreLimits}
 use Rattle.price_core.specs.Pricing.{Pricing}
 use Rattle.price_core.specs.Request.{Asked, asked_of, totals_of}
 use Rattle.price_core.specs.declared.fault.PriceFault.{PriceFault}
@@ -114,6 +114,11 @@ abbrev pub problem_of : Refining → Definitions → List ℕ → Contents → R
 problem_of refining flags bytes book =
     and_then (by_price (asked_of bytes)) (λ asked.
     and_then (place_of flags asked.flag asked.site) (λ place. problem_at refining book asked place))
+
+-- What the laws of weak duality and of deficient sets ask of a problem: a total above 0, and limits in order.
+pub record IsLawful (p : Problem) : Type 0 where
+  pub some : 0 < total_weight p.old
+  pub limits : AreLimits p.limits
 
 -- the numbers are above 0
 abbrev pub IsRefining : Refining → Type 0

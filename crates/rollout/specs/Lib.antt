@@ -1,10 +1,7 @@
-pub mod Answer
 pub mod Applied
 pub mod Change
 pub mod Fault
-pub mod FileFault
 pub mod Lawful
-pub mod PlanFile
 pub mod Planned
 pub mod Refined
 pub mod Verified

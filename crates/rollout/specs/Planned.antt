@@ -1,20 +1,13 @@
 -- What is planned of a rollout request.
-use Rattle.std.specs.Prelude.{◌≡◌, ◌≢◌, ℕ, pos, Bool, ◌&&◌, List, Result, Ok, Err}
-use Rattle.flag_text.specs.Shape.{is_in_range, items_are_whole}
-use Rattle.transport_core.specs.Certificate.{DualPrices}
+use Rattle.std.specs.Prelude.{◌≡◌, ◌≢◌, ℕ, List, Result, Ok, Err}
 use Rattle.transport_core.specs.Deficient.{IsDeficient}
 use Rattle.transport_core.specs.declared.certificate.CutKind.TheVariants.{Over, Under}
-use Rattle.rollout.specs.Answer.{Answer, emit, none_exists, planned_view}
-use Rattle.rollout.specs.Lawful.{Problem}
-use Rattle.rollout.specs.PlanFile.{items_by, alpha_written, beta_written}
+use Rattle.plan_text.specs.Answer.{Answer, emit, none_exists, planned_view}
+use Rattle.rollout.specs.Lawful.{Problem, IsLawful}
 use Rattle.rollout.specs.Verified.{Proves, Shows}
 use Rattle.rollout.specs.declared.fault.RolloutFault.{RolloutFault}
 use Rattle.rollout.specs.declared.fault.RolloutFault.TheVariants.{WantOfMemory, Undecided}
-use Rattle.rollout.specs.declared.planned.Planned.{Planned}
-
--- alpha, beta and the cost are whole numbers that a file can hold
-abbrev pub has_whole_numbers : DualPrices → Bool
-has_whole_numbers c = is_in_range (pos c.cost) && (items_are_whole (items_by alpha_written c.alpha) && items_are_whole (items_by beta_written c.beta))
+use Rattle.plan_text.specs.declared.planned.Planned.{Planned}
 
 -- a set is told as under its low limits only where no set is over its high ones
 abbrev pub IsUnderLast : Problem → Answer → Type 0
@@ -24,6 +17,8 @@ IsUnderLast p (none_exists Under names) = (others : List (List ℕ)) → ¬ (IsD
 
 -- an answer to what is asked
 pub record IsPlan (p : Problem) (answer : Answer) : Type 0 where
+  -- the laws of weak duality and of deficient sets hold of what was asked
+  pub lawful : IsLawful p
   -- the rule fits and its certificate proves its cost, or the set is deficient by its kind
   pub proves : Proves p answer
   -- so the rule costs the recorded inputs the least of all that fit, or no rule fits

@@ -2,7 +2,7 @@
 use Rattle.std.specs.Prelude.{ℕ, List, Option, Some, None, Result}
 use Rattle.book_core.specs.Book.{Contents}
 use Rattle.flag_defs.specs.Document.{Definitions}
-use Rattle.rollout.specs.Answer.{Answer}
+use Rattle.plan_text.specs.Answer.{Answer}
 use Rattle.rollout.specs.Lawful.{Problem, problem_of}
 use Rattle.rollout.specs.Verified.{refining_for}
 use Rattle.rollout.specs.declared.fault.RolloutFault.{RolloutFault}

@@ -7,12 +7,13 @@ use Rattle.transport_core.specs.Fits.{Fits, IsLeast}
 use Rattle.transport_core.specs.Refusals.{Refuses}
 use Rattle.transport_core.specs.declared.fault.CheckFault.{CheckFault}
 use Rattle.transport_core.specs.declared.fault.CheckFault.TheVariants as fault
-use Rattle.rollout.specs.Answer.{Answer, emit, none_exists}
-use Rattle.rollout.specs.Lawful.{Problem}
+use Rattle.plan_text.specs.Answer.{Answer, emit, none_exists}
+use Rattle.rollout.specs.Lawful.{Problem, IsLawful}
 use Rattle.rollout.specs.declared.fault.RolloutFault.{RolloutFault}
 use Rattle.rollout.specs.declared.fault.RolloutFault.TheVariants.{WantOfMemory}
 use Rattle.rollout.specs.declared.refining.Refining.{Refining}
 use Rattle.rollout.specs.declared.refining.Refining.TheVariants.{Times, ToTotal}
+use Rattle.rollout.specs.VerifyFault.{number_of}
 use Rattle.rollout.specs.declared.verify_fault.VerifyFault.{VerifyFault}
 use Rattle.rollout.specs.declared.verify_fault.VerifyFault.TheVariants.{Request, Check}
 
@@ -50,7 +51,16 @@ IsOutcome (Ok p) answer (Ok u) = Proves p answer
 IsOutcome (Ok p) answer (Err (Request e)) = e ≡ WantOfMemory
 IsOutcome (Ok p) answer (Err (Check e)) = Denies p answer e
 
--- the request is lawful, and what an accepted answer shows of it holds
+-- what verify tells of an answer
+abbrev pub Told : Type 0
+Told = Result (Unit {0}) VerifyFault
+
+-- valid, unless memory ran out
+abbrev pub IsValid : Told → Type 0
+IsValid (Ok u) = Unit {0}
+IsValid (Err fault) = number_of fault ≡ 0
+
+-- the request is lawful, so that the laws of weak duality and of deficient sets hold of it, and so does what an accepted answer shows
 abbrev pub IsShown : Result Problem RolloutFault → Answer → Type 0
-IsShown (Ok p) answer = Shows p answer
+IsShown (Ok p) answer = IsLawful p × Shows p answer
 IsShown (Err f) answer = ⊥

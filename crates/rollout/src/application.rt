@@ -1,7 +1,10 @@
 //! A rule put in the place of a site's.
-ghost use Rattle.std.specs.Prelude.{◌≡◌, [], ◌∷◌, ◌++◌, IfOk};
+ghost use Rattle.std.specs.Prelude.{◌≡◌, [], ◌∷◌, ◌++◌, None, Some, Err, IfOk, IsErrOf};
+ghost use Rattle.std.specs.Map.{lookup};
+ghost use Rattle.std.specs.Str.{bytes_eq};
 ghost use Rattle.flag_text.specs.Outcome.{GivesUnless};
-ghost use Rattle.flag_defs.specs.Changes.{by_key};
+ghost use Rattle.flag_defs.specs.Changes.{by_key, with_site};
+ghost use Rattle.flag_defs.specs.Definition.{Definition};
 ghost use Rattle.flag_defs.specs.Document.{limited};
 ghost use Rattle.flag_defs.specs.Flag.{entries_view, flag_view};
 ghost use Rattle.flag_defs.specs.Flags.{flags_view};
@@ -12,6 +15,7 @@ use crate::fault::RolloutFault;
 use crate::place::has_names_of;
 use bucket_core::Rule;
 use flag_defs::{DefFault, Flag, Flags};
+use logic_ast::LogicFault;
 use std::alloc::{AllocError, Global};
 
 /// The flags with the entries of the rule as the buckets of a site. The bucketing expression stays, and so do all other
@@ -30,6 +34,8 @@ pub fn apply(
     rule: &Rule,
 ) -> Result<Flags, RolloutFault>
     ensures exact { GivesUnless RolloutFault.WantOfMemory flags_view result (applied (flags_view flags.now) key.now site rule.now) }
+    ensures unknown { lookup (bytes_eq key.now) (flags_view flags.now) ≡ None → IsErrOf result RolloutFault.UnknownFlag }
+    ensures no_site { (flag : Definition) → lookup (bytes_eq key.now) (flags_view flags.now) ≡ Some flag → with_site site rule.now flag ≡ Err LogicFault.NoSite → IsErrOf result RolloutFault.NoSite }
     ensures changed { IfOk result (λ new. IsChanged (flags_view flags.now) key.now site rule.now (flags_view new)) }
     ensures others { IfOk result (λ new. OthersStay (flags_view flags.now) key.now (flags_view new)) }
     ensures resolutions { IfOk result (λ new. ResolveAsBefore (flags_view flags.now) key.now site rule.now (flags_view new)) }

@@ -1,17 +1,17 @@
 //! Whether an answer is right, whoever made it.
 ghost use Rattle.std.specs.Prelude.{◌≡◌, ◌<◌, OnOk, MatchResult};
 ghost use Rattle.flag_defs.specs.Flags.{flags_view};
-ghost use Rattle.rollout.specs.Answer.{planned_view};
-ghost use Rattle.rollout.specs.Lawful.{IsRefining, problem_of, problem_view};
+ghost use Rattle.plan_text.specs.Answer.{planned_view};
+ghost use Rattle.rollout.specs.Lawful.{IsLawful, IsRefining, problem_of, problem_view};
 ghost use Rattle.rollout.specs.Verified.{IsOutcome, Proves, Shows, Denies, IsShown, refining_for};
 ghost use Rattle.rollout.specs.declared.refining.Refining.TheVariants.{Times};
 
-use crate::planned::Planned;
 use crate::problem::{Problem, problem_of};
 use crate::refining::Refining;
 use crate::verify_fault::VerifyFault;
 use book_core::Book;
 use flag_defs::Flags;
+use plan_text::Planned;
 use std::alloc::Global;
 use std::thread::Threads;
 use transport_core::{CheckFault, check_cut, check_plan};
@@ -95,7 +95,11 @@ fn check(
 ) -> Result<(), CheckFault>
     ensures exact { MatchResult result (λ _. Proves (problem_view problem.now) (planned_view planned.now)) (Denies (problem_view problem.now) (planned_view planned.now)) }
     ensures shown { OnOk result (Shows (problem_view problem.now) (planned_view planned.now)) }
+    ensures lawful { IsLawful (problem_view problem.now) }
 {
+    // what is shown rests on what these say of the rule and of the limits
+    let _weight = problem.old.total();
+    let _limits = problem.totals.entries();
     let prices = problem.request.prices();
     match planned {
         Planned::Emit(rule, certificate) => check_plan(

@@ -18,7 +18,7 @@ use Rattle.transport_core.specs.Certificate.{DualPrices, alpha_at, beta_of, grou
 use Rattle.transport_core.specs.Dual.{inputs_at, least_value}
 use Rattle.transport_core.specs.Fits.{Fits, IsLeast}
 use Rattle.transport_core.specs.Groups.{GroupKey, is_same_group, group_cmp, group_at, AreGroups, AreSizes}
-use Rattle.transport_core.specs.Refusals.{KeepsLimits, IsToll, pairs_of, is_broken, first_broken, dual_sum, Refuses, RefusesRule, RefusesDuals, ReportsBroken, AreDuals}
+use Rattle.transport_core.specs.Refusals.{KeepsLimits, IsArcCost, pairs_of, is_broken, first_broken, dual_sum, Refuses, RefusesRule, RefusesDuals, ReportsBroken, AreDuals}
 use Rattle.transport_core.proofs.DualSums.{range_place, size-some, groups_are, groups_only, group_sum-is, beta-place, names_sum-is}
 use Rattle.transport_core.proofs.Duality.{values-le, weak_duality}
 use Rattle.transport_core.specs.Sum.{sum_z}
@@ -178,12 +178,12 @@ unbroken pricing a b whole allowed =
     let less = int_lt (pos (a.0.1 * price_of pricing a.0.0 b.0)) (a.1 +ℤ b.1) in
     not_less (pos (a.0.1 * price_of pricing a.0.0 b.0)) (a.1 +ℤ b.1) (ap (λ t. t && less) (sym (not_from_false (is_forbidden pricing a.0.0 b.0) allowed)) ∙ whole)
 
--- a pair is broken where its toll is allowed, and passed
-pub broken_by_toll : (pricing : Pricing) (a : GroupKey × ℤ) (b : List ℕ × ℤ) (from : List ℕ) (forbidden : Bool) (price : ℕ) → from ≡ a.0.0 → IsToll pricing b.0 from forbidden price
+-- a pair is broken where its arc is allowed, and its cost passed
+pub broken_by_cost : (pricing : Pricing) (a : GroupKey × ℤ) (b : List ℕ × ℤ) (from : List ℕ) (forbidden : Bool) (price : ℕ) → from ≡ a.0.0 → IsArcCost pricing b.0 from forbidden price
     → is_broken pricing (a, b) ≡ (not forbidden && int_lt (pos (a.0.1 * price)) (a.1 +ℤ b.1))
-broken_by_toll pricing a b from forbidden price is toll =
-    ap (λ f. not f && int_lt (pos (a.0.1 * price_of pricing a.0.0 b.0)) (a.1 +ℤ b.1)) (ap (λ n. is_forbidden pricing n b.0) (sym is) ∙ sym toll.forbidden)
-    ∙ ap (λ p. not forbidden && int_lt (pos (a.0.1 * p)) (a.1 +ℤ b.1)) (ap (λ n. price_of pricing n b.0) (sym is) ∙ sym toll.amount)
+broken_by_cost pricing a b from forbidden price is arc =
+    ap (λ f. not f && int_lt (pos (a.0.1 * price_of pricing a.0.0 b.0)) (a.1 +ℤ b.1)) (ap (λ n. is_forbidden pricing n b.0) (sym is) ∙ sym arc.forbidden)
+    ∙ ap (λ p. not forbidden && int_lt (pos (a.0.1 * p)) (a.1 +ℤ b.1)) (ap (λ n. price_of pricing n b.0) (sym is) ∙ sym arc.amount)
 
 -- the number at a point and that of a name, by their rows
 module _ (old : Entries) (inputs : List (List ℕ)) (limits : Limits) (pricing : Pricing) (c : DualPrices) (groups : AreGroups old inputs (keys_of c.alpha)) (lawful : AreLimits limits) (names : keys_of c.beta ≡ keys_of limits) where

@@ -67,6 +67,11 @@ module _ (kind : CutKind) (old : Entries) (limits read : Limits) (pricing : Pric
       deficient_from kind old totals limits pricing names are (listed_from_test (keys_of limits) names (sym same ∙ passes))
       (subst (λ ns. Outnumbers kind totals limits pricing ns) names_are (subst (λ ls. Outnumbers kind totals ls pricing seen) limits_are more))
 
+  pub listed_here : all_listed (keys_of read) seen ≡ true → All (Contains (keys_of limits)) names
+  listed_here passes =
+      let same = ap (λ ls. all_listed (keys_of ls) seen) limits_are ∙ ap (all_listed (keys_of limits)) names_are in
+      listed_from_test (keys_of limits) names (sym same ∙ passes)
+
   pub outnumbers_back : (totals : List (List ℕ × ℕ)) → AreTotals old totals → IsDeficient kind old limits pricing names → Outnumbers kind totals read pricing seen
   outnumbers_back totals are deficient =
       subst (λ ls. Outnumbers kind totals ls pricing seen) (sym limits_are) (subst (λ ns. Outnumbers kind totals limits pricing ns) (sym names_are) (outnumbers_from kind old totals limits pricing names are deficient))

@@ -26,11 +26,15 @@ module _ {X Y : Type 0} (test : X × Y → Bool) (x : X) (rest : List (X × Y)) 
       cond-false (test (x, z)) (Some (x, z)) (find test (map (λ w. (x, w)) ys ++ rest)) apart ∙ row_fails ys (sym (cond-false (test (x, z)) (Some z) (find (λ w. test (x, w)) ys) apart) ∙ none))
       (cases_Bool (test (x, z)))
 
--- what is known of a part of what was found
-pub part_found : {X Y : Type 0} (f : X → Y) (o : Option X) (y : Y) → Some y ≡ option_map f o → (x : X) × (o ≡ Some x) × (y ≡ f x)
-part_found f None y is = cc
-part_found f (Some x) y is = (x, refl, cc)
-
-pub part_missing : {X Y : Type 0} (f : X → Y) (o : Option X) → None ≡ option_map f o → o ≡ None
-part_missing f None is = refl
-part_missing f (Some x) is = cc
+  -- where none of the whole passes, none of the row does, and none of the rest
+  pub row_none : (ys : List Y) → find test (map (λ z. (x, z)) ys ++ rest) ≡ None → (find (λ z. test (x, z)) ys ≡ None) × (find test rest ≡ None)
+  row_none [] none = (refl, none)
+  row_none (z ∷ ys) none =
+      ⊎_elim
+      (λ (ties : test (x, z) ≡ true).
+      let clash : Some (x, z) ≡ None = sym (cond-true (test (x, z)) (Some (x, z)) (find test (map (λ w. (x, w)) ys ++ rest)) ties) ∙ none in
+      cc)
+      (λ (apart : test (x, z) ≡ false).
+      let later = row_none ys (sym (cond-false (test (x, z)) (Some (x, z)) (find test (map (λ w. (x, w)) ys ++ rest)) apart) ∙ none) in
+      (cond-false (test (x, z)) (Some z) (find (λ w. test (x, w)) ys) apart ∙ later.0, later.1))
+      (cases_Bool (test (x, z)))

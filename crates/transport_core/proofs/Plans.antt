@@ -34,7 +34,7 @@ use Rattle.transport_core.proofs.DualSums.{place_in_range, groups_are}
 use Rattle.transport_core.proofs.Joined.{lookup-amount}
 use Rattle.transport_core.proofs.Members.{place_below}
 use Rattle.transport_core.proofs.NameTotals.{times, bytes_eq-sym}
-use Rattle.transport_core.proofs.Pairs.{row_fails}
+use Rattle.transport_core.proofs.Pairs.{row_fails, row_none}
 use Rattle.transport_core.proofs.Placed.{same_group, is_same_itself, group_order}
 use Rattle.transport_core.proofs.Points.{length-points, counted}
 use Rattle.transport_core.proofs.Ranges.{count-all}
@@ -210,11 +210,39 @@ slack_parts pricing a alpha (b ∷ beta) all =
     let rest = slack_parts pricing a alpha beta outer.1 in
     (and_from here (list_all (λ (y : List ℕ × ℤ). not (is_broken pricing (a, y))) beta) inner.0 rest.0, and_from column (has_slack pricing alpha beta) inner.1 rest.1)
 
-none_broken : (pricing : Pricing) (alpha : List (GroupKey × ℤ)) (beta : List (List ℕ × ℤ)) → has_slack pricing alpha beta ≡ true → find (is_broken pricing) (pairs_of alpha beta) ≡ None
+pub none_broken : (pricing : Pricing) (alpha : List (GroupKey × ℤ)) (beta : List (List ℕ × ℤ)) → has_slack pricing alpha beta ≡ true → find (is_broken pricing) (pairs_of alpha beta) ≡ None
 none_broken pricing [] beta all = refl
 none_broken pricing (a ∷ alpha) beta all =
     let parts = slack_parts pricing a alpha beta all in
     row_fails (is_broken pricing) a (pairs_of alpha beta) beta (slack_row pricing a beta parts.0) ∙ none_broken pricing alpha beta parts.1
+
+slack_in_row : (pricing : Pricing) (a : GroupKey × ℤ) (beta : List (List ℕ × ℤ)) → find (λ b. is_broken pricing (a, b)) beta ≡ None → list_all (λ b. not (is_broken pricing (a, b))) beta ≡ true
+slack_in_row pricing a [] none = refl
+slack_in_row pricing a (b ∷ beta) none = by (is_broken pricing (a, b)) refl none (λ h. slack_in_row pricing a beta h)
+  where
+    by : (t : Bool) → is_broken pricing (a, b) ≡ t → cond t (Some b) (find (λ x. is_broken pricing (a, x)) beta) ≡ None → (find (λ x. is_broken pricing (a, x)) beta ≡ None → list_all (λ x. not (is_broken pricing (a, x))) beta ≡ true) → (not (is_broken pricing (a, b)) && list_all (λ x. not (is_broken pricing (a, x))) beta) ≡ true
+    by true is h later = cc
+    by false is h later = rw (is, later h) refl
+
+slack_of_parts : (pricing : Pricing) (a : GroupKey × ℤ) (alpha : List (GroupKey × ℤ)) (beta : List (List ℕ × ℤ)) → list_all (λ b. not (is_broken pricing (a, b))) beta ≡ true → has_slack pricing alpha beta ≡ true → has_slack pricing (a ∷ alpha) beta ≡ true
+slack_of_parts pricing a alpha [] row all = refl
+slack_of_parts pricing a alpha (b ∷ beta) row all =
+    let here : Bool = not (is_broken pricing (a, b)) in
+    let column : Bool = list_all (λ (x : GroupKey × ℤ). not (is_broken pricing (x, b))) alpha in
+    let rows = and_parts here (list_all (λ (y : List ℕ × ℤ). not (is_broken pricing (a, y))) beta) row in
+    let columns = and_parts column (has_slack pricing alpha beta) all in
+    and_from (here && column) (has_slack pricing (a ∷ alpha) beta) (and_from here column rows.0 columns.0) (slack_of_parts pricing a alpha beta rows.1 columns.1)
+
+slack_of_none : (beta : List (List ℕ × ℤ)) (pricing : Pricing) → has_slack pricing [] beta ≡ true
+slack_of_none [] pricing = refl
+slack_of_none (b ∷ beta) pricing = slack_of_none beta pricing
+
+-- where no pair is broken all have slack
+pub slack_from_none : (pricing : Pricing) (alpha : List (GroupKey × ℤ)) (beta : List (List ℕ × ℤ)) → find (is_broken pricing) (pairs_of alpha beta) ≡ None → has_slack pricing alpha beta ≡ true
+slack_from_none pricing [] beta none = slack_of_none beta pricing
+slack_from_none pricing (a ∷ alpha) beta none =
+    let parts = row_none (is_broken pricing) a (pairs_of alpha beta) beta none in
+    slack_of_parts pricing a alpha beta (slack_in_row pricing a beta parts.0) (slack_from_none pricing alpha beta parts.1)
 
 -- ---- the plan
 
@@ -247,7 +275,7 @@ nothing_of : (b : Bool) (n : ℕ) → n ≡ 0 → cond b n 0 ≡ n
 nothing_of true n none = refl
 nothing_of false n none = sym none
 
-added : (b : Bool) (k n : ℕ) → cond b (k + n) 0 ≡ cond b k 0 + cond b n 0
+pub added : (b : Bool) (k n : ℕ) → cond b (k + n) 0 ≡ cond b k 0 + cond b n 0
 added true k n = refl
 added false k n = refl
 
@@ -271,7 +299,7 @@ row-sum g test (n ∷ names) (k ∷ row) same =
     let size = ap (λ (m : ℕ). let r : ℕ = cond (test g) m 0 in r) (sum_by-cons (λ (m : ℕ). m) k row) in
     omega (arith, sum_by-cons (λ (f : Arc × ℕ). cond (test f.0.0) f.1 0) ((g, n), k) (row_flows g names row), size, added (test g) k (sum row), row-sum g test names row (omega arith))
 
-groups-sum : (test : GroupKey → Bool) (groups : List (GroupKey × ℕ)) (names : List (List ℕ)) (numbers : List ℕ) → spends_all groups (length names) numbers ≡ true → sum_by (λ g. cond (test g.0) g.1 0) groups ≡ sum_by (λ (f : Arc × ℕ). cond (test f.0.0) f.1 0) (arc_flows (keys_of groups) names numbers)
+pub groups-sum : (test : GroupKey → Bool) (groups : List (GroupKey × ℕ)) (names : List (List ℕ)) (numbers : List ℕ) → spends_all groups (length names) numbers ≡ true → sum_by (λ g. cond (test g.0) g.1 0) groups ≡ sum_by (λ (f : Arc × ℕ). cond (test f.0.0) f.1 0) (arc_flows (keys_of groups) names numbers)
 groups-sum test [] names numbers spent = refl
 groups-sum test (g ∷ gs) names numbers spent =
     let parts = spends g gs (length names) numbers spent in
@@ -304,14 +332,14 @@ row-listed g (n ∷ names) all (k ∷ numbers) within =
     and_from (list_any (bytes_eq n) all) (list_all (λ (f : Arc × ℕ). list_any (bytes_eq f.0.1) all) (row_flows g names numbers)) (within n (or_left (bytes_eq n n) (list_any (bytes_eq n) names) ((bytes_eq-Decides n n).1 refl)))
     (row-listed g names all numbers (λ m h. within m (or_right (bytes_eq m n) (list_any (bytes_eq m) names) h)))
 
-arcs-listed : (groups : List GroupKey) (names : List (List ℕ)) (numbers : List ℕ) → list_all (λ (f : Arc × ℕ). list_any (bytes_eq f.0.1) names) (arc_flows groups names numbers) ≡ true
+pub arcs-listed : (groups : List GroupKey) (names : List (List ℕ)) (numbers : List ℕ) → list_all (λ (f : Arc × ℕ). list_any (bytes_eq f.0.1) names) (arc_flows groups names numbers) ≡ true
 arcs-listed [] names numbers = refl
 arcs-listed (g ∷ gs) names numbers =
     let test : Arc × ℕ → Bool = λ f. list_any (bytes_eq f.0.1) names in
     list_all-append test (row_flows g names numbers) (arc_flows gs names (drop (length names) numbers))
     ∙ and_from (list_all test (row_flows g names numbers)) (list_all test (arc_flows gs names (drop (length names) numbers))) (row-listed g names names numbers (λ n h. h)) (arcs-listed gs names (drop (length names) numbers))
 
-same_sums : {X : Type 0} (f g : X → ℕ) (xs : List X) → ((x : X) → f x ≡ g x) → sum_by f xs ≡ sum_by g xs
+pub same_sums : {X : Type 0} (f g : X → ℕ) (xs : List X) → ((x : X) → f x ≡ g x) → sum_by f xs ≡ sum_by g xs
 same_sums f g [] same = refl
 same_sums f g (x ∷ xs) same = omega (arith, sum_by-cons f x xs, sum_by-cons g x xs, same x, same_sums f g xs same)
 
@@ -339,7 +367,7 @@ arc-counted u name k (l ∷ ls) bound some =
     omega (arith, whole, more, split, arc-counted u name k ls bound later))
     (cases_Bool (bytes_eq name l.0))
 
-arrived-le : (u : List ℕ → Bool) (limits : Limits) (flows : List (Arc × ℕ)) → list_all (λ (f : Arc × ℕ). list_any (bytes_eq f.0.1) (keys_of limits)) flows ≡ true
+pub arrived-le : (u : List ℕ → Bool) (limits : Limits) (flows : List (Arc × ℕ)) → list_all (λ (f : Arc × ℕ). list_any (bytes_eq f.0.1) (keys_of limits)) flows ≡ true
     → sum_by (λ (f : Arc × ℕ). cond (u f.0.1) f.1 0) flows ≤ sum_by (λ l. cond (u l.0) (inflow flows l.0) 0) limits
 arrived-le u limits [] listed = omega arith
 arrived-le u limits (f ∷ fs) listed =

@@ -27,17 +27,17 @@ BreaksLimit rule limits name = (total_of rule name < low_of limits name) ⊎ (hi
 abbrev pub pairs_of : List (GroupKey × ℤ) → List (List ℕ × ℤ) → List ((GroupKey × ℤ) × (List ℕ × ℤ))
 pairs_of alpha beta = flat_map (λ a. map (λ b. (a, b)) beta) alpha
 
--- the change is not forbidden, and the numbers of the group and the name sum to more than it costs
+-- the change is not forbidden, and its reduced cost is negative: the numbers of the group and the name sum to more than it costs
 abbrev pub is_broken : Pricing → (GroupKey × ℤ) × (List ℕ × ℤ) → Bool
 is_broken pricing pair = not (is_forbidden pricing pair.0.0.0 pair.1.0) && int_lt (pos (pair.0.0.1 * price_of pricing pair.0.0.0 pair.1.0)) (pair.0.1 +ℤ pair.1.1)
 
--- what a change from one name to another costs, and whether it is forbidden
-pub record IsToll (pricing : Pricing) (to from : List ℕ) (barred : Bool) (price : ℕ) : Type 0 where
+-- what an input pays on an arc from one name to another, and whether it is forbidden
+pub record IsArcCost (pricing : Pricing) (to from : List ℕ) (barred : Bool) (price : ℕ) : Type 0 where
   pub forbidden : barred ≡ is_forbidden pricing from to
   pub amount : price ≡ price_of pricing from to
   pub small : price ≤ max_price
 
--- the first pair whose slack is negative
+-- the first pair whose reduced cost is negative
 abbrev pub first_broken : Pricing → DualPrices → Option ((GroupKey × ℤ) × (List ℕ × ℤ))
 first_broken pricing c = find (is_broken pricing) (pairs_of c.alpha c.beta)
 

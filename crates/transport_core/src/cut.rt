@@ -1,5 +1,5 @@
 //! Cuts: sets of names that show that no rule fits.
-ghost use Rattle.std.specs.Prelude.{◌≡◌, ◌≢◌, ◌<◌, ◌≤◌, ◌||◌, ◌↔◌, List, ℕ, IsTrue, IfErr, OnOk, sum_by, if◌then◌else◌};
+ghost use Rattle.std.specs.Prelude.{◌≡◌, ◌≢◌, ◌<◌, ◌≤◌, ◌||◌, ◌↔◌, List, ℕ, IsTrue, IfErr, IsErrOf, OnOk, sum_by, if◌then◌else◌};
 ghost use Rattle.std.specs.List.{All, Contains, list_any, list_all};
 ghost use Rattle.std.specs.Map.{keys_of};
 ghost use Rattle.std.specs.Str.{bytes_eq};
@@ -26,6 +26,7 @@ pub fn check_cut(
     prices: &Prices,
     cut: &Cut,
 ) -> Result<(), CheckFault>
+    ensures unlisted { ¬ (All (Contains (keys_of limits.now)) (names_view cut.now.names.items)) → IsErrOf result CheckFault.NotDeficient }
     ensures deficient { OnOk result (IsDeficient cut.now.kind old.now limits.now prices.now (names_view cut.now.names.items)) }
     ensures none { OnOk result ((rule : Entries) → Fits old.now rule limits.now prices.now → ⊥) }
     ensures refused { IfErr result (λ fault. fault ≢ CheckFault.WantOfMemory

@@ -4,7 +4,8 @@
 //! Proved, over the definitions of `specs/`: `check_plan` accepts a rule exactly where it fits (`Fits`) and the certificate's
 //! numbers, one for each group and name, are dual prices (`Dual`, `Certificate`) that prove its cost, and then no rule of any
 //! shape that fits costs the inputs less; each refusal comes first in its order (`Refusals`). `check_cut` accepts a set of
-//! names exactly where it is deficient (`Deficient`), and then no rule fits.
+//! names exactly where it is deficient (`Deficient`), and then no rule fits. What both rest on are two laws, `weak_duality` and
+//! `deficient_sets_fit_none`.
 //!
 //! An `Instance` is what a planner is given: groups of points, limits and prices, without the rule or the inputs. Proved of it:
 //! `make` gives the groups of the rule (`Instance`); `proves` accepts an assignment and a certificate exactly where the
@@ -32,8 +33,5 @@ pub use certificate::{Certificate, Cut, CutKind};
 pub use cut::check_cut;
 pub use fault::CheckFault;
 pub use instance::Instance;
-pub use laws::weak_duality;
+pub use laws::{deficient_sets_fit_none, weak_duality};
 pub use plan::check_plan;
-
-#[cfg(test)]
-mod tests;

@@ -1,5 +1,6 @@
 //! The check of a plan and its certificate.
-ghost use Rattle.std.specs.Prelude.{◌≡◌, ◌≢◌, ◌<◌, ◌^◌, length, map, string_bytes, sum_by, OnOk, IfErr, MatchResult};
+ghost use Rattle.std.specs.Prelude.{◌≡◌, ◌≢◌, ◌<◌, ◌^◌, length, map, string_bytes, sum_by, OnOk, IfErr, IsErrOf, MatchResult};
+ghost use Rattle.bucket_core.specs.Rule.{total_weight};
 ghost use Rattle.transport_core.specs.Certificate.{IsCertified, certificate_view};
 ghost use Rattle.transport_core.specs.Fits.{Fits, IsLeast};
 ghost use Rattle.transport_core.specs.Refusals.{Refuses, RefusesRule, RefusesDuals, AreDuals};
@@ -8,7 +9,7 @@ use crate::certificate::Certificate;
 use crate::duals::{are_groups, are_names, sums_to};
 use crate::fault::CheckFault;
 use crate::groups::groups;
-use crate::slack::check_slack;
+use crate::slack::first_broken;
 use crate::totals::keeps_limits;
 use book_core::Exposure;
 use bucket_core::Rule;
@@ -33,6 +34,7 @@ pub fn check_plan(
     exposure: &Exposure,
     certificate: &Certificate,
 ) -> Result<(), CheckFault>
+    ensures weight { total_weight new.now ≢ total_weight old.now → IsErrOf result CheckFault.Weight }
     ensures certified { OnOk result (IsCertified old.now new.now totals.now prices.now exposure.now (certificate_view certificate.now)) }
     ensures least { OnOk result (IsLeast old.now new.now totals.now prices.now exposure.now) }
     ensures refused { IfErr result (Refuses old.now new.now totals.now prices.now exposure.now (certificate_view certificate.now)) }
@@ -57,7 +59,8 @@ fn check_rule(
     totals: &Totals,
     prices: &Prices,
 ) -> Result<(), CheckFault>
-    ensures { MatchResult result (λ _. Fits old.now new.now totals.now prices.now) (RefusesRule old.now new.now totals.now prices.now) }
+    ensures exact { MatchResult result (λ _. Fits old.now new.now totals.now prices.now) (RefusesRule old.now new.now totals.now prices.now) }
+    ensures weight { total_weight new.now ≢ total_weight old.now → IsErrOf result CheckFault.Weight }
 {
     if new.total() != old.total() {
         return Err(CheckFault::Weight);
@@ -97,7 +100,9 @@ fn check_duals(
     if !are_names(beta, limits) {
         return Err(CheckFault::Groups);
     }
-    check_slack(alpha, beta, prices)?;
+    if let Some((group, name)) = first_broken(alpha, beta, prices) {
+        return Err(CheckFault::Slack(group.0.clone()?, group.1, name.0.clone()?));
+    }
     if !sums_to(groups, alpha, limits, beta, certificate.cost) {
         return Err(CheckFault::Sum);
     }

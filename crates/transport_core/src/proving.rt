@@ -21,7 +21,7 @@ use crate::duals::{are_groups, are_names, sums_to};
 use crate::flows::{cost, is_free, keeps_high, keeps_low, spends_all};
 use crate::instance::Instance;
 use crate::rows::Row;
-use crate::slack::has_slack;
+use crate::slack::first_broken;
 use price_core::{Limit, Prices};
 
 impl<'a> Instance<'a> {
@@ -112,8 +112,8 @@ fn are_duals(groups: &[Row], limits: &[Limit], prices: &Prices, certificate: &Ce
     if !are_names(beta, limits) {
         return false;
     }
-    if !has_slack(alpha, beta, prices) {
-        return false;
+    match first_broken(alpha, beta, prices) {
+        None => sums_to(groups, alpha, limits, beta, certificate.cost),
+        Some(_) => false,
     }
-    sums_to(groups, alpha, limits, beta, certificate.cost)
 }

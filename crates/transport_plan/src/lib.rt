@@ -19,6 +19,3 @@ mod solving;
 
 pub use fault::PlanFault;
 pub use solving::{Solved, solve};
-
-#[cfg(test)]
-mod tests;

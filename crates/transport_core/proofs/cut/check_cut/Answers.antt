@@ -3,7 +3,7 @@ use Rattle.std.proofs.lemmas.Bool.{false≢true}
 use Rattle.bucket_core.specs.Rule.{names_view}
 use Rattle.price_core.specs.Limits.{limits_view}
 use Rattle.transport_core.specs.Rows.{AreTotals, totals_view}
-use Rattle.transport_core.proofs.Deficits.{deficient_fits_none, refuse_unlisted, accept, refuse_few}
+use Rattle.transport_core.proofs.Deficits.{deficient_fits_none, refuse_unlisted, listed_here, accept, refuse_few}
 use Rattle.transport_core.proofs.cut.check_cut.Goals as goal
 
 pub returns-then-not-are_listed-clause-refused : goal.returns-then-not-are_listed-clause-refused
@@ -33,3 +33,15 @@ returns-clause-refused c = λ _. (
       c.entries-limits.ensures.value (ap names_view c.as_slice-names.ensures.value) (totals_view c.as_slice.result.now) (subst (λ ts. AreTotals c.args.old.now ts) (sym (ap totals_view c.as_slice.ensures.value)) c.in_ok-totals.ensures)
       (λ more. false≢true (c.if-outnumbers.ensures.1 more)),
 )
+
+pub returns-in_err-totals-clause-unlisted : goal.returns-in_err-totals-clause-unlisted
+returns-in_err-totals-clause-unlisted c = λ unlisted. absurd (unlisted (listed_here c.args.cut.now.kind c.args.old.now c.args.limits.now (limits_view c.entries-limits.result.now) c.args.prices.now (names_view c.args.cut.now.names.items) (names_view c.as_slice-names.result.now)
+    c.entries-limits.ensures.value (ap names_view c.as_slice-names.ensures.value) (sym c.if-not-are_listed.ensures)))
+
+pub returns-then-outnumbers-clause-unlisted : goal.returns-then-outnumbers-clause-unlisted
+returns-then-outnumbers-clause-unlisted c = λ unlisted. absurd (unlisted (listed_here c.args.cut.now.kind c.args.old.now c.args.limits.now (limits_view c.entries-limits.result.now) c.args.prices.now (names_view c.args.cut.now.names.items) (names_view c.as_slice-names.result.now)
+    c.entries-limits.ensures.value (ap names_view c.as_slice-names.ensures.value) (sym c.if-not-are_listed.ensures)))
+
+pub returns-clause-unlisted : goal.returns-clause-unlisted
+returns-clause-unlisted c = λ unlisted. absurd (unlisted (listed_here c.args.cut.now.kind c.args.old.now c.args.limits.now (limits_view c.entries-limits.result.now) c.args.prices.now (names_view c.args.cut.now.names.items) (names_view c.as_slice-names.result.now)
+    c.entries-limits.ensures.value (ap names_view c.as_slice-names.ensures.value) (sym c.if-not-are_listed.ensures)))

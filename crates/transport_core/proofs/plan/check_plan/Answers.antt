@@ -13,11 +13,11 @@ returns-in_err-check_rule-clause-exact g c =
     let fault = c.in_err-check_rule.field-0.0 in
     err_exit c.from_residual.result fault (λ _. Unit {0}) (λ (f : CheckFault). f ≢ WantOfMemory → ¬ IsCertified c.args.old.now c.args.new.now c.args.totals.now c.args.prices.now c.args.exposure.now plan) c.from_residual.ensures.1
     (λ want. refused_not c.args.old.now c.args.new.now c.args.totals.now c.args.prices.now c.args.exposure.now plan fault c.entries-limits.ensures.lawful want
-    (refuses_rule c.args.old.now c.args.new.now c.args.totals.now c.args.prices.now c.args.exposure.now plan fault c.in_err-check_rule.ensures))
+    (refuses_rule c.args.old.now c.args.new.now c.args.totals.now c.args.prices.now c.args.exposure.now plan fault c.in_err-check_rule.ensures.exact))
 
 pub check_duals-requires-clause-lows : goal.check_duals-requires-clause-lows
 check_duals-requires-clause-lows g c =
-    omega (arith, lows-fit c.args.old.now c.args.new.now c.args.totals.now c.args.prices.now c.entries-limits.ensures.lawful c.in_ok-check_rule.ensures, c.total-total.ensures.value, c.total-total.ensures.allowed.small)
+    omega (arith, lows-fit c.args.old.now c.args.new.now c.args.totals.now c.args.prices.now c.entries-limits.ensures.lawful c.in_ok-check_rule.ensures.exact, c.total-total.ensures.value, c.total-total.ensures.allowed.small)
 
 pub returns-in_err-check_duals-clause-exact : goal.returns-in_err-check_duals-clause-exact
 returns-in_err-check_duals-clause-exact g c =
@@ -26,17 +26,17 @@ returns-in_err-check_duals-clause-exact g c =
     let refuses = subst (λ (ks : List (List ℕ)). RefusesDuals c.args.old.now c.args.totals.now c.args.prices.now ks plan fault) c.inputs.ensures.all c.in_err-check_duals.ensures in
     err_exit c.from_residual-in_err-check_duals.result fault (λ _. Unit {0}) (λ (f : CheckFault). f ≢ WantOfMemory → ¬ IsCertified c.args.old.now c.args.new.now c.args.totals.now c.args.prices.now c.args.exposure.now plan) c.from_residual-in_err-check_duals.ensures.1
     (λ want. refused_not c.args.old.now c.args.new.now c.args.totals.now c.args.prices.now c.args.exposure.now plan fault c.entries-limits.ensures.lawful want
-    (refuses_duals c.args.old.now c.args.new.now c.args.totals.now c.args.prices.now c.args.exposure.now plan fault c.in_ok-check_rule.ensures refuses))
+    (refuses_duals c.args.old.now c.args.new.now c.args.totals.now c.args.prices.now c.args.exposure.now plan fault c.in_ok-check_rule.ensures.exact refuses))
 
 pub returns-clause-certified : goal.returns-clause-certified
 returns-clause-certified g c =
     let plan = certificate_view c.args.certificate.now in
     let duals = subst (λ (ks : List (List ℕ)). AreDuals c.args.old.now c.args.totals.now c.args.prices.now ks plan) c.inputs.ensures.all c.in_ok-check_duals.ensures in
-    certified_duals c.args.old.now c.args.new.now c.args.totals.now c.args.prices.now c.args.exposure.now plan c.entries-limits.ensures.lawful c.in_ok-check_rule.ensures duals (sym c.in_ok-cost.ensures.exact ∙ c.if-cost-certificate.false)
+    certified_duals c.args.old.now c.args.new.now c.args.totals.now c.args.prices.now c.args.exposure.now plan c.entries-limits.ensures.lawful c.in_ok-check_rule.ensures.exact duals (sym c.in_ok-cost.ensures.exact ∙ c.if-cost-certificate.false)
 
 pub returns-clause-least : goal.returns-clause-least
 returns-clause-least g c =
     let plan = certificate_view c.args.certificate.now in
     let duals = subst (λ (ks : List (List ℕ)). AreDuals c.args.old.now c.args.totals.now c.args.prices.now ks plan) c.inputs.ensures.all c.in_ok-check_duals.ensures in
-    let certified = certified_duals c.args.old.now c.args.new.now c.args.totals.now c.args.prices.now c.args.exposure.now plan c.entries-limits.ensures.lawful c.in_ok-check_rule.ensures duals (sym c.in_ok-cost.ensures.exact ∙ c.if-cost-certificate.false) in
+    let certified = certified_duals c.args.old.now c.args.new.now c.args.totals.now c.args.prices.now c.args.exposure.now plan c.entries-limits.ensures.lawful c.in_ok-check_rule.ensures.exact duals (sym c.in_ok-cost.ensures.exact ∙ c.if-cost-certificate.false) in
     least_from c.args.old.now c.args.new.now c.args.totals.now c.args.prices.now c.args.exposure.now plan (omega (arith, c.total-total.ensures.value, c.total-total.ensures.allowed.some)) c.entries-limits.ensures.lawful certified

@@ -4,8 +4,8 @@ use Rattle.transport_core.specs.Refusals.{KeepsLimits, BreaksLimit}
 use Rattle.transport_core.proofs.Certified.{fits_from}
 use Rattle.transport_core.proofs.plan.check_rule.Goals as goal
 
-pub returns-in-None : goal.returns-in-None
-returns-in-None c =
+pub returns-in-None-clause-exact : goal.returns-in-None-clause-exact
+returns-in-None-clause-exact c =
     let new = c.args.new.now in
     let limits = c.args.totals.now in
     let kept = MatchBool-at_true (KeepsLimits new limits) ((name : List ℕ) × BreaksLimit new limits name) c.if-not-branch.false c.in_ok-keeps_limits.ensures in

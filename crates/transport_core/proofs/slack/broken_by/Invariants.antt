@@ -4,6 +4,6 @@ use Rattle.transport_core.specs.Refusals.{is_broken}
 use Rattle.transport_core.proofs.slack.broken_by.Given as goal
 
 -- the rest answers as the whole
-abbrev pub invariant-loop-variant : goal.invariant-loop-variant
-invariant-loop-variant l =
-    find (λ b. is_broken l.prices (alpha_row l.group, b)) (beta_view (drop l.variant-index l.beta)) ≡ find (λ b. is_broken l.prices (alpha_row l.group, b)) (beta_view l.beta)
+abbrev pub invariant-loop-name : goal.invariant-loop-name
+invariant-loop-name l =
+    find (λ b. is_broken l.prices (alpha_row l.group, b)) (beta_view (drop l.name-index l.beta)) ≡ find (λ b. is_broken l.prices (alpha_row l.group, b)) (beta_view l.beta)

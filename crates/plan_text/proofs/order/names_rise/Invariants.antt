@@ -1,0 +1,12 @@
+use Rattle.std.proofs.Common.{◌≡◌, length}
+use Rattle.std.specs.Cmp.Lexicographic.{slice_cmp}
+use Rattle.std.specs.Ordering.{nat_cmp}
+use Rattle.bucket_core.specs.Rule.{names_view}
+use Rattle.plan_text.specs.PlanFile.{rises}
+use Rattle.plan_text.proofs.order.names_rise.Given as goal
+
+abbrev pub invariant-loop-rest : goal.invariant-loop-rest
+invariant-loop-rest l = rises (slice_cmp nat_cmp) (names_view l.rest) ≡ rises (slice_cmp nat_cmp) (names_view l.names)
+
+abbrev pub decreases-loop-rest : goal.decreases-loop-rest
+decreases-loop-rest l = length l.rest
