@@ -1,0 +1,5 @@
+pub mod Cuts
+pub mod Offered
+pub mod Optimal
+pub mod Slackness
+pub mod Totals

@@ -1,0 +1,35 @@
+-- The network of a planning problem: its names and groups as indices.
+use Rattle.std.specs.Prelude.{◌≡◌, ℕ, ℤ, pos, List, length, map, Option, Some, None, if◌then◌else◌}
+use Rattle.std.specs.List.{slice_get}
+use Rattle.std.specs.Map.{keys_of}
+use Rattle.price_core.specs.Limits.{limits_view}
+use Rattle.price_core.specs.Pricing.{Pricing, price_of, is_forbidden}
+use Rattle.transport_core.specs.Groups.{GroupKey}
+use Rattle.transport_core.specs.Instance.{TransportProblem}
+use Rattle.transport_network.specs.declared.network.Group.{Group}
+use Rattle.transport_network.specs.declared.network.Network.{Network}
+
+-- what a switch costs an input, and none where it is forbidden
+abbrev pub switch_price : Pricing → List ℕ → List ℕ → Option ℤ
+switch_price pricing from to = if is_forbidden pricing from to then None else Some (pos (price_of pricing from to))
+
+-- what each switch from a name costs
+abbrev pub price_row : Pricing → List (List ℕ) → List ℕ → List (Option ℤ)
+price_row pricing names from = map (switch_price pricing from) names
+
+-- a group as the program keeps it: its old variant by its place among the names
+pub record IsGroup (names : List (List ℕ)) (g : GroupKey × ℕ) (group : Group) : Type 0 where
+  pub variant : slice_get names group.variant ≡ Some g.0.0
+  pub count : group.count ≡ g.0.1
+  pub points : group.points ≡ g.1
+
+-- the same of each group, in order
+pub record AreGroups (names : List (List ℕ)) (rows : List (GroupKey × ℕ)) (groups : List Group) : Type 0 where
+  pub many : length groups ≡ length rows
+  pub each : (i : ℕ) (g : GroupKey × ℕ) (group : Group) → slice_get rows i ≡ Some g → slice_get groups i ≡ Some group → IsGroup names g group
+
+-- the network of the problem
+pub record IsNetwork (p : TransportProblem) (n : Network) : Type 0 where
+  pub limits : limits_view n.limits.now ≡ p.limits
+  pub groups : AreGroups (keys_of p.limits) p.groups n.groups.items
+  pub prices : map (λ row. row.items) n.prices.items ≡ map (price_row p.pricing (keys_of p.limits)) (keys_of p.limits)
