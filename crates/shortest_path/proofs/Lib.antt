@@ -1,0 +1,6 @@
+pub mod Settling
+pub mod Relaxing
+pub mod Nearest
+pub mod Rounds
+pub mod Lowering
+pub mod Finding

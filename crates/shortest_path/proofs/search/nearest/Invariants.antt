@@ -1,0 +1,6 @@
+use Rattle.std.proofs.Common.{length, get_or, None, pos}
+use Rattle.shortest_path.proofs.Nearest.{IsNearestBelow}
+use Rattle.shortest_path.proofs.search.nearest.Given as goal
+
+abbrev pub invariant-loop-v : goal.invariant-loop-v
+invariant-loop-v l = IsNearestBelow (length l.ranks) (λ v. get_or l.potentials v (pos 0)) (λ v. get_or l.lengths v None) (λ v. get_or l.ranks v 0) l.least l.node l.so_far l.v

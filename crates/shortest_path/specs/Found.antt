@@ -1,0 +1,42 @@
+-- What a search of a residual network leaves: shortest paths and potentials, or a set of nodes that no arc leaves.
+use Rattle.std.specs.Prelude.{◌≡◌, ℕ, ◌<◌, ◌≤◌, ◌*◌, ◌⊎◌, ℤ, pos, ◌+ℤ◌, ◌-ℤ◌, ◌≤ℤ◌, Bool, true, List, length, Option, Some, slice_get, slice_index, slice_index_or}
+use Rattle.shortest_path.specs.Network.{IsReduced, max_cost}
+use Rattle.shortest_path.specs.Searched.{IsTight}
+use Rattle.shortest_path.specs.declared.arc.Arc.{Arc}
+use Rattle.shortest_path.specs.declared.search.Search.{Search}
+
+-- it is of so many nodes
+pub record HasSize (nodes : ℕ) (s : Search) : Type 0 where
+  pub potentials : length s.potentials.items ≡ nodes
+  pub lengths : length s.lengths.items ≡ nodes
+  pub parents : length s.parents.items ≡ nodes
+  pub ranks : length s.ranks.items ≡ nodes
+
+abbrev pub potential_of : Search → ℕ → ℤ
+potential_of s v = slice_index_or s.potentials.items v (pos 0)
+
+abbrev pub parent_of : Search → ℕ → ℕ
+parent_of s v = slice_index s.parents.items v
+
+abbrev pub rank_of : Search → ℕ → ℕ
+rank_of s v = slice_index s.ranks.items v
+
+-- The source is settled, no arc leads from a settled node to another, and none that is settled is wanted.
+pub record IsStuck (nodes : ℕ) (arc : ℕ → ℕ → Option Arc) (wanted : List Bool) (source : ℕ) (potential potential' : ℕ → ℤ) (rank : ℕ → ℕ) : Type 0 where
+  pub same : (v : ℕ) → potential' v ≡ potential v
+  pub source_in : rank source < nodes
+  pub closed : (u v : ℕ) (a : Arc) → u < nodes → v < nodes → rank u < nodes → arc u v ≡ Some a → rank v < nodes
+  pub unwanted : (v : ℕ) → v < nodes → rank v < nodes → slice_get wanted v ≡ Some true → ⊥
+
+-- A wanted node is found: no reduced cost is negative by the new potentials, those on the paths to it and to each settled node
+-- are 0, only settled nodes' potentials changed, and these are near that of the node.
+pub record HasFound (nodes : ℕ) (arc : ℕ → ℕ → Option Arc) (wanted : List Bool) (source : ℕ) (potential potential' : ℕ → ℤ) (parent rank : ℕ → ℕ) (node : ℕ) : Type 0 where
+  pub within : node < nodes
+  pub is_wanted : slice_get wanted node ≡ Some true
+  pub unsettled : nodes ≤ rank node
+  pub unwanted : (v : ℕ) → v < nodes → rank v < nodes → slice_get wanted v ≡ Some true → ⊥
+  pub reduced : IsReduced nodes arc potential'
+  pub tight : (v : ℕ) → v < nodes → (rank v < nodes) ⊎ (v ≡ node) → (v ≡ source) ⊎ IsTight nodes arc potential' parent rank v
+  pub kept : (v : ℕ) → v < nodes → nodes ≤ rank v → potential' v ≡ potential v
+  pub low : (v : ℕ) → v < nodes → rank v < nodes → (potential node -ℤ pos (2 * (nodes * max_cost))) ≤ℤ potential' v
+  pub high : (v : ℕ) → v < nodes → rank v < nodes → potential' v ≤ℤ (potential node +ℤ pos (2 * (nodes * max_cost)))

@@ -1,0 +1,30 @@
+-- Residual networks: arcs between numbered nodes, with costs, and potentials of the nodes (Ahuja, Magnanti, Orlin, Network
+-- Flows, section 9.2).
+use Rattle.std.specs.Prelude.{◌≡◌, ℕ, ◌<◌, ◌+◌, ◌*◌, ◌^◌, ℤ, pos, ◌+ℤ◌, ◌≤ℤ◌, List, Option, Some, None, slice_index_or}
+use Rattle.std.proofs.Common.{neg_ℤ}
+use Rattle.shortest_path.specs.declared.arc.Arc.{Arc}
+
+-- the most that an arc costs, up or down, and the most nodes
+abbrev pub max_cost : ℕ
+max_cost = 1000000 * 2 ^ 32
+
+abbrev pub max_nodes : ℕ
+max_nodes = 65
+
+-- a number with room for a sum of two in 64 bits
+pub record IsShort (z : ℤ) : Type 0 where
+  pub low : neg_ℤ (pos (2 ^ 61)) ≤ℤ z
+  pub high : z ≤ℤ pos (2 ^ 61)
+
+-- the arc from one node to another, where the arcs stand by node
+abbrev pub arc_at : List (Option Arc) → ℕ → ℕ → ℕ → Option Arc
+arc_at arcs nodes from to = slice_index_or arcs (from * nodes + to) None
+
+-- no arc has a negative reduced cost
+pub record IsReduced (nodes : ℕ) (arc : ℕ → ℕ → Option Arc) (potential : ℕ → ℤ) : Type 0 where
+  pub least : (u v : ℕ) (a : Arc) → u < nodes → v < nodes → arc u v ≡ Some a → potential v ≤ℤ (potential u +ℤ a.cost)
+
+-- no arc costs more than this, up or down
+pub record IsWithin (nodes : ℕ) (arc : ℕ → ℕ → Option Arc) (most : ℕ) : Type 0 where
+  pub low : (u v : ℕ) (a : Arc) → u < nodes → v < nodes → arc u v ≡ Some a → neg_ℤ (pos most) ≤ℤ a.cost
+  pub high : (u v : ℕ) (a : Arc) → u < nodes → v < nodes → arc u v ≡ Some a → a.cost ≤ℤ pos most
