@@ -1,40 +1,61 @@
-"""Runs each example of the given pages and compares what it prints with what the page shows.
+"""Runs each example of the given pages and compares what it prints, and its status, with what the page shows.
 
 An example is a line of a ```console block that begins with '$ '. The lines below it, up to the next such line or the
 block's end, are what it prints on standard output and standard error. Where the page shows no line, it prints nothing.
+Its status is what the page shows below a '$ echo $?' that follows it; without one it is 1 where the page shows a line
+of a refusal, and else 0. The last line counts the examples, and says which statuses of the program the pages show.
 """
 import subprocess
 import sys
 
+# Done, refused, words that ask for nothing, no rule fits: each is to be shown.
+STATUSES = {0, 1, 2, 3}
+
 
 def examples_of(page):
-    """The commands of a page with the lines that it shows for each."""
-    found, inside = [], False
+    """The commands of a page, each with the lines that it shows and the status."""
+    found, inside, shown = [], False, None
     with open(page, encoding="utf-8") as lines:
         for line in lines.read().split("\n"):
             if line.startswith("```"):
-                inside = line == "```console"
+                inside, shown = line == "```console", None
+            elif inside and line == "$ echo $?" and found:
+                shown = found[-1][2]
             elif inside and line.startswith("$ "):
-                found.append((line[2:], []))
-            elif inside and found:
-                found[-1][1].append(line)
-    return found
+                shown = []
+                found.append((line[2:], shown, []))
+            elif inside and shown is not None:
+                shown.append(line)
+    return [(command, wanted, status_of(wanted, told)) for command, wanted, told in found]
+
+
+def status_of(wanted, told):
+    """The status that a page shows."""
+    if told:
+        return int(told[0])
+    return 1 if any(line.startswith("refused ") for line in wanted) else 0
 
 
 def main(pages):
     # The first run builds the program and says so on standard error: that is no part of an example.
     subprocess.run(["./flagops", "--version"], stdout=subprocess.DEVNULL, check=False)
     good = bad = 0
+    statuses = set()
     for page in pages:
-        for command, wanted in examples_of(page):
+        for command, wanted, status in examples_of(page):
             run = subprocess.run(
                 ["sh", "-c", command], stdout=subprocess.PIPE, stderr=subprocess.STDOUT, text=True, timeout=600, check=False
             )
-            if run.stdout.split("\n") == wanted + [""] or run.stdout == "" and not wanted:
+            is_printed = run.stdout.split("\n") == wanted + [""] or run.stdout == "" and not wanted
+            if is_printed and run.returncode == status:
                 good += 1
+                statuses.add(status)
             else:
                 bad += 1
-                print(f"{page}: {command}\n  printed:\n{run.stdout}\n  wanted:\n" + "\n".join(wanted))
+                print(f"{page}: {command}\n  printed, with status {run.returncode}:\n{run.stdout}\n  wanted, with status {status}:\n" + "\n".join(wanted))
+    for status in sorted(STATUSES - statuses):
+        bad += 1
+        print(f"no example ends with status {status}")
     print(f"{good} examples good, {bad} bad")
     return 1 if bad else 0
 

@@ -1,9 +1,0 @@
-use Rattle.std.proofs.Common.{option_map}
-use Rattle.flagops.specs.Question.{question_view}
-use Rattle.flagops.proofs.Verdicts.{planned}
-use Rattle.flagops.proofs.plan.plan.Goals as goal
-
-pub returns-clause-exact : goal.returns-clause-exact
-returns-clause-exact g c =
-    planned c.args.document.now c.args.request.now c.args.book.now (option_map (λ m. m.number) c.args.refine) (question_view c.in_ok-question.question) _ c.answer.result
-    c.in_ok-question.ensures.exact c.answer.ensures.exact

@@ -1,0 +1,126 @@
+-- What was planned and printed is told as valid.
+use Rattle.std.proofs.Common.{◌≡◌, ◌≢◌, ◌<◌, ◌*◌, ◌/◌, ◌%◌, ◌==◌, ℕ, zero, suc, Bool, true, false, cond, List, Option, Some, None, unwrap_or, refl, sym, ap, subst, ◌∙◌, arith, eq-eqb}
+use Rattle.std.specs.Prelude.{Result, Ok, Err}
+use Rattle.std.proofs.lemmas.Bool.{eqb-true}
+use Rattle.std.proofs.Math.Nat.{mul-div_cancel_left, mul-mod_right}
+use Rattle.bucket_core.proofs.Refined.{total_weight-refinement}
+use Rattle.bucket_core.specs.Rule.{Entries, refinement, total_weight}
+use Rattle.book_core.specs.Book.{Contents, inputs_on}
+use Rattle.flag_defs.specs.Document.{Definitions}
+use Rattle.price_core.specs.Limits.{Limits}
+use Rattle.price_core.specs.Request.{Asked, asked_of}
+use Rattle.plan_text.specs.Answer.{Answer, emit, none_exists, planned_view}
+use Rattle.transport_core.specs.Certificate.{DualPrices}
+use Rattle.plan_text.specs.declared.planned.Planned.{Planned}
+use Rattle.rollout.specs.Lawful.{Place, Problem, and_then, by_price, factor, limits_for, place_of, problem_at, problem_of, sized, weighed}
+use Rattle.rollout.specs.Planned.{IsPlan, IsPlanned}
+use Rattle.rollout.specs.Refined.{problem_checked, problem_refined}
+use Rattle.rollout.specs.Verified.{Denies, IsOutcome, Proves, refining_for}
+use Rattle.rollout.specs.declared.fault.RolloutFault.{RolloutFault}
+use Rattle.rollout.specs.declared.fault.RolloutFault.TheVariants.{NoWeight}
+use Rattle.rollout.specs.declared.verify_fault.VerifyFault.{VerifyFault}
+use Rattle.rollout.specs.declared.verify_fault.VerifyFault.TheVariants.{Request, Check}
+use Rattle.transport_core.specs.declared.fault.CheckFault.{CheckFault}
+use Rattle.transport_core.specs.declared.fault.CheckFault.TheVariants as check
+use Rattle.flagops_commands.specs.Plan.{Holds, IsPlanOf, MayBePlanned, ReadsBack, report_planned}
+use Rattle.flagops_commands.specs.Valid.{IsValid, IsValidPlan}
+use Rattle.flagops_commands.specs.Verify.{IsVerdict, MayBeTold, told, valid_text}
+use Rattle.flagops_files.specs.Question.{Question}
+use Rattle.flagops_files.specs.Report.{Report}
+use Rattle.flagops_files.specs.declared.refusal.Refusal.{Refusal}
+
+-- ---- a rule of the refined total tells its factor
+
+factor_again : (rule : Entries) (c : DualPrices) (m t : ℕ) → (t == 0) ≡ false → total_weight rule ≡ t * m → factor (refining_for (emit rule c)) t ≡ m
+factor_again rule c m zero some total = cc
+factor_again rule c m (suc t) some total =
+    let whole : (suc t * m % suc t == 0) ≡ true = eq-eqb _ _ (mul-mod_right (suc t) m) in
+    rw (total, whole) (mul-div_cancel_left m (omega arith))
+
+refused : {X E : Type 0} {e : E} {x : X} → Err e ≡ Ok x → ⊥
+refused h = cc
+
+has_weight : (b : Bool) (x : Unit {0}) → cond b (Err NoWeight) (Ok tt) ≡ Ok x → b ≡ false
+has_weight true x h = cc
+has_weight false x h = refl
+
+module _ (place : Place) (book : Contents) (asked : Asked) where
+  abbrev made : ℕ → Limits → Problem
+  made k limits = record { old = refinement k place.entries; limits = limits; pricing = asked.prices; inputs = inputs_on book place.page }
+
+  -- what is asked by a factor
+  abbrev problem_by : ℕ → Result Problem RolloutFault
+  problem_by k = and_then (weighed place.entries) (λ _. and_then (limits_for place asked) (λ limits. and_then (sized limits (total_weight place.entries * k)) (λ _. Ok (made k limits))))
+
+  last : (k : ℕ) (p : Problem) (limits : Limits) (u : Result (Unit {0}) RolloutFault) → and_then u (λ _. Ok (made k limits)) ≡ Ok p → p.old ≡ refinement k place.entries
+  last k p limits (Err e) h = absurd (refused h)
+  last k p limits (Ok y) h = let same : made k limits ≡ p = cc in ap (λ (q : Problem). q.old) (sym same)
+
+  -- where it is lawful, the site has weight, and its rule is refined by the factor
+  lawful : (k : ℕ) (p : Problem) (w : Result (Unit {0}) RolloutFault) (l : Result Limits RolloutFault) (s : Limits → Result (Unit {0}) RolloutFault)
+      → and_then w (λ _. and_then l (λ limits. and_then (s limits) (λ _. Ok (made k limits)))) ≡ Ok p → ((x : Unit {0}) × (w ≡ Ok x)) × (p.old ≡ refinement k place.entries)
+  lawful k p (Err e) l s h = absurd (refused h)
+  lawful k p (Ok x) (Err e) s h = absurd (refused h)
+  lawful k p (Ok x) (Ok limits) s h = ((x, refl), last k p limits (s limits) h)
+
+  total_again : (k : ℕ) (rule : Entries) (c : DualPrices) (p : Problem) → problem_by k ≡ Ok p → total_weight rule ≡ total_weight p.old → problem_at (refining_for (emit rule c)) book asked place ≡ Ok p
+  total_again k rule c p h same =
+      let parts = lawful k p (weighed place.entries) (limits_for place asked) (λ limits. sized limits (total_weight place.entries * k)) h in
+      let some : (total_weight place.entries == 0) ≡ false = has_weight _ parts.0.0 parts.0.1 in
+      let total : total_weight rule ≡ total_weight place.entries * k = same ∙ ap total_weight parts.1 ∙ total_weight-refinement k place.entries in
+      let by : factor (refining_for (emit rule c)) (total_weight place.entries) ≡ k = factor_again rule c k (total_weight place.entries) some total in
+      ap problem_by by ∙ h
+
+-- the request asks the same of the rule itself, and by the total of a rule that has its total
+module _ (flags : Definitions) (book : Contents) (rule : Entries) (c : DualPrices) (p : Problem) (same : total_weight rule ≡ total_weight p.old) where
+  at_place : (asked : Asked) (place : Result Place RolloutFault) → and_then place (λ it. problem_by it book asked 1) ≡ Ok p → and_then place (λ it. problem_at (refining_for (emit rule c)) book asked it) ≡ Ok p
+  at_place asked (Err e) h = absurd (refused h)
+  at_place asked (Ok place) h = total_again place book asked 1 rule c p h same
+
+  at_request : (a : Result Asked RolloutFault) → and_then a (λ asked. and_then (place_of flags asked.flag asked.site) (λ place. problem_by place book asked 1)) ≡ Ok p
+      → and_then a (λ asked. and_then (place_of flags asked.flag asked.site) (λ place. problem_at (refining_for (emit rule c)) book asked place)) ≡ Ok p
+  at_request (Err e) h = absurd (refused h)
+  at_request (Ok asked) h = at_place asked (place_of flags asked.flag asked.site) h
+
+-- what is checked of an answer is what it was planned for
+same_problem : (refine : Option ℕ) (answer : Answer) (q : Question) (p : Problem) → problem_refined (unwrap_or refine 1) q.flags q.request q.book ≡ Ok p → Proves p answer
+    → problem_checked refine answer q.flags q.request q.book ≡ Ok p
+same_problem (Some m) answer q p h proves = h
+same_problem None (none_exists kind names) q p h proves = h
+same_problem None (emit rule c) q p h proves = at_request q.flags q.book rule c p proves.fits.weight (by_price (asked_of q.request)) h
+
+-- ---- what proves a problem is told as valid
+
+told_valid : (p : Problem) (answer : Answer) (verdict : Result (Unit {0}) VerifyFault) → Proves p answer → IsOutcome (Ok p) answer verdict → IsValid answer (told answer verdict)
+told_valid p answer (Ok u) proves h = refl
+told_valid p answer (Err (Request e)) proves h = rw h refl
+told_valid p answer (Err (Check check.WantOfMemory)) proves h = refl
+told_valid p answer (Err (Check check.Weight)) proves h = absurd (h.wrong (λ same. cc) proves)
+told_valid p answer (Err (Check check.Totals)) proves h = absurd (h.wrong (λ same. cc) proves)
+told_valid p answer (Err (Check (check.Forbidden point))) proves h = absurd (h.wrong (λ same. cc) proves)
+told_valid p answer (Err (Check (check.Slack name count variant))) proves h = absurd (h.wrong (λ same. cc) proves)
+told_valid p answer (Err (Check check.Sum)) proves h = absurd (h.wrong (λ same. cc) proves)
+told_valid p answer (Err (Check check.Cost)) proves h = absurd (h.wrong (λ same. cc) proves)
+told_valid p answer (Err (Check check.NotDeficient)) proves h = absurd (h.wrong (λ same. cc) proves)
+told_valid p answer (Err (Check check.Groups)) proves h = absurd (h.wrong (λ same. cc) proves)
+
+module _ (refine : Option ℕ) (q : Question) (report : Report) (p : Planned) where
+  valid_at : (problem : Result Problem RolloutFault) → problem_refined (unwrap_or refine 1) q.flags q.request q.book ≡ problem → IsPlanned problem (Ok p) → Holds (planned_view p) report.text → IsValidPlan refine q report.text
+  valid_at (Err f) e h holds = absurd h
+  valid_at (Ok problem) e h holds = record {
+    answer = planned_view p;
+    holds = holds;
+    valid = λ r verdict.
+        let outcome = subst (λ (it : Result Problem RolloutFault). IsOutcome it (planned_view p) verdict.0) (same_problem refine (planned_view p) q problem e h.proves) verdict.1.told in
+        subst (IsValid (planned_view p)) (sym verdict.2) (told_valid problem (planned_view p) verdict.0 h.proves outcome);
+  }
+
+  planned_valid : MayBePlanned refine q (Ok p) → Holds (planned_view p) report.text → IsValidPlan refine q report.text
+  planned_valid may holds = valid_at (problem_refined (unwrap_or refine 1) q.flags q.request q.book) refl may.answers holds
+
+pub plans_are_valid : (refine : Option ℕ) (q : Question) (report : Report) → IsPlanOf refine (Ok q) (Ok report) → IsValidPlan refine q report.text
+plans_are_valid refine q report (planned, may, is, back) = go planned may is back
+  where
+    go : (planned : Result Planned RolloutFault) → MayBePlanned refine q planned → Ok report ≡ report_planned planned → ReadsBack planned (Ok report) → IsValidPlan refine q report.text
+    go (Err e) may is back = absurd (refused (sym is))
+    go (Ok p) may is back = planned_valid refine q report p may back

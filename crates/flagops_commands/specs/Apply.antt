@@ -1,0 +1,35 @@
+-- What the command `apply` answers.
+use Rattle.std.specs.Prelude.{◌≡◌, ℕ, List, ◌++◌, codes, Result, Ok}
+use Rattle.flag_defs.specs.Document.{Definitions, printed}
+use Rattle.plan_text.specs.Answer.{Answer, emit, none_exists}
+use Rattle.rollout.specs.Applied.{applied}
+use Rattle.flagops_files.specs.Documents.{IsDocumentAt}
+use Rattle.flagops_files.specs.Files.{Holding}
+use Rattle.flagops_files.specs.Loading.{◌>>=◌, refused_by}
+use Rattle.flagops_files.specs.PlanFile.{plan_at}
+use Rattle.flagops_files.specs.Report.{Outcomes, Report, done}
+use Rattle.flagops_files.specs.declared.refusal.Refusal.{Refusal}
+use Rattle.flagops_files.specs.declared.refusal.Refusal.TheVariants.{Apply}
+
+-- the document of the flags, as a line
+abbrev pub document_line : Definitions → List ℕ
+document_line flags = printed flags ++ codes "\n"
+
+-- what a plan without a rule reports, whatever the flag and the site are
+abbrev pub none_report : Report
+none_report = record { text = codes "none\n"; status = 3 }
+
+-- the flags with the rule of the answer at the site, if it has one
+unfoldable pub applied_report : Definitions → List ℕ → ℕ → Answer → Result Report Refusal
+applied_report flags key site (emit rule c) = refused_by Apply (applied flags key site rule) >>= λ changed. done (document_line changed)
+applied_report flags key site (none_exists kind names) = Ok none_report
+
+-- the same of what was read, the document before the plan
+abbrev pub apply_over : Holding → Result Definitions Refusal → List ℕ → List ℕ → ℕ → Result Report Refusal
+apply_over at document plan key site = do
+  flags ← document
+  answer ← plan_at at plan
+  applied_report flags key site answer
+
+unfoldable pub IsApplyReport : Holding → List ℕ → List ℕ → List ℕ → ℕ → Outcomes
+IsApplyReport at path plan key site r = (document : Result Definitions Refusal) × IsDocumentAt at path document × (r ≡ apply_over at document plan key site)

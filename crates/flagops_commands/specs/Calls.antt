@@ -1,0 +1,84 @@
+-- The calls that each command makes, by the names that the lines of refusals have.
+use Rattle.std.specs.Prelude.{Bool, true, false}
+use Rattle.flagops_files.specs.Refusal.{loads_tree, loads_rule, loads_flags, loads_question}
+use Rattle.flagops_files.specs.declared.refusal.Call.{Call}
+use Rattle.flagops_files.specs.declared.refusal.Call.TheVariants as call
+
+-- the calls that the command `bucket` makes
+abbrev pub bucket_calls : Call → Bool
+bucket_calls call.Bucket = true
+bucket_calls c = loads_rule c
+
+-- the calls that loading a request makes
+abbrev pub loads_request : Call → Bool
+loads_request call.Load = true
+loads_request call.ReadRequest = true
+loads_request c = false
+
+-- the calls that loading the keys of a file makes, beside those of `price` itself
+abbrev pub loads_keys : Call → Bool
+loads_keys call.Price = true
+loads_keys c = loads_tree c
+
+-- the calls that noting keys makes
+abbrev pub notes_keys : Call → Bool
+notes_keys call.Note = true
+notes_keys call.Price = true
+notes_keys c = false
+
+-- the call of the command `price` itself
+abbrev pub price_itself : Call → Bool
+price_itself call.Price = true
+price_itself c = false
+
+-- the calls that the command `price` makes
+abbrev pub price_calls : Call → Bool
+price_calls call.Price = true
+price_calls call.ReadRequest = true
+price_calls call.Note = true
+price_calls c = loads_rule c
+
+-- the calls that the command `check` makes
+abbrev pub check_calls : Call → Bool
+check_calls call.Check = true
+check_calls c = loads_flags c
+
+-- the calls that the command `resolve` makes
+abbrev pub resolve_calls : Call → Bool
+resolve_calls call.Resolve = true
+resolve_calls call.ReadTree = true
+resolve_calls c = loads_flags c
+
+-- the call of the command `verify` itself
+abbrev pub verify_itself : Call → Bool
+verify_itself call.Verify = true
+verify_itself c = false
+
+-- the calls that the command `verify` makes
+abbrev pub verify_calls : Call → Bool
+verify_calls call.Verify = true
+verify_calls call.ReadPlanned = true
+verify_calls c = loads_question c
+
+-- the call of the command `apply` itself
+abbrev pub apply_itself : Call → Bool
+apply_itself call.Apply = true
+apply_itself c = false
+
+-- the calls that the command `apply` makes
+abbrev pub apply_calls : Call → Bool
+apply_calls call.Apply = true
+apply_calls call.ReadPlanned = true
+apply_calls c = loads_flags c
+
+-- the calls of the command `plan` over what it read
+abbrev pub prints_plan : Call → Bool
+prints_plan call.Plan = true
+prints_plan call.PrintPlanned = true
+prints_plan c = false
+
+-- the calls that the command `plan` makes
+abbrev pub plan_calls : Call → Bool
+plan_calls call.Plan = true
+plan_calls call.PrintPlanned = true
+plan_calls c = loads_question c

@@ -1,0 +1,24 @@
+-- What the command `check` answers.
+use Rattle.std.specs.Prelude.{◌≡◌, ℕ, List, [], ◌∷◌, ◌++◌, codes, if◌then◌else◌, Result}
+use Rattle.flag_text.specs.Shape.{text}
+use Rattle.flag_text.specs.Printing.{text_of}
+use Rattle.flag_defs.specs.Definition.{Definition}
+use Rattle.flag_defs.specs.Document.{Definitions}
+use Rattle.flag_defs.specs.Flag.{is_broken}
+use Rattle.flagops_files.specs.Documents.{IsDocumentAt}
+use Rattle.flagops_files.specs.Files.{Holding}
+use Rattle.flagops_files.specs.Loading.{◌>>=◌}
+use Rattle.flagops_files.specs.Report.{Outcomes, done}
+use Rattle.flagops_files.specs.declared.refusal.Refusal.{Refusal}
+
+abbrev pub good_or_broken : Definition → List ℕ
+good_or_broken d = if is_broken d then codes " broken\n" else codes " good\n"
+
+-- a line for each flag: its key as a JSON text, and whether it is good
+unfoldable pub check_text : Definitions → List ℕ
+check_text [] = []
+check_text (f ∷ fs) = text_of (text f.0) ++ (good_or_broken f.1 ++ check_text fs)
+
+-- these lines, of the document at the path
+unfoldable pub IsCheckReport : Holding → List ℕ → Outcomes
+IsCheckReport at path r = (document : Result Definitions Refusal) × IsDocumentAt at path document × (r ≡ (document >>= λ flags. done (check_text flags)))

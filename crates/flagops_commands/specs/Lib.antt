@@ -1,0 +1,12 @@
+pub mod Apply
+pub mod Bucket
+pub mod Calls
+pub mod Check
+pub mod Commands
+pub mod Plan
+pub mod Price
+pub mod Resolve
+pub mod Telling
+pub mod Totals
+pub mod Valid
+pub mod Verify

@@ -1,0 +1,55 @@
+-- What the command `plan` answers.
+use Rattle.std.specs.Prelude.{◌≡◌, ℕ, List, ◌++◌, codes, unwrap_or, IfOk, Option, Result, Ok, Err}
+use Rattle.plan_text.specs.Answer.{Answer, emit, none_exists, IsOrdered, planned_view}
+use Rattle.plan_text.specs.PlanFile.{IsWhole, answer_of, plan_file}
+use Rattle.rollout.specs.Planned.{IsPlanned}
+use Rattle.rollout.specs.Refined.{problem_refined}
+use Rattle.rollout.specs.declared.fault.RolloutFault.{RolloutFault}
+use Rattle.plan_text.specs.declared.planned.Planned.{Planned}
+use Rattle.flagops_files.specs.Files.{Holding}
+use Rattle.flagops_files.specs.Loading.{◌>>=◌, refused_by}
+use Rattle.flagops_files.specs.Question.{Question, IsQuestionAt}
+use Rattle.flagops_files.specs.Report.{Outcomes, Report}
+use Rattle.flagops_files.specs.declared.refusal.Refusal.{Refusal}
+use Rattle.flagops_files.specs.declared.refusal.Refusal.TheVariants.{Plan, PrintPlanned}
+
+-- 3 where no rule fits
+abbrev pub plan_status : Answer → ℕ
+plan_status (emit rule c) = 0
+plan_status (none_exists kind names) = 3
+
+-- the plan file of the answer, as a line
+abbrev pub plan_report : Answer → Result Report Refusal
+plan_report answer = refused_by PrintPlanned (plan_file answer) >>= λ text. Ok (record { text = text ++ codes "\n"; status = plan_status answer })
+
+-- the report of what was planned
+abbrev pub report_planned : Result Planned RolloutFault → Result Report Refusal
+report_planned planned = refused_by Plan planned >>= λ p. plan_report (planned_view p)
+
+-- what may be planned of a question, on the rule itself where no factor is given
+pub record MayBePlanned (refine : Option ℕ) (q : Question) (planned : Result Planned RolloutFault) : Type 0 where
+  -- an answer to the request, or its first refusal
+  pub answers : IsPlanned (problem_refined (unwrap_or refine 1) q.flags q.request q.book) planned
+  -- the rule is canonical, and groups and names rise strictly
+  pub ordered : IfOk planned (λ p. IsOrdered (planned_view p))
+  -- each number fits a plan file
+  pub whole : IfOk planned (λ p. IsWhole (planned_view p))
+
+-- the text is a plan file that reads as the answer, and a line end
+pub record Holds (answer : Answer) (text : List ℕ) : Type 0 where
+  pub file : List ℕ
+  pub line : text ≡ file ++ codes "\n"
+  pub reads_back : answer_of file ≡ Ok answer
+
+-- what is printed of an answer reads back as the answer
+abbrev pub ReadsBack : Result Planned RolloutFault → Result Report Refusal → Type 0
+ReadsBack (Err e) r = Unit {0}
+ReadsBack (Ok p) (Err e) = Unit {0}
+ReadsBack (Ok p) (Ok report) = Holds (planned_view p) report.text
+
+abbrev pub IsPlanOf : Option ℕ → Result Question Refusal → Outcomes
+IsPlanOf refine (Err e) r = r ≡ Err e
+IsPlanOf refine (Ok q) r = (planned : Result Planned RolloutFault) × MayBePlanned refine q planned × (r ≡ report_planned planned) × ReadsBack planned r
+
+unfoldable pub IsPlanReport : Holding → List ℕ → List ℕ → List ℕ → Option ℕ → Outcomes
+IsPlanReport at document request book refine r = (question : Result Question Refusal) × IsQuestionAt at document request book question × IsPlanOf refine question r

@@ -1,0 +1,100 @@
+-- What the command `price` answers.
+use Rattle.std.specs.Prelude.{ℕ, List, [], ◌∷◌, ◌++◌, ◌==◌, codes, decimal, if◌then◌else◌, Option, Some, None, option_map, option_and_then, Result, Ok, Err}
+use Rattle.flag_text.specs.Printing.{text_of}
+use Rattle.flag_text.specs.Readers.{as_text, as_list}
+use Rattle.flag_text.specs.Shape.{Shape, text, Items, no_items, item}
+use Rattle.bucket_core.specs.Rule.{Entries, total_weight}
+use Rattle.book_core.specs.Book.{Contents, Inputs, inputs_on, reply_to, with_input}
+use Rattle.book_core.specs.Page.{PageName}
+use Rattle.price_core.specs.Cost.{cost_of, first_forbidden_of}
+use Rattle.price_core.specs.Pricing.{Pricing}
+use Rattle.price_core.specs.Request.{Asked, asked_of}
+use Rattle.flagops_files.specs.Files.{Holding, load_of}
+use Rattle.flagops_files.specs.Loading.{◌>>=◌, refused_by, rule_at, tree_at, max_text}
+use Rattle.flagops_files.specs.Report.{Report, done}
+use Rattle.flagops_commands.specs.Totals.{totals_by_name}
+use Rattle.flagops_files.specs.declared.refusal.Refusal.{Refusal}
+use Rattle.flagops_files.specs.declared.refusal.Refusal.TheVariants.{Load, ReadRequest, Note, Price}
+use Rattle.flagops_files.specs.declared.refusal.PriceMismatch.TheVariants.{Weight, BadKeys}
+
+-- ---- what is read
+
+-- the request of the file at a path
+unfoldable pub request_at : Holding → List ℕ → Result Asked Refusal
+request_at at path = do
+  bytes ← refused_by Load (load_of at path max_text)
+  refused_by ReadRequest (asked_of bytes)
+
+-- the texts of a list of texts
+abbrev pub texts_of : Items → Option Inputs
+texts_of no_items = Some []
+texts_of (item t ts) = option_and_then (λ s. option_map (λ ss. s ∷ ss) (texts_of ts)) (as_text t)
+
+-- a list of texts
+abbrev pub if_keys : Option Inputs → Result Inputs Refusal
+if_keys None = Err (Price BadKeys)
+if_keys (Some keys) = Ok keys
+
+-- the keys that a tree stands for
+abbrev pub keys_in : Shape → Result Inputs Refusal
+keys_in t = if_keys (option_and_then texts_of (as_list t))
+
+-- the keys of the file at a path
+unfoldable pub keys_at : Holding → List ℕ → Result Inputs Refusal
+keys_at at path = do
+  t ← tree_at at path max_text
+  keys_in t
+
+-- ---- what is noted
+
+-- the page on which the keys are noted
+abbrev pub key_page : PageName
+key_page = record { flag = []; site = 0; by = None }
+
+-- the book after the keys, or the first refusal of one
+abbrev pub noted_from : Contents → Inputs → Result Contents Refusal
+noted_from book [] = Ok book
+noted_from book (key ∷ keys) = refused_by Note (reply_to book key_page key) >>= λ _. noted_from (with_input book key_page key) keys
+
+-- the inputs that the book then has
+abbrev pub exposed : Inputs → Result Inputs Refusal
+exposed keys = noted_from [] keys >>= λ book. Ok (inputs_on book key_page)
+
+-- ---- what is written
+
+-- a line of a name and its total
+abbrev pub total_line : List ℕ × ℕ → List ℕ
+total_line e = codes "total " ++ (text_of (text e.0) ++ (codes " " ++ (decimal e.1 ++ codes "\n")))
+
+-- a line for each name
+abbrev pub total_lines : List (List ℕ × ℕ) → List ℕ
+total_lines [] = []
+total_lines (e ∷ es) = total_line e ++ total_lines es
+
+-- the least point of a forbidden change, if there is one
+abbrev pub forbidden_line : Option ℕ → List ℕ
+forbidden_line None = codes "forbidden none\n"
+forbidden_line (Some p) = codes "forbidden " ++ (decimal p ++ codes "\n")
+
+-- what the keys cost
+abbrev pub cost_line : ℕ → List ℕ
+cost_line cost = codes "cost " ++ (decimal cost ++ codes "\n")
+
+-- the new totals, the first forbidden point and the cost
+unfoldable pub price_text : Entries → Entries → Pricing → Inputs → List ℕ
+price_text old new pricing inputs =
+    total_lines (totals_by_name new) ++ (forbidden_line (first_forbidden_of old new pricing) ++ cost_line (cost_of old new inputs pricing))
+
+-- the rules have one total
+abbrev pub weighed : Entries → Entries → Pricing → Inputs → Result Report Refusal
+weighed old new pricing inputs = if total_weight old == total_weight new then done (price_text old new pricing inputs) else Err (Price Weight)
+
+-- what the command reports, its files read in the order of the words
+unfoldable pub price_report : Holding → List ℕ → List ℕ → List ℕ → List ℕ → Result Report Refusal
+price_report at old new request keys = do
+  o ← rule_at at old
+  n ← rule_at at new
+  a ← request_at at request
+  ks ← keys_at at keys
+  inputs ← exposed ks
+  weighed o n a.prices inputs

@@ -1,0 +1,31 @@
+-- What the command `resolve` answers.
+use Rattle.std.specs.Prelude.{◌≡◌, ℕ, List, ◌++◌, codes, Some, Result}
+use Rattle.flag_text.specs.Reading.{tree_of}
+use Rattle.flag_text.specs.Shape.{Shape}
+use Rattle.flag_defs.specs.Document.{Definitions}
+use Rattle.flag_resolve.specs.Printing.{resolution_text}
+use Rattle.flag_resolve.specs.Resolution.{resolution_of}
+use Rattle.flag_resolve.specs.declared.kind.Kind.{Kind}
+use Rattle.flagops_files.specs.Documents.{IsDocumentAt}
+use Rattle.flagops_files.specs.Files.{Holding}
+use Rattle.flagops_files.specs.Loading.{◌>>=◌, max_text, refused_by, tree_at}
+use Rattle.flagops_files.specs.Report.{Outcomes, Report, done}
+use Rattle.flagops_files.specs.declared.refusal.Refusal.{Refusal}
+use Rattle.flagops_files.specs.declared.refusal.Refusal.TheVariants.{ReadTree}
+
+-- the resolution of the key among the flags, as a line
+abbrev pub resolve_text : Definitions → List ℕ → Kind → Shape → Shape → ℕ → List ℕ
+resolve_text flags key kind default context moment =
+    resolution_text (resolution_of (Some flags) (record { want = kind; default = default }) (record { context = context; flag = key; moment = moment })) ++ codes "\n"
+
+-- the same of what was read, in the order of the words
+abbrev pub resolve_with : Holding → Result Definitions Refusal → List ℕ → Kind → List ℕ → List ℕ → ℕ → Result Report Refusal
+resolve_with at document key kind default context moment = do
+  flags ← document
+  d ← refused_by ReadTree (tree_of default max_text)
+  c ← tree_at at context max_text
+  done (resolve_text flags key kind d c moment)
+
+unfoldable pub IsResolveReport : Holding → List ℕ → List ℕ → Kind → List ℕ → List ℕ → ℕ → Outcomes
+IsResolveReport at path key kind default context moment r =
+    (document : Result Definitions Refusal) × IsDocumentAt at path document × (r ≡ resolve_with at document key kind default context moment)

@@ -1,0 +1,39 @@
+-- What the command `verify` answers.
+use Rattle.std.specs.Prelude.{◌≡◌, ℕ, List, ◌++◌, codes, decimal, OnOk, Option, Result, Ok, Err}
+use Rattle.plan_text.specs.Answer.{Answer, emit, none_exists}
+use Rattle.rollout.specs.Refined.{problem_checked}
+use Rattle.rollout.specs.Verified.{IsOutcome, IsShown}
+use Rattle.rollout.specs.declared.verify_fault.VerifyFault.{VerifyFault}
+use Rattle.flagops_files.specs.Files.{Holding}
+use Rattle.flagops_files.specs.Loading.{◌>>=◌, refused_by}
+use Rattle.flagops_files.specs.PlanFile.{plan_at}
+use Rattle.flagops_files.specs.Question.{Question, IsQuestionAt}
+use Rattle.flagops_files.specs.Report.{Outcomes, Report, done}
+use Rattle.flagops_files.specs.declared.refusal.Refusal.{Refusal}
+use Rattle.flagops_files.specs.declared.refusal.Refusal.TheVariants.{Verify}
+
+-- what a valid answer proves: the cost of its rule, or that there is none
+unfoldable pub valid_text : Answer → List ℕ
+valid_text (emit rule c) = codes "valid cost " ++ (decimal c.cost ++ codes "\n")
+valid_text (none_exists kind names) = codes "valid none\n"
+
+-- the report of what is told of an answer
+abbrev pub told : Answer → Result (Unit {0}) VerifyFault → Result Report Refusal
+told answer verdict = refused_by Verify verdict >>= λ _. done (valid_text answer)
+
+-- what may be told of an answer to a question
+pub record MayBeTold (refine : Option ℕ) (q : Question) (answer : Answer) (verdict : Result (Unit {0}) VerifyFault) : Type 0 where
+  -- that it is right, or the first refusal of the request or of the check
+  pub told : IsOutcome (problem_checked refine answer q.flags q.request q.book) answer verdict
+  -- and where it is right, its rule costs the recorded inputs the least of all that fit, or no rule fits
+  pub shown : OnOk verdict (IsShown (problem_checked refine answer q.flags q.request q.book) answer)
+
+-- its report; the answer is asked for where there is a question
+abbrev pub IsVerdict : Option ℕ → Result Question Refusal → Result Answer Refusal → Outcomes
+IsVerdict refine (Err e) answer r = r ≡ Err e
+IsVerdict refine (Ok q) (Err e) r = r ≡ Err e
+IsVerdict refine (Ok q) (Ok answer) r = (verdict : Result (Unit {0}) VerifyFault) × MayBeTold refine q answer verdict × (r ≡ told answer verdict)
+
+unfoldable pub IsVerifyReport : Holding → List ℕ → List ℕ → List ℕ → List ℕ → Option ℕ → Outcomes
+IsVerifyReport at document request book plan refine r =
+    (question : Result Question Refusal) × IsQuestionAt at document request book question × IsVerdict refine question (plan_at at plan) r

@@ -1,0 +1,71 @@
+//! The table of the commands, and what each answers.
+ghost use Rattle.std.specs.Prelude.{◌≡◌, ◌||◌, IfSome};
+ghost use Rattle.flagops_commands.specs.Commands.{calls_of, IsOutcome};
+ghost use Rattle.flagops_words.specs.Asked.{asked_view};
+ghost use Rattle.flagops_files.specs.Refusal.{ComesFrom, GivesOne, is_file_fault};
+ghost use Rattle.flagops_files.specs.Report.{outcome_view};
+
+use crate::flags::check::check;
+use crate::flags::resolve::resolve;
+use crate::rollouts::apply::apply;
+use crate::rollouts::plan::plan;
+use crate::rollouts::verify::verify;
+use crate::rules::bucket::bucket;
+use crate::rules::price::price;
+use flagops_files::{FileSet, Outcome, Refusal};
+use flagops_words::Asked;
+use std::alloc::Global;
+use std::thread::Threads;
+
+/// What the command answers, or why it is refused.
+pub fn outcome<R: Threads + Sync, F: FileSet>(
+    rt: &R,
+    alloc: Global,
+    files: &mut F,
+    asked: &Asked<'_>,
+) -> Result<Outcome, Refusal>
+    ensures exact { IfSome (F.holding files.old) (λ at. GivesOne outcome_view result (IsOutcome at (asked_view asked.now))) }
+    ensures calls { ComesFrom (calls_of (asked_view asked.now)) result }
+    ensures failed { F.has_failed files.new ≡ (F.has_failed files.old || is_file_fault result) }
+    ensures kept { F.holding files.new ≡ F.holding files.old }
+{
+    match asked {
+        Asked::Bucket { rule, key } => bucket(alloc, files, rule, key),
+        Asked::Price {
+            old,
+            new,
+            request,
+            keys,
+        } => price(rt, alloc, files, old, new, request, keys),
+        Asked::Check { document } => check(alloc, files, document),
+        Asked::Resolve {
+            document,
+            key,
+            kind,
+            default,
+            context,
+            moment,
+        } => resolve(
+            alloc, files, document, key, *kind, default, context, *moment,
+        ),
+        Asked::Verify {
+            document,
+            request,
+            book,
+            plan,
+            refine,
+        } => verify(rt, alloc, files, document, request, book, plan, *refine),
+        Asked::Plan {
+            document,
+            request,
+            book,
+            refine,
+        } => plan(rt, alloc, files, document, request, book, *refine),
+        Asked::Apply {
+            document,
+            plan,
+            key,
+            site,
+        } => apply(alloc, files, document, plan, key, *site),
+    }
+}

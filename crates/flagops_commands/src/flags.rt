@@ -1,0 +1,4 @@
+//! The commands on flag documents.
+
+pub mod check;
+pub mod resolve;

@@ -1,0 +1,85 @@
+//! The command `resolve`: what the flag of a key resolves to.
+ghost use Rattle.std.specs.Prelude.{◌≡◌, ◌<◌, ◌^◌, ◌||◌, false, true, IfOk, IfSome, string_bytes};
+ghost use Rattle.flag_defs.specs.Flags.{flags_view};
+ghost use Rattle.flag_text.specs.Shape.{is_whole};
+ghost use Rattle.flag_text.specs.View.{view};
+ghost use Rattle.flag_text.specs.Reading.{tree_of};
+ghost use Rattle.flagops_files.specs.Loading.{max_text, refused_by};
+ghost use Rattle.flagops_commands.specs.Resolve.{IsResolveReport, resolve_text};
+ghost use Rattle.flagops_commands.specs.Calls.{resolve_calls};
+ghost use Rattle.flagops_files.specs.Refusal.{ComesFrom, GivesOne, GivesUnlessWant, is_file_fault, loads_tree};
+ghost use Rattle.flagops_files.specs.Report.{outcome_view};
+ghost use Rattle.flagops_files.specs.declared.refusal.Refusal.TheVariants.{ReadTree};
+
+use flag_defs::Flags;
+use flag_resolve::{Kind, print_resolution};
+use flag_text::{Tree, read_tree};
+use flagops_files::{Call, FileSet, Outcome, Refusal, Status, TEXT_LIMIT, load_flags, load_tree};
+use flagops_words::Moment;
+use std::alloc::{AllocError, Global};
+
+/// The resolution of a key in a context, as a line.
+#[tactic(auto, unfolding(crate::specs::Resolve::IsResolveReport))]
+pub fn resolve<F: FileSet>(
+    alloc: Global,
+    files: &mut F,
+    document: &str,
+    key: &str,
+    kind: Kind,
+    default: &str,
+    context: &str,
+    moment: Moment,
+) -> Result<Outcome, Refusal>
+    ensures exact { IfSome (F.holding files.old) (λ at. GivesOne outcome_view result (IsResolveReport at document.now key.now kind default.now context.now moment.number)) }
+    ensures calls { ComesFrom resolve_calls result }
+    ensures failed { F.has_failed files.new ≡ (F.has_failed files.old || is_file_fault result) }
+    ensures kept { F.holding files.new ≡ F.holding files.old }
+{
+    let flags = load_flags(alloc, files, document)?;
+    let default = default_in(alloc, default)?;
+    let context = load_tree(alloc, files, context, TEXT_LIMIT)?;
+    match line(alloc, &flags, key, kind, &default, &context, moment) {
+        Ok(text) => Ok(Outcome {
+            text: text.into_bytes(),
+            status: Status::Done,
+        }),
+        Err(AllocError) => Err(Refusal::WantOfMemory(Call::Resolve)),
+    }
+}
+
+/// The tree that a word spells.
+fn default_in(alloc: Global, word: &str) -> Result<Tree, Refusal>
+    ensures exact { GivesUnlessWant view result (refused_by ReadTree (tree_of word.now max_text)) }
+    ensures whole { IfOk result (λ t. is_whole (view t) ≡ true) }
+    ensures calls { ComesFrom loads_tree result }
+    ensures read { is_file_fault result ≡ false }
+{
+    read_tree(alloc, word.as_bytes(), TEXT_LIMIT as usize).map_err(Refusal::ReadTree)
+}
+
+fn line(
+    alloc: Global,
+    flags: &Flags,
+    key: &str,
+    kind: Kind,
+    default: &Tree,
+    context: &Tree,
+    moment: Moment,
+) -> Result<String, AllocError>
+    requires default { is_whole (view default.now) ≡ true }
+    requires context { is_whole (view context.now) ≡ true }
+    ensures { IfOk result (λ s. string_bytes s ≡ resolve_text (flags_view flags.now) key.now kind (view default.now) (view context.now) moment.number) }
+{
+    let resolution = flag_resolve::resolve(
+        alloc,
+        Some(flags),
+        key,
+        kind,
+        default,
+        context,
+        moment.number,
+    )?;
+    let mut line = print_resolution(alloc, &resolution)?;
+    line.push_str("\n")?;
+    Ok(line)
+}

@@ -1,0 +1,19 @@
+//! The commands of the program, and the program itself over whatever files and outlets it is given.
+//!
+//! Each command is one function from the files and its words to its whole output or its refusal; [`run`] reads the words,
+//! does the command and writes its report.
+//!
+//! Proved of [`run`]: where the words ask for a command, the bytes on the output are the report of that command's definition
+//! (`specs/Commands.antt`) over the files, or a front of it with status 1 where the output failed, or the line for want of
+//! memory. A command has a definition of its own in `specs/`.
+#![tactic(auto)]
+
+mod commands;
+mod flags;
+mod laws;
+mod program;
+mod rollouts;
+mod rules;
+
+pub use laws::printed_plans_are_valid;
+pub use program::{complain, run};

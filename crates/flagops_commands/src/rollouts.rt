@@ -1,0 +1,5 @@
+//! The commands on rollouts.
+
+pub mod apply;
+pub mod plan;
+pub mod verify;

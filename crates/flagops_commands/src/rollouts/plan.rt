@@ -1,0 +1,96 @@
+//! The command `plan`: the answer of the planner to a rollout request.
+ghost use Rattle.std.specs.Prelude.{◌≡◌, ◌||◌, false, true, Ok, IfOk, IfSome, option_map};
+ghost use Rattle.plan_text.specs.Answer.{IsOrdered, planned_view};
+ghost use Rattle.plan_text.specs.PlanFile.{IsWhole};
+ghost use Rattle.flagops_commands.specs.Plan.{Holds, IsPlanOf, IsPlanReport, MayBePlanned, plan_report, plan_status};
+ghost use Rattle.flagops_files.specs.Question.{question_view};
+ghost use Rattle.flagops_commands.specs.Calls.{plan_calls, prints_plan};
+ghost use Rattle.flagops_files.specs.Refusal.{ComesFrom, GivesOne, GivesUnlessWant, is_file_fault};
+ghost use Rattle.flagops_files.specs.Report.{outcome_view, status_number};
+
+use flagops_files::{Call, FileSet, Outcome, Question, Refusal, Status, load_question};
+use flagops_words::Factor;
+use plan_text::{Planned, print_planned};
+use rollout::{RolloutFault, plan_refined};
+use std::alloc::{AllocFailed, Global};
+use std::thread::Threads;
+
+/// The plan file of the rule that meets a request and costs the recorded inputs the least, or of a set of names which
+/// shows that no rule meets it, as a line. The status tells which of the two.
+#[tactic(auto, unfolding(crate::specs::Plan::IsPlanReport))]
+pub fn plan<R: Threads + Sync, F: FileSet>(
+    rt: &R,
+    alloc: Global,
+    files: &mut F,
+    document: &str,
+    request: &str,
+    book: &str,
+    refine: Option<Factor>,
+) -> Result<Outcome, Refusal>
+    ensures exact { IfSome (F.holding files.old) (λ at. GivesOne outcome_view result (IsPlanReport at document.now request.now book.now (option_map (λ m. m.number) refine))) }
+    ensures calls { ComesFrom plan_calls result }
+    ensures failed { F.has_failed files.new ≡ (F.has_failed files.old || is_file_fault result) }
+    ensures kept { F.holding files.new ≡ F.holding files.old }
+{
+    let question = load_question(alloc, files, document, request, book)?;
+    answer(rt, alloc, &question, refine)
+}
+
+fn answer(
+    rt: &(impl Threads + Sync),
+    alloc: Global,
+    question: &Question,
+    refine: Option<Factor>,
+) -> Result<Outcome, Refusal>
+    ensures exact { GivesOne outcome_view result (IsPlanOf (option_map (λ m. m.number) refine) (Ok (question_view question.now))) }
+    ensures calls { ComesFrom prints_plan result }
+    ensures read { is_file_fault result ≡ false }
+{
+    let planned = planned(rt, alloc, question, refine).map_err(Refusal::Plan)?;
+    printed(alloc, &planned)
+}
+
+/// What is planned, on the site's rule refined by the factor where one is given.
+fn planned(
+    rt: &(impl Threads + Sync),
+    alloc: Global,
+    question: &Question,
+    refine: Option<Factor>,
+) -> Result<Planned, RolloutFault>
+    ensures { MayBePlanned (option_map (λ m. m.number) refine) (question_view question.now) result }
+{
+    let flags = &question.flags;
+    let request = question.request.as_slice();
+    let book = &question.book;
+    match refine {
+        None => rollout::plan(rt, alloc, flags, request, book),
+        Some(m) => plan_refined(rt, alloc, flags, request, book, m.number),
+    }
+}
+
+fn printed(alloc: Global, planned: &Planned) -> Result<Outcome, Refusal>
+    requires ordered { IsOrdered (planned_view planned.now) }
+    requires whole { IsWhole (planned_view planned.now) }
+    ensures exact { GivesUnlessWant outcome_view result (plan_report (planned_view planned.now)) }
+    ensures reads_back { IfOk result (λ o. Holds (planned_view planned.now) o.text.items) }
+    ensures calls { ComesFrom prints_plan result }
+    ensures read { is_file_fault result ≡ false }
+{
+    let mut text = print_planned(alloc, planned).map_err(Refusal::PrintPlanned)?;
+    if let Err(AllocFailed { .. }) = text.push(b'\n') {
+        return Err(Refusal::WantOfMemory(Call::Plan));
+    }
+    Ok(Outcome {
+        text,
+        status: status_of(planned),
+    })
+}
+
+fn status_of(planned: &Planned) -> Status
+    ensures { status_number result ≡ plan_status (planned_view planned.now) }
+{
+    match planned {
+        Planned::Emit(_, _) => Status::Done,
+        Planned::NoneExists(_) => Status::NoneExists,
+    }
+}

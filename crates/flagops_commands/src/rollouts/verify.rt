@@ -1,0 +1,93 @@
+//! The command `verify`: whether the answer of a plan file is right.
+ghost use Rattle.std.specs.Prelude.{◌≡◌, ◌||◌, false, Ok, IfOk, IfSome, option_map, string_bytes};
+ghost use Rattle.plan_text.specs.Answer.{planned_view};
+ghost use Rattle.flagops_files.specs.Question.{question_view};
+ghost use Rattle.flagops_commands.specs.Calls.{verify_calls, verify_itself};
+ghost use Rattle.flagops_files.specs.Refusal.{ComesFrom, GivesOne, is_file_fault};
+ghost use Rattle.flagops_files.specs.Report.{outcome_view};
+ghost use Rattle.flagops_commands.specs.Verify.{IsVerdict, IsVerifyReport, MayBeTold, valid_text};
+
+use flagops_files::{
+    Call, FileSet, Outcome, Question, Refusal, Status, load_planned, load_question,
+};
+use flagops_words::Factor;
+use plan_text::Planned;
+use rollout::{VerifyFault, verify_refined};
+use std::alloc::{AllocError, Global};
+use std::thread::Threads;
+
+/// What the answer of a plan file proves, where it is right for the request: a line.
+#[tactic(auto, unfolding(crate::specs::Verify::IsVerifyReport))]
+pub fn verify<R: Threads + Sync, F: FileSet>(
+    rt: &R,
+    alloc: Global,
+    files: &mut F,
+    document: &str,
+    request: &str,
+    book: &str,
+    plan: &str,
+    refine: Option<Factor>,
+) -> Result<Outcome, Refusal>
+    ensures exact { IfSome (F.holding files.old) (λ at. GivesOne outcome_view result (IsVerifyReport at document.now request.now book.now plan.now (option_map (λ m. m.number) refine))) }
+    ensures calls { ComesFrom verify_calls result }
+    ensures failed { F.has_failed files.new ≡ (F.has_failed files.old || is_file_fault result) }
+    ensures kept { F.holding files.new ≡ F.holding files.old }
+{
+    let question = load_question(alloc, files, document, request, book)?;
+    let planned = load_planned(alloc, files, plan)?;
+    verdict(rt, alloc, &question, &planned, refine)
+}
+
+/// The line of an answer that is right.
+fn verdict(
+    rt: &(impl Threads + Sync),
+    alloc: Global,
+    question: &Question,
+    planned: &Planned,
+    refine: Option<Factor>,
+) -> Result<Outcome, Refusal>
+    ensures exact { GivesOne outcome_view result (IsVerdict (option_map (λ m. m.number) refine) (Ok (question_view question.now)) (Ok (planned_view planned.now))) }
+    ensures calls { ComesFrom verify_itself result }
+    ensures read { is_file_fault result ≡ false }
+{
+    verified(rt, alloc, question, planned, refine).map_err(Refusal::Verify)?;
+    match valid_line(alloc, planned) {
+        Ok(text) => Ok(Outcome {
+            text: text.into_bytes(),
+            status: Status::Done,
+        }),
+        Err(AllocError) => Err(Refusal::WantOfMemory(Call::Verify)),
+    }
+}
+
+/// Whether the answer is right, on the site's rule refined by the factor where one is given.
+fn verified(
+    rt: &(impl Threads + Sync),
+    alloc: Global,
+    question: &Question,
+    planned: &Planned,
+    refine: Option<Factor>,
+) -> Result<(), VerifyFault>
+    ensures { MayBeTold (option_map (λ m. m.number) refine) (question_view question.now) (planned_view planned.now) result }
+{
+    let flags = &question.flags;
+    let request = question.request.as_slice();
+    let book = &question.book;
+    match refine {
+        None => rollout::verify(rt, alloc, flags, request, book, planned),
+        Some(m) => verify_refined(rt, alloc, flags, request, book, planned, m.number),
+    }
+}
+
+#[tactic(auto, unfolding(crate::specs::Verify::valid_text))]
+fn valid_line(alloc: Global, planned: &Planned) -> Result<String, AllocError>
+    ensures { IfOk result (λ s. string_bytes s ≡ valid_text (planned_view planned.now)) }
+{
+    match planned {
+        Planned::Emit(_, certificate) => {
+            let cost = certificate.cost;
+            format!(in alloc; "valid cost {cost}\n")
+        }
+        Planned::NoneExists(_) => String::from_str(alloc, "valid none\n"),
+    }
+}

@@ -1,0 +1,5 @@
+//! The commands on rules.
+
+pub mod bucket;
+pub mod price;
+mod totals;

@@ -1,0 +1,63 @@
+//! The command `bucket`: which variant a rule gives to a key.
+ghost use Rattle.std.specs.Prelude.{◌≡◌, ◌||◌, IfOk, IfSome, decimal, string_bytes};
+ghost use Rattle.flagops_commands.specs.Bucket.{eight_hex_digits, three_lines, bucket_text, bucket_report};
+ghost use Rattle.flagops_commands.specs.Calls.{bucket_calls};
+ghost use Rattle.flagops_files.specs.Refusal.{ComesFrom, GivesUnlessWant, is_file_fault};
+ghost use Rattle.flagops_files.specs.Report.{outcome_view};
+
+use bucket_core::{Rule, point};
+use flagops_files::{Call, FileSet, Outcome, Refusal, Status, load_rule, quoted};
+use murmur_core::hash;
+use std::alloc::{AllocError, Global};
+
+/// The hash of the key, its point on the rule and its variant, a line each.
+#[tactic(auto, unfolding(crate::specs::Bucket::bucket_report))]
+pub fn bucket<F: FileSet>(
+    alloc: Global,
+    files: &mut F,
+    rule: &str,
+    key: &str,
+) -> Result<Outcome, Refusal>
+    ensures exact { IfSome (F.holding files.old) (λ at. GivesUnlessWant outcome_view result (bucket_report at rule.now key.now)) }
+    ensures calls { ComesFrom bucket_calls result }
+    ensures failed { F.has_failed files.new ≡ (F.has_failed files.old || is_file_fault result) }
+    ensures kept { F.holding files.new ≡ F.holding files.old }
+{
+    let rule = load_rule(alloc, files, rule)?;
+    match lines(alloc, &rule, key) {
+        Ok(text) => Ok(Outcome {
+            text: text.into_bytes(),
+            status: Status::Done,
+        }),
+        Err(AllocError) => Err(Refusal::WantOfMemory(Call::Bucket)),
+    }
+}
+
+#[tactic(auto, unfolding(crate::specs::Bucket::bucket_text))]
+fn lines(alloc: Global, rule: &Rule, key: &str) -> Result<String, AllocError>
+    ensures { IfOk result (λ s. string_bytes s ≡ bucket_text rule.now key.now) }
+{
+    let point = point(rule.total(), key);
+    let digits = eight_hex_digits(alloc, hash(key.as_bytes(), 0))?;
+    let name = quoted(alloc, rule.variant_at(point))?;
+    three_lines(alloc, &digits, point, &name)
+}
+
+/// The eight hexadecimal digits of a hash.
+fn eight_hex_digits(alloc: Global, n: u32) -> Result<String, AllocError>
+    ensures { IfOk result (λ s. string_bytes s ≡ eight_hex_digits n) }
+{
+    format!(in alloc; "{n:08x}")
+}
+
+fn three_lines(
+    alloc: Global,
+    digits: &String,
+    point: u32,
+    name: &String,
+) -> Result<String, AllocError>
+    ensures { IfOk result (λ s. string_bytes s
+        ≡ three_lines (string_bytes digits.now) (decimal point) (string_bytes name.now)) }
+{
+    format!(in alloc; "hash {digits}\npoint {point}\nvariant {name}\n")
+}

@@ -1,0 +1,199 @@
+//! The command `price`: what a new rule costs the keys of a file.
+ghost use Rattle.std.specs.Prelude.{◌≡◌, ◌<◌, ◌^◌, ◌++◌, ◌||◌, false, IfOk, IfSome, codes, decimal, map, string_bytes};
+ghost use Rattle.bucket_core.specs.Rule.{total_weight};
+ghost use Rattle.flag_text.specs.View.{view, items_view};
+ghost use Rattle.flagops_commands.specs.Price.{request_at, keys_at, keys_in, if_keys, texts_of, exposed, price_report, weighed, price_text, total_lines, forbidden_line, cost_line};
+ghost use Rattle.flagops_commands.specs.Calls.{loads_keys, loads_request, notes_keys, price_calls, price_itself};
+ghost use Rattle.flagops_files.specs.Refusal.{ComesFrom, GivesUnlessWant, is_file_fault};
+ghost use Rattle.flagops_files.specs.Report.{outcome_view};
+
+use crate::rules::totals::totals_by_name;
+use book_core::{Book, Exposure, Page};
+use bucket_core::Rule;
+use flag_text::Tree;
+use flagops_files::{
+    Call, FileSet, Outcome, PriceMismatch, Refusal, Status, TEXT_LIMIT, load_rule, load_tree,
+    quoted,
+};
+use price_core::{Prices, Request, first_forbidden, switch_cost};
+use std::alloc::{AllocError, AllocFailed, Global};
+use std::thread::Threads;
+
+/// The totals of the new rule's names, the first forbidden point, and what the change costs the
+/// keys, a line each.
+#[tactic(auto, unfolding(crate::specs::Price::price_report))]
+pub fn price<R: Threads + Sync, F: FileSet>(
+    rt: &R,
+    alloc: Global,
+    files: &mut F,
+    old: &str,
+    new: &str,
+    request: &str,
+    keys: &str,
+) -> Result<Outcome, Refusal>
+    ensures exact { IfSome (F.holding files.old) (λ at. GivesUnlessWant outcome_view result (price_report at old.now new.now request.now keys.now)) }
+    ensures calls { ComesFrom price_calls result }
+    ensures failed { F.has_failed files.new ≡ (F.has_failed files.old || is_file_fault result) }
+    ensures kept { F.holding files.new ≡ F.holding files.old }
+{
+    let old = load_rule(alloc, files, old)?;
+    let new = load_rule(alloc, files, new)?;
+    let request = load_request(alloc, files, request)?;
+    let keys = load_keys(alloc, files, keys)?;
+    let exposure = exposed(alloc, keys.as_slice())?;
+    priced(rt, alloc, &old, &new, request.prices(), &exposure)
+}
+
+/// The request of the file at a path.
+#[tactic(auto, unfolding(crate::specs::Price::request_at))]
+fn load_request<F: FileSet>(alloc: Global, files: &mut F, path: &str) -> Result<Request, Refusal>
+    ensures exact { IfSome (F.holding files.old) (λ at. GivesUnlessWant (λ r. r) result (request_at at path.now)) }
+    ensures calls { ComesFrom loads_request result }
+    ensures failed { F.has_failed files.new ≡ (F.has_failed files.old || is_file_fault result) }
+    ensures kept { F.holding files.new ≡ F.holding files.old }
+{
+    let bytes = files
+        .read(alloc, path, u64::from(TEXT_LIMIT))
+        .map_err(Refusal::Load)?;
+    Request::read(alloc, bytes.as_slice()).map_err(Refusal::ReadRequest)
+}
+
+/// The texts of the key file at a path.
+#[tactic(auto, unfolding(crate::specs::Price::keys_at))]
+fn load_keys<F: FileSet>(alloc: Global, files: &mut F, path: &str) -> Result<Vec<String>, Refusal>
+    ensures exact { IfSome (F.holding files.old) (λ at. GivesUnlessWant (λ v. map string_bytes v.items) result (keys_at at path.now)) }
+    ensures calls { ComesFrom loads_keys result }
+    ensures failed { F.has_failed files.new ≡ (F.has_failed files.old || is_file_fault result) }
+    ensures kept { F.holding files.new ≡ F.holding files.old }
+{
+    let tree = load_tree(alloc, files, path, TEXT_LIMIT)?;
+    keys_in(alloc, tree)
+}
+
+fn keys_in(alloc: Global, tree: Tree) -> Result<Vec<String>, Refusal>
+    ensures exact { GivesUnlessWant (λ v. map string_bytes v.items) result (keys_in (view tree)) }
+    ensures calls { ComesFrom price_itself result }
+    ensures read { is_file_fault result ≡ false }
+{
+    match tree {
+        Tree::List(items) => texts_of(alloc, items),
+        _ => Err(Refusal::Price(PriceMismatch::BadKeys)),
+    }
+}
+
+fn texts_of(alloc: Global, items: Vec<Tree>) -> Result<Vec<String>, Refusal>
+    ensures exact { GivesUnlessWant (λ v. map string_bytes v.items) result (if_keys (texts_of (items_view items.items))) }
+    ensures calls { ComesFrom price_itself result }
+    ensures read { is_file_fault result ≡ false }
+{
+    let mut texts = Vec::new(alloc);
+    for item in items {
+        let Tree::Text(text) = item else {
+            return Err(Refusal::Price(PriceMismatch::BadKeys));
+        };
+        if let Err(AllocFailed { .. }) = texts.push(text) {
+            return Err(Refusal::WantOfMemory(Call::Price));
+        }
+    }
+    Ok(texts)
+}
+
+/// The keys as the inputs of a page of their own.
+fn exposed(alloc: Global, keys: &[String]) -> Result<Exposure, Refusal>
+    ensures exact { GivesUnlessWant (λ e. e) result (exposed (map string_bytes keys.now)) }
+    ensures calls { ComesFrom notes_keys result }
+    ensures read { is_file_fault result ≡ false }
+{
+    let page = Page {
+        flag: String::new(alloc),
+        site: 0,
+        by: None,
+    };
+    let mut book = Book::new(alloc);
+    for key in keys {
+        book.note(alloc, &page, key.as_str())
+            .map_err(Refusal::Note)?;
+    }
+    match book.exposure(alloc, &page) {
+        Ok(exposure) => Ok(exposure),
+        Err(AllocError) => Err(Refusal::WantOfMemory(Call::Price)),
+    }
+}
+
+fn priced(
+    rt: &(impl Threads + Sync),
+    alloc: Global,
+    old: &Rule,
+    new: &Rule,
+    prices: &Prices,
+    exposure: &Exposure,
+) -> Result<Outcome, Refusal>
+    ensures exact { GivesUnlessWant outcome_view result (weighed old.now new.now prices.now exposure.now) }
+    ensures calls { ComesFrom price_itself result }
+    ensures read { is_file_fault result ≡ false }
+{
+    if old.total() != new.total() {
+        return Err(Refusal::Price(PriceMismatch::Weight));
+    }
+    match lines(rt, alloc, old, new, prices, exposure) {
+        Ok(text) => Ok(Outcome {
+            text: text.into_bytes(),
+            status: Status::Done,
+        }),
+        Err(AllocError) => Err(Refusal::WantOfMemory(Call::Price)),
+    }
+}
+
+#[tactic(auto, unfolding(crate::specs::Price::price_text))]
+fn lines(
+    rt: &(impl Threads + Sync),
+    alloc: Global,
+    old: &Rule,
+    new: &Rule,
+    prices: &Prices,
+    exposure: &Exposure,
+) -> Result<String, AllocError>
+    requires same { total_weight old.now ≡ total_weight new.now }
+    requires small { total_weight new.now < 2 ^ 31 }
+    ensures { IfOk result (λ s. string_bytes s ≡ price_text old.now new.now prices.now exposure.now) }
+{
+    let mut lines = total_lines(alloc, totals_by_name(alloc, new.entries())?.as_slice())?;
+    let forbidden = forbidden_line(alloc, first_forbidden(old, new, prices))?;
+    lines.push_str(forbidden.as_str())?;
+    let cost = cost_line(alloc, switch_cost(rt, alloc, old, new, exposure, prices)?)?;
+    lines.push_str(cost.as_str())?;
+    Ok(lines)
+}
+
+fn total_lines(alloc: Global, totals: &[(&str, u64)]) -> Result<String, AllocError>
+    ensures { IfOk result (λ s. string_bytes s ≡ total_lines (map (λ e. (e.0.now, e.1)) totals.now)) }
+{
+    let mut lines = String::new(alloc);
+    for (name, total) in totals {
+        let name = quoted(alloc, name)?;
+        let line = total_line(alloc, &name, *total)?;
+        lines.push_str(line.as_str())?;
+    }
+    Ok(lines)
+}
+
+fn total_line(alloc: Global, name: &String, total: u64) -> Result<String, AllocError>
+    ensures { IfOk result (λ s. string_bytes s ≡ codes "total " ++ (string_bytes name.now ++ (codes " " ++ (decimal total ++ codes "\n")))) }
+{
+    format!(in alloc; "total {name} {total}\n")
+}
+
+fn forbidden_line(alloc: Global, point: Option<u32>) -> Result<String, AllocError>
+    ensures { IfOk result (λ s. string_bytes s ≡ forbidden_line point) }
+{
+    match point {
+        Some(point) => format!(in alloc; "forbidden {point}\n"),
+        None => String::from_str(alloc, "forbidden none\n"),
+    }
+}
+
+fn cost_line(alloc: Global, cost: u64) -> Result<String, AllocError>
+    ensures { IfOk result (λ s. string_bytes s ≡ cost_line cost) }
+{
+    format!(in alloc; "cost {cost}\n")
+}

@@ -1,0 +1,40 @@
+-- Files loaded and read in turn, each before the next.
+use Rattle.std.specs.Prelude.{ℕ, List, Result, Ok, Err}
+use Rattle.flag_text.specs.Shape.{Shape}
+use Rattle.flag_text.specs.Reading.{tree_of}
+use Rattle.bucket_core.specs.Rule.{Entries}
+use Rattle.bucket_core.specs.Reading.{rule_of}
+use Rattle.flagops_files.specs.Files.{Holding, load_of}
+use Rattle.flagops_files.specs.declared.refusal.Refusal.{Refusal}
+use Rattle.flagops_files.specs.declared.refusal.Refusal.TheVariants.{Load, ReadTree, ReadRule}
+
+-- what comes next, where nothing was refused
+infixl 10 ◌>>=◌
+abbrev pub ◌>>=◌ : {X Y E : Type 0} → Result X E → (X → Result Y E) → Result Y E
+Err e >>= next = Err e
+Ok x >>= next = next x
+
+-- a fault of a call, as the refusal of that call
+abbrev pub refused_by : {X E : Type 0} → (E → Refusal) → Result X E → Result X Refusal
+refused_by f (Ok x) = Ok x
+refused_by f (Err e) = Err (f e)
+
+-- the largest rule or plan file, in bytes
+abbrev pub max_rule : ℕ
+max_rule = 67108864
+
+-- the largest request, key file, document or context, in bytes
+abbrev pub max_text : ℕ
+max_text = 4194304
+
+-- the tree of the file at a path
+unfoldable pub tree_at : Holding → List ℕ → ℕ → Result Shape Refusal
+tree_at at path limit = do
+  bytes ← refused_by Load (load_of at path limit)
+  refused_by ReadTree (tree_of bytes limit)
+
+-- the rule of the rule file at a path
+unfoldable pub rule_at : Holding → List ℕ → Result Entries Refusal
+rule_at at path = do
+  t ← tree_at at path max_rule
+  refused_by ReadRule (rule_of t)

@@ -1,0 +1,49 @@
+-- What a rollout is asked over: the flags, a request, and the inputs that were recorded.
+use Rattle.std.specs.Prelude.{◌≡◌, ℕ, nat_lt, List, length, if◌then◌else◌, Result, Ok, Err}
+use Rattle.book_core.specs.Book.{Contents}
+use Rattle.book_core.specs.Reading.{book_of}
+use Rattle.flag_defs.specs.Document.{Definitions}
+use Rattle.flag_defs.specs.Flags.{flags_view}
+use Rattle.flagops_files.specs.Documents.{IsDocumentAt}
+use Rattle.flagops_files.specs.Files.{Holding, load_of}
+use Rattle.flagops_files.specs.Loading.{◌>>=◌, max_text, refused_by}
+use Rattle.flagops_files.specs.declared.question.Question as program
+use Rattle.flagops_files.specs.declared.refusal.Refusal.{Refusal}
+use Rattle.flagops_files.specs.declared.refusal.Refusal.TheVariants.{Load, LongBook, ReadBook}
+
+-- the flags, the bytes of the request, and the contents of the book
+pub record Question : Type 0 where
+  pub flags : Definitions
+  pub request : List ℕ
+  pub book : Contents
+
+-- the same, without where it lies in memory
+abbrev pub question_view : program.Question → Question
+question_view q = record { flags = flags_view q.flags; request = q.request.items; book = q.book }
+
+-- the largest book file, in bytes
+abbrev pub max_book : ℕ
+max_book = 1099511627776
+
+-- a larger book counts as unreadable
+abbrev pub if_readable : List ℕ → Result (List ℕ) Refusal
+if_readable bytes = if nat_lt max_book (length bytes) then Err LongBook else Ok bytes
+
+-- the book of the file at a path
+unfoldable pub book_at : Holding → List ℕ → Result Contents Refusal
+book_at at path = do
+  bytes ← refused_by Load (load_of at path max_book)
+  whole ← if_readable bytes
+  refused_by ReadBook (book_of whole)
+
+-- the question over these flags: the request is loaded and then the book loaded and read
+abbrev pub question_over : Holding → Result Definitions Refusal → List ℕ → List ℕ → Result Question Refusal
+question_over at document request book = do
+  flags ← document
+  bytes ← refused_by Load (load_of at request max_text)
+  contents ← book_at at book
+  Ok (record { flags = flags; request = bytes; book = contents })
+
+-- the question of the files at these paths, or why there is none
+unfoldable pub IsQuestionAt : Holding → List ℕ → List ℕ → List ℕ → Result Question Refusal → Type 0
+IsQuestionAt at path request book r = (document : Result Definitions Refusal) × IsDocumentAt at path document × (r ≡ question_over at document request book)

@@ -1,0 +1,97 @@
+//! The files that the program reads and writes, as it sees them.
+ghost use Rattle.std.specs.Prelude.{◌≡◌, ◌≤◌, ◌+◌, ℕ, List, Option, Bool, ◌||◌, length, IfOk, IfSome, OnOk};
+ghost use Rattle.flag_text.specs.Outcome.{GivesUnless};
+ghost use Rattle.flagops_files.specs.Files.{Holding, load_of, is_unreadable, is_unwritable, Stores, KeepsOthers, load_number, load_name, store_number, store_name};
+
+use std::alloc::Global;
+use thiserror::Error;
+
+/// Why a file was not read.
+#[derive(Clone, Copy, Debug, PartialEq, Eq, Error)]
+pub enum LoadFault {
+    /// Memory ran out.
+    #[error("out of memory")]
+    WantOfMemory,
+    /// There is no file at the path, or the system does not give its bytes.
+    #[error("the file cannot be read")]
+    Unreadable,
+}
+
+impl LoadFault {
+    /// The number that a refusal is written with.
+    pub fn number(&self) -> u32
+        ensures { result ≡ load_number self.now }
+    {
+        match self {
+            LoadFault::WantOfMemory => 0,
+            LoadFault::Unreadable => 1,
+        }
+    }
+
+    /// The name that a refusal is written with: the variant's.
+    pub fn name(&self) -> &'static str
+        ensures { result.now ≡ load_name self.now }
+    {
+        match self {
+            LoadFault::WantOfMemory => "WantOfMemory",
+            LoadFault::Unreadable => "Unreadable",
+        }
+    }
+}
+
+/// Why a file was not written.
+#[derive(Clone, Copy, Debug, PartialEq, Eq, Error)]
+pub enum StoreFault {
+    /// Memory ran out.
+    #[error("out of memory")]
+    WantOfMemory,
+    /// The system does not take the bytes.
+    #[error("the file cannot be written")]
+    Unwritable,
+}
+
+impl StoreFault {
+    /// The number that a refusal is written with.
+    pub fn number(&self) -> u32
+        ensures { result ≡ store_number self.now }
+    {
+        match self {
+            StoreFault::WantOfMemory => 0,
+            StoreFault::Unwritable => 1,
+        }
+    }
+
+    /// The name that a refusal is written with: the variant's.
+    pub fn name(&self) -> &'static str
+        ensures { result.now ≡ store_name self.now }
+    {
+        match self {
+            StoreFault::WantOfMemory => "WantOfMemory",
+            StoreFault::Unwritable => "Unwritable",
+        }
+    }
+}
+
+/// Files by path.
+pub trait FileSet {
+    // The bytes of the file at each path, `None` where it cannot be read, if all this is known.
+    ghost holding: { Self → Option Holding };
+
+    // One of its reads has answered `Unreadable`, or one of its writes `Unwritable`.
+    ghost has_failed: { Self → Bool };
+
+    /// The bytes of the file at the path, cut after `max + 1`: so the caller sees that a file is
+    /// larger than `max` and takes no more memory for it.
+    fn read(&mut self, alloc: Global, path: &str, max: u64) -> Result<Vec<u8>, LoadFault>
+        ensures exact { IfSome (holding self.old) (λ at.
+            GivesUnless LoadFault.WantOfMemory (λ v. v.items) result (load_of at path.now max)) }
+        ensures most { IfOk result (λ v. length v.items ≤ max + 1) }
+        ensures failed { has_failed self.new ≡ (has_failed self.old || is_unreadable result) }
+        ensures kept { holding self.new ≡ holding self.old };
+
+    /// Makes the bytes the file at the path. What that file holds after an `Err` is left open.
+    fn write(&mut self, alloc: Global, path: &str, bytes: &[u8]) -> Result<(), StoreFault>
+        ensures stored { OnOk result (Stores (holding self.old) (holding self.new) path.now bytes.now) }
+        ensures others { KeepsOthers (holding self.old) (holding self.new) path.now }
+        ensures failed { has_failed self.new ≡ (has_failed self.old || is_unwritable result) };
+}

@@ -1,0 +1,32 @@
+//! From the path of a plan file to the answer that it holds.
+ghost use Rattle.std.specs.Prelude.{◌≡◌, ◌||◌, IfSome};
+ghost use Rattle.plan_text.specs.Answer.{planned_view};
+ghost use Rattle.flagops_files.specs.PlanFile.{plan_at};
+ghost use Rattle.flagops_files.specs.Refusal.{ComesFrom, GivesUnlessWant, is_file_fault, loads_plan};
+
+use crate::files::FileSet;
+use crate::loading::RULE_LIMIT;
+use crate::refusal::Refusal;
+use plan_text::{Planned, read_planned};
+use std::alloc::Global;
+
+/// The answer of the plan file at a path.
+#[tactic(auto, unfolding(crate::specs::PlanFile::plan_at))]
+pub fn load_planned<F: FileSet>(
+    alloc: Global,
+    files: &mut F,
+    path: &str,
+) -> Result<Planned, Refusal>
+    ensures exact { IfSome (F.holding files.old) (λ at. GivesUnlessWant planned_view result (plan_at at path.now)) }
+    ensures calls { ComesFrom loads_plan result }
+    ensures failed { F.has_failed files.new ≡ (F.has_failed files.old || is_file_fault result) }
+    ensures kept { F.holding files.new ≡ F.holding files.old }
+{
+    let bytes = files
+        .read(alloc, path, u64::from(RULE_LIMIT))
+        .map_err(Refusal::Load)?;
+    match read_planned(alloc, bytes.as_slice()) {
+        Ok(planned) => Ok(planned),
+        Err(fault) => Err(Refusal::ReadPlanned(fault)),
+    }
+}

@@ -1,0 +1,64 @@
+//! What a rollout is asked over: the flags, a request, and the inputs that were recorded.
+ghost use Rattle.std.specs.Prelude.{◌≡◌, ◌||◌, IfSome};
+ghost use Rattle.flagops_files.specs.Question.{IsQuestionAt, book_at, question_view};
+ghost use Rattle.flagops_files.specs.Refusal.{ComesFrom, GivesOne, GivesUnlessWant, is_file_fault, loads_book, loads_question};
+
+use crate::documents::load_flags;
+use crate::files::FileSet;
+use crate::loading::TEXT_LIMIT;
+use crate::refusal::Refusal;
+use book_core::{Book, read_book};
+use flag_defs::Flags;
+use std::alloc::Global;
+
+/// The largest book file, in bytes.
+const BOOK_LIMIT: u64 = 1 << 40;
+
+/// The flags, the bytes of a request, which are read only by the call that takes them, and the book.
+#[derive(Drop)]
+pub struct Question {
+    pub flags: Flags,
+    pub request: Vec<u8>,
+    pub book: Book,
+}
+
+/// The question of the files at these paths, each loaded and read before the next.
+#[tactic(auto, unfolding(crate::specs::Question::IsQuestionAt))]
+pub fn load_question<F: FileSet>(
+    alloc: Global,
+    files: &mut F,
+    document: &str,
+    request: &str,
+    book: &str,
+) -> Result<Question, Refusal>
+    ensures exact { IfSome (F.holding files.old) (λ at. GivesOne question_view result (IsQuestionAt at document.now request.now book.now)) }
+    ensures calls { ComesFrom loads_question result }
+    ensures failed { F.has_failed files.new ≡ (F.has_failed files.old || is_file_fault result) }
+    ensures kept { F.holding files.new ≡ F.holding files.old }
+{
+    let flags = load_flags(alloc, files, document)?;
+    let request = files
+        .read(alloc, request, u64::from(TEXT_LIMIT))
+        .map_err(Refusal::Load)?;
+    let book = load_book(alloc, files, book)?;
+    Ok(Question {
+        flags,
+        request,
+        book,
+    })
+}
+
+/// The book of the file at a path.
+#[tactic(auto, unfolding(crate::specs::Question::book_at))]
+fn load_book<F: FileSet>(alloc: Global, files: &mut F, path: &str) -> Result<Book, Refusal>
+    ensures exact { IfSome (F.holding files.old) (λ at. GivesUnlessWant (λ b. b) result (book_at at path.now)) }
+    ensures calls { ComesFrom loads_book result }
+    ensures failed { F.has_failed files.new ≡ (F.has_failed files.old || is_file_fault result) }
+    ensures kept { F.holding files.new ≡ F.holding files.old }
+{
+    let bytes = files.read(alloc, path, BOOK_LIMIT).map_err(Refusal::Load)?;
+    if bytes.len() as u64 > BOOK_LIMIT {
+        return Err(Refusal::LongBook);
+    }
+    read_book(alloc, bytes.as_slice()).map_err(Refusal::ReadBook)
+}

@@ -1,0 +1,232 @@
+//! Refusals, and the line that each is written as.
+ghost use Rattle.std.specs.Prelude.{◌≡◌, IfOk, string_bytes};
+ghost use Rattle.flagops_files.specs.Refusal.{call_of, call_name, is_want, number_of, name_of, line_of, mismatch_number, mismatch_name};
+
+use crate::files::LoadFault;
+use crate::payload::payload;
+use book_core::{BookFault, BookFileFault};
+use bucket_core::RuleFault;
+use flag_defs::DefFault;
+use flag_text::TextFault;
+use plan_text::PlanFileFault;
+use price_core::PriceFault;
+use rollout::{RolloutFault, VerifyFault};
+use std::alloc::{AllocError, Global};
+
+/// A call that can refuse, by the name that a refusal's line has.
+#[derive(Clone, Copy, Debug, PartialEq, Eq)]
+pub enum Call {
+    /// The program, while it reads its words.
+    Flagops,
+    /// The reading of a file.
+    Load,
+    /// `flag_text::read_tree`.
+    ReadTree,
+    /// `bucket_core::read_rule`.
+    ReadRule,
+    /// The command `bucket` itself.
+    Bucket,
+    /// `price_core::Request::read`.
+    ReadRequest,
+    /// `book_core::Book::note`.
+    Note,
+    /// The command `price` itself.
+    Price,
+    /// `flag_defs::read_flags`.
+    ReadFlags,
+    /// The command `check` itself.
+    Check,
+    /// The command `resolve` itself.
+    Resolve,
+    /// `book_core::read_book`.
+    ReadBook,
+    /// `plan_text::read_planned`.
+    ReadPlanned,
+    /// `rollout::verify` and the command around it.
+    Verify,
+    /// `rollout::apply` and the command around it.
+    Apply,
+    /// `rollout::plan` and the command around it.
+    Plan,
+    /// `plan_text::print_planned`.
+    PrintPlanned,
+}
+
+impl Call {
+    /// The name of the call.
+    pub fn name(self) -> &'static str
+        ensures { result.now ≡ call_name self }
+    {
+        match self {
+            Call::Flagops => "flagops",
+            Call::Load => "load",
+            Call::ReadTree => "read_tree",
+            Call::ReadRule => "read_rule",
+            Call::Bucket => "bucket",
+            Call::ReadRequest => "Request::read",
+            Call::Note => "note",
+            Call::Price => "price",
+            Call::ReadFlags => "read_flags",
+            Call::Check => "check",
+            Call::Resolve => "resolve",
+            Call::ReadBook => "read_book",
+            Call::ReadPlanned => "read_planned",
+            Call::Verify => "verify",
+            Call::Apply => "apply",
+            Call::Plan => "plan",
+            Call::PrintPlanned => "print_planned",
+        }
+    }
+}
+
+/// Why the command `price` refuses what it read.
+#[derive(Clone, Copy, Debug, PartialEq, Eq)]
+pub enum PriceMismatch {
+    /// The totals of the two rules differ.
+    Weight,
+    /// The key file is no list of texts.
+    BadKeys,
+}
+
+impl PriceMismatch {
+    /// The number that a refusal is written with.
+    pub fn number(&self) -> u32
+        ensures { result ≡ mismatch_number self.now }
+    {
+        match self {
+            PriceMismatch::Weight => 1,
+            PriceMismatch::BadKeys => 2,
+        }
+    }
+
+    /// The name that a refusal is written with: the variant's.
+    pub fn name(&self) -> &'static str
+        ensures { result.now ≡ mismatch_name self.now }
+    {
+        match self {
+            PriceMismatch::Weight => "Weight",
+            PriceMismatch::BadKeys => "BadKeys",
+        }
+    }
+}
+
+/// Why a command was refused: the call that refused, with its fault.
+#[derive(Debug, PartialEq, Eq, Drop)]
+pub enum Refusal {
+    /// The program or a command ran out of memory between its calls.
+    WantOfMemory(Call),
+    /// A file was not read.
+    Load(LoadFault),
+    /// A book file is larger than 2^40 bytes, and so counts as unreadable.
+    LongBook,
+    /// A file is no tree.
+    ReadTree(TextFault),
+    /// A tree is no rule.
+    ReadRule(RuleFault),
+    ReadRequest(PriceFault),
+    Note(BookFault),
+    Price(PriceMismatch),
+    /// Bytes are no flag document.
+    ReadFlags(DefFault),
+    /// Bytes are no book.
+    ReadBook(BookFileFault),
+    /// Bytes are no plan file.
+    ReadPlanned(PlanFileFault),
+    /// The answer of a plan file is not right, or its request is refused.
+    Verify(VerifyFault),
+    /// The rule of a plan file cannot be put at the site.
+    Apply(RolloutFault),
+    /// The request is refused, or no answer to it was found.
+    Plan(RolloutFault),
+    /// The answer is too large for a plan file.
+    PrintPlanned(PlanFileFault),
+}
+
+impl Refusal {
+    /// The call that refused.
+    pub fn call(&self) -> Call
+        ensures { result ≡ call_of self.now }
+    {
+        match self {
+            Refusal::WantOfMemory(call) => *call,
+            Refusal::Load(_) | Refusal::LongBook => Call::Load,
+            Refusal::ReadTree(_) => Call::ReadTree,
+            Refusal::ReadRule(_) => Call::ReadRule,
+            Refusal::ReadRequest(_) => Call::ReadRequest,
+            Refusal::Note(_) => Call::Note,
+            Refusal::Price(_) => Call::Price,
+            Refusal::ReadFlags(_) => Call::ReadFlags,
+            Refusal::ReadBook(_) => Call::ReadBook,
+            Refusal::ReadPlanned(_) => Call::ReadPlanned,
+            Refusal::Verify(_) => Call::Verify,
+            Refusal::Apply(_) => Call::Apply,
+            Refusal::Plan(_) => Call::Plan,
+            Refusal::PrintPlanned(_) => Call::PrintPlanned,
+        }
+    }
+
+    /// The number of the fault.
+    pub fn number(&self) -> u32
+        ensures { result ≡ number_of self.now }
+    {
+        match self {
+            Refusal::WantOfMemory(_) => 0,
+            Refusal::Load(fault) => fault.number(),
+            Refusal::LongBook => LoadFault::Unreadable.number(),
+            Refusal::ReadTree(fault) => fault.number(),
+            Refusal::ReadRule(fault) => fault.number(),
+            Refusal::ReadRequest(fault) => fault.number(),
+            Refusal::Note(fault) => fault.number(),
+            Refusal::Price(fault) => fault.number(),
+            Refusal::ReadFlags(fault) => fault.number(),
+            Refusal::ReadBook(fault) => fault.number(),
+            Refusal::ReadPlanned(fault) => fault.number(),
+            Refusal::Verify(fault) => fault.number(),
+            Refusal::Apply(fault) => fault.number(),
+            Refusal::Plan(fault) => fault.number(),
+            Refusal::PrintPlanned(fault) => fault.number(),
+        }
+    }
+
+    /// The name of the fault.
+    pub fn name(&self) -> &'static str
+        ensures { result.now ≡ name_of self.now }
+    {
+        match self {
+            Refusal::WantOfMemory(_) => "WantOfMemory",
+            Refusal::Load(fault) => fault.name(),
+            Refusal::LongBook => LoadFault::Unreadable.name(),
+            Refusal::ReadTree(fault) => fault.name(),
+            Refusal::ReadRule(fault) => fault.name(),
+            Refusal::ReadRequest(fault) => fault.name(),
+            Refusal::Note(fault) => fault.name(),
+            Refusal::Price(fault) => fault.name(),
+            Refusal::ReadFlags(fault) => fault.name(),
+            Refusal::ReadBook(fault) => fault.name(),
+            Refusal::ReadPlanned(fault) => fault.name(),
+            Refusal::Verify(fault) => fault.name(),
+            Refusal::Apply(fault) => fault.name(),
+            Refusal::Plan(fault) => fault.name(),
+            Refusal::PrintPlanned(fault) => fault.name(),
+        }
+    }
+
+    /// Whether memory ran out.
+    pub fn is_want(&self) -> bool
+        ensures { result ≡ is_want self.now }
+    {
+        self.number() == 0
+    }
+
+    /// The line that the refusal is written as.
+    #[tactic(auto, unfolding(crate::specs::Refusal::line_of))]
+    pub fn line(&self, alloc: Global) -> Result<String, AllocError>
+        ensures { IfOk result (λ s. string_bytes s ≡ line_of self.now) }
+    {
+        let call = self.call().name();
+        let number = self.number();
+        let name = self.name();
+        let payload = payload(alloc, self)?;
+        format!(in alloc; "refused {call} {number} {name}{payload}\n")
+    }
+}

@@ -1,0 +1,4 @@
+pub mod Filled
+pub mod Matched
+pub mod Named
+pub mod Spelled

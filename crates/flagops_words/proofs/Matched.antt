@@ -1,0 +1,84 @@
+-- What `clap` is proved to read of the words, as the command that they ask for.
+use Rattle.std.proofs.Common.{◌≡◌, ◌⊎◌, ◌&&◌, Bool, cond, true, false, not, is_some, List, [], ◌∷◌, Option, Some, None, ap, refl, subst, sym, ◌∙◌, inl, inr}
+use Rattle.std.specs.Prelude.{codes, option_and_then}
+use Rattle.std.specs.Str.{bytes_eq}
+use Rattle.clap.proofs.WalkLemmas.{first_value-rows}
+use Rattle.clap.specs.Walk.{Row, first_of}
+use Rattle.clap.specs.Words.{App, HasMatchesOf, IsAmong, Kinds, Text, is_simple, is_simple_and_free, fault_of, subcommand_of, subcommand_rows_of}
+use Rattle.clap.specs.declared.error.kind.ErrorKind.{ErrorKind}
+use Rattle.clap.specs.declared.error.kind.ErrorKind.TheVariants.{InvalidValue, OutOfMemory}
+use Rattle.clap.specs.declared.parser.matches.ArgMatches.{ArgMatches}
+use Rattle.flagops_words.specs.Asked.{Asked}
+use Rattle.flagops_words.proofs.Named.{faultless}
+use Rattle.flagops_words.specs.Words.{IsToldBy, asked_by, asked_of, faults_of, apply_app, bucket_app, check_app, kind_fault, kind_in, plan_app, price_app, resolve_app, resolve_in, verify_app, flagops_app}
+
+pub ruleset rows = first_value-rows
+
+is_plain : is_simple flagops_app ≡ true
+unfolding flagops_app bucket_app price_app check_app resolve_app plan_app verify_app apply_app
+is_plain = refl
+
+is_free : is_simple_and_free flagops_app ≡ true
+unfolding flagops_app bucket_app price_app check_app resolve_app plan_app verify_app apply_app
+is_free = refl
+
+-- a command that is read has a kind of value where it wants one
+some_kind : {X Y Z A : Type 0} (o : Option X) (p : Option Y) (q : Option Z) (next : X → Y → Z → Option A) (a : A)
+    → option_and_then (λ x. option_and_then (λ y. option_and_then (next x y) q) p) o ≡ Some a → is_some q ≡ true
+some_kind None p q next a e = cc
+some_kind (Some x) None q next a e = cc
+some_kind (Some x) (Some y) None next a e = cc
+some_kind (Some x) (Some y) (Some z) next a e = refl
+
+has_kind : (rows : List Row) (a : Asked) → resolve_in rows ≡ Some a → is_some (kind_in rows) ≡ true
+has_kind rows a e = some_kind (first_of (codes "DOC") rows) (first_of (codes "KEY") rows) (kind_in rows) _ a e
+
+no_kind_fault : (named : Option (Text × List Row)) (a : Asked) → asked_of named ≡ Some a → kind_fault named ≡ []
+no_kind_fault None a e = refl
+no_kind_fault (Some (name, rows)) a e = go (bytes_eq name (codes "resolve")) _ e
+  where
+    go : (b : Bool) (other : Option Asked) → cond b (resolve_in rows) other ≡ Some a → cond (b && not (is_some (kind_in rows))) (InvalidValue ∷ []) [] ≡ []
+    go true other h = rw (has_kind rows a h) refl
+    go false other h = refl
+
+none_some : {X : Type 0} {x : X} → None ≡ Some x → ⊥
+none_some e = cc
+
+-- words with which `clap` finds no fault, by what the matches hold
+module _ (words : List Text) (app : App) (m : ArgMatches) (is : app ≡ flagops_app) (no_fault : is_simple_and_free app ≡ true → fault_of app words ≡ []) where
+  none : fault_of flagops_app words ≡ []
+  none = subst (λ (p : App). fault_of p words ≡ []) is (no_fault (ap is_simple_and_free is ∙ is_free))
+
+  held : HasMatchesOf app words m → subcommand_rows_of m ≡ subcommand_of flagops_app words
+  held matches = (matches (ap is_simple is ∙ is_plain)).1 ∙ ap (λ (p : App). subcommand_of p words) is
+
+  -- they ask for what is read of them
+  pub asked_by-read : (a : Asked) → HasMatchesOf app words m → Some a ≡ asked_of (subcommand_rows_of m) → asked_by words ≡ Some a
+  unfolding asked_by faults_of
+  asked_by-read a matches read =
+      let asks : asked_of (subcommand_of flagops_app words) ≡ Some a = ap asked_of (sym (held matches)) ∙ sym read in
+      rw (none, no_kind_fault (subcommand_of flagops_app words) a asks) asks
+
+  -- and where nothing is read of them, their kind of value is a mistake
+  pub told_by-kind : HasMatchesOf app words m → None ≡ asked_of (subcommand_rows_of m) → IsToldBy words InvalidValue
+  unfolding asked_by faults_of
+  told_by-kind matches read = elim (faultless words none) [
+    | inl some ↦
+        let bad : None ≡ Some some.0 = read ∙ ap asked_of (held matches) ∙ some.1 in
+        absurd (none_some bad)
+    | inr fault ↦ inr (rw (none, fault) refl, rw (none, fault) (inl refl))
+  ]
+
+by_fault : (words : List Text) (kind : ErrorKind) (kinds more : Kinds) → fault_of flagops_app words ≡ kinds → kind_fault (subcommand_of flagops_app words) ≡ more → IsAmong kind kinds
+    → (asked_by words ≡ None) × IsAmong kind (faults_of words)
+unfolding asked_by faults_of
+by_fault words kind [] more e f h = absurd h
+by_fault words kind (k ∷ ks) more e f h = (rw e refl, rw e h)
+
+-- an error's kind is one of the faults of the words
+pub told_by-kinds : (words : List Text) (app : App) (kind : ErrorKind) → app ≡ flagops_app → (is_simple_and_free app ≡ true → (kind ≡ OutOfMemory) ⊎ IsAmong kind (fault_of app words))
+    → IsToldBy words kind
+told_by-kinds words app kind is fails = elim (fails (ap is_simple_and_free is ∙ is_free)) [
+  | inl memory ↦ inl memory
+  | inr among ↦ inr (by_fault words kind _ _ refl refl (subst (λ (p : App). IsAmong kind (fault_of p words)) is among))
+]

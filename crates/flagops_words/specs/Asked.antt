@@ -1,0 +1,31 @@
+-- A command with its words.
+use Rattle.std.specs.Prelude.{List, ℕ, Option, option_map}
+use Rattle.flag_resolve.specs.declared.kind.Kind.{Kind}
+use Rattle.flagops_words.specs.declared.asked.Asked as declared
+use Rattle.flagops_words.specs.declared.asked.Asked.TheVariants as code
+
+pub data Asked : Type 0 where
+  -- a rule file and a key
+  bucket : List ℕ → List ℕ → Asked
+  -- the old and the new rule file, a request and a key file
+  price : List ℕ → List ℕ → List ℕ → List ℕ → Asked
+  -- a document
+  check : List ℕ → Asked
+  -- a document, a key, a kind of value, a default, a context and a moment
+  resolve : List ℕ → List ℕ → Kind → List ℕ → List ℕ → ℕ → Asked
+  -- a document, a request, a book and a plan, and the factor of a refinement if there is one
+  verify : List ℕ → List ℕ → List ℕ → List ℕ → Option ℕ → Asked
+  -- a document, a request and a book, and the factor of a refinement if there is one
+  plan : List ℕ → List ℕ → List ℕ → Option ℕ → Asked
+  -- a document, a plan, a flag and a site
+  apply : List ℕ → List ℕ → List ℕ → ℕ → Asked
+
+-- the same, without where the words lie in memory
+abbrev pub asked_view : declared.Asked → Asked
+asked_view (code.Bucket rule key) = bucket rule.now key.now
+asked_view (code.Price old new request keys) = price old.now new.now request.now keys.now
+asked_view (code.Check document) = check document.now
+asked_view (code.Resolve document key kind default context moment) = resolve document.now key.now kind default.now context.now moment.number
+asked_view (code.Verify document request book file refine) = verify document.now request.now book.now file.now (option_map (λ m. m.number) refine)
+asked_view (code.Apply document file key site) = apply document.now file.now key.now site
+asked_view (code.Plan document request book refine) = plan document.now request.now book.now (option_map (λ m. m.number) refine)

@@ -1,0 +1,18 @@
+//! What the words of the command line ask for.
+//!
+//! [`read_words`] gives the command that the words name, with each of its words, or the mistake that `clap` finds in them.
+//! [`Asked`] has a variant for each command; [`Moment`] and [`Factor`] are the numbers that a word may spell.
+//!
+//! Proved, over the definitions of `specs/`: the command is the one of `Words.asked_by`, which is stated in terms of what
+//! `clap` is proved to read; an error has the kind of one of the words' faults, or memory ran out. Words without a fault ask
+//! for a command.
+#![tactic(auto)]
+
+mod asked;
+mod numbers;
+mod usage;
+mod words;
+
+pub use asked::Asked;
+pub use numbers::{Factor, Moment};
+pub use words::read_words;

@@ -1,0 +1,75 @@
+//! Numbers, as words of the command line.
+ghost use Rattle.std.specs.Prelude.{◌≡◌, ◌≤◌, ◌<◌, ◌^◌, ◌&&◌, nat_le, if◌then◌else◌, IfSome, Some, None, option_map};
+ghost use Rattle.flagops_words.specs.Numbers.{factor_in, max_32, moment_in, number_in};
+
+/// The latest moment, 2^53-1.
+pub const LATEST_MOMENT: u64 = 9_007_199_254_740_991;
+
+/// The largest number of 32 bits.
+pub const LARGEST_32: u64 = 4_294_967_295;
+
+/// A moment, as a number of at most 2^53-1.
+#[derive(Clone, Copy, Debug, PartialEq, Eq)]
+pub struct Moment {
+    pub number: u64,
+    ghost small: { number < 2 ^ 53 },
+}
+
+impl Moment {
+    /// The moment that a word spells.
+    pub fn spelled(word: &str) -> Option<Moment>
+        ensures { option_map (λ m. m.number) result ≡ moment_in word.now }
+    {
+        let number = spelled(word, 0, LATEST_MOMENT)?;
+        Some(Moment { number })
+    }
+}
+
+/// What the weights of a site's rule are multiplied by: a number of 32 bits from 1.
+#[derive(Clone, Copy, Debug, PartialEq, Eq)]
+pub struct Factor {
+    pub number: u32,
+    ghost positive: { 0 < number },
+}
+
+impl Factor {
+    /// The factor that a word spells.
+    pub fn spelled(word: &str) -> Option<Factor>
+        ensures { option_map (λ m. m.number) result ≡ factor_in word.now }
+    {
+        let number = spelled(word, 1, LARGEST_32)?;
+        Some(Factor {
+            number: number as u32,
+        })
+    }
+}
+
+/// The number of 32 bits that a word spells.
+pub fn spelled_32(word: &str) -> Option<u32>
+    ensures { result ≡ number_in 0 max_32 word.now }
+{
+    let number = spelled(word, 0, LARGEST_32)?;
+    Some(number as u32)
+}
+
+/// The number within the bounds that a word spells in decimal digits, perhaps after a plus.
+fn spelled(word: &str, least: u64, most: u64) -> Option<u64>
+    ensures number { result ≡ number_in least most word.now }
+    ensures bounds { IfSome result (λ n. (least ≤ n) × (n ≤ most)) }
+{
+    match word.parse::<u64>() {
+        Ok(number) => within(number, least, most),
+        Err(_) => None,
+    }
+}
+
+fn within(number: u64, least: u64, most: u64) -> Option<u64>
+    ensures number { result ≡ (if nat_le least number && nat_le number most then Some number else None) }
+    ensures bounds { IfSome result (λ n. (least ≤ n) × (n ≤ most)) }
+{
+    if least <= number && number <= most {
+        Some(number)
+    } else {
+        None
+    }
+}

@@ -1,0 +1,169 @@
+//! What the words of the command line ask for, as `clap` reads them.
+ghost use Rattle.std.specs.Prelude.{◌≡◌, Some, IfOk, IfErr, map, option_map};
+ghost use Rattle.clap.specs.Words.{found_of, kind_of, rows_of, subcommand_rows_of};
+ghost use Rattle.flagops_words.specs.Asked.{asked_view};
+ghost use Rattle.flagops_words.specs.Words.{IsToldBy, apply_in, asked_by, asked_of, bucket_in, check_in, plan_in, price_in, refine_in, resolve_in, verify_in};
+
+use crate::asked::Asked;
+use crate::numbers::{Factor, Moment, spelled_32};
+use crate::usage::{flagops, unknown_kind};
+use clap::{ArgMatches, Error};
+use flag_resolve::Kind;
+use std::alloc::Global;
+use std::convert::AsStr;
+
+/// What the words after the program's name ask for.
+#[tactic(auto, unfolding(crate::specs::Words::asked_by))]
+pub fn read_words<'a, S: AsStr>(alloc: Global, words: &'a [S]) -> Result<Asked<'a>, Error>
+    ensures ok { IfOk result (λ a. asked_by (map S.text words.entry.now) ≡ Some (asked_view a)) }
+    ensures err { IfErr result (λ e. IsToldBy (map S.text words.entry.now) (kind_of e)) }
+{
+    let matches = flagops(alloc)?.try_get_matches_from(words)?;
+    match asked_of(&matches) {
+        Some(asked) => Ok(asked),
+        // Words that `clap` takes name a command with each of its words, and its check of a kind is made here.
+        None => Err(unknown_kind(alloc)?),
+    }
+}
+
+fn asked_of<'a>(matches: &ArgMatches<'a>) -> Option<Asked<'a>>
+    ensures { option_map asked_view result ≡ asked_of (subcommand_rows_of matches.now) }
+{
+    let (name, words) = matches.subcommand()?;
+    if name == "resolve" {
+        return resolve_in(words);
+    }
+    if name == "check" {
+        return check_in(words);
+    }
+    if name == "price" {
+        return price_in(words);
+    }
+    if name == "bucket" {
+        return bucket_in(words);
+    }
+    if name == "verify" {
+        return verify_in(words);
+    }
+    if name == "apply" {
+        return apply_in(words);
+    }
+    if name == "plan" {
+        return plan_in(words);
+    }
+    None
+}
+
+#[tactic(auto, using(crate::proofs::Matched::rows))]
+fn bucket_in<'a>(words: &ArgMatches<'a>) -> Option<Asked<'a>>
+    ensures { option_map asked_view result ≡ bucket_in (rows_of (found_of words.now)) }
+{
+    let rule = words.get_str("RULE")?;
+    let key = words.get_str("KEY")?;
+    Some(Asked::Bucket { rule, key })
+}
+
+#[tactic(auto, using(crate::proofs::Matched::rows))]
+fn price_in<'a>(words: &ArgMatches<'a>) -> Option<Asked<'a>>
+    ensures { option_map asked_view result ≡ price_in (rows_of (found_of words.now)) }
+{
+    let old = words.get_str("OLD")?;
+    let new = words.get_str("NEW")?;
+    let request = words.get_str("REQUEST")?;
+    let keys = words.get_str("KEYS")?;
+    Some(Asked::Price {
+        old,
+        new,
+        request,
+        keys,
+    })
+}
+
+#[tactic(auto, using(crate::proofs::Matched::rows))]
+fn check_in<'a>(words: &ArgMatches<'a>) -> Option<Asked<'a>>
+    ensures { option_map asked_view result ≡ check_in (rows_of (found_of words.now)) }
+{
+    let document = words.get_str("DOC")?;
+    Some(Asked::Check { document })
+}
+
+#[tactic(auto, using(crate::proofs::Matched::rows))]
+fn resolve_in<'a>(words: &ArgMatches<'a>) -> Option<Asked<'a>>
+    ensures { option_map asked_view result ≡ resolve_in (rows_of (found_of words.now)) }
+{
+    let document = words.get_str("DOC")?;
+    let key = words.get_str("KEY")?;
+    let kind = Kind::named(words.get_str("KIND")?)?;
+    let default = words.get_str("DEFAULT")?;
+    let context = words.get_str("CONTEXT")?;
+    let moment = Moment::spelled(words.get_str("MOMENT")?)?;
+    Some(Asked::Resolve {
+        document,
+        key,
+        kind,
+        default,
+        context,
+        moment,
+    })
+}
+
+#[tactic(auto, using(crate::proofs::Matched::rows))]
+fn verify_in<'a>(words: &ArgMatches<'a>) -> Option<Asked<'a>>
+    ensures { option_map asked_view result ≡ verify_in (rows_of (found_of words.now)) }
+{
+    let document = words.get_str("DOC")?;
+    let request = words.get_str("REQUEST")?;
+    let book = words.get_str("BOOK")?;
+    let plan = words.get_str("PLAN")?;
+    let refine = refine_in(words)?;
+    Some(Asked::Verify {
+        document,
+        request,
+        book,
+        plan,
+        refine,
+    })
+}
+
+#[tactic(auto, using(crate::proofs::Matched::rows))]
+fn plan_in<'a>(words: &ArgMatches<'a>) -> Option<Asked<'a>>
+    ensures { option_map asked_view result ≡ plan_in (rows_of (found_of words.now)) }
+{
+    let document = words.get_str("DOC")?;
+    let request = words.get_str("REQUEST")?;
+    let book = words.get_str("BOOK")?;
+    let refine = refine_in(words)?;
+    Some(Asked::Plan {
+        document,
+        request,
+        book,
+        refine,
+    })
+}
+
+#[tactic(auto, using(crate::proofs::Matched::rows))]
+fn apply_in<'a>(words: &ArgMatches<'a>) -> Option<Asked<'a>>
+    ensures { option_map asked_view result ≡ apply_in (rows_of (found_of words.now)) }
+{
+    let document = words.get_str("DOC")?;
+    let plan = words.get_str("PLAN")?;
+    let key = words.get_str("FLAG")?;
+    let site = spelled_32(words.get_str("SITE")?)?;
+    Some(Asked::Apply {
+        document,
+        plan,
+        key,
+        site,
+    })
+}
+
+/// The factor of a refinement, if one is given; `None` where the word is no factor.
+#[tactic(auto, using(crate::proofs::Matched::rows))]
+fn refine_in(words: &ArgMatches<'_>) -> Option<Option<Factor>>
+    ensures { option_map (λ o. option_map (λ m. m.number) o) result ≡ refine_in (rows_of (found_of words.now)) }
+{
+    match words.get_str("M") {
+        Some(word) => Some(Some(Factor::spelled(word)?)),
+        None => Some(None),
+    }
+}
