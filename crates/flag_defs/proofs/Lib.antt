@@ -1,3 +1,4 @@
+pub mod Bytes
 pub mod Clear
 pub mod Counted
 pub mod Deep
@@ -21,6 +22,7 @@ pub mod Outlines
 pub mod Passes
 pub mod Printed
 pub mod Readable
+pub mod Reasons
 pub mod Sizes
 pub mod Sorted
 pub mod Standing

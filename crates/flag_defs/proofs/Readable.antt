@@ -32,7 +32,7 @@ neither : (a b : Bool) → (not a && not b) ≡ not (a || b)
 neither true b = refl
 neither false b = refl
 
-within_counts : (r : Reading) (s : Size) → Counts r s → is_within r ≡ not (is_over s)
+pub within_counts : (r : Reading) (s : Size) → Counts r s → is_within r ≡ not (is_over s)
 within_counts r s c =
     rw (capped_at 10000 s.nodes r.nodes (omega arith) c.nodes, capped_at 100 s.levels r.levels (omega arith) c.levels) (neither (nat_lt 10000 s.nodes) (nat_lt 100 s.levels))
 

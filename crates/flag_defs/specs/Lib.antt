@@ -1,3 +1,4 @@
+pub mod Breach
 pub mod Changes
 pub mod Definition
 pub mod Document
@@ -7,6 +8,7 @@ pub mod Flags
 pub mod Inlining
 pub mod Law
 pub mod Least
+pub mod Lent
 pub mod Measure
 pub mod Members
 pub mod Outline

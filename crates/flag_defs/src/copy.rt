@@ -1,7 +1,7 @@
 //! Copies of flags.
-ghost use Rattle.std.specs.Prelude.{◌≡◌, IfOk, option_map, string_bytes};
+ghost use Rattle.std.specs.Prelude.{◌≡◌, true, IfOk, IsOk, option_map, string_bytes};
 ghost use Rattle.logic_ast.specs.Expr.{view};
-ghost use Rattle.flag_defs.specs.Flag.{entries_view, flag_view, rules_view};
+ghost use Rattle.flag_defs.specs.Flag.{entries_view, flag_view, is_broken, rules_view};
 ghost use Rattle.flag_defs.specs.Flags.{flags_view};
 
 use crate::flag::Flag;
@@ -12,9 +12,10 @@ use logic_ast::Expr;
 use std::alloc::{AllocError, Global};
 
 impl Flag {
-    /// An equal flag.
+    /// An equal flag. That of a broken one takes no memory.
     pub fn copy(&self, alloc: Global) -> Result<Flag, AllocError>
-        ensures { IfOk result (λ f. flag_view f ≡ flag_view self.now) }
+        ensures value { IfOk result (λ f. flag_view f ≡ flag_view self.now) }
+        ensures broken { is_broken (flag_view self.now) ≡ true → IsOk result }
     {
         match &self.rules {
             Some(rules) => Ok(Flag {

@@ -1,5 +1,6 @@
 //! From the bytes of a document to its flags.
-ghost use Rattle.std.specs.Prelude.{◌≡◌, ◌<◌, true, length, Some, option_map, option_and_then, IfOk, IsErrOf};
+ghost use Rattle.std.specs.Prelude.{◌≡◌, ◌<◌, ◌≤◌, true, false, length, Some, option_map, option_and_then, IfOk, IsErrOf};
+ghost use Rattle.std.specs.Str.{is_utf8};
 ghost use Rattle.flag_text.specs.Readers.{as_object, member_of};
 ghost use Rattle.flag_text.specs.Shape.{is_tidy, members_are_tidy};
 ghost use Rattle.flag_text.specs.View.{view, members_view};
@@ -24,11 +25,13 @@ use std::alloc::{AllocError, Global};
 /// `$evaluators`, to which targetings refer. A definition that breaks a rule makes a broken flag.
 ///
 /// Refusals, in this order: `TooLarge` above 4,194,304 bytes, before anything is read; `NotJson`; `NoFlags`; `TooLarge` for
-/// more than 10,000 flags, and for flags that are printed in more than 4,194,304 bytes. No targeting is expanded before it
-/// is known that all of them together have so few bytes.
+/// more than 10,000 flags, and for flags that are printed in more than 4,194,304 bytes. The first, and `NotJson` of bytes
+/// that are no UTF-8, take no memory. No targeting is expanded before it is known that all of them together have so few
+/// bytes.
 pub fn read_flags(alloc: Global, bytes: &[u8]) -> Result<Flags, DefFault>
     ensures means { HoldsUnless (DocumentMeans bytes.now) result }
     ensures large { max_bytes < length bytes.now → IsErrOf result DefFault.TooLarge }
+    ensures no_text { length bytes.now ≤ max_bytes → is_utf8 bytes.now ≡ false → IsErrOf result DefFault.NotJson }
 {
     match read_doc(alloc, bytes, MAX_BYTES) {
         Ok(document) => read_document(alloc, &document),
@@ -58,7 +61,7 @@ fn read_document(alloc: Global, document: &Tree) -> Result<Flags, DefFault>
 }
 
 /// The members of the object of this name.
-fn members_of<'a>(document: &'a Tree, name: &str) -> Option<&'a [(String, Tree)]>
+pub(crate) fn members_of<'a>(document: &'a Tree, name: &str) -> Option<&'a [(String, Tree)]>
     ensures { option_map (λ ms. members_view ms.now) result ≡ option_and_then as_object (member_of name.now (view document.now)) }
 {
     match document.member(name) {
@@ -67,7 +70,7 @@ fn members_of<'a>(document: &'a Tree, name: &str) -> Option<&'a [(String, Tree)]
     }
 }
 
-fn evaluators_in(document: &Tree) -> &[(String, Tree)]
+pub(crate) fn evaluators_in(document: &Tree) -> &[(String, Tree)]
     ensures { members_view result.now ≡ evaluators_in (view document.now) }
 {
     match members_of(document, "$evaluators") {

@@ -1,5 +1,5 @@
 //! A flag and its parts.
-ghost use Rattle.std.specs.Prelude.{◌≡◌, true, false, IfOk, IfSome, map, option_map, option_copied, string_bytes};
+ghost use Rattle.std.specs.Prelude.{◌≡◌, true, false, IfOk, IsOk, IfSome, map, option_map, option_copied, string_bytes};
 ghost use Rattle.std.specs.Cmp.Lexicographic.{slice_cmp};
 ghost use Rattle.std.specs.List.Sorted.{IsStrictlySortedBy};
 ghost use Rattle.std.specs.Ordering.{nat_cmp};
@@ -73,10 +73,11 @@ impl Flag {
         }
     }
 
-    /// The names of its variants in the order of their bytes. A broken flag has none.
+    /// The names of its variants in the order of their bytes. A broken flag has none, which takes no memory.
     pub fn names(&self, alloc: Global) -> Result<Vec<String>, AllocError>
         ensures value { IfOk result (λ v. map string_bytes v.items ≡ variant_names (flag_view self.now)) }
         ensures rising { IfOk result (λ v. IsStrictlySortedBy (slice_cmp nat_cmp) (map string_bytes v.items)) }
+        ensures broken { is_broken (flag_view self.now) ≡ true → IsOk result }
     {
         match &self.rules {
             Some(rules) => names_of(alloc, rules.variants.as_slice()),

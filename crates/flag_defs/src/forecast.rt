@@ -40,7 +40,7 @@ pub(crate) fn targeting_forecast(
     }
 }
 
-fn tree_forecast(tree: &Tree, evaluators: &[(String, Tree)], table: &Known) -> Forecast
+pub(crate) fn tree_forecast(tree: &Tree, evaluators: &[(String, Tree)], table: &Known) -> Forecast
     requires table { IsTable evaluators.now table.now }
     requires tidy { is_tidy (view tree.now) ≡ true }
     ensures { IsForecast (members_view evaluators.now) (view tree.now) result }

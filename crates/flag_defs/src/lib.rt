@@ -14,10 +14,12 @@
 //! - [`print_flags`] writes `printed` (`Document`): keys sorted, targetings inlined, a broken flag as `{}`. What it writes
 //!   is a document that means these flags.
 //! - Each reader of a flag gives the part that it names (`Flag`), [`Flags::get`] what is looked up, [`Flags::make`] the map
-//!   of its list, and [`Flag::with_site`] the flag with other entries at one site and all else as it was (`Changes`).
+//!   of its list, [`Flags::copied`] copies of flags that others hold, weighed first, and [`Flag::with_site`] the flag with
+//!   other entries at one site and all else as it was (`Changes`).
 //! - The rules of each good flag can be printed and read again (`Rules`).
 #![tactic(auto)]
 
+mod breach;
 mod copy;
 mod definition;
 mod document;
@@ -31,6 +33,7 @@ mod forecast;
 mod forms;
 mod kind;
 mod laws;
+mod lent;
 mod limits;
 mod make;
 mod measure;
@@ -46,6 +49,7 @@ mod targeting;
 mod walk;
 mod write;
 
+pub use breach::{Breach, breaches};
 pub use document::read_flags;
 pub use fault::DefFault;
 pub use flag::Flag;

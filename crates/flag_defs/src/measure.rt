@@ -103,7 +103,7 @@ impl Reading {
     }
 
     /// Whether an expression may have so many nodes and levels.
-    fn is_within(self) -> bool
+    pub(crate) fn is_within(self) -> bool
         ensures { result ≡ is_within self }
     {
         self.nodes <= MAX_NODES && self.levels <= MAX_LEVELS

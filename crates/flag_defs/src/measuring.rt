@@ -6,12 +6,9 @@ ghost use Rattle.flag_defs.specs.Measure.{known, measure, measured, object_measu
 
 use crate::measure::{Measure, Parts, Reading, capped, member_in_front, plus};
 use crate::references::{is_reference_name, reference_of};
-use flag_text::{Tree, position_of};
+use bucket_core::MAX_TOTAL;
+use flag_text::{Tree, is_in_range, position_of};
 use logic_ast::{Operator, is_fractional};
-
-const MAX_WHOLE: u64 = (1 << 53) - 1;
-
-const WEIGHTS: i64 = 1 << 31;
 
 /// What is known of the evaluator of this name.
 pub(crate) fn known(
@@ -171,9 +168,8 @@ fn operation_reading(name: &str, measure: Measure) -> Reading
 fn whole_measure(n: i64) -> Measure
     ensures { result ≡ measure (whole n) }
 {
-    let is_whole = n.unsigned_abs() <= MAX_WHOLE;
-    let is_weight = 0 <= n && n < WEIGHTS;
-    Measure::scalar(is_whole, false, is_weight, 0)
+    let is_weight = 0 <= n && n <= i64::from(MAX_TOTAL);
+    Measure::scalar(is_in_range(n), false, is_weight, 0)
 }
 
 fn text_measure(content: &str) -> Measure

@@ -38,7 +38,7 @@ pub(crate) fn outline_of<'a>(members: &'a [(String, Tree)]) -> Option<Outline<'a
 }
 
 /// Whether the state is `ENABLED`, where it is that or `DISABLED`.
-fn state(members: &[(String, Tree)]) -> Option<bool>
+pub(crate) fn state(members: &[(String, Tree)]) -> Option<bool>
     requires { names_rise (members_view members.now) ≡ true }
     ensures { result ≡ state_of (find_member (codes "state") (members_view members.now)) }
 {
@@ -61,7 +61,7 @@ fn state_named(text: &str) -> Option<bool>
 }
 
 /// The variants, unless they break the flag.
-fn variants(members: &[(String, Tree)]) -> Option<&[(String, Tree)]>
+pub(crate) fn variants(members: &[(String, Tree)]) -> Option<&[(String, Tree)]>
     requires { names_rise (members_view members.now) ≡ true }
     ensures { option_map (λ ms. members_view ms.now) result ≡ variants_of (find_member (codes "variants") (members_view members.now)) }
 {
@@ -84,7 +84,7 @@ fn variants_in(tree: &Tree) -> Option<&[(String, Tree)]>
 
 /// Whether there are 1 to 64.
 #[tactic(auto, using(crate::proofs::Counted::counted))]
-fn are_few(variants: &[(String, Tree)]) -> bool
+pub(crate) fn are_few(variants: &[(String, Tree)]) -> bool
     ensures { result ≡ (nat_le 1 (member_count (members_view variants.now)) && nat_le (member_count (members_view variants.now)) 64) }
 {
     let count = variants.len();
@@ -100,7 +100,7 @@ fn is_whole_and_flat(tree: &Tree) -> bool
 }
 
 /// The name of the default variant, if there is one, unless it breaks the flag.
-fn default_variant<'a>(
+pub(crate) fn default_variant<'a>(
     members: &'a [(String, Tree)],
     variants: &[(String, Tree)],
 ) -> Option<Option<&'a str>>

@@ -18,10 +18,11 @@ impl Flag {
     /// The flag with the entries of the rule as the buckets of site `n` of its targeting. All else stays.
     ///
     /// `NoSite` where there is no such site, as in a flag without targeting and in a broken one, then `Computed` where a
-    /// bucket of the site is not literal.
+    /// bucket of the site is not literal. Neither takes memory.
     pub fn with_site(&self, alloc: Global, n: u32, rule: &Rule) -> Result<Flag, LogicFault>
         ensures exact { GivesUnless LogicFault.WantOfMemory flag_view result (with_site n rule.now (flag_view self.now)) }
         ensures no_site { with_site n rule.now (flag_view self.now) ≡ Err LogicFault.NoSite → IsErrOf result LogicFault.NoSite }
+        ensures computed { with_site n rule.now (flag_view self.now) ≡ Err LogicFault.Computed → IsErrOf result LogicFault.Computed }
     {
         let Some(rules) = &self.rules else {
             return Err(LogicFault::NoSite);

@@ -31,7 +31,7 @@ pub(crate) fn write_entries(
 }
 
 /// The definition of a flag, of a broken one the empty object.
-fn write_flag(alloc: Global, flag: &Flag) -> Result<Tree, AllocError>
+pub(crate) fn write_flag(alloc: Global, flag: &Flag) -> Result<Tree, AllocError>
     ensures { IfOk result (λ t. tree_view t ≡ definition_written (flag_view flag.now)) }
 {
     match &flag.rules {
