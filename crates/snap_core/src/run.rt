@@ -29,12 +29,12 @@ pub fn run_events(alloc: Global, world: &mut World, events: &[Event]) -> Result<
 {
     let mut answers = match Vec::with_capacity(alloc, events.len()) {
         Ok(answers) => answers,
-        Err(_) => return Err(Short { done: 0 }),
+        Err(AllocError) => return Err(Short { done: 0 }),
     };
     for i in 0..events.len() {
         match run_next(alloc, world, &events[i], &mut answers) {
             Ok(()) => {}
-            Err(_) => return Err(Short { done: i }),
+            Err(AllocError) => return Err(Short { done: i }),
         }
     }
     Ok(answers)

@@ -16,7 +16,8 @@ use Rattle.flag_defs.specs.Flag.{flag_view}
 use Rattle.flag_defs.specs.Flags.{flags_view}
 use Rattle.flag_defs.specs.declared.flag.Flag.{Flag}
 use Rattle.flag_defs.specs.declared.flags.Flags.{Flags}
-use Rattle.source_merge.specs.Merge.{all_entries, lent_view}
+use Rattle.flag_defs.specs.Lent.{lent_view}
+use Rattle.source_merge.specs.Merge.{all_entries}
 use Rattle.source_merge.specs.Sources.{entries_view}
 
 abbrev pub Lent : Type 0

@@ -1,35 +1,26 @@
 -- The merge within the limits of flags.
-use Rattle.std.proofs.Common.{◌≡◌, ◌<◌, ℕ, Bool, true, false, ◌||◌, List, [], ◌∷◌, length, nat_lt, if◌then◌else◌, IfOk, Option, None, Some, option_map, Result, Ok, Err, String, string_bytes, refl, ap, ◌∙◌, subst}
+use Rattle.std.proofs.Common.{◌≡◌, ℕ, Bool, true, false, List, [], ◌∷◌, if◌then◌else◌, IfOk, Option, None, Some, option_map, Result, Ok, Err, String, string_bytes, sym, subst}
 use Rattle.std.specs.declared.alloc.Global.{Global}
-use Rattle.std.proofs.lemmas.Bool.{lt-ltb}
 use Rattle.flag_text.specs.Outcome.{GivesUnless}
 use Rattle.flag_defs.specs.Changes.{by_key}
-use Rattle.flag_defs.specs.Document.{Definitions, limited, max_flags, max_bytes, printed}
+use Rattle.flag_defs.specs.Document.{Definitions, limited}
 use Rattle.flag_defs.specs.Flags.{flags_view}
 use Rattle.flag_defs.specs.declared.fault.DefFault.TheVariants as def
 use Rattle.flag_defs.specs.declared.flags.Flags.{Flags}
 use Rattle.source_merge.specs.Merge.{IsMerge, Rise, HaveRisingKeys, entries_of, all_entries, merge, flags_or_fault, merged_of}
 use Rattle.source_merge.specs.Sources.{SourceList, entries_view}
 use Rattle.source_merge.specs.declared.fault.SourceFault.{SourceFault}
-use Rattle.source_merge.specs.declared.fault.SourceFault.TheVariants.{WantOfMemory, TooLarge}
-use Rattle.source_merge.proofs.Merged.{by_key-rising, rise-fold, rise_none, merges}
+use Rattle.source_merge.specs.declared.fault.SourceFault.TheVariants.{WantOfMemory}
+use Rattle.source_merge.proofs.Merged.{rise-fold, rise_none, merges}
 
 -- what is made of the merge's entries is what the merge gives
-pub made_of : (sources : SourceList) (r : Result Flags SourceFault) (fs : Definitions) → fs ≡ by_key (all_entries sources) → GivesUnless WantOfMemory flags_view r (flags_or_fault (limited (by_key fs))) → GivesUnless WantOfMemory flags_view r (merged_of sources)
+pub made_of : (sources : SourceList) (r : Result Flags SourceFault) (fs : Definitions) → fs ≡ by_key (all_entries sources) → GivesUnless WantOfMemory flags_view r (flags_or_fault (limited fs)) → GivesUnless WantOfMemory flags_view r (merged_of sources)
 unfolding merge
-made_of sources r fs is given =
-    let again : by_key fs ≡ by_key (all_entries sources) = ap by_key is ∙ by_key-rising (by_key (all_entries sources)) (rise-fold [] (all_entries sources) rise_none) in
-    subst (λ (gs : Definitions). GivesUnless WantOfMemory flags_view r (flags_or_fault (limited gs))) again given
+made_of sources r fs is given = subst (λ (gs : Definitions). GivesUnless WantOfMemory flags_view r (flags_or_fault (limited gs))) is given
 
--- too many flags are refused
-refused : (a b : Bool) (fs : Definitions) → a ≡ true → flags_or_fault (if a || b then Err def.TooLarge else Ok fs) ≡ Err TooLarge
-refused a b fs h = rw h refl
-
-pub too_many : (sources : SourceList) (n : ℕ) → max_flags < n → n ≡ length (by_key (all_entries sources)) → merged_of sources ≡ Err TooLarge
-unfolding merge
-too_many sources n many is =
-    let fs = by_key (all_entries sources) in
-    refused (nat_lt max_flags (length fs)) (nat_lt max_bytes (length (printed fs))) fs (lt-ltb max_flags (length fs) (subst (λ m. max_flags < m) is many))
+-- the keys of a merge rise
+pub rising_merge : (sources : SourceList) (fs : Definitions) → fs ≡ by_key (all_entries sources) → Rise fs
+rising_merge sources fs is = subst Rise (sym is) (rise-fold [] (all_entries sources) rise_none)
 
 -- the keys of documents rise
 rise_of : (d : Option Flags) (name : List ℕ) → Rise (entries_of (name, option_map flags_view d))

@@ -1,6 +1,5 @@
 -- The merge of sources: key by key the whole entry of the latest added source that has it.
-use denote.Ref.{Bor}
-use Rattle.std.specs.Prelude.{◌≡◌, ℕ, List, [], ◌∷◌, ◌++◌, map, Option, None, unwrap_or, Result, Ok, Err}
+use Rattle.std.specs.Prelude.{◌≡◌, ℕ, List, [], ◌∷◌, ◌++◌, Option, None, unwrap_or, Result, Ok, Err}
 use Rattle.std.specs.Option.{option_or}
 use Rattle.std.specs.Cmp.Lexicographic.{slice_cmp}
 use Rattle.std.specs.List.{AllByRecursion}
@@ -11,9 +10,7 @@ use Rattle.std.specs.Str.{bytes_eq}
 use Rattle.flag_defs.specs.Changes.{by_key}
 use Rattle.flag_defs.specs.Definition.{Definition}
 use Rattle.flag_defs.specs.Document.{Definitions, limited}
-use Rattle.flag_defs.specs.Flag.{flag_view}
 use Rattle.flag_defs.specs.declared.fault.DefFault.{DefFault}
-use Rattle.flag_defs.specs.declared.flag.Flag.{Flag}
 use Rattle.source_merge.specs.Fault.{of_flags}
 use Rattle.source_merge.specs.Sources.{Source, SourceList}
 use Rattle.source_merge.specs.declared.fault.SourceFault.{SourceFault}
@@ -61,8 +58,3 @@ merged_of sources = flags_or_fault (limited (merge sources))
 -- the merge has at each key the latest entry
 abbrev pub HasLatestEntries : Type 0
 HasLatestEntries = (sources : SourceList) → HaveRisingKeys sources → IsMerge sources (merge sources)
-
--- ---- of the program
-
-abbrev pub lent_view : List (Bor (List ℕ) × Bor Flag) → Definitions
-lent_view es = map (λ e. (e.0.now, flag_view e.1.now)) es

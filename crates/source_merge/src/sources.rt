@@ -1,14 +1,14 @@
 ghost use Rattle.std.specs.Prelude.{◌≡◌, ◌≤◌, ◌<◌, [], ◌∷◌, ◌++◌, length, None, IfOk, OnOk, OnErr, IsErrOf, true, false, option_map};
+ghost use Rattle.std.specs.Str.{is_utf8};
 ghost use Rattle.flag_text.specs.Outcome.{GivesUnless};
-ghost use Rattle.flag_defs.specs.Changes.{by_key};
 ghost use Rattle.flag_defs.specs.Document.{limited, max_bytes};
-ghost use Rattle.flag_defs.specs.Flag.{entries_view as flag_entries};
 ghost use Rattle.flag_defs.specs.Flags.{flags_view};
-ghost use Rattle.source_merge.specs.Merge.{IsMerge, flags_or_fault, merged_of};
+ghost use Rattle.flag_defs.specs.Lent.{lent_view};
+ghost use Rattle.source_merge.specs.Merge.{IsMerge, Rise, flags_or_fault, merged_of};
 ghost use Rattle.source_merge.specs.Outcome.{Unless, outcome};
 ghost use Rattle.source_merge.specs.Sources.{Sets, added, cleared, entries_view, is_source, most_sources, with_document};
 
-use crate::choice::{chosen, copies};
+use crate::choice::chosen;
 use crate::fault::SourceFault;
 use flag_defs::{DefFault, Flag, Flags, read_flags};
 use indexmap::IndexMap;
@@ -16,9 +16,6 @@ use std::alloc::{AllocError, Global};
 
 /// The most sources.
 const MOST_SOURCES: usize = 16;
-
-/// The most flags together, as `Flags` takes them.
-const MOST_FLAGS: usize = 10_000;
 
 /// Sources of flags by their names, in the order in which they were added, each with the document that it last accepted.
 #[derive(Drop)]
@@ -64,6 +61,7 @@ impl Sources {
         ensures refused { OnErr result (sources_view self.new ≡ sources_view self.old) }
         ensures unknown { is_source name.now (sources_view self.old) ≡ false → IsErrOf result SourceFault.Unknown }
         ensures large { is_source name.now (sources_view self.old) ≡ true → max_bytes < length bytes.now → IsErrOf result (SourceFault.Refused DefFault.TooLarge) }
+        ensures no_text { is_source name.now (sources_view self.old) ≡ true → length bytes.now ≤ max_bytes → is_utf8 bytes.now ≡ false → IsErrOf result (SourceFault.Refused DefFault.NotJson) }
     {
         if !knows(&self.documents, name) {
             return Err(SourceFault::Unknown);
@@ -87,17 +85,15 @@ impl Sources {
     }
 
     /// The merge: key by key the whole entry of the latest added source that has it, broken entries too. `TooLarge` for more
-    /// than 10,000 flags, before one is copied, and for flags that are printed in more than 4,194,304 bytes. Each flag that
-    /// stays is copied once. Cost: the entries of all sources, each looked up once among those that stay.
+    /// than 10,000 flags, and for flags that are printed in more than 4,194,304 bytes; both are known before a flag is
+    /// copied. Each flag that stays is printed once and copied once. Cost: the entries of all sources, each looked up once
+    /// among those that stay.
     pub fn merged(&self, alloc: Global) -> Result<Flags, SourceFault>
         ensures exact { GivesUnless SourceFault.WantOfMemory flags_view result (merged_of (sources_view self.now)) }
         ensures latest { IfOk result (λ fs. IsMerge (sources_view self.now) (flags_view fs)) }
     {
-        let chosen = chosen(alloc, &self.documents)?;
-        if chosen.len() > MOST_FLAGS {
-            return Err(SourceFault::TooLarge);
-        }
-        made(alloc, copies(alloc, &chosen)?)
+        let entries = chosen(alloc, &self.documents)?;
+        copied(alloc, entries.as_slice())
     }
 }
 
@@ -132,10 +128,11 @@ fn put(documents: &mut IndexMap<String, Option<Flags>>, name: &str, document: Op
 }
 
 /// Flags of these entries, unless they pass the limits.
-fn made(alloc: Global, entries: Vec<(String, Flag)>) -> Result<Flags, SourceFault>
-    ensures { GivesUnless SourceFault.WantOfMemory flags_view result (flags_or_fault (limited (by_key (flag_entries entries.items)))) }
+fn copied(alloc: Global, entries: &[(&str, &Flag)]) -> Result<Flags, SourceFault>
+    requires { Rise (lent_view entries.now) }
+    ensures { GivesUnless SourceFault.WantOfMemory flags_view result (flags_or_fault (limited (lent_view entries.now))) }
 {
-    match Flags::make(alloc, entries) {
+    match Flags::copied(alloc, entries) {
         Ok(flags) => Ok(flags),
         Err(DefFault::WantOfMemory) => Err(SourceFault::WantOfMemory),
         Err(_) => Err(SourceFault::TooLarge),
