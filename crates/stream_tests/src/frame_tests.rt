@@ -4,7 +4,7 @@ use std::test::Fail;
 use sync_frames::{Feed, FrameFault, write_frame};
 
 /// The frame of no flags with number 1.
-const FRAME: &[u8] = b"\x00\x00\x00\x14\x00\x00\x00\x00\x00\x00\x00\x01{\"flags\":{}}";
+pub const FRAME: &[u8] = b"\x00\x00\x00\x14\x00\x00\x00\x00\x00\x00\x00\x01{\"flags\":{}}";
 
 /// How many snapshots came, or the number of the fault.
 fn told(outcome: Result<Vec<Snapshot>, FrameFault>) -> (usize, u32) {

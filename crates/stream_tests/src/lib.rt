@@ -3,3 +3,7 @@
 
 #[cfg(test)]
 mod frame_tests;
+#[cfg(test)]
+mod memory;
+#[cfg(test)]
+mod read_tests;

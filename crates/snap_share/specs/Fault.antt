@@ -1,0 +1,20 @@
+-- The number and the name that a refusal is printed with.
+use Rattle.std.specs.Prelude.{ℕ, List, codes}
+use Rattle.snap_share.specs.declared.fault.ShareFault.{ShareFault}
+use Rattle.snap_share.specs.declared.fault.ShareFault.TheVariants.{WantOfMemory, NoSeats, TooManySeats, NoReader, LastNumber, Closed}
+
+abbrev pub number_of : ShareFault → ℕ
+number_of WantOfMemory = 0
+number_of NoSeats = 1
+number_of TooManySeats = 2
+number_of NoReader = 3
+number_of LastNumber = 4
+number_of Closed = 5
+
+abbrev pub name_of : ShareFault → List ℕ
+name_of WantOfMemory = codes "WantOfMemory"
+name_of NoSeats = codes "NoSeats"
+name_of TooManySeats = codes "TooManySeats"
+name_of NoReader = codes "NoReader"
+name_of LastNumber = codes "LastNumber"
+name_of Closed = codes "Closed"

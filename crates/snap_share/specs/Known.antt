@@ -1,0 +1,25 @@
+-- Published flags as snapshots.
+use Rattle.std.specs.Prelude.{◌≡◌, ℕ, ◌+◌, List, [], ◌∷◌, length, Option, Some, None}
+use Rattle.flag_defs.specs.Flags.{flags_view}
+use Rattle.flag_defs.specs.declared.flags.Flags.{Flags}
+use Rattle.snap_core.specs.Hub.{Numbered}
+
+abbrev pub last_of : {X : Type 0} → List X → Option X
+last_of [] = None
+last_of (x ∷ []) = Some x
+last_of (x ∷ y ∷ ys) = last_of (y ∷ ys)
+
+abbrev pub numbered : ℕ → Flags → Numbered
+numbered n f = record { number = n; flags = flags_view f }
+
+abbrev pub numbered_from : ℕ → List Flags → List Numbered
+numbered_from n [] = []
+numbered_from n (f ∷ fs) = numbered n f ∷ numbered_from (n + 1) fs
+
+-- the first flags that were published are snapshot 1, and so on
+abbrev pub snapshots_of : List Flags → List Numbered
+snapshots_of published = numbered_from 1 published
+
+-- the snapshot is the last of these: its number is their length
+abbrev pub IsLastOf : List Flags → Numbered → Type 0
+IsLastOf published s = (f : Flags) × (last_of published ≡ Some f) × (s ≡ numbered (length published) f)

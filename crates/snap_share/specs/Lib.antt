@@ -1,0 +1,4 @@
+pub mod Fault
+pub mod History
+pub mod Known
+pub mod Lists

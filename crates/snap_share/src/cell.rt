@@ -1,0 +1,88 @@
+//! The two copies of the current stamp.
+use crate::fault::ShareFault;
+use crate::history::ShareName;
+use crate::stamp::Stamp;
+use crossbeam_utils::rule::Unruled;
+use left_right::Absorb;
+use left_right::reader::Reader;
+use left_right::writer::Writer;
+use std::alloc::AllocError;
+use std::cell::Cell;
+use std::rc::Rc;
+
+/// The next stamp, once for each of the two copies. It is put there when nothing can go wrong any more.
+#[derive(Drop)]
+pub struct Places<J: ShareName> {
+    pub(crate) first: Cell<Option<Stamp<J>>>,
+    pub(crate) second: Cell<Option<Stamp<J>>>,
+}
+
+impl<J: ShareName> Places<J> {
+    pub(crate) fn empty() -> Places<J> {
+        Places {
+            first: Cell::new(None),
+            second: Cell::new(None),
+        }
+    }
+}
+
+/// An operation on the copies.
+#[derive(Drop)]
+pub struct Handover<J: ShareName> {
+    pub(crate) places: Rc<Places<J>>,
+}
+
+// A stamp says itself what it is, so the copies need not be told alike. Absorbing never fails: it takes no memory, and an
+// operation without stamps leaves the copy.
+impl<J: ShareName> Absorb<Handover<J>> for Stamp<J> {
+    type State = ();
+
+    ghost state = { λ stamp. tt };
+
+    ghost applied = { λ before operation. tt };
+
+    ghost never_fails = { Unit {0} };
+
+    fn absorb_first(
+        &mut self,
+        operation: &Handover<J>,
+        _other: &Stamp<J>,
+    ) -> Result<(), AllocError> {
+        if let Some(stamp) = operation.places.first.replace(None) {
+            *self = stamp;
+        }
+        Ok(())
+    }
+
+    fn absorb_second(
+        &mut self,
+        operation: Handover<J>,
+        _other: &Stamp<J>,
+    ) -> Result<(), Handover<J>> {
+        if let Some(stamp) = operation.places.second.replace(None) {
+            *self = stamp;
+        }
+        Ok(())
+    }
+}
+
+pub type StampReader<J> = Reader<Stamp<J>, (), Unruled>;
+
+pub type StampWriter<J> = Writer<Stamp<J>, Handover<J>, (), Unruled>;
+
+/// Reads the current stamp. It waits for nobody.
+pub(crate) fn read<J: ShareName>(
+    reader: StampReader<J>,
+) -> (StampReader<J>, Result<Stamp<J>, ShareFault>) {
+    match reader.enter_as::<Unruled>() {
+        Ok(reading) => {
+            let stamp = reading.get().another();
+            let reader = reading.leave();
+            match stamp {
+                Ok(stamp) => (reader, Ok(stamp)),
+                Err(want) => (reader, Err(ShareFault::from(want))),
+            }
+        }
+        Err(reader) => (reader, Err(ShareFault::Closed)),
+    }
+}

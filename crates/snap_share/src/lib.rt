@@ -1,0 +1,29 @@
+//! The current snapshot, for many readers that never go back, and one publisher.
+//!
+//! [`share`] makes a [`Publisher`] and [`ReadSeat`]s. The current flags lie in two copies (`left_right`): reading takes no
+//! lock and waits for nobody, publishing waits for readers that still copy. What a publisher [`Publisher::tell`]s, a seat
+//! can [`ReadSeat::learn`], and from then on sees no less.
+//!
+//! What is proved: publisher, seat and what was told each know a list of published flags, a beginning of one history that
+//! exists in proofs alone (`History`). Publishing puts the flags behind that list, and answers its length. A seat's list only
+//! grows: a snapshot that it answers is the last of its list, with the list's length as its number (`Known`).
+#![tactic(auto)]
+
+mod cell;
+mod current;
+mod fault;
+mod front;
+mod history;
+mod publisher;
+mod seat;
+mod sharing;
+mod stamp;
+
+pub use cell::Handover;
+pub use current::Current;
+pub use fault::ShareFault;
+pub use history::{History, ShareName};
+pub use publisher::{Publisher, Told};
+pub use seat::ReadSeat;
+pub use sharing::share;
+pub use stamp::Stamp;

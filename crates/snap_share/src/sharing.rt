@@ -1,0 +1,102 @@
+//! Sharing flags.
+ghost use Rattle.std.specs.Prelude.{◌≡◌, ◌≢◌, ◌<◌, ◌≤◌, ◌↔◌, ◌∷◌, [], All, vec_len, Err, IfErr, IfOk};
+
+use crate::cell::{Handover, StampWriter};
+use crate::fault::ShareFault;
+use crate::front::Front;
+use crate::history::{History, ShareName};
+use crate::publisher::Publisher;
+use crate::seat::ReadSeat;
+use crate::stamp::Stamp;
+use flag_defs::Flags;
+use left_right::Absorb;
+use left_right::writer::Writer;
+use std::alloc::Global;
+use std::sync::{Arc, Wait};
+
+/// The most seats.
+const MOST_SEATS: usize = 64;
+
+/// Shares flags with number 1: a publisher, and so many seats that know them. Without seats it is refused with NoSeats, with
+/// more than 64 with TooManySeats, then with NoReader where the copies gave no place for a reader. The condition is that
+/// the name is the history's. It waits only to use the copies up where it refuses after making them.
+pub fn share<J: ShareName, R: Wait>(
+    rt: &R,
+    alloc: Global,
+    history: History,
+    flags: Flags,
+    seats: usize,
+) -> Result<(Publisher<J>, Vec<ReadSeat<J>>), ShareFault>
+where
+    Stamp<J>: Absorb<Handover<J>, State = ()>,
+    requires { history.seen.book ≡ J.book }
+    ensures none { (result ≡ Err ShareFault.NoSeats) ↔ (seats ≡ 0) }
+    ensures many { (result ≡ Err ShareFault.TooManySeats) ↔ (64 < seats) }
+    ensures published { IfOk result (λ r. r.0 ≡ flags ∷ []) }
+    ensures seats { IfOk result (λ r. (vec_len r.1 ≡ seats) × All (λ seat. seat ≡ flags ∷ []) r.1.items) }
+{
+    if seats == 0 {
+        return Err(ShareFault::NoSeats);
+    }
+    if seats > MOST_SEATS {
+        return Err(ShareFault::TooManySeats);
+    }
+    share_among(rt, alloc, history, flags, seats)
+}
+
+/// Shares flags among a right number of seats.
+#[tactic(auto, using(crate::proofs::Numbers::last_of_snoc))]
+fn share_among<J: ShareName, R: Wait>(
+    rt: &R,
+    alloc: Global,
+    history: History,
+    flags: Flags,
+    seats: usize,
+) -> Result<(Publisher<J>, Vec<ReadSeat<J>>), ShareFault>
+where
+    Stamp<J>: Absorb<Handover<J>, State = ()>,
+    requires name { history.seen.book ≡ J.book }
+    requires count { (0 < seats) × (seats ≤ 64) }
+    ensures other { IfErr result (λ fault. (fault ≢ ShareFault.NoSeats) × (fault ≢ ShareFault.TooManySeats)) }
+    ensures published { IfOk result (λ r. r.0 ≡ flags ∷ []) }
+    ensures seats { IfOk result (λ r. (vec_len r.1 ≡ seats) × All (λ seat. seat ≡ flags ∷ []) r.1.items) }
+{
+    let first = Arc::new(alloc, flags)?;
+    let second = Arc::try_clone(&first)?;
+    let (head, mut front) = history.named::<J>();
+    if !front.add(&head, &first) {
+        return Err(ShareFault::NoReader);
+    }
+    let first = Stamp::of(first, front.again());
+    let second = Stamp::of(second, front.again());
+    let writer: StampWriter<J> = Writer::new(alloc, first, second, seats)?;
+    match seated(alloc, &writer, &front, seats) {
+        Ok(all) => Ok((Publisher::of(writer, head, front), all)),
+        Err(fault) => {
+            writer.take(rt);
+            Err(fault)
+        }
+    }
+}
+
+/// So many seats that know this much.
+fn seated<J: ShareName>(
+    alloc: Global,
+    writer: &StampWriter<J>,
+    known: &Front<J>,
+    seats: usize,
+) -> Result<Vec<ReadSeat<J>>, ShareFault>
+where
+    Stamp<J>: Absorb<Handover<J>, State = ()>,
+    ensures other { IfErr result (λ fault. (fault ≢ ShareFault.NoSeats) × (fault ≢ ShareFault.TooManySeats)) }
+    ensures seats { IfOk result (λ all. (vec_len all ≡ seats) × All (λ seat. seat ≡ known.now) all.items) }
+{
+    let mut all = Vec::with_capacity(alloc, seats)?;
+    for _seat in 0..seats {
+        let Ok(reader) = writer.factory().reader() else {
+            return Err(ShareFault::NoReader);
+        };
+        all.push(ReadSeat::of(reader, known.again()))?;
+    }
+    Ok(all)
+}

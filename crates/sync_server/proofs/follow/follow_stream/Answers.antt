@@ -1,0 +1,69 @@
+use Rattle.std.proofs.Common.{ℕ, ◌<◌, List, [], ◌++◌, length, arith, sym, ap, subst, ◌∙◌, append-nil, append_assoc}
+use Rattle.snap_core.specs.Hub.{Numbered}
+use Rattle.sync_server.proofs.Followed.{consumes_both, consumes_none, first_of_nothing, refilled, stands_first, works_first}
+use Rattle.sync_server.proofs.follow.follow_stream.Goals as goal
+
+pub returns-in_default : goal.returns-in_default
+returns-in_default g c = ([], [], consumes_none (g.I.Inlet.bytes c.args.inlet.now), sym (append-nil (g.S.Sink.taken c.args.sink.now)), first_of_nothing)
+
+pub loop-turn-init : goal.loop-turn-init
+loop-turn-init g c = (
+  [],
+  [],
+  consumes_none (g.I.Inlet.bytes c.args.inlet.now),
+  sym (append-nil (g.S.Sink.taken c.args.sink.now)),
+  stands_first c.new-feed.result c.new-feed.ensures.fed,
+  works_first c.new-feed.result c.new-feed.ensures.fresh,
+  c.requires,
+  omega (arith, c.in-Ok.ensures.len, c.in-Ok.buffer.ok.0),
+)
+
+pub take_turn-requires-clause-whole : goal.take_turn-requires-clause-whole
+take_turn-requires-clause-whole g c = c.loop-turn.invariant.6
+
+pub take_turn-requires-clause-works : goal.take_turn-requires-clause-works
+take_turn-requires-clause-works g c = c.loop-turn.invariant.5
+
+pub take_turn-requires-clause-room : goal.take_turn-requires-clause-room
+take_turn-requires-clause-room g c = subst (λ (l : List ℕ). 0 < length l) (sym c.deref_mut.ensures.value) c.loop-turn.invariant.7
+
+pub returns-in-Ends : goal.returns-in-Ends
+returns-in-Ends g c =
+    let i = c.loop-turn.invariant in
+    let s = c.in-Ends.ensures.steps in (
+      i.0 ++ s.0,
+      i.1 ++ s.1,
+      consumes_both (g.I.Inlet.bytes c.args.inlet.now) (g.I.Inlet.bytes c.loop-turn.inlet) (g.I.Inlet.bytes c.take_turn.new.inlet) i.0 s.0 i.2 s.2,
+      s.3 ∙ ap (λ (l : List Numbered). l ++ s.1) i.3 ∙ append_assoc (g.S.Sink.taken c.args.sink.now) i.1 s.1,
+      s.4 i.0 i.1 i.4,
+    )
+
+pub returns-in-Full : goal.returns-in-Full
+returns-in-Full g c =
+    let i = c.loop-turn.invariant in
+    let s = c.in-Full.ensures.steps in (
+      i.0 ++ s.0,
+      i.1 ++ s.1,
+      consumes_both (g.I.Inlet.bytes c.args.inlet.now) (g.I.Inlet.bytes c.loop-turn.inlet) (g.I.Inlet.bytes c.take_turn.new.inlet) i.0 s.0 i.2 s.2,
+      s.3 ∙ ap (λ (l : List Numbered). l ++ s.1) i.3 ∙ append_assoc (g.S.Sink.taken c.args.sink.now) i.1 s.1,
+      s.4 i.0 i.1 i.4,
+    )
+
+pub loop-turn-preserved : goal.loop-turn-preserved
+loop-turn-preserved g c =
+    let i = c.loop-turn.invariant in
+    let s = c.in-GoesOn.ensures.steps in
+    let t = s.4 i.0 i.1 i.4 in
+    let room : 0 < length c.deref_mut.result.now = subst (λ (l : List ℕ). 0 < length l) (sym c.deref_mut.ensures.value) i.7 in (
+      i.0 ++ s.0,
+      i.1 ++ s.1,
+      consumes_both (g.I.Inlet.bytes c.args.inlet.now) (g.I.Inlet.bytes c.loop-turn.inlet) (g.I.Inlet.bytes c.take_turn.new.inlet) i.0 s.0 i.2 s.2,
+      s.3 ∙ ap (λ (l : List Numbered). l ++ s.1) i.3 ∙ append_assoc (g.S.Sink.taken c.args.sink.now) i.1 s.1,
+      t.0,
+      t.1,
+      t.2,
+      refilled c.loop-turn.buffer.len c.take_turn.new.buffer c.loop-turn.buffer.items (subst (λ (n : ℕ). 0 < n) (sym c.loop-turn.buffer.ok.0) i.7) (subst (λ (n : ℕ). 0 < n) (sym c.take_turn.ensures.room) room),
+    )
+
+pub returns : goal.returns
+returns g c = let i = c.loop-turn.invariant in (i.0, i.1, i.2, i.3, (i.4.1, i.4.2))

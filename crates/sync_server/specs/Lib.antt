@@ -1,0 +1,4 @@
+pub mod End
+pub mod Ends
+pub mod Follows
+pub mod Served

@@ -1,0 +1,113 @@
+//! Following a stream of snapshots.
+ghost use Rattle.std.specs.Prelude.{◌≡◌, ℕ, ◌<◌, List, [], ◌++◌, false, length, Option};
+ghost use Rattle.std.specs.Bool.{MatchBool};
+ghost use Rattle.snap_core.specs.Hub.{Numbered};
+ghost use Rattle.sync_frames.specs.Feed.{HasBeenFed, has_failed, snapshots_view};
+ghost use Rattle.sync_server.specs.Follows.{AtEnd, Follows, LeadsTo, Stands, Steps};
+
+use crate::end::{ReadEnd, end_by};
+use crate::inlet::Inlet;
+use crate::sink::Sink;
+use snap_core::Snapshot;
+use std::alloc::Global;
+use sync_frames::Feed;
+
+/// The most that one read takes.
+const READ_AT_MOST: usize = 65_536;
+
+/// Where a step leads.
+enum Step {
+    GoesOn,
+    Ends(ReadEnd),
+    Full,
+}
+
+/// Hands the snapshots of a stream to the sink, each with the read that has the last byte of its frame, one read a turn,
+/// until the input ends, a frame fault shows, a read fails, memory runs out, or `limit` turns were taken; None where the
+/// sink did not take a snapshot. A fault that the bytes show ends the reading before another read. The condition is an
+/// inlet that is not broken.
+pub fn follow_stream<I: Inlet, S: Sink>(
+    alloc: Global,
+    inlet: &mut I,
+    sink: &mut S,
+    limit: u64,
+) -> Option<ReadEnd>
+    requires { I.is_broken inlet.old ≡ false }
+    ensures { Follows (I.bytes inlet.old) (I.bytes inlet.new) (I.is_broken inlet.new) (S.taken sink.old) (S.taken sink.new) result }
+{
+    let mut feed = Feed::new(alloc);
+    let Ok(mut buffer) = vec![in alloc; 0u8; READ_AT_MOST] else {
+        return Some(ReadEnd::WantOfMemory);
+    };
+    for _turn in 0..limit {
+        match take_turn(alloc, inlet, sink, &mut feed, &mut buffer) {
+            Step::GoesOn => {}
+            Step::Ends(end) => return Some(end),
+            Step::Full => return None,
+        }
+    }
+    Some(ReadEnd::Limit)
+}
+
+/// One read and what it gives.
+fn take_turn<I: Inlet, S: Sink>(
+    alloc: Global,
+    inlet: &mut I,
+    sink: &mut S,
+    feed: &mut Feed,
+    buffer: &mut [u8],
+) -> Step
+    requires whole { I.is_broken inlet.old ≡ false }
+    requires works { has_failed feed.old ≡ false }
+    requires room { 0 < length buffer.old }
+    ensures steps { Steps (I.bytes inlet.old) (I.bytes inlet.new) (I.is_broken inlet.new) feed.old feed.new (S.taken sink.old) (S.taken sink.new) result }
+    ensures room { length buffer.new ≡ length buffer.old }
+{
+    match inlet.read(buffer) {
+        Ok(0) => Step::Ends(end_of_input(feed)),
+        Ok(n) => take_piece(alloc, sink, feed, &buffer[..n]),
+        Err(_) => Step::Ends(ReadEnd::ReadFault),
+    }
+}
+
+/// Takes a piece of the stream.
+fn take_piece<S: Sink>(alloc: Global, sink: &mut S, feed: &mut Feed, piece: &[u8]) -> Step
+    requires { has_failed feed.old ≡ false }
+    ensures { (more : List Numbered) × (S.taken sink.new ≡ S.taken sink.old ++ more) × ((stream : List ℕ) (ss : List Numbered) (left : Option (List ℕ)) → Stands feed.old stream ss → LeadsTo feed.new (stream ++ piece.now) (ss ++ more) left false result) }
+{
+    match feed.feed(alloc, piece) {
+        Ok(snapshots) => {
+            if !hand_on(sink, snapshots) {
+                return Step::Full;
+            }
+            match feed.feed(alloc, &[]) {
+                Ok(_none) => Step::GoesOn,
+                Err(fault) => Step::Ends(end_by(fault)),
+            }
+        }
+        Err(fault) => Step::Ends(end_by(fault)),
+    }
+}
+
+/// Hands snapshots on, and says whether all were taken.
+fn hand_on<S: Sink>(sink: &mut S, snapshots: Vec<Snapshot>) -> bool
+    ensures { (taken : List Numbered) × (left : List Numbered) × (snapshots_view snapshots.items ≡ taken ++ left) × (S.taken sink.new ≡ S.taken sink.old ++ taken) × MatchBool result (left ≡ []) (Unit {0}) }
+{
+    for snapshot in snapshots {
+        if !sink.take(snapshot) {
+            return false;
+        }
+    }
+    true
+}
+
+/// How the reading ends at the end of the input.
+fn end_of_input(feed: &Feed) -> ReadEnd
+    ensures { (stream : List ℕ) → HasBeenFed feed.now stream → AtEnd stream result }
+{
+    if feed.done() {
+        ReadEnd::Ended
+    } else {
+        ReadEnd::EndedInside
+    }
+}

@@ -1,0 +1,28 @@
+//! The engines of a stream of snapshots.
+//!
+//! [`serve_stream`] writes frames of the current snapshot to an [`flag_text::Outlet`] as numbers come; [`follow_stream`]
+//! reads frames from an [`Inlet`] and hands each snapshot to a [`Sink`] when its last byte has come; [`read_stream`] is the
+//! case with a list. None of them knows of sockets or threads.
+//!
+//! What is proved, over the definitions in `specs/`:
+//! - what [`serve_stream`] wrote is whole frames of snapshots that its source knows, with rising numbers, as many as it
+//!   says; where the writer failed a part of one more may follow (`Served`).
+//! - what [`follow_stream`] and [`read_stream`] hand on is all that is whole in the bytes that they read, and their
+//!   [`ReadEnd`] says how those bytes and the reading ended (`Ends`, `Follows`).
+#![tactic(auto)]
+
+mod end;
+mod follow;
+mod inlet;
+mod next;
+mod read;
+mod serve;
+mod sink;
+
+pub use end::{ReadEnd, StreamEnd};
+pub use follow::follow_stream;
+pub use inlet::{Inlet, ReadInlet};
+pub use next::NextNumber;
+pub use read::read_stream;
+pub use serve::serve_stream;
+pub use sink::Sink;

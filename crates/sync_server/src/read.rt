@@ -1,0 +1,41 @@
+//! Reading a stream into a list.
+ghost use Rattle.std.specs.Prelude.{◌≡◌, false};
+ghost use Rattle.sync_frames.specs.Feed.{snapshots_view};
+ghost use Rattle.sync_server.specs.Ends.{ReadsTo};
+
+use crate::end::ReadEnd;
+use crate::follow::follow_stream;
+use crate::inlet::Inlet;
+use crate::sink::Sink;
+use snap_core::Snapshot;
+use std::alloc::Global;
+
+/// The snapshots that were taken, as a list.
+#[derive(Drop)]
+struct Collected {
+    snapshots: Vec<Snapshot>,
+}
+
+impl Sink for Collected {
+    ghost use Rattle.sync_frames.specs.Feed.{snapshots_view};
+
+    ghost taken = { λ c. snapshots_view c.snapshots.items };
+
+    fn take(&mut self, snapshot: Snapshot) -> bool {
+        self.snapshots.push(snapshot).is_ok()
+    }
+}
+
+/// Reads the snapshots of a stream, as [`follow_stream`] hands them on. They are those of the bytes that were read; at
+/// WantOfMemory, the first of them. The condition is an inlet that is not broken.
+pub fn read_stream<I: Inlet>(alloc: Global, inlet: &mut I, limit: u64) -> (Vec<Snapshot>, ReadEnd)
+    requires { I.is_broken inlet.old ≡ false }
+    ensures { ReadsTo (I.bytes inlet.old) (I.bytes inlet.new) (I.is_broken inlet.new) (snapshots_view result.0.items) result.1 }
+{
+    let snapshots = Vec::new(alloc);
+    let mut collected = Collected { snapshots };
+    match follow_stream(alloc, inlet, &mut collected, limit) {
+        Some(end) => (collected.snapshots, end),
+        None => (collected.snapshots, ReadEnd::WantOfMemory),
+    }
+}
