@@ -3,6 +3,7 @@ pub mod Calls
 pub mod Counts
 pub mod Fault
 pub mod Lines
+pub mod Listing
 pub mod Page
 pub mod PageOrder
 pub mod Printing

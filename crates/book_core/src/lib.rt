@@ -17,6 +17,7 @@ mod exposure;
 mod fault;
 mod laws;
 mod line;
+mod listing;
 mod noted;
 mod page;
 mod pages;

@@ -2,7 +2,6 @@
 use Rattle.std.proofs.Common.{◌≡◌, ℕ, ◌+◌, Bool, true, false, cond, List, [], ◌∷◌, length, Some, None, Ordering, Ok, Err, IsOk, ◌≤◌, ◌≢◌, ◌⊎◌, inl, inr, nat_lt, unwrap_or, refl, sym, ap, ◌∙◌, subst, arith}
 use Rattle.std.specs.declared.cmp.Ordering.TheVariants.{Less, Equal, Greater}
 use Rattle.std.specs.Ordering.{is_eq, match_ordering}
-use Rattle.std.specs.Cmp.{IsTotalOrder}
 use Rattle.std.specs.Cmp.Lexicographic.{nat_list_cmp_total}
 use Rattle.std.specs.List.{AllByRecursion}
 use Rattle.std.specs.List.Sorted.{IsStrictlySortedBy}
@@ -12,7 +11,7 @@ use Rattle.std.specs.BTreeSet.{insert_key}
 use Rattle.std.proofs.lemmas.List.Sums.{sum_by-cons}
 use Rattle.book_core.specs.Page.{PageName, bytes_cmp, page_cmp}
 use Rattle.book_core.specs.PageOrder.{pages_total}
-use Rattle.book_core.specs.Book.{Inputs, Contents, most_inputs, most_bytes, is_among, input_count, inputs_on, page_reply, reply_to, with_input, IsBook}
+use Rattle.book_core.specs.Book.{Inputs, Contents, most_inputs, most_bytes, is_among, input_count, inputs_on, reply_to, with_input, IsBook}
 use Rattle.book_core.specs.declared.noted.Noted.TheVariants.{New, Again}
 use Rattle.book_core.specs.declared.fault.BookFault.TheVariants.{WantOfMemory, InputTooLong, PageFull, LastCall, Stranger}
 use Rattle.book_core.proofs.Ordered.{length-insert_key, insert_key-found, below_all}

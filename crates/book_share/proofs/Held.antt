@@ -1,11 +1,11 @@
 -- Which inputs a book holds once an input was noted.
-use Rattle.std.proofs.Common.{◌≡◌, ℕ, ◌+◌, Bool, true, false, ◌&&◌, ◌||◌, cond, List, [], ◌∷◌, Option, Some, Ordering, unwrap_or, ⊎_elim, refl, sym, ap, ap₂, ◌∙◌, subst, arith}
+use Rattle.std.proofs.Common.{◌≡◌, ℕ, ◌+◌, Bool, true, false, ◌&&◌, ◌||◌, cond, List, [], ◌∷◌, Option, Some, Ordering, unwrap_or, ⊎_elim, refl, sym, ap, ap₂, ◌∙◌}
 use Rattle.std.specs.declared.cmp.Ordering.TheVariants.{Less, Equal, Greater}
 use Rattle.std.specs.Ordering.{is_eq, match_ordering, ordering_reverse}
 use Rattle.std.specs.Cmp.{IsTotalOrder, Equal-is, alike_right}
 use Rattle.std.specs.Cmp.Lexicographic.{nat_list_cmp_total}
 use Rattle.std.specs.List.{list_any}
-use Rattle.std.proofs.lemmas.Bool.{cases_Bool, true≢false}
+use Rattle.std.proofs.lemmas.Bool.{cases_Bool}
 use Rattle.std.proofs.lemmas.Slice.Eq.{bytes_eq-Decides}
 use Rattle.std.specs.Map.{lookup}
 use Rattle.std.specs.Str.{bytes_eq}
@@ -16,9 +16,9 @@ use Rattle.book_core.specs.Page.{PageName, bytes_cmp, page_cmp, page_eq}
 use Rattle.book_core.specs.PageOrder.{pages_total}
 use Rattle.book_core.specs.Book.{Inputs, Contents, is_among, inputs_on, with_input}
 use Rattle.book_core.proofs.Noting.{is_among-by_order}
-use Rattle.book_share.specs.Told.{Told, is_new, tells, told, was_told}
+use Rattle.book_share.specs.Told.{told}
 use Rattle.book_share.specs.Sealed.{count_if, times_new, times_held}
-use Rattle.book_core.specs.declared.noted.Noted.TheVariants.{New, Again}
+use Rattle.book_core.specs.declared.noted.Noted.TheVariants.{New}
 
 or_same : (a b : Bool) → (a || b) ≡ (a || (a || b))
 or_same true b = refl
@@ -98,7 +98,7 @@ same_page book page q same =
     let tied : page_cmp q page ≡ Equal = (Equal-is (page_cmp q page)).0 same in
     ap (λ o. unwrap_or o []) (lookup_alike book page q (λ x. pages_total.congr q page x tied))
 
-is_among-insert : (inputs : Inputs) (input other : List ℕ) → is_among other (insert_key bytes_cmp inputs input) ≡ (bytes_eq other input || is_among other inputs)
+pub is_among-insert : (inputs : Inputs) (input other : List ℕ) → is_among other (insert_key bytes_cmp inputs input) ≡ (bytes_eq other input || is_among other inputs)
 is_among-insert inputs input other =
     sym (is_among-by_order other (insert_key bytes_cmp inputs input)) ∙ any-insert_key nat_list_cmp_total inputs input other ∙ ap₂ (λ a b. a || b) (is_eq-slice_cmp other input) (is_among-by_order other inputs)
 

@@ -1,16 +1,14 @@
 -- A book that replays what was told is what was told.
-use Rattle.std.proofs.Common.{◌≡◌, ℕ, ◌+◌, ◌<◌, ◌≤◌, Bool, true, false, ◌&&◌, ◌||◌, List, [], ◌∷◌, ◌++◌, map, append-nil, append_assoc, take, length, get_or, add-one, nat_lt, Ok, refl, sym, ap, ap₂, ◌∙◌, subst, arith}
+use Rattle.std.proofs.Common.{◌≡◌, ℕ, ◌+◌, ◌<◌, ◌≤◌, Bool, true, false, ◌&&◌, ◌||◌, List, [], ◌∷◌, ◌++◌, map, append-nil, append_assoc, take, length, get_or, add-one, Ok, refl, sym, ap, ◌∙◌, subst, arith}
 use Rattle.std.proofs.Math.Seq.{take-suc}
 use Rattle.std.proofs.lemmas.List.{map-append}
 use Rattle.std.proofs.lemmas.List.Elements.{All-append, All-push, All-head, All-tail}
 use Rattle.std.proofs.lemmas.List.Sums.{sum_by-cons}
-use Rattle.std.specs.Str.{bytes_eq}
 use Rattle.std.specs.Prelude.{All, sum_by}
-use Rattle.book_core.specs.Page.{PageName, page_eq}
-use Rattle.book_core.specs.Book.{Contents, most_bytes, most_inputs, is_among, inputs_on, reply_to, with_input}
-use Rattle.book_core.specs.declared.noted.Noted.{Noted}
+use Rattle.book_core.specs.Page.{PageName}
+use Rattle.book_core.specs.Book.{Contents, is_among, inputs_on, reply_to, with_input}
 use Rattle.book_core.specs.declared.noted.Noted.TheVariants.{New, Again}
-use Rattle.book_share.specs.Told.{Told, told, is_new, news_in, news_of, tells, was_told, receipt_view}
+use Rattle.book_share.specs.Told.{Told, told, is_new, news_of, tells, was_told, receipt_view}
 use Rattle.book_share.specs.Sealed.{count_if, times_new, times_held, Gains, Keeps, HasAgain, IsToldBook, all_told}
 use Rattle.book_share.specs.declared.seat.Receipt.{Receipt}
 use Rattle.book_share.proofs.Counting.{reply_new, reply_again}
@@ -56,11 +54,11 @@ pub gains_more : (rs : List Receipt) (i : ℕ) (r : Receipt) (old mid new : Cont
 gains_more rs i r old mid new within at a b =
     subst (λ l. Gains l old new) (sym (views_more rs i r within at)) (gains_both (map receipt_view (take i rs)) (receipt_view r ∷ []) old mid new a b)
 
-all_told-append : (xs ys : List (List Told)) → all_told (xs ++ ys) ≡ all_told xs ++ all_told ys
+pub all_told-append : (xs ys : List (List Told)) → all_told (xs ++ ys) ≡ all_told xs ++ all_told ys
 all_told-append [] ys = refl
 all_told-append (x ∷ xs) ys = ap (λ l. x ++ l) (all_told-append xs ys) ∙ sym (append_assoc x (all_told xs) (all_told ys))
 
-seats_more : (ss : List (List Told)) (i : ℕ) (calls : List Told) → i < length ss → calls ≡ get_or ss i calls → all_told (take (i + 1) ss) ≡ all_told (take i ss) ++ calls
+pub seats_more : (ss : List (List Told)) (i : ℕ) (calls : List Told) → i < length ss → calls ≡ get_or ss i calls → all_told (take (i + 1) ss) ≡ all_told (take i ss) ++ calls
 seats_more ss i calls within at =
     let more : take (i + 1) ss ≡ take i ss ++ calls ∷ [] = ap (λ n. take n ss) (add-one i) ∙ take-suc ss i calls within ∙ ap (λ x. take i ss ++ x ∷ []) (sym at) in
     ap all_told more ∙ all_told-append (take i ss) (calls ∷ []) ∙ ap (λ l. all_told (take i ss) ++ l) (append-nil calls)

@@ -1,4 +1,7 @@
+pub mod Asked
+pub mod DriveFault
+pub mod Driven
 pub mod Fault
-pub mod Told
 pub mod Limits
 pub mod Sealed
+pub mod Told

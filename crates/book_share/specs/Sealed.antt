@@ -1,5 +1,5 @@
 -- What a sealed book is: all that its seats were told, and nothing else.
-use Rattle.std.specs.Prelude.{◌≡◌, ℕ, ◌+◌, List, [], ◌∷◌, ◌++◌, Bool, true, false, ◌&&◌, if◌then◌else◌, All, sum_by}
+use Rattle.std.specs.Prelude.{◌≡◌, ℕ, ◌+◌, List, [], ◌∷◌, ◌++◌, Bool, true, false, ◌&&◌, All, sum_by}
 use Rattle.book_core.specs.Page.{PageName, page_eq}
 use Rattle.book_core.specs.Book.{Inputs, Contents, is_among, inputs_on, input_count}
 use Rattle.book_share.specs.Told.{Told, is_new, news_of, tells, was_told}

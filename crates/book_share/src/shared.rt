@@ -15,7 +15,7 @@ use std::alloc::{AllocError, Global};
 use std::sync::{Mutex, Wait};
 
 /// The most bytes that an input has.
-const MOST_BYTES: usize = 1024;
+pub(crate) const MOST_BYTES: usize = 1024;
 
 /// A book that threads share. Each thread notes through a seat of its own.
 #[derive(Drop)]

@@ -1,4 +1,4 @@
-use Rattle.std.proofs.Common.{map, take}
+use Rattle.std.proofs.Common.{take}
 use Rattle.std.specs.Prelude.{All}
 use Rattle.book_share.specs.Sealed.{Keeps, HasAgain, all_told}
 use Rattle.book_share.proofs.replay.look_up_all.Given as goal

@@ -1,4 +1,4 @@
-use Rattle.std.proofs.Common.{◌≡◌, true, map, subst, sym, ap, ◌∙◌, rules, tests}
+use Rattle.std.proofs.Common.{◌≡◌, true, map, subst, ap, ◌∙◌, rules, tests}
 use Rattle.book_share.specs.Told.{receipt_view}
 use Rattle.book_share.specs.Sealed.{Gains}
 use Rattle.book_share.proofs.Replaying.{gains_none, gains_seats}

@@ -1,4 +1,4 @@
-use Rattle.std.proofs.Common.{map, take}
+use Rattle.std.proofs.Common.{take}
 use Rattle.book_share.specs.Sealed.{Gains, all_told}
 use Rattle.book_share.proofs.replay.replay_all.Given as goal
 

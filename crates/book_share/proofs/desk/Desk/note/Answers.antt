@@ -1,4 +1,4 @@
-use Rattle.std.proofs.Common.{◌≡◌, sym, ap, ◌∙◌, arith}
+use Rattle.std.proofs.Common.{arith}
 use Rattle.book_share.proofs.Counting.{still_counted, refused_as}
 use Rattle.book_share.proofs.desk.Desk.note.Goals as goal
 

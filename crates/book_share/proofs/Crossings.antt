@@ -1,0 +1,108 @@
+-- Which values several workers may read at once.
+use mathlib.Core.List.{[], ◌∷◌}
+use mir.Syntax.{Sym}
+use denote.Ref.{NamedLft, ShrRef}
+use denote.Struct.Field.{row_field}
+use denote.Struct.Tuple.{TupleAt, type_at}
+use denote.RattleType.{RattleType}
+use denote.Param.Send.{IsSend, IsSync, shr_sync, view_send, sendable}
+use denote.Param.SendFields.{as_row_sync, declared_send, declared_sync}
+use Rattle.std.proofs.Crossing.{crosses}
+use Rattle.std.proofs.MapsCrossing.{crosses as maps}
+use Rattle.std.specs.contracts.alloc.Global as Global
+use Rattle.std.specs.contracts.boxed.Box as Box
+use Rattle.std.specs.contracts.impls.GlobalAllocator.TheImpl as memory
+use Rattle.std.specs.contracts.option.Option as Option
+use Rattle.std.specs.contracts.vec.Vec as Vec
+use Rattle.flag_text.proofs.tree.Tree.TheLaws.TheKnot.{crosses as trees}
+use Rattle.flag_text.specs.contracts.tree.Tree as Tree
+use Rattle.logic_ast.proofs.node.Node.TheLaws.TheKnot.{sync-Node}
+use Rattle.logic_ast.specs.contracts.node.Bucket as Bucket
+use Rattle.logic_ast.specs.contracts.node.Node as Node
+use Rattle.logic_ast.specs.contracts.operator.Operator as Operator
+use Rattle.logic_ast.specs.contracts.expr.Expr as Expr
+use Rattle.flag_defs.specs.contracts.flag.Flag as Flag
+use Rattle.flag_defs.specs.contracts.flags.Flags as Flags
+use Rattle.flag_resolve.specs.contracts.kind.Kind as Kind
+use Rattle.book_core.specs.contracts.book.Book as Book
+use Rattle.std.specs.declared.sync.ledger.Ledger as Ledger
+use Rattle.book_share.specs.declared.gate.Gate as Gate
+use Rattle.book_share.specs.declared.name.BookName as BookName
+use Rattle.book_share.specs.contracts.desk.Desk as Desk
+use Rattle.book_share.specs.contracts.desk.Desk.TheInside as Inside
+use Rattle.std.proofs.sync.ledger.Book.TheSendSync as ledger
+use Rattle.std.proofs.sync.ledger.Share.TheSendSync as share
+use Rattle.book_share.specs.contracts.shared.SharedBook as SharedBook
+use Rattle.book_share.specs.contracts.worker.Round as Round
+use Rattle.book_share.specs.contracts.ask.Ask as Ask
+
+pub Tree-sync : IsSync Tree.the_row
+Tree-sync = search (sendable, crosses, trees) depth 40
+
+Tree-parts-sync : IsSync (Tree.the_field).row
+Tree-parts-sync = search (sendable, crosses, trees) depth 40
+
+Operator-sync : IsSync Operator.the_row
+Operator-sync = search (sendable, crosses) depth 120 fits 1000000
+
+Operator-parts-sync : IsSync (Operator.the_field).row
+Operator-parts-sync = search (sendable, crosses) depth 120 fits 1000000
+
+boxed-sync : (h : RattleType) → IsSync h → IsSync (Option.the_row (Box.the_row h Global.the_row memory.ghosts))
+boxed-sync h s = search (sendable, crosses) depth 40
+
+bucket-sync : (h : RattleType) → IsSync h → IsSync (Bucket.the_row h)
+bucket-sync h s = search (sendable, crosses) depth 40
+
+buckets-sync : (h : RattleType) → IsSync h → IsSync (Vec.the_row (Bucket.the_row h) Global.the_row memory.ghosts)
+buckets-sync h s = let one = bucket-sync h s in search (sendable, crosses) depth 40
+
+Node-parts-sync : IsSync (Node.the_field).row
+Node-parts-sync = sync-Node Tree-parts-sync (λ h s. search (sendable, crosses) depth 40) Operator-parts-sync (search (sendable, crosses) depth 40) boxed-sync buckets-sync
+
+pub Node-sync : IsSync Node.the_row
+Node-sync = search (sendable, crosses, Node-parts-sync) depth 40
+
+pub Expr-sync : IsSync Expr.the_row
+Expr-sync = declared_sync Expr.the_type (Node-sync, tt)
+
+pub Flag-sync : IsSync Flag.the_row
+Flag-sync = search (sendable, crosses, Tree-sync, Expr-sync) depth 40
+
+pub Flags-sync : IsSync Flags.the_row
+Flags-sync = search (sendable, crosses, Flag-sync) depth 40
+
+Kind-sync : IsSync Kind.the_row
+Kind-sync = search (sendable, crosses) depth 40
+
+pub Ask-sync : IsSync Ask.the_row
+Ask-sync = declared_sync Ask.the_type (search (sendable, crosses) depth 40, (Kind-sync, (Tree-sync, (Tree-sync, (search (sendable, crosses) depth 40, tt)))))
+
+pub Book-send : IsSend Book.the_row
+Book-send = search (sendable, crosses, maps) depth 60
+
+-- three captures that may be read at once may be captured by one closure
+captured_sync : (ν : Sym) (A B C : RattleType) → IsSync A → IsSync B → IsSync C → IsSync (TupleAt ν (A ∷ B ∷ C ∷ []))
+captured_sync ν A B C a b c = declared_sync (type_at ν (A ∷ B ∷ C ∷ [])) (as_row_sync (row_field A) a, (as_row_sync (row_field B) b, (as_row_sync (row_field C) c, tt)))
+
+Global-sync : IsSync Global.the_row
+Global-sync = search (sendable, crosses) depth 20
+
+module _ (T : RattleType) (g : BookName.Ghosts T.Denot) (l : Ledger.Ghosts T.Denot) (send : IsSend T) (sync : IsSync T) where
+  pub Desk-send : IsSend (Desk.the_row T g l)
+  Desk-send = view_send _ _ _ _ _ (declared_send (Inside.the_type T g l) (search (sendable, Book-send) depth 20, (ledger.the_send T l, (share.the_send T l, tt))))
+
+  pub SharedBook-sync : IsSync (SharedBook.the_row T g l)
+  SharedBook-sync = declared_sync (SharedBook.the_type T g l) (search (sendable, crosses, Desk-send) depth 40, (search (sendable, crosses) depth 40, tt))
+
+  module _ (κ : NamedLft) (G : RattleType) (h : Gate.Ghosts G.Denot) (shared : IsSync G) where
+    pub round_sync : IsSync (Round.the_row κ T G g h l)
+    round_sync =
+        declared_sync (Round.the_type κ T G g h l)
+        (search (sendable, crosses, SharedBook-sync) depth 40, (search (sendable, crosses, Flags-sync) depth 40, (search (sendable, crosses, Ask-sync) depth 40, (search (sendable, crosses) depth 40, (search (sendable, crosses) depth 40, tt)))))
+
+    -- the captures of a worker's closure: the handle, the allocator and the round
+    pub worker_sync : (ν : Sym) (r a w : NamedLft) (R : RattleType) → IsSync R → IsSync (TupleAt ν (ShrRef r.mir r.lft R ∷ ShrRef a.mir a.lft Global.the_row ∷ ShrRef w.mir w.lft (Round.the_row κ T G g h l) ∷ []))
+    worker_sync ν r a w R s =
+        captured_sync ν (ShrRef r.mir r.lft R) (ShrRef a.mir a.lft Global.the_row) (ShrRef w.mir w.lft (Round.the_row κ T G g h l))
+        (shr_sync r.mir r.lft R s) (shr_sync a.mir a.lft Global.the_row Global-sync) (shr_sync w.mir w.lft (Round.the_row κ T G g h l) round_sync)

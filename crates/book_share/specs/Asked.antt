@@ -1,0 +1,84 @@
+-- What asks are answered, and what they reach.
+use Rattle.std.specs.Prelude.{ℕ, List, [], ◌∷◌, ◌++◌, length, count_by, sum_by, Bool, ◌&&◌, nat_lt, if◌then◌else◌, Option, Some, None, Result, Ok, Err, option_and_then, string_bytes}
+use Rattle.std.specs.Map.{lookup}
+use Rattle.std.specs.Str.{bytes_eq}
+use Rattle.flag_text.specs.View.{view}
+use Rattle.flag_defs.specs.Document.{Definitions}
+use Rattle.flag_defs.specs.Flag.{targeting_in}
+use Rattle.logic_ast.specs.Expression.{Expression}
+use Rattle.logic_ast.specs.Writing.{by_text_at}
+use Rattle.logic_ast.specs.declared.fault.LogicFault.{LogicFault}
+use Rattle.logic_eval.specs.Run.{Reach}
+use Rattle.flag_resolve.specs.Resolution.{resolution_of}
+use Rattle.flag_resolve.specs.Resolved.{Resolved}
+use Rattle.book_core.specs.Book.{most_bytes}
+use Rattle.book_core.specs.Page.{PageName, page_eq}
+use Rattle.book_share.specs.declared.ask.Ask.{Ask}
+
+-- what the flags resolve an ask to
+unfoldable pub resolved : Definitions → Ask → Resolved
+resolved flags a =
+    resolution_of (Some flags) (record { want = a.want; default = view a.default })
+    (record { context = view a.context; flag = string_bytes a.key; moment = a.moment })
+
+-- an input that is to be noted on a page
+pub record Mention : Type 0 where
+  pub page : PageName
+  pub input : List ℕ
+
+abbrev pub mention : PageName → List ℕ → Mention
+mention page input = record { page = page; input = input }
+
+-- the targeting of the flag of a key
+abbrev pub targeting_of : Definitions → List ℕ → Option Expression
+targeting_of flags key = option_and_then targeting_in (lookup (bytes_eq key) flags)
+
+-- the text of a bucketing expression, where there is one
+abbrev pub text_in : Result (Option (List ℕ)) LogicFault → Option (List ℕ)
+text_in (Ok by) = by
+text_in (Err fault) = None
+
+-- the text of the bucketing expression at a site of a targeting
+abbrev pub by_at : Option Expression → ℕ → Option (List ℕ)
+by_at None site = None
+by_at (Some targeting) site = text_in (by_text_at site targeting)
+
+-- the page of a site of the flag of this key
+abbrev pub page_of : List ℕ → Option Expression → ℕ → PageName
+page_of key targeting site = record { flag = key; site = site; by = by_at targeting site }
+
+-- whether a reached input is too long for a book
+abbrev pub is_long : Reach → Bool
+is_long r = nat_lt most_bytes (length r.input)
+
+-- the reached inputs that are not too long, each with the page of its site
+unfoldable pub mentions_in : List ℕ → Option Expression → List Reach → List Mention
+mentions_in key targeting [] = []
+mentions_in key targeting (r ∷ rs) =
+    if is_long r then mentions_in key targeting rs else mention (page_of key targeting r.site) r.input ∷ mentions_in key targeting rs
+
+-- those of an ask
+unfoldable pub mentions_of : Definitions → Ask → List Mention
+mentions_of flags a = mentions_in (string_bytes a.key) (targeting_of flags (string_bytes a.key)) (resolved flags a).reached
+
+-- those of all asks, in the order of the asks
+abbrev pub mentions : Definitions → List Ask → List Mention
+mentions flags [] = []
+mentions flags (a ∷ rest) = mentions_of flags a ++ mentions flags rest
+
+-- how many inputs that are too long were reached
+abbrev pub long_inputs : List Reach → ℕ
+long_inputs reached = count_by is_long reached
+
+-- the same of all asks
+abbrev pub long_of : Definitions → List Ask → ℕ
+long_of flags asks = sum_by (λ a. long_inputs (resolved flags a).reached) asks
+
+-- the input is mentioned for the page
+abbrev pub is_mention : PageName → List ℕ → Mention → Bool
+is_mention page input m = page_eq page m.page && bytes_eq input m.input
+
+-- the inputs that are mentioned for a page
+abbrev pub mentioned_on : PageName → List Mention → List (List ℕ)
+mentioned_on page [] = []
+mentioned_on page (m ∷ ms) = if page_eq page m.page then m.input ∷ mentioned_on page ms else mentioned_on page ms

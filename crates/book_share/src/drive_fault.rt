@@ -1,0 +1,70 @@
+ghost use Rattle.std.specs.Prelude.{◌≡◌};
+ghost use Rattle.book_share.specs.declared.drive_fault.DriveFault.TheVariants.{WantOfMemory};
+ghost use Rattle.book_share.specs.DriveFault.{name_of, number_of};
+
+use std::alloc::{AllocError, AllocFailed};
+use thiserror::Error;
+
+/// Why asks were not driven, in the order of the numbers.
+#[derive(Clone, Copy, Debug, PartialEq, Eq, Error)]
+pub enum DriveFault {
+    /// Memory was wanted and refused; it has no place in an order of refusals.
+    #[error("out of memory")]
+    WantOfMemory,
+    /// There is a worker at least.
+    #[error("there is a worker at least")]
+    NoWorkers,
+    /// There are at most 64 workers.
+    #[error("there are at most 64 workers")]
+    TooManyWorkers,
+    /// The gate refused an ask 1000000 times.
+    #[error("the gate did not let an ask start")]
+    Stalled,
+    /// The book and what its seats were told are not the same.
+    #[error("the book and what its seats were told disagree")]
+    Disagrees,
+}
+
+impl DriveFault {
+    /// The number that a refusal is printed with, from 0 for want of memory.
+    pub fn number(&self) -> u32
+        ensures { result ≡ number_of self.now }
+    {
+        match self {
+            DriveFault::WantOfMemory => 0,
+            DriveFault::NoWorkers => 1,
+            DriveFault::TooManyWorkers => 2,
+            DriveFault::Stalled => 3,
+            DriveFault::Disagrees => 4,
+        }
+    }
+
+    /// The name that a refusal is printed with: the variant's.
+    pub fn name(&self) -> &'static str
+        ensures { result.now ≡ name_of self.now }
+    {
+        match self {
+            DriveFault::WantOfMemory => "WantOfMemory",
+            DriveFault::NoWorkers => "NoWorkers",
+            DriveFault::TooManyWorkers => "TooManyWorkers",
+            DriveFault::Stalled => "Stalled",
+            DriveFault::Disagrees => "Disagrees",
+        }
+    }
+}
+
+impl From<AllocError> for DriveFault {
+    ghost from_gives = { λ _ e. e ≡ WantOfMemory };
+
+    fn from(_e: AllocError) -> DriveFault {
+        DriveFault::WantOfMemory
+    }
+}
+
+impl<T: Drop> From<AllocFailed<T>> for DriveFault {
+    ghost from_gives = { λ _ e. e ≡ WantOfMemory };
+
+    fn from(_e: AllocFailed<T>) -> DriveFault {
+        DriveFault::WantOfMemory
+    }
+}

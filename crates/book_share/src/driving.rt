@@ -1,0 +1,223 @@
+//! Asks, answered by workers that share a book.
+ghost use Rattle.std.specs.Prelude.{◌≡◌, ◌≢◌, ◌<◌, ◌≤◌, ◌*◌, ◌^◌, ℕ, Some, None, List, length, map, count_by, sum_by, true, All, Ok, Err, IfOk, MatchResult};
+ghost use Rattle.logic_eval.specs.Views.{reach_view};
+ghost use Rattle.book_core.specs.Book.{Contents, IsBook, input_count, reply_to};
+ghost use Rattle.flag_defs.specs.Flags.{flags_view};
+ghost use Rattle.flag_resolve.specs.Views.{resolution_view};
+ghost use Rattle.book_share.specs.Asked.{is_long, long_inputs, long_of as long_of_asks, mentions, resolved};
+ghost use Rattle.book_share.specs.Driven.{AreNoted, IsFull};
+ghost use Rattle.book_share.specs.Sealed.{all_told};
+ghost use Rattle.book_share.specs.declared.drive_fault.DriveFault.{DriveFault as Fault};
+ghost use Rattle.book_share.specs.DriveFault.{workers_fault};
+
+use crate::ask::Ask;
+use crate::blanks::Blanks;
+use crate::drive_fault::DriveFault;
+use crate::fault::{SealFault, SeatsFault};
+use crate::gate::Gate;
+use crate::gather::{Harvest, gathered, parts_of};
+use crate::name::BookName;
+use crate::order::in_order;
+use crate::reach::Refusal;
+use crate::sealing::seal;
+use crate::seat::Seat;
+use crate::shared::{MOST_BYTES, SharedBook};
+use crate::worker::Round;
+use book_core::{Book, BookFault};
+use flag_defs::Flags;
+use flag_resolve::Resolution;
+use logic_eval::Reached;
+use std::alloc::{AllocError, Global};
+use std::marker::Brand;
+use std::sync::Wait;
+use std::thread::Threads;
+
+/// What was driven.
+#[derive(Drop)]
+pub struct Driven {
+    /// The resolutions of the asks, in their order.
+    pub answers: Vec<Resolution>,
+    /// The inputs that were reached, each on its page.
+    pub book: Book,
+    /// How many notes the book accepted.
+    pub calls: u128,
+    /// How many of them were New.
+    pub news: u128,
+    /// How many notes a full page refused.
+    pub full: u128,
+    /// How many inputs of more than 1024 bytes were reached.
+    pub long: u128,
+}
+
+/// Answers the asks, in their order, by so many workers, and notes each hash input that a `fractional` operation got on
+/// its page of a book. Worker w takes the asks w, w + workers and so on, each once the gate lets it start. An input that
+/// is too long or that a full page refuses is counted, and the ask is answered all the same.
+///
+/// It is refused with NoWorkers and TooManyWorkers (more than 64), then with Stalled where the gate refuses an ask
+/// 1000000 times, or with Disagrees where the book is not what the workers were told, which no run is known to meet. A
+/// refusal comes after all workers have ended, and drops the book. The condition is fewer than 2^32 asks.
+pub fn drive<G: Gate, R: Threads + Wait + Sync>(
+    rt: &R,
+    alloc: Global,
+    flags: &Flags,
+    asks: &[Ask],
+    workers: usize,
+    gate: &G,
+) -> Result<Driven, DriveFault>
+    requires { length asks.now < 2 ^ 32 }
+    ensures answers { IfOk result (λ d. map resolution_view d.answers.items ≡ map (resolved (flags_view flags.now)) asks.now) }
+    ensures noted { IfOk result (λ d. AreNoted (mentions (flags_view flags.now) asks.now) d.book d.calls d.news d.full) }
+    ensures long { IfOk result (λ d. d.long ≡ long_of_asks (flags_view flags.now) asks.now) }
+    ensures workers { (e : Fault) → workers_fault workers ≡ Some e → result ≡ Err e }
+    ensures unstalled { G.always → result ≢ Err DriveFault.Stalled }
+{
+    let blanks = blanks_of(workers)?;
+    driven_by::<Brand, G, R>(rt, alloc, blanks, flags, asks, gate)
+}
+
+/// Blanks with a seat for each worker.
+fn blanks_of(workers: usize) -> Result<Blanks, DriveFault>
+    ensures { MatchResult result (λ b. (workers_fault workers ≡ None) × (b.seats ≡ workers)) (λ e. (workers_fault workers ≡ Some e) × (e ≢ DriveFault.Stalled)) }
+{
+    match Blanks::new(workers) {
+        Ok(blanks) => Ok(blanks),
+        Err(SeatsFault::NoSeats) => Err(DriveFault::NoWorkers),
+        Err(SeatsFault::TooManySeats) => Err(DriveFault::TooManyWorkers),
+        Err(SeatsFault::WantOfMemory) => Err(DriveFault::WantOfMemory),
+    }
+}
+
+/// Drives with a worker for each seat of the blanks.
+fn driven_by<L: BookName + Send + Sync, G: Gate, R: Threads + Wait + Sync>(
+    rt: &R,
+    alloc: Global,
+    blanks: Blanks,
+    flags: &Flags,
+    asks: &[Ask],
+    gate: &G,
+) -> Result<Driven, DriveFault>
+    requires name { blanks.name ≡ L.name }
+    requires parts { (blanks.seats ≡ L.parts) × (blanks.seats ≡ L.seats) }
+    requires asks { length asks.now < 2 ^ 32 }
+    ensures answers { IfOk result (λ d. map resolution_view d.answers.items ≡ map (resolved (flags_view flags.now)) asks.now) }
+    ensures noted { IfOk result (λ d. AreNoted (mentions (flags_view flags.now) asks.now) d.book d.calls d.news d.full) }
+    ensures long { IfOk result (λ d. d.long ≡ long_of_asks (flags_view flags.now) asks.now) }
+    ensures unstalled { G.always → result ≢ Err DriveFault.Stalled }
+{
+    let step = blanks.seats;
+    let (book, seats) = SharedBook::<L>::new(alloc, blanks)?;
+    let round = Round {
+        book: &book,
+        flags,
+        asks,
+        gate,
+        step,
+    };
+    let parts = parts_of(rt, alloc, &round, seats)?;
+    let Harvest {
+        seats,
+        answers,
+        refused,
+    } = gathered(alloc, parts)?;
+    let Some(answers) = in_order(alloc, asks, answers)? else {
+        return Err(DriveFault::Disagrees);
+    };
+    let calls = calls_of(seats.as_slice());
+    let book = match seal(alloc, book, seats) {
+        Ok(book) => book,
+        Err(refused) => return Err(fault_of(refused.fault)),
+    };
+    let long = long_of(answers.as_slice());
+    let (book, news) = checked(alloc, book, refused.as_slice())?;
+    Ok(Driven {
+        answers,
+        book,
+        calls,
+        news,
+        full: refused.len() as u128,
+        long,
+    })
+}
+
+/// How many calls of the seats were accepted.
+fn calls_of<L: BookName>(seats: &[Seat<L>]) -> u128
+    ensures { result ≡ length (all_told seats.now) }
+{
+    let mut calls: u128 = 0;
+    for seat in seats {
+        calls += u128::from(seat.calls());
+    }
+    calls
+}
+
+fn fault_of(fault: SealFault) -> DriveFault
+    ensures { result ≢ DriveFault.Stalled }
+{
+    match fault {
+        SealFault::WantOfMemory => DriveFault::WantOfMemory,
+        SealFault::SeatMissing => DriveFault::Disagrees,
+        SealFault::Disagrees => DriveFault::Disagrees,
+    }
+}
+
+/// The book with the number of its inputs, once each input that was refused was found to be none of a full page.
+fn checked(alloc: Global, book: Book, refused: &[Refusal]) -> Result<(Book, u128), DriveFault>
+    ensures same { IfOk result (λ r. r.0 ≡ book) }
+    ensures lawful { IfOk result (λ r. IsBook r.0) }
+    ensures number { IfOk result (λ r. r.1 ≡ input_count r.0) }
+    ensures full { IfOk result (λ r. All (IsFull r.0) refused.now) }
+    ensures unstalled { result ≢ Err DriveFault.Stalled }
+{
+    let mut book = book;
+    if !are_refused(alloc, &mut book, refused)? {
+        return Err(DriveFault::Disagrees);
+    }
+    let news = book.inputs();
+    Ok((book, news))
+}
+
+/// Whether the book refuses each of these for its full page. Where it does, it stays as it was.
+fn are_refused(alloc: Global, book: &mut Book, refused: &[Refusal]) -> Result<bool, AllocError>
+    ensures { IfOk result (λ all. all ≡ true → (book.new ≡ book.old) × All (IsFull book.old) refused.now) }
+{
+    for refusal in refused {
+        if !is_refused(alloc, book, refusal)? {
+            return Ok(false);
+        }
+    }
+    Ok(true)
+}
+
+fn is_refused(alloc: Global, book: &mut Book, refusal: &Refusal) -> Result<bool, AllocError>
+    ensures { IfOk result (λ yes. yes ≡ true → (book.new ≡ book.old) × IsFull book.old refusal.now) }
+{
+    match book.note(alloc, &refusal.page, refusal.input.as_str()) {
+        Err(BookFault::PageFull) => Ok(true),
+        Err(BookFault::WantOfMemory) => Err(AllocError),
+        _ => Ok(false),
+    }
+}
+
+/// How many inputs of more than 1024 bytes were reached.
+fn long_of(answers: &[Resolution]) -> u128
+    ensures { result ≡ sum_by (λ r. long_inputs (map reach_view r.reached.items)) answers.now }
+{
+    let mut long: u128 = 0;
+    for answer in answers {
+        long += long_in(answer.reached.as_slice()) as u128;
+    }
+    long
+}
+
+fn long_in(reached: &[Reached]) -> usize
+    ensures value { result ≡ long_inputs (map reach_view reached.now) }
+    ensures few { result ≤ length reached.now }
+{
+    let mut long = 0;
+    for reach in reached {
+        if reach.input.len() > MOST_BYTES {
+            long += 1;
+        }
+    }
+    long
+}

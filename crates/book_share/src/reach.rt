@@ -1,0 +1,139 @@
+//! The inputs that an evaluation reached, noted on their pages.
+ghost use Rattle.std.specs.Prelude.{◌≡◌, ◌≢◌, [], ◌∷◌, ◌++◌, map, nat_lt, length, if◌then◌else◌, Some, Err, IfOk, IfSome, option_map, string_bytes};
+ghost use Rattle.flag_defs.specs.Flags.{flags_view};
+ghost use Rattle.logic_ast.specs.Expr.{view};
+ghost use Rattle.logic_eval.specs.Views.{reach_view};
+ghost use Rattle.book_core.specs.Book.{most_bytes};
+ghost use Rattle.book_share.specs.Asked.{by_at, mention, mentions_in, page_of, targeting_of as targeting_named};
+ghost use Rattle.book_share.specs.Driven.{Notes, noted_by, refused_mention};
+
+use crate::drive_fault::DriveFault;
+use crate::name::BookName;
+use crate::seat::Seat;
+use crate::shared::SharedBook;
+use book_core::{BookFault, Page};
+use flag_defs::Flags;
+use logic_ast::{Expr, LogicFault, by_text};
+use logic_eval::Reached;
+use std::alloc::{AllocError, Global};
+use std::sync::Wait;
+
+/// An input that a full page refused.
+#[derive(Drop)]
+pub(crate) struct Refusal {
+    pub(crate) page: Page,
+    pub(crate) input: String,
+}
+
+/// Notes each reached input on the page of its site. The page of the site before is used again where it is the same.
+pub(crate) fn note_reached<L: BookName, R: Wait>(
+    rt: &R,
+    alloc: Global,
+    book: &SharedBook<L>,
+    seat: &mut Seat<L>,
+    refused: &mut Vec<Refusal>,
+    flags: &Flags,
+    key: &str,
+    reached: &[Reached],
+) -> Result<(), DriveFault>
+    ensures noted { IfOk result (λ _. Notes (mentions_in key.now (targeting_named (flags_view flags.now) key.now) (map reach_view reached.now)) (noted_by seat.old refused.old.items) (noted_by seat.new refused.new.items)) }
+    ensures unstalled { result ≢ Err DriveFault.Stalled }
+{
+    let targeting = targeting_of(flags, key);
+    let mut last: Option<Page> = None;
+    for reach in reached {
+        let page = page_after(alloc, last, key, targeting, reach.site)?;
+        note_one(rt, alloc, book, seat, refused, &page, reach.input.as_str())?;
+        last = Some(page);
+    }
+    Ok(())
+}
+
+fn targeting_of<'a>(flags: &'a Flags, key: &str) -> Option<&'a Expr>
+    ensures { option_map (λ e. view e.now) result ≡ targeting_named (flags_view flags.now) key.now }
+{
+    flags.get(key)?.targeting()
+}
+
+/// The page of a site of a targeting, which is the last one where that was of this site.
+fn page_after(
+    alloc: Global,
+    last: Option<Page>,
+    key: &str,
+    targeting: Option<&Expr>,
+    site: u32,
+) -> Result<Page, AllocError>
+    requires { IfSome last (λ page. page ≡ page_of key.now (option_map (λ e. view e.now) targeting) page.site) }
+    ensures { IfOk result (λ page. page ≡ page_of key.now (option_map (λ e. view e.now) targeting.entry) site) }
+{
+    match last {
+        Some(page) if page.site == site => Ok(page),
+        _ => page_at(alloc, key, targeting, site),
+    }
+}
+
+/// The page of a site of a targeting. A site that an evaluation reached is one of the targeting.
+fn page_at(
+    alloc: Global,
+    key: &str,
+    targeting: Option<&Expr>,
+    site: u32,
+) -> Result<Page, AllocError>
+    ensures { IfOk result (λ page. page ≡ page_of key.now (option_map (λ e. view e.now) targeting.entry) site) }
+{
+    let by = match targeting {
+        Some(targeting) => text_at(alloc, targeting, site)?,
+        None => None,
+    };
+    let flag = String::from_str(alloc, key)?;
+    Ok(Page { flag, site, by })
+}
+
+/// The text of the bucketing expression at a site, where it has one.
+fn text_at(alloc: Global, targeting: &Expr, site: u32) -> Result<Option<String>, AllocError>
+    ensures { IfOk result (λ by. option_map string_bytes by ≡ by_at (Some (view targeting.now)) site) }
+{
+    match by_text(alloc, targeting, site) {
+        Ok(by) => Ok(by),
+        Err(LogicFault::WantOfMemory) => Err(AllocError),
+        Err(_) => Ok(None),
+    }
+}
+
+/// Notes an input, and keeps it where its page is full. One that is too long is passed over.
+fn note_one<L: BookName, R: Wait>(
+    rt: &R,
+    alloc: Global,
+    book: &SharedBook<L>,
+    seat: &mut Seat<L>,
+    refused: &mut Vec<Refusal>,
+    page: &Page,
+    input: &str,
+) -> Result<(), DriveFault>
+    ensures noted { IfOk result (λ _. Notes (if nat_lt most_bytes (length input.now) then [] else mention page.now input.now ∷ []) (noted_by seat.old refused.old.items) (noted_by seat.new refused.new.items)) }
+    ensures unstalled { result ≢ Err DriveFault.Stalled }
+{
+    match book.note(rt, alloc, seat, page, input) {
+        Ok(_) => Ok(()),
+        Err(BookFault::InputTooLong) => Ok(()),
+        Err(BookFault::PageFull) => Ok(keep(alloc, refused, page, input)?),
+        Err(BookFault::WantOfMemory) => Err(DriveFault::WantOfMemory),
+        Err(BookFault::LastCall) => Err(DriveFault::Disagrees),
+        Err(BookFault::Stranger) => Err(DriveFault::Disagrees),
+    }
+}
+
+/// Keeps an input that its page refused.
+fn keep(
+    alloc: Global,
+    refused: &mut Vec<Refusal>,
+    page: &Page,
+    input: &str,
+) -> Result<(), AllocError>
+    ensures { IfOk result (λ _. map refused_mention refused.new.items ≡ map refused_mention refused.old.items ++ mention page.now input.now ∷ []) }
+{
+    let page = page.copy(alloc)?;
+    let input = String::from_str(alloc, input)?;
+    refused.push(Refusal { page, input })?;
+    Ok(())
+}

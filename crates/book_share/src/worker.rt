@@ -1,0 +1,160 @@
+//! What one worker does.
+ghost use Rattle.std.specs.Prelude.{◌≡◌, ◌≢◌, ◌<◌, ◌≤◌, ◌+◌, ◌^◌, [], true, length, count_by, Err, IfOk, Bool};
+ghost use Rattle.flag_defs.specs.Flags.{flags_view};
+ghost use Rattle.flag_resolve.specs.Views.{resolution_view};
+ghost use Rattle.book_share.specs.Asked.{Mention, mentions_of, resolved as resolution_of_ask};
+ghost use Rattle.book_share.specs.Driven.{IsAnswer, IsWork, Notes, mentions_at, noted_by};
+ghost use Rattle.book_share.specs.Limits.{most_seats};
+
+use crate::ask::Ask;
+use crate::drive_fault::DriveFault;
+use crate::gate::Gate;
+use crate::name::BookName;
+use crate::reach::{Refusal, note_reached};
+use crate::seat::Seat;
+use crate::shared::SharedBook;
+use flag_defs::Flags;
+use flag_resolve::{Resolution, resolve};
+use std::alloc::{AllocError, Global};
+use std::sync::Wait;
+
+/// How often a gate is asked whether an ask may start.
+const MOST_TRIES: u32 = 1_000_000;
+
+/// What all workers share.
+#[derive(Drop)]
+pub(crate) struct Round<'a, L: BookName, G: Gate> {
+    pub(crate) book: &'a SharedBook<L>,
+    pub(crate) flags: &'a Flags,
+    pub(crate) asks: &'a [Ask],
+    pub(crate) gate: &'a G,
+    pub(crate) step: usize,
+    pub(crate) ghost steps: { (0 < step) × (step ≤ most_seats) × (length asks.now < 2 ^ 32) },
+}
+
+/// What a worker begins with: a seat, and the number of its first ask.
+#[derive(Drop)]
+pub(crate) struct Job<L: BookName> {
+    pub(crate) seat: Seat<L>,
+    pub(crate) first: usize,
+}
+
+/// The answer to the ask of a number.
+#[derive(Drop)]
+pub(crate) struct Answer {
+    pub(crate) ask: usize,
+    pub(crate) resolution: Resolution,
+}
+
+/// What a worker ends with: its seat, its answers, and the inputs that full pages refused.
+#[derive(Drop)]
+pub(crate) struct Part<L: BookName> {
+    pub(crate) seat: Seat<L>,
+    pub(crate) answers: Vec<Answer>,
+    pub(crate) refused: Vec<Refusal>,
+}
+
+/// Answers the first ask of the job, then each that comes a step after.
+pub(crate) fn work<L: BookName, G: Gate, R: Wait>(
+    rt: &R,
+    alloc: Global,
+    round: &Round<'_, L, G>,
+    job: Job<L>,
+) -> Result<Part<L>, DriveFault>
+    requires { job.seat ≡ [] }
+    ensures work { IfOk result (λ p. IsWork (flags_view round.now.flags.now) round.now.asks.now p.seat p.answers.items p.refused.items) }
+    ensures unstalled { G.always → result ≢ Err DriveFault.Stalled }
+{
+    let Job { mut seat, first } = job;
+    let mut answers = Vec::new(alloc);
+    let mut refused = Vec::new(alloc);
+    let mut ask = first;
+    while ask < round.asks.len() {
+        answers.reserve(1)?;
+        let answer = answered(rt, alloc, round, &mut seat, &mut refused, ask)?;
+        answers.push_reserved(answer);
+        ask += round.step;
+    }
+    Ok(Part {
+        seat,
+        answers,
+        refused,
+    })
+}
+
+/// Answers an ask, once the gate lets it start, and notes what it reached.
+fn answered<L: BookName, G: Gate, R: Wait>(
+    rt: &R,
+    alloc: Global,
+    round: &Round<'_, L, G>,
+    seat: &mut Seat<L>,
+    refused: &mut Vec<Refusal>,
+    ask: usize,
+) -> Result<Answer, DriveFault>
+    requires { ask < length round.now.asks.now }
+    ensures answer { IfOk result (λ a. IsAnswer (flags_view round.now.flags.now) round.now.asks.now a) }
+    ensures noted { IfOk result (λ a. (p : Mention → Bool) → count_by p (noted_by seat.new refused.new.items) ≡ count_by p (noted_by seat.old refused.old.items) + mentions_at (flags_view round.now.flags.now) round.now.asks.now p a.ask) }
+    ensures unstalled { G.always → result ≢ Err DriveFault.Stalled }
+{
+    if !starts(round.gate, ask) {
+        return Err(DriveFault::Stalled);
+    }
+    let asked = &round.asks[ask];
+    let resolution = resolved(rt, alloc, round, seat, refused, asked)?;
+    round.gate.answered(ask);
+    Ok(Answer { ask, resolution })
+}
+
+/// The resolution of an ask, once what it reached was noted.
+fn resolved<L: BookName, G: Gate, R: Wait>(
+    rt: &R,
+    alloc: Global,
+    round: &Round<'_, L, G>,
+    seat: &mut Seat<L>,
+    refused: &mut Vec<Refusal>,
+    ask: &Ask,
+) -> Result<Resolution, DriveFault>
+    ensures resolution { IfOk result (λ r. resolution_view r ≡ resolution_of_ask (flags_view round.now.flags.now) ask.now) }
+    ensures noted { IfOk result (λ _. Notes (mentions_of (flags_view round.now.flags.now) ask.now) (noted_by seat.old refused.old.items) (noted_by seat.new refused.new.items)) }
+    ensures unstalled { result ≢ Err DriveFault.Stalled }
+{
+    let resolution = resolution(alloc, round.flags, ask)?;
+    note_reached(
+        rt,
+        alloc,
+        round.book,
+        seat,
+        refused,
+        round.flags,
+        ask.key.as_str(),
+        resolution.reached.as_slice(),
+    )?;
+    Ok(resolution)
+}
+
+#[tactic(auto, unfolding(crate::specs::Asked::resolved))]
+fn resolution(alloc: Global, flags: &Flags, ask: &Ask) -> Result<Resolution, AllocError>
+    ensures { IfOk result (λ r. resolution_view r ≡ resolution_of_ask (flags_view flags.now) ask.now) }
+{
+    resolve(
+        alloc,
+        Some(flags),
+        ask.key.as_str(),
+        ask.want,
+        &ask.default,
+        &ask.context,
+        ask.moment,
+    )
+}
+
+/// Whether the gate lets the ask start.
+fn starts<G: Gate>(gate: &G, ask: usize) -> bool
+    ensures { G.always → result ≡ true }
+{
+    for _turn in 0..MOST_TRIES {
+        if gate.may_start(ask) {
+            return true;
+        }
+    }
+    false
+}
