@@ -4,7 +4,7 @@ use Rattle.std.proofs.lemmas.Bool.{cases_eq, cases_lt}
 use Rattle.std.proofs.lemmas.Int.{ints}
 use Rattle.shortest_path.specs.Network.{IsReduced}
 use Rattle.shortest_path.specs.declared.arc.Arc.{Arc}
-use Rattle.flow_laws.specs.Optimal.{Flows, IsOptimal, AreResidual, Shifts}
+use Rattle.flow_laws.specs.Optimal.{Flows, AreLeast, IsOptimal, AreResidual, Shifts}
 
 none_there : (a : Arc) → None ≡ Some a → ⊥
 none_there a clash = cc
@@ -57,12 +57,12 @@ module _ (f : Flows) (arc : ℕ → ℕ → Option Arc) (price : ℕ → ℤ) (r
         omega (arith, ints, a.2, reduced.least f.names v a.0 (omega arith) (omega (arith, v_in)) a.1);
   }
 
-module _ (old new : Flows) (price : ℕ → ℤ) (group from to points : ℕ) (optimal : IsOptimal old price) (shift : Shifts old new group from to points)
+module _ (old new : Flows) (price : ℕ → ℤ) (group from to points : ℕ) (least : AreLeast old price) (shift : Shifts old new group from to points)
     (group_in : group < old.groups) (from_in : from < old.names) (to_in : to < old.names) (apart : from ≢ to) (some : 0 < points) (even : (old.cost group from +ℤ price to) ≡ (old.cost group to +ℤ price from)) where
   at_from : (w : ℕ) → w < old.names → old.allowed group w ≡ true → (old.cost group from +ℤ price w) ≤ℤ (old.cost group w +ℤ price from)
-  at_from w w_in allowed = optimal.least group from w group_in from_in w_in (omega (arith, shift.left, some)) allowed
+  at_from w w_in allowed = least group from w group_in from_in w_in (omega (arith, shift.left, some)) allowed
 
-  pub still_least : (g v w : ℕ) → g < old.groups → v < old.names → w < old.names → 0 < new.flow g v → old.allowed g w ≡ true → (old.cost g v +ℤ price w) ≤ℤ (old.cost g w +ℤ price v)
+  still_least : (g v w : ℕ) → g < old.groups → v < old.names → w < old.names → 0 < new.flow g v → old.allowed g w ≡ true → (old.cost g v +ℤ price w) ≤ℤ (old.cost g w +ℤ price v)
   still_least g v w g_in v_in w_in there allowed =
       ⊎_elim
       (λ (same : g ≡ group).
@@ -75,9 +75,16 @@ module _ (old new : Flows) (price : ℕ → ℤ) (group from to points : ℕ) (o
       (λ (left : v ≡ from).
       omega (arith, ints, at_from w w_in by_group, ap (λ h. old.cost h v) same, ap (old.cost group) left, ap (λ h. old.cost h w) same, ap price left))
       (λ (not_from : v ≡ from → ⊥).
-      optimal.least g v w g_in v_in w_in (omega (arith, there, shift.others g v (λ s is. not_from is) (λ s is. not_to is))) allowed)
+      least g v w g_in v_in w_in (omega (arith, there, shift.others g v v_in (λ s is. not_from is) (λ s is. not_to is))) allowed)
       (cases_eq v from))
       (cases_eq v to))
       (λ (other : g ≡ group → ⊥).
-      optimal.least g v w g_in v_in w_in (omega (arith, there, shift.others g v (λ is s. other is) (λ is s. other is))) allowed)
+      least g v w g_in v_in w_in (omega (arith, there, shift.others g v v_in (λ is s. other is) (λ is s. other is))) allowed)
       (cases_eq g group)
+
+  pub least_after : AreLeast new price
+  least_after g v w g_in v_in w_in there allowed =
+      let h_in : g < old.groups = omega (arith, g_in, shift.groups) in
+      let x_in : v < old.names = omega (arith, v_in, shift.names) in
+      let y_in : w < old.names = omega (arith, w_in, shift.names) in
+      omega (arith, ints, still_least g v w h_in x_in y_in there (sym (shift.allowed g w) ∙ allowed), shift.cost g v, shift.cost g w)

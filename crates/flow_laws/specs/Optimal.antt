@@ -15,10 +15,14 @@ pub record Flows : Type 0 where
   pub flow : ℕ → ℕ → ℕ
   pub total : ℕ → ℕ
 
+-- each point is at a name of the least cost less price
+abbrev pub AreLeast : Flows → (ℕ → ℤ) → Type 0
+AreLeast f price = (g v w : ℕ) → g < f.groups → v < f.names → w < f.names → 0 < f.flow g v → f.allowed g w ≡ true → (f.cost g v +ℤ price w) ≤ℤ (f.cost g w +ℤ price v)
+
 -- Each point is at a name of the least cost less price, a name with room is not priced under the limits, and one with points to
 -- spare not over them. The limits have the price of the number after the names.
 pub record IsOptimal (f : Flows) (price : ℕ → ℤ) : Type 0 where
-  pub least : (g v w : ℕ) → g < f.groups → v < f.names → w < f.names → 0 < f.flow g v → f.allowed g w ≡ true → (f.cost g v +ℤ price w) ≤ℤ (f.cost g w +ℤ price v)
+  pub least : AreLeast f price
   pub room : (v : ℕ) → v < f.names → f.total v < f.high v → price f.names ≤ℤ price v
   pub spare : (v : ℕ) → v < f.names → f.low v < f.total v → price v ≤ℤ price f.names
 
@@ -44,4 +48,4 @@ pub record Shifts (old new : Flows) (group from to points : ℕ) : Type 0 where
   pub cost : (g v : ℕ) → new.cost g v ≡ old.cost g v
   pub left : new.flow group from + points ≡ old.flow group from
   pub entered : new.flow group to ≡ old.flow group to + points
-  pub others : (g v : ℕ) → (g ≡ group → v ≡ from → ⊥) → (g ≡ group → v ≡ to → ⊥) → new.flow g v ≡ old.flow g v
+  pub others : (g v : ℕ) → v < old.names → (g ≡ group → v ≡ from → ⊥) → (g ≡ group → v ≡ to → ⊥) → new.flow g v ≡ old.flow g v

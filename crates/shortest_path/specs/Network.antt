@@ -6,7 +6,7 @@ use Rattle.shortest_path.specs.declared.arc.Arc.{Arc}
 
 -- the most that an arc costs, up or down, and the most nodes
 abbrev pub max_cost : ℕ
-max_cost = 1000000 * 2 ^ 32
+max_cost = 1000000 * 1000000
 
 abbrev pub max_nodes : ℕ
 max_nodes = 65

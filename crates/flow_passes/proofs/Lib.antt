@@ -1,0 +1,4 @@
+pub mod Ends
+pub mod Filled
+pub mod Reached
+pub mod Wanted

@@ -1,0 +1,3 @@
+pub mod Cheapest
+pub mod Meeting
+pub mod Placing

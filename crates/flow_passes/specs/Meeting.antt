@@ -1,0 +1,54 @@
+-- A flow within the high limits that is brought to meet the low ones.
+use Rattle.std.specs.Prelude.{◌≡◌, ℕ, ◌*◌, ◌+◌, ◌-◌, ◌<◌, ◌≤◌, pos, ◌≤ℤ◌, true, false, Bool, List, length, nat_lt, slice_index, slice_index_or}
+use Rattle.std.proofs.Common.{neg_ℤ}
+use Rattle.augmenting_paths.specs.Paths.{AreTraced}
+use Rattle.flow_laws.specs.Optimal.{IsOptimal}
+use Rattle.residual_arcs.specs.Problem.{may_take, names_of, sum_to}
+use Rattle.residual_arcs.specs.declared.problem.FlowProblem.{FlowProblem}
+use Rattle.residual_flow.specs.Flow.{IsFlow, flows_of, groups_of, placed_at, total_at}
+use Rattle.residual_flow.specs.declared.flow.Flow.{Flow}
+use Rattle.shortest_path.specs.Found.{HasSize, parent_of, potential_of, rank_of}
+use Rattle.shortest_path.specs.Network.{arc_at}
+use Rattle.shortest_path.specs.declared.search.Search.{Search}
+use Rattle.flow_passes.specs.Placing.{reach}
+
+-- The flow is within the high limits and optimal by the potentials; those of names below their low limits are as near 0 as the
+-- first pass left them, and all others near these.
+pub record IsMeeting (p : FlowProblem) (f : Flow) (s : Search) : Type 0 where
+  pub flow : IsFlow p f
+  pub optimal : IsOptimal (flows_of p f) (potential_of s)
+  pub size : HasSize (names_of p + 1) s
+  pub placed : (v : ℕ) → v < names_of p → total_at f v ≤ slice_index p.high.items v
+  pub low : (v : ℕ) → v < names_of p + 1 → neg_ℤ (pos (2 * reach)) ≤ℤ potential_of s v
+  pub high : (v : ℕ) → v < names_of p + 1 → potential_of s v ≤ℤ pos (2 * reach)
+  pub below_low : (v : ℕ) → v < names_of p → total_at f v < slice_index p.low.items v → neg_ℤ (pos reach) ≤ℤ potential_of s v
+  pub below_high : (v : ℕ) → v < names_of p → total_at f v < slice_index p.low.items v → potential_of s v ≤ℤ pos reach
+
+-- the names below their low limits are wanted
+pub record WantsBelow (p : FlowProblem) (f : Flow) (wanted : List Bool) : Type 0 where
+  pub size : length wanted ≡ names_of p + 1
+  pub each : (v : ℕ) → v < names_of p → slice_index_or wanted v false ≡ nat_lt (total_at f v) (slice_index p.low.items v)
+  pub limits : slice_index_or wanted (names_of p) false ≡ false
+
+-- the points that the names are below their low limits
+abbrev pub missing : FlowProblem → Flow → ℕ
+missing p f = sum_to (names_of p) (λ v. slice_index p.low.items v - total_at f v)
+
+-- a search has found the shortest path from the limits to a name below its low limit, and its potentials keep the flow optimal
+pub record IsWayBelow (p : FlowProblem) (f : Flow) (s : Search) (last : ℕ) : Type 0 where
+  pub meeting : IsMeeting p f s
+  pub within : last < names_of p
+  pub under : total_at f last < slice_index p.low.items last
+  pub traced : AreTraced (names_of p) (arc_at f.arcs.items (names_of p + 1)) (potential_of s) (parent_of s) (rank_of s) (names_of p) last
+
+-- the names that the last search did not settle have no points to spare, one of them is below its low limit, and no point of
+-- another name may enter one
+pub record IsStuckBelow (p : FlowProblem) (f : Flow) (s : Search) : Type 0 where
+  pub flow : IsFlow p f
+  pub placed : (v : ℕ) → v < names_of p → total_at f v ≤ slice_index p.high.items v
+  pub below : ℕ
+  pub within : below < names_of p
+  pub unsettled : names_of p + 1 ≤ rank_of s below
+  pub under : total_at f below < slice_index p.low.items below
+  pub bare : (v : ℕ) → v < names_of p → names_of p + 1 ≤ rank_of s v → total_at f v ≤ slice_index p.low.items v
+  pub closed : (g v w : ℕ) → g < groups_of p → v < names_of p → w < names_of p → 0 < placed_at p f g v → rank_of s v < names_of p + 1 → may_take p.groups.items p.prices.items (names_of p) g w ≡ true → rank_of s w < names_of p + 1

@@ -1,0 +1,53 @@
+-- A flow whose points are placed within the high limits, name by name.
+use Rattle.std.specs.Prelude.{◌≡◌, ℕ, ◌*◌, ◌+◌, ◌<◌, ◌≤◌, pos, ◌≤ℤ◌, true, Bool, List, length, slice_get, slice_index, Some}
+use Rattle.std.proofs.Common.{neg_ℤ}
+use Rattle.augmenting_paths.specs.Paths.{AreTraced}
+use Rattle.flow_laws.specs.Optimal.{IsOptimal}
+use Rattle.residual_arcs.specs.Problem.{may_take, names_of}
+use Rattle.residual_arcs.specs.declared.problem.FlowProblem.{FlowProblem}
+use Rattle.residual_flow.specs.Flow.{IsFlow, flows_of, groups_of, placed_at, total_at}
+use Rattle.residual_flow.specs.declared.flow.Flow.{Flow}
+use Rattle.shortest_path.specs.Found.{HasSize, parent_of, potential_of, rank_of}
+use Rattle.shortest_path.specs.Network.{arc_at, max_cost}
+use Rattle.shortest_path.specs.declared.search.Search.{Search}
+
+-- how far potentials are from that of the node that a search finds
+abbrev pub reach : ℕ
+reach = 2 * (65 * max_cost)
+
+-- the flow is optimal by the potentials, which are near that of the limits, 0
+pub record IsMidway (p : FlowProblem) (f : Flow) (s : Search) : Type 0 where
+  pub flow : IsFlow p f
+  pub optimal : IsOptimal (flows_of p f) (potential_of s)
+  pub size : HasSize (names_of p + 1) s
+  pub limits : potential_of s (names_of p) ≡ pos 0
+  pub low : (v : ℕ) → v < names_of p + 1 → neg_ℤ (pos reach) ≤ℤ potential_of s v
+  pub high : (v : ℕ) → v < names_of p + 1 → potential_of s v ≤ℤ pos reach
+
+-- only the limits are wanted
+pub record WantsLimits (p : FlowProblem) (wanted : List Bool) : Type 0 where
+  pub size : length wanted ≡ names_of p + 1
+  pub limits : slice_get wanted (names_of p) ≡ Some true
+  pub only : (v : ℕ) → slice_get wanted v ≡ Some true → v ≡ names_of p
+
+-- names that were within their high limits are so
+abbrev pub StayPlaced : FlowProblem → Flow → Flow → Type 0
+StayPlaced p old new = (v : ℕ) → total_at old v ≤ slice_index p.high.items v → total_at new v ≤ slice_index p.high.items v
+
+-- a search has found the shortest path to the limits, over a name with room, and its potentials are those of a flow midway
+pub record IsWay (p : FlowProblem) (f : Flow) (s : Search) (from last : ℕ) : Type 0 where
+  pub midway : IsMidway p f s
+  pub within : last < names_of p
+  pub room : total_at f last < slice_index p.high.items last
+  pub level : potential_of s last ≡ potential_of s (names_of p)
+  pub unsettled : rank_of s (names_of p) < names_of p + 1 → ⊥
+  pub traced : AreTraced (names_of p) (arc_at f.arcs.items (names_of p + 1)) (potential_of s) (parent_of s) (rank_of s) from last
+
+-- the names that the last search settled are full, one of them is above its high limit, and no point leaves them
+pub record IsStuckAbove (p : FlowProblem) (f : Flow) (s : Search) : Type 0 where
+  pub above : ℕ
+  pub within : above < names_of p
+  pub settled : rank_of s above < names_of p + 1
+  pub over : slice_index p.high.items above < total_at f above
+  pub full : (v : ℕ) → v < names_of p → rank_of s v < names_of p + 1 → slice_index p.high.items v ≤ total_at f v
+  pub closed : (g v w : ℕ) → g < groups_of p → v < names_of p → w < names_of p → 0 < placed_at p f g v → rank_of s v < names_of p + 1 → may_take p.groups.items p.prices.items (names_of p) g w ≡ true → rank_of s w < names_of p + 1

@@ -1,0 +1,75 @@
+//! Both passes, from the flow in which each point stays.
+ghost use Rattle.std.specs.Prelude.{◌≡◌, IfOk, OnOk};
+ghost use Rattle.flow_passes.specs.Cheapest.{IsCheapest};
+ghost use Rattle.flow_passes.specs.Meeting.{IsStuckBelow};
+ghost use Rattle.flow_passes.specs.Placing.{IsMidway, IsStuckAbove};
+ghost use Rattle.residual_arcs.specs.Problem.{IsFlowProblem};
+ghost use Rattle.residual_flow.specs.Flow.{IsFlow};
+
+use crate::meeting::meet_low;
+use crate::passes::place_within_high;
+use residual_arcs::FlowProblem;
+use residual_flow::Flow;
+use shortest_path::Search;
+use std::alloc::{AllocError, Global};
+
+/// How the passes ended.
+#[derive(Clone, Copy, Debug, PartialEq, Eq)]
+pub enum Outcome {
+    /// Each name is within its limits, at the least cost.
+    Cheapest,
+    /// The first pass failed: the names that the last search settled are full, and no point leaves them.
+    Over,
+    /// The second pass failed: the names that the last search did not settle have no points to spare, and none enters them.
+    Under,
+}
+
+/// The flow that the passes made, and what the last search left.
+#[derive(Drop)]
+pub struct Passed {
+    pub outcome: Outcome,
+    pub flow: Flow,
+    pub search: Search,
+}
+
+/// The cheapest flow within all limits, or one that shows that there is none. A search takes `O(k^2)` steps at k names, and there
+/// are at most as many augmentations as points in each of the two passes.
+pub fn cheapest_flow(alloc: Global, problem: &FlowProblem) -> Result<Passed, AllocError>
+    requires { IsFlowProblem problem.now }
+    ensures flow { IfOk result (λ r. IsFlow problem.now r.flow) }
+    ensures cheapest { IfOk result (λ r. r.outcome ≡ Outcome.Cheapest → IsCheapest problem.now r.flow r.search) }
+    ensures over { IfOk result (λ r. r.outcome ≡ Outcome.Over → IsStuckAbove problem.now r.flow r.search) }
+    ensures under { IfOk result (λ r. r.outcome ≡ Outcome.Under → IsStuckBelow problem.now r.flow r.search) }
+{
+    let mut flow = Flow::staying(alloc, problem)?;
+    let mut search = Search::new(alloc, problem.high.len() + 1)?;
+    let outcome = pass(alloc, problem, &mut flow, &mut search)?;
+    Ok(Passed {
+        outcome,
+        flow,
+        search,
+    })
+}
+
+/// Both passes over a flow.
+fn pass(
+    alloc: Global,
+    problem: &FlowProblem,
+    flow: &mut Flow,
+    search: &mut Search,
+) -> Result<Outcome, AllocError>
+    requires problem { IsFlowProblem problem.now }
+    requires midway { IsMidway problem.now flow.old search.old }
+    ensures flow { OnOk result (IsFlow problem.now flow.new) }
+    ensures cheapest { IfOk result (λ outcome. outcome ≡ Outcome.Cheapest → IsCheapest problem.now flow.new search.new) }
+    ensures over { IfOk result (λ outcome. outcome ≡ Outcome.Over → IsStuckAbove problem.now flow.new search.new) }
+    ensures under { IfOk result (λ outcome. outcome ≡ Outcome.Under → IsStuckBelow problem.now flow.new search.new) }
+{
+    if !place_within_high(alloc, problem, flow, search)? {
+        return Ok(Outcome::Over);
+    }
+    if !meet_low(alloc, problem, flow, search)? {
+        return Ok(Outcome::Under);
+    }
+    Ok(Outcome::Cheapest)
+}

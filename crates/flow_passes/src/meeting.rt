@@ -1,0 +1,117 @@
+//! The second pass: names below their low limits get points from names that have more than theirs.
+ghost use Rattle.std.specs.Prelude.{◌≡◌, ◌≤◌, ◌<◌, ◌+◌, ℕ, IfOk, MatchBool, MatchOption, OnOk, false, length, nat_lt, slice_index, slice_index_or};
+ghost use Rattle.flow_passes.specs.Meeting.{IsMeeting, IsStuckBelow, IsWayBelow, WantsBelow, missing};
+ghost use Rattle.residual_arcs.specs.Problem.{IsFlowProblem, names_of};
+ghost use Rattle.residual_flow.specs.Flow.{IsFlow, total_at};
+
+use augmenting_paths::augment;
+use residual_arcs::FlowProblem;
+use residual_flow::Flow;
+use shortest_path::Search;
+use std::alloc::{AllocError, Global};
+
+/// Moves points to the names below their low limits, each time along a shortest path from the names that have more than theirs.
+/// Answers whether none is below; if not, the last search reached no such name.
+pub fn meet_low(
+    alloc: Global,
+    problem: &FlowProblem,
+    flow: &mut Flow,
+    search: &mut Search,
+) -> Result<bool, AllocError>
+    requires problem { IsFlowProblem problem.now }
+    requires meeting { IsMeeting problem.now flow.old search.old }
+    ensures { IfOk result (λ met. MatchBool met
+        (IsMeeting problem.now flow.new search.new × ((v : ℕ) → v < names_of problem.now → slice_index problem.now.low.items v ≤ total_at flow.new v))
+        (IsStuckBelow problem.now flow.new search.new)) }
+{
+    let mut wanted = vec![in alloc; false; problem.high.len() + 1]?;
+    'points: while let Some(_) = name_below(problem, flow) {
+        mark_wanted(&mut wanted, problem, flow);
+        let Some(last) = find_below(problem, flow, search, wanted.as_slice()) else {
+            return Ok(false);
+        };
+        fill_below(alloc, problem, flow, search, last)?;
+    }
+    Ok(true)
+}
+
+/// A name below its low limit, if there is one.
+fn name_below(problem: &FlowProblem, flow: &Flow) -> Option<usize>
+    requires problem { IsFlowProblem problem.now }
+    requires flow { IsFlow problem.now flow.now }
+    ensures { MatchOption result
+        ((v : ℕ) → v < names_of problem.now → slice_index problem.now.low.items v ≤ total_at flow.now v)
+        (λ v. (v < names_of problem.now) × (total_at flow.now v < slice_index problem.now.low.items v)) }
+{
+    for name in 0..problem.high.len() {
+        if is_below(problem, flow, name) {
+            return Some(name);
+        }
+    }
+    None
+}
+
+/// Whether a name is below its low limit.
+fn is_below(problem: &FlowProblem, flow: &Flow, name: usize) -> bool
+    requires problem { IsFlowProblem problem.now }
+    requires flow { IsFlow problem.now flow.now }
+    requires name { name < names_of problem.now }
+    ensures { result ≡ nat_lt (total_at flow.now name) (slice_index problem.now.low.items name) }
+{
+    flow.totals[name] < problem.low[name]
+}
+
+/// The names below their low limits are wanted.
+fn mark_wanted(wanted: &mut [bool], problem: &FlowProblem, flow: &Flow)
+    requires problem { IsFlowProblem problem.now }
+    requires flow { IsFlow problem.now flow.now }
+    requires size { length wanted.old ≡ names_of problem.now + 1 }
+    requires limits { slice_index_or wanted.old (names_of problem.now) false ≡ false }
+    ensures { WantsBelow problem.now flow.now wanted.new }
+{
+    for name in 0..problem.high.len() {
+        wanted[name] = is_below(problem, flow, name);
+    }
+}
+
+/// The nearest name below its low limit.
+fn find_below(
+    problem: &FlowProblem,
+    flow: &Flow,
+    search: &mut Search,
+    wanted: &[bool],
+) -> Option<usize>
+    requires problem { IsFlowProblem problem.now }
+    requires meeting { IsMeeting problem.now flow.now search.old }
+    requires wanted { WantsBelow problem.now flow.now wanted.now }
+    ensures { MatchOption result
+        ((v : ℕ) → v < names_of problem.now → total_at flow.now v < slice_index problem.now.low.items v → IsStuckBelow problem.now flow.now search.new)
+        (λ last. IsWayBelow problem.now flow.now search.new last) }
+{
+    search.find(flow.arcs.as_slice(), wanted, problem.high.len())
+}
+
+/// Moves points along the path to a name below its low limit.
+fn fill_below(
+    alloc: Global,
+    problem: &FlowProblem,
+    flow: &mut Flow,
+    search: &Search,
+    last: usize,
+) -> Result<(), AllocError>
+    requires problem { IsFlowProblem problem.now }
+    requires way { IsWayBelow problem.now flow.old search.now last }
+    ensures meeting { OnOk result (IsMeeting problem.now flow.new search.now) }
+    ensures fewer { OnOk result (missing problem.now flow.new < missing problem.now flow.old) }
+{
+    augment(
+        alloc,
+        problem,
+        flow,
+        search,
+        problem.low.as_slice(),
+        problem.high.len(),
+        last,
+    )?;
+    Ok(())
+}

@@ -1,0 +1,44 @@
+//! The first pass: all points are placed within the high limits.
+ghost use Rattle.std.specs.Prelude.{◌<◌, ◌≤◌, ℕ, IfOk, MatchBool, slice_index};
+ghost use Rattle.flow_passes.specs.Placing.{IsMidway, IsStuckAbove, WantsLimits};
+ghost use Rattle.residual_arcs.specs.Problem.{IsFlowProblem, names_of};
+ghost use Rattle.residual_flow.specs.Flow.{IsFlow, total_at};
+
+use crate::placing::empty_to_high;
+use residual_arcs::FlowProblem;
+use residual_flow::Flow;
+use shortest_path::Search;
+use std::alloc::{AllocError, Global};
+
+/// Moves points away from the names above their high limits. Answers whether none is above; if not, the last search reached no
+/// name with room.
+pub fn place_within_high(
+    alloc: Global,
+    problem: &FlowProblem,
+    flow: &mut Flow,
+    search: &mut Search,
+) -> Result<bool, AllocError>
+    requires problem { IsFlowProblem problem.now }
+    requires midway { IsMidway problem.now flow.old search.old }
+    ensures { IfOk result (λ placed. MatchBool placed
+        (IsMidway problem.now flow.new search.new × ((v : ℕ) → v < names_of problem.now → total_at flow.new v ≤ slice_index problem.now.high.items v))
+        (IsStuckAbove problem.now flow.new search.new × IsFlow problem.now flow.new)) }
+{
+    let wanted = only_limits(alloc, problem)?;
+    for name in 0..problem.high.len() {
+        if !empty_to_high(alloc, problem, flow, search, wanted.as_slice(), name)? {
+            return Ok(false);
+        }
+    }
+    Ok(true)
+}
+
+/// Of all nodes the limits alone.
+fn only_limits(alloc: Global, problem: &FlowProblem) -> Result<Vec<bool>, AllocError>
+    requires { IsFlowProblem problem.now }
+    ensures { IfOk result (λ wanted. WantsLimits problem.now wanted.items) }
+{
+    let mut wanted = vec![in alloc; false; problem.high.len()]?;
+    wanted.push(true)?;
+    Ok(wanted)
+}

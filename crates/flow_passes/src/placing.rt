@@ -1,0 +1,97 @@
+//! Points of a name above its high limit move to names with room.
+ghost use Rattle.std.specs.Prelude.{◌≡◌, ◌<◌, ◌≤◌, ℕ, IfOk, MatchBool, MatchOption, OnOk, slice_index};
+ghost use Rattle.flow_passes.specs.Placing.{IsMidway, IsStuckAbove, IsWay, StayPlaced, WantsLimits};
+ghost use Rattle.residual_arcs.specs.Problem.{IsFlowProblem, names_of};
+ghost use Rattle.residual_flow.specs.Flow.{IsFlow, total_at};
+
+use augmenting_paths::augment;
+use residual_arcs::FlowProblem;
+use residual_flow::Flow;
+use shortest_path::Search;
+use std::alloc::{AllocError, Global};
+
+/// Moves points away from a name above its high limit, each time along a shortest path. Answers whether it is not above any more;
+/// if not, the last search reached no name with room.
+pub(crate) fn empty_to_high(
+    alloc: Global,
+    problem: &FlowProblem,
+    flow: &mut Flow,
+    search: &mut Search,
+    wanted: &[bool],
+    from: usize,
+) -> Result<bool, AllocError>
+    requires problem { IsFlowProblem problem.now }
+    requires midway { IsMidway problem.now flow.old search.old }
+    requires wanted { WantsLimits problem.now wanted.now }
+    requires from { from < names_of problem.now }
+    ensures emptied { IfOk result (λ emptied. MatchBool emptied
+        (IsMidway problem.now flow.new search.new × (total_at flow.new from ≤ slice_index problem.now.high.items from) × StayPlaced problem.now flow.old flow.new)
+        (IsStuckAbove problem.now flow.new search.new × IsFlow problem.now flow.new)) }
+{
+    'points: while is_above(problem, flow, from) {
+        let Some(last) = find_room(problem, flow, search, wanted, from) else {
+            return Ok(false);
+        };
+        fill(alloc, problem, flow, search, from, last)?;
+    }
+    Ok(true)
+}
+
+/// Whether a name is above its high limit.
+fn is_above(problem: &FlowProblem, flow: &Flow, name: usize) -> bool
+    requires problem { IsFlowProblem problem.now }
+    requires flow { IsFlow problem.now flow.now }
+    requires name { name < names_of problem.now }
+    ensures { MatchBool result (slice_index problem.now.high.items name < total_at flow.now name) (total_at flow.now name ≤ slice_index problem.now.high.items name) }
+{
+    problem.high[name] < flow.totals[name]
+}
+
+/// The nearest name with room.
+fn find_room(
+    problem: &FlowProblem,
+    flow: &Flow,
+    search: &mut Search,
+    wanted: &[bool],
+    from: usize,
+) -> Option<usize>
+    requires problem { IsFlowProblem problem.now }
+    requires midway { IsMidway problem.now flow.now search.old }
+    requires wanted { WantsLimits problem.now wanted.now }
+    requires from { from < names_of problem.now }
+    requires above { slice_index problem.now.high.items from < total_at flow.now from }
+    ensures { MatchOption result (IsStuckAbove problem.now flow.now search.new) (λ last. IsWay problem.now flow.now search.new from last) }
+{
+    match search.find(flow.arcs.as_slice(), wanted, from) {
+        Some(limits) => Some(search.parents[limits]),
+        None => None,
+    }
+}
+
+/// Moves points along the path to a name with room.
+fn fill(
+    alloc: Global,
+    problem: &FlowProblem,
+    flow: &mut Flow,
+    search: &Search,
+    from: usize,
+    last: usize,
+) -> Result<(), AllocError>
+    requires problem { IsFlowProblem problem.now }
+    requires way { IsWay problem.now flow.old search.now from last }
+    requires above { slice_index problem.now.high.items from < total_at flow.old from }
+    ensures midway { OnOk result (IsMidway problem.now flow.new search.now) }
+    ensures fewer { OnOk result (total_at flow.new from < total_at flow.old from) }
+    ensures placed { OnOk result (StayPlaced problem.now flow.old flow.new) }
+{
+    augment(
+        alloc,
+        problem,
+        flow,
+        search,
+        problem.high.as_slice(),
+        from,
+        last,
+    )?;
+    Ok(())
+}

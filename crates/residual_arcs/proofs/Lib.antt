@@ -1,0 +1,7 @@
+pub mod Cells
+pub mod Cheapest
+pub mod Entering
+pub mod Offering
+pub mod Parts
+pub mod Passes
+pub mod Products

@@ -1,0 +1,46 @@
+-- The residual arcs from one name to the others.
+use Rattle.std.specs.Prelude.{◌≡◌, ℕ, ◌<◌, ◌≤◌, ℤ, ◌⊎◌, ◌+ℤ◌, ◌≤ℤ◌, Bool, true, Option, Some}
+use Rattle.shortest_path.specs.declared.arc.Arc.{Arc}
+
+-- The arcs from the name `v` are those along which the points `here` may move, each the cheapest: groups and names are numbered,
+-- a group's points may take some names, and each is charged so much there.
+pub record IsRow (groups names : ℕ) (may : ℕ → ℕ → Bool) (charge : ℕ → ℕ → ℤ) (here : ℕ → ℕ) (v : ℕ) (arc : ℕ → Option Arc) : Type 0 where
+  pub group : (w : ℕ) (a : Arc) → w < names → arc w ≡ Some a → a.group < groups
+  pub there : (w : ℕ) (a : Arc) → w < names → arc w ≡ Some a → 0 < here a.group
+  pub allowed : (w : ℕ) (a : Arc) → w < names → arc w ≡ Some a → may a.group w ≡ true
+  pub cost : (w : ℕ) (a : Arc) → w < names → arc w ≡ Some a → (charge a.group v +ℤ a.cost) ≡ charge a.group w
+  pub least : (g w : ℕ) → g < groups → w < names → 0 < here g → may g w ≡ true → (a : Arc) × (arc w ≡ Some a) × ((charge g v +ℤ a.cost) ≤ℤ charge g w)
+
+-- a point of the group goes along the arc
+pub record IsWay (may : ℕ → ℕ → Bool) (charge : ℕ → ℕ → ℤ) (g v w : ℕ) (a : Arc) : Type 0 where
+  pub by : a.group ≡ g
+  pub allowed : may g w ≡ true
+  pub cost : (charge g v +ℤ a.cost) ≡ charge g w
+
+-- the arcs from the name take the ways of a group's points where these cost less
+pub record IsWidened (names : ℕ) (may : ℕ → ℕ → Bool) (charge : ℕ → ℕ → ℤ) (g v : ℕ) (old new : ℕ → Option Arc) : Type 0 where
+  pub change : (w : ℕ) (a : Arc) → w < names → new w ≡ Some a → (old w ≡ Some a) ⊎ IsWay may charge g v w a
+  pub covers : (w : ℕ) → w < names → may g w ≡ true → (a : Arc) × (new w ≡ Some a) × ((charge g v +ℤ a.cost) ≤ℤ charge g w)
+  pub less : (w : ℕ) (known : Arc) → w < names → old w ≡ Some known → (a : Arc) × (new w ≡ Some a) × (a.cost ≤ℤ known.cost)
+
+-- each arc is a way of a group with points at the name
+pub record AreWays (groups names : ℕ) (may : ℕ → ℕ → Bool) (charge : ℕ → ℕ → ℤ) (here : ℕ → ℕ) (v : ℕ) (arc : ℕ → Option Arc) : Type 0 where
+  pub group : (w : ℕ) (a : Arc) → w < names → arc w ≡ Some a → a.group < groups
+  pub there : (w : ℕ) (a : Arc) → w < names → arc w ≡ Some a → 0 < here a.group
+  pub way : (w : ℕ) (a : Arc) → w < names → arc w ≡ Some a → IsWay may charge a.group v w a
+
+-- no way of a point of the group costs less than the arcs
+abbrev pub IsCovered : ℕ → (ℕ → ℕ → Bool) → (ℕ → ℕ → ℤ) → ℕ → (ℕ → Option Arc) → ℕ → Type 0
+IsCovered names may charge v arc g = (w : ℕ) → w < names → may g w ≡ true → (a : Arc) × (arc w ≡ Some a) × ((charge g v +ℤ a.cost) ≤ℤ charge g w)
+
+-- no arc is lost, or costs more than before
+abbrev pub IsLower : ℕ → (ℕ → Option Arc) → (ℕ → Option Arc) → Type 0
+IsLower names old new = (w : ℕ) (known : Arc) → w < names → old w ≡ Some known → (a : Arc) × (new w ≡ Some a) × (a.cost ≤ℤ known.cost)
+
+-- each group with points at the name has one of its old variant with no more inputs, or no fewer, whose ways cost no less than
+-- the arcs
+abbrev pub HaveFirst : (groups names : ℕ) (variant count : ℕ → ℕ) (may : ℕ → ℕ → Bool) (charge : ℕ → ℕ → ℤ) (here : ℕ → ℕ) (v : ℕ) (arc : ℕ → Option Arc) → Type 0
+HaveFirst groups names variant count may charge here v arc = (g : ℕ) → g < groups → 0 < here g → (h : ℕ) × (h < groups) × (variant h ≡ variant g) × (count h ≤ count g) × IsCovered names may charge v arc h
+
+abbrev pub HaveLast : (groups names : ℕ) (variant count : ℕ → ℕ) (may : ℕ → ℕ → Bool) (charge : ℕ → ℕ → ℤ) (here : ℕ → ℕ) (v : ℕ) (arc : ℕ → Option Arc) → Type 0
+HaveLast groups names variant count may charge here v arc = (g : ℕ) → g < groups → 0 < here g → (h : ℕ) × (h < groups) × (variant h ≡ variant g) × (count g ≤ count h) × IsCovered names may charge v arc h

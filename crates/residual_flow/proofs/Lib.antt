@@ -1,0 +1,11 @@
+pub mod After
+pub mod Begun
+pub mod Cheap
+pub mod Homes
+pub mod Moved
+pub mod Parts
+pub mod Places
+pub mod Rows
+pub mod Stayed
+pub mod Sums
+pub mod Written

@@ -1,0 +1,71 @@
+ghost use Rattle.std.specs.Prelude.{◌≡◌, ◌<◌, ◌≤◌, ◌*◌, ◌+◌, ℕ, None, pos, length, slice_index, slice_index_or};
+ghost use Rattle.residual_arcs.specs.Problem.{IsFlowProblem, group_at, names_of, sum_to};
+ghost use Rattle.residual_flow.specs.Flow.{IsFlowAt, cell_at, flows_at, groups_of};
+ghost use Rattle.flow_laws.specs.Optimal.{IsOptimal};
+ghost use Rattle.residual_flow.specs.Rows.{HasArcs, HasLimits, HasRow, MayBe};
+ghost use Rattle.residual_flow.specs.Staying.{at_home};
+ghost use Rattle.shortest_path.specs.Network.{arc_at};
+
+use crate::arcs::{renew_from, renew_limits};
+use residual_arcs::{FlowProblem, Group};
+use shortest_path::Arc;
+
+/// The flow in which each point keeps its old variant.
+pub(crate) fn begin(
+    placed: &mut [u32],
+    totals: &mut [u32],
+    arcs: &mut [Option<Arc>],
+    problem: &FlowProblem,
+)
+    requires problem { IsFlowProblem problem.now }
+    requires placed { length placed.old ≡ groups_of problem.now * names_of problem.now }
+    requires totals { length totals.old ≡ names_of problem.now }
+    requires arcs { HasArcs (names_of problem.now) arcs.old }
+    requires none_placed { (i : ℕ) → slice_index placed.old i ≡ 0 }
+    requires no_totals { (v : ℕ) → slice_index totals.old v ≡ 0 }
+    requires none { (i : ℕ) → slice_index_or arcs.old i None ≡ None }
+    ensures flow { IsFlowAt problem.now placed.new totals.new arcs.new }
+    ensures optimal { IsOptimal (flows_at problem.now placed.new totals.new) (λ _. pos 0) }
+{
+    stay(placed, totals, &problem.groups);
+    begin_arcs(arcs, problem, placed, totals);
+}
+
+/// The points of each group stand at its old variant.
+fn stay(placed: &mut [u32], totals: &mut [u32], groups: &[Group])
+    requires placed { length placed.old ≡ length groups.now * length totals.old }
+    requires variants { (g : ℕ) → g < length groups.now → (group_at groups.now g).variant < length totals.old }
+    requires weight { sum_to (length groups.now) (λ g. (group_at groups.now g).points) ≤ 1000000 }
+    requires none_placed { (i : ℕ) → slice_index placed.old i ≡ 0 }
+    requires no_totals { (v : ℕ) → slice_index totals.old v ≡ 0 }
+    ensures placed { (g v : ℕ) → g < length groups.now → v < length totals.old → cell_at placed.new (length totals.old) g v ≡ at_home groups.now g v }
+    ensures totals { (v : ℕ) → v < length totals.old → slice_index totals.new v ≡ sum_to (length groups.now) (λ g. at_home groups.now g v) }
+{
+    for g in 0..groups.len() {
+        let Group {
+            variant,
+            points,
+            ..
+        } = groups[g];
+        placed[g * totals.len() + variant] = points;
+        totals[variant] += points;
+    }
+}
+
+/// The arcs of a flow, where none are known.
+fn begin_arcs(arcs: &mut [Option<Arc>], problem: &FlowProblem, placed: &[u32], totals: &[u32])
+    requires problem { IsFlowProblem problem.now }
+    requires arcs { HasArcs (names_of problem.now) arcs.old }
+    requires none { (i : ℕ) → slice_index_or arcs.old i None ≡ None }
+    requires placed { length placed.now ≡ groups_of problem.now * names_of problem.now }
+    requires totals { length totals.now ≡ names_of problem.now }
+    requires free { (v : ℕ) → v < names_of problem.now → MayBe problem.now placed.now v }
+    ensures rows { (v : ℕ) → v < names_of problem.now → HasRow problem.now (λ g. cell_at placed.now (names_of problem.now) g v) v arcs.new }
+    ensures limits { (v : ℕ) → v < names_of problem.now → HasLimits problem.now (slice_index totals.now v) v arcs.new }
+    ensures none { arc_at arcs.new (names_of problem.now + 1) (names_of problem.now) (names_of problem.now) ≡ None }
+{
+    for name in 0..problem.high.len() {
+        renew_from(arcs, problem, placed, name);
+        renew_limits(arcs, problem, totals, name);
+    }
+}
