@@ -1,9 +1,10 @@
-ghost use Rattle.std.specs.Prelude.{◌≡◌, ◌<◌, ◌≤◌, ◌&&◌, true, IfSome, IsErrOf, length, map, string_bytes};
+ghost use Rattle.std.specs.Prelude.{◌≡◌, ◌<◌, ◌≤◌, ◌&&◌, true, false, IfSome, IsErrOf, length, map, string_bytes};
 ghost use Rattle.std.specs.Cmp.Lexicographic.{slice_cmp};
 ghost use Rattle.std.specs.List.{list_any, list_all};
 ghost use Rattle.std.specs.List.Sorted.{IsStrictlySortedBy};
 ghost use Rattle.std.specs.Map.{keys_of};
 ghost use Rattle.std.specs.Ordering.{nat_cmp};
+ghost use Rattle.std.specs.Str.{is_utf8};
 ghost use Rattle.flag_text.specs.Outcome.{GivesUnless};
 ghost use Rattle.flag_text.specs.Shape.{is_whole};
 ghost use Rattle.flag_text.specs.View.{view};
@@ -50,10 +51,11 @@ impl Model for Request {
 impl Request {
     /// The request that a JSON text of at most 4,194,304 bytes stands for. It refuses first what
     /// is no request, then a pair of equal names, then a price out of range, then an empty range.
-    /// A longer text is refused before memory is taken.
+    /// A longer text, and bytes that are no UTF-8, are refused before memory is taken.
     pub fn read(alloc: Global, bytes: &[u8]) -> Result<Request, PriceFault>
         ensures exact { GivesUnless PriceFault.WantOfMemory (λ r. r) result (asked_of bytes.now) }
         ensures large { max_request < length bytes.now → IsErrOf result PriceFault.BadRequest }
+        ensures no_text { length bytes.now ≤ max_request → is_utf8 bytes.now ≡ false → IsErrOf result PriceFault.BadRequest }
     {
         let tree = read_tree(alloc, bytes, MAX_REQUEST)?;
         requested(alloc, &tree)

@@ -5,6 +5,7 @@ pub mod Cuts
 pub mod Deficits
 pub mod DualSums
 pub mod Duality
+pub mod Grouped
 pub mod Joined
 pub mod Keys
 pub mod Members

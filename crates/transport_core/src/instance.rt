@@ -1,11 +1,12 @@
 //! Instances: what a planner is given, and the tests of what it answers.
-ghost use Rattle.std.specs.Prelude.{◌≡◌, ◌≤◌, ◌⊎◌, ◌↔◌, IfOk, IfErr, IsErrOf, length, sum_by};
+ghost use Rattle.std.specs.Prelude.{◌≡◌, ◌≤◌, ◌⊎◌, ◌↔◌, IfOk, IfErr, IsErrOf, IsTrue, length, sum_by};
 ghost use Rattle.bucket_core.specs.Rule.{total_weight};
 ghost use Rattle.price_core.specs.Limits.{limits_view};
 ghost use Rattle.transport_core.specs.Groups.{AreSizes, rows_view};
-ghost use Rattle.transport_core.specs.Instance.{IsProblem, AreGroupTotals, MissTotal, max_names, max_planned_total};
+ghost use Rattle.transport_core.specs.Instance.{IsProblem, AreGroupTotals, AreListed, MissTotal, max_names, max_planned_total};
 ghost use Rattle.transport_core.specs.Rows.{totals_view};
 
+use crate::cut::names_are_listed;
 use crate::fault::CheckFault;
 use crate::groups::groups;
 use crate::rows::Row;
@@ -52,6 +53,7 @@ impl<'a> Instance<'a> {
     ) -> Result<Instance<'a>, CheckFault>
         requires small { total_weight old.now ≤ max_planned_total }
         requires names { length totals.now ≤ max_names }
+        requires listed { AreListed old.now totals.now }
         ensures groups { IfOk result (λ i. AreSizes old.now exposure.now i.groups) }
         ensures limits { IfOk result (λ i. i.limits ≡ totals.now) }
         ensures pricing { IfOk result (λ i. i.pricing ≡ prices.now) }
@@ -71,6 +73,13 @@ impl<'a> Instance<'a> {
             totals,
             prices,
         })
+    }
+
+    /// Whether each name of the rule has limits, as `make` asks.
+    pub fn lists(old: &Rule, totals: &Totals) -> bool
+        ensures { IsTrue result ↔ AreListed old.now totals.now }
+    {
+        names_are_listed(old.entries(), totals.entries())
     }
 
     /// The groups, by name and then by number of inputs, each with its number of points.

@@ -1,13 +1,9 @@
--- The network of a planning problem: its names and groups as indices.
+-- The groups and prices of a planning problem, by the places of the names.
 use Rattle.std.specs.Prelude.{◌≡◌, ℕ, ℤ, pos, List, length, map, Option, Some, None, if◌then◌else◌}
 use Rattle.std.specs.List.{slice_get}
-use Rattle.std.specs.Map.{keys_of}
-use Rattle.price_core.specs.Limits.{limits_view}
 use Rattle.price_core.specs.Pricing.{Pricing, price_of, is_forbidden}
 use Rattle.transport_core.specs.Groups.{GroupKey}
-use Rattle.transport_core.specs.Instance.{TransportProblem}
-use Rattle.transport_network.specs.declared.network.Group.{Group}
-use Rattle.transport_network.specs.declared.network.Network.{Network}
+use Rattle.residual_arcs.specs.declared.problem.Group.{Group}
 
 -- what a switch costs an input, and none where it is forbidden
 abbrev pub switch_price : Pricing → List ℕ → List ℕ → Option ℤ
@@ -27,9 +23,3 @@ pub record IsGroup (names : List (List ℕ)) (g : GroupKey × ℕ) (group : Grou
 pub record AreGroups (names : List (List ℕ)) (rows : List (GroupKey × ℕ)) (groups : List Group) : Type 0 where
   pub many : length groups ≡ length rows
   pub each : (i : ℕ) (g : GroupKey × ℕ) (group : Group) → slice_get rows i ≡ Some g → slice_get groups i ≡ Some group → IsGroup names g group
-
--- the network of the problem
-pub record IsNetwork (p : TransportProblem) (n : Network) : Type 0 where
-  pub limits : limits_view n.limits.now ≡ p.limits
-  pub groups : AreGroups (keys_of p.limits) p.groups n.groups.items
-  pub prices : map (λ row. row.items) n.prices.items ≡ map (price_row p.pricing (keys_of p.limits)) (keys_of p.limits)

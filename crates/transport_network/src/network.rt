@@ -1,53 +1,56 @@
 ghost use Rattle.std.specs.Prelude.{◌≡◌, ◌++◌, ◌∷◌, [], ℕ, IfOk, OnOk, Some, true, map, slice_get};
 ghost use Rattle.std.specs.Cmp.Lexicographic.{slice_cmp};
-ghost use Rattle.std.specs.List.{All, Contains};
+ghost use Rattle.std.specs.List.{All, Contains, flat_map};
 ghost use Rattle.std.specs.List.Sorted.{IsStrictlySortedBy};
 ghost use Rattle.std.specs.Map.{keys_of};
 ghost use Rattle.std.specs.Ordering.{nat_cmp};
 ghost use Rattle.price_core.specs.Limits.{limits_view};
 ghost use Rattle.transport_core.specs.Groups.{rows_view};
-ghost use Rattle.transport_network.specs.Network.{AreGroups, IsNetwork, price_row, switch_price};
+ghost use Rattle.transport_network.specs.Network.{AreGroups, price_row, switch_price};
+ghost use Rattle.transport_network.specs.Numbered.{IsNumbered, IsPriced};
+ghost use Rattle.residual_arcs.specs.Problem.{IsFlowProblem};
 
 use price_core::{Limit, Prices};
+use residual_arcs::{FlowProblem, Group};
 use std::alloc::{AllocError, Global};
 use transport_core::Instance;
 
-/// The points of one old variant at which equally many inputs were recorded: a supply of the network.
-#[derive(Clone, Copy)]
-pub struct Group {
-    /// The old variant.
-    pub variant: usize,
-    /// The inputs recorded at each of its points.
-    pub count: u32,
-    /// Its points.
-    pub points: u32,
+/// The problem of an instance in numbers: a name is an index of the limits, and groups stand by old variant and then by count.
+pub fn flow_problem(alloc: Global, instance: &Instance<'_>) -> Result<FlowProblem, AllocError>
+    ensures numbered { IfOk result (IsNumbered instance.now) }
+    ensures lawful { IfOk result IsFlowProblem }
+{
+    let limits = instance.totals().entries();
+    let groups = groups(alloc, instance.groups(), limits)?;
+    let prices = price_table(alloc, limits, instance.prices())?;
+    let low = low_limits(alloc, limits)?;
+    let high = high_limits(alloc, limits)?;
+    Ok(FlowProblem {
+        groups,
+        prices,
+        low,
+        high,
+    })
 }
 
-/// Groups to be spread over names within their limits. A name is an index of `limits`, and groups stand by variant and
-/// then by count.
-#[derive(Drop)]
-pub struct Network<'a> {
-    pub limits: &'a [Limit],
-    pub groups: Vec<Group>,
-    /// For each old variant and each name what the switch costs for an input, and none where it is forbidden.
-    pub prices: Vec<Vec<Option<i64>>>,
-}
-
-impl<'a> Network<'a> {
-    /// The network of an instance whose groups' old variants are among its names.
-    pub fn of(alloc: Global, instance: &Instance<'a>) -> Result<Network<'a>, AllocError>
-        requires listed { All (λ g. Contains (keys_of instance.now.limits) g.0.0) instance.now.groups }
-        ensures { IfOk result (IsNetwork instance.now) }
-    {
-        let limits = instance.totals().entries();
-        let groups = groups(alloc, instance.groups(), limits)?;
-        let prices = price_rows(alloc, limits, instance.prices())?;
-        Ok(Network {
-            limits,
-            groups,
-            prices,
-        })
+fn low_limits(alloc: Global, limits: &[Limit]) -> Result<Vec<u32>, AllocError>
+    ensures { IfOk result (λ v. v.items ≡ map (λ l. l.1.0) (limits_view limits.now)) }
+{
+    let mut low = Vec::with_capacity(alloc, limits.len())?;
+    for limit in limits {
+        low.push(limit.low)?;
     }
+    Ok(low)
+}
+
+fn high_limits(alloc: Global, limits: &[Limit]) -> Result<Vec<u32>, AllocError>
+    ensures { IfOk result (λ v. v.items ≡ map (λ l. l.1.1) (limits_view limits.now)) }
+{
+    let mut high = Vec::with_capacity(alloc, limits.len())?;
+    for limit in limits {
+        high.push(limit.high)?;
+    }
+    Ok(high)
 }
 
 /// The groups, with their old variants as indices of the limits, which stand in the same order.
@@ -100,39 +103,42 @@ fn index_of(limits: &[Limit], name: &str) -> usize
 }
 
 /// What each switch costs, by rows of the old names.
-fn price_rows(
+fn price_table(
     alloc: Global,
-    limits: &[Limit],
-    prices: &Prices,
-) -> Result<Vec<Vec<Option<i64>>>, AllocError>
-    ensures { IfOk result (λ v. map (λ row. row.items) v.items ≡ map (price_row prices.now (keys_of (limits_view limits.now))) (keys_of (limits_view limits.now))) }
-{
-    let mut rows = Vec::with_capacity(alloc, limits.len())?;
-    for old in limits {
-        rows.push(row_of(alloc, old.name.as_str(), limits, prices)?)?;
-    }
-    Ok(rows)
-}
-
-/// What each switch from one name costs.
-fn row_of(
-    alloc: Global,
-    old: &str,
     limits: &[Limit],
     prices: &Prices,
 ) -> Result<Vec<Option<i64>>, AllocError>
-    ensures { IfOk result (λ v. v.items ≡ price_row prices.now (keys_of (limits_view limits.now)) old.now) }
+    ensures table { IfOk result (λ v. v.items ≡ flat_map (price_row prices.now (keys_of (limits_view limits.now))) (keys_of (limits_view limits.now))) }
+    ensures priced { IfOk result (λ v. All IsPriced v.items) }
 {
-    let mut row = Vec::with_capacity(alloc, limits.len())?;
-    for new in limits {
-        row.push(switch(prices, old, new.name.as_str()))?;
+    let mut table = Vec::new(alloc);
+    for old in limits {
+        push_row(&mut table, old.name.as_str(), limits, prices)?;
     }
-    Ok(row)
+    Ok(table)
+}
+
+/// Adds what each switch from one name costs.
+fn push_row(
+    table: &mut Vec<Option<i64>>,
+    old: &str,
+    limits: &[Limit],
+    prices: &Prices,
+) -> Result<(), AllocError>
+    requires { All IsPriced table.old.items }
+    ensures row { OnOk result (table.new.items ≡ table.old.items ++ price_row prices.now (keys_of (limits_view limits.now)) old.now) }
+    ensures priced { OnOk result (All IsPriced table.new.items) }
+{
+    for new in limits {
+        table.push(switch(prices, old, new.name.as_str()))?;
+    }
+    Ok(())
 }
 
 /// What a switch costs an input, and none where it is forbidden.
 fn switch(prices: &Prices, old: &str, new: &str) -> Option<i64>
-    ensures { result ≡ switch_price prices.now old.now new.now }
+    ensures value { result ≡ switch_price prices.now old.now new.now }
+    ensures priced { IsPriced result }
 {
     if prices.forbidden(old, new) {
         None

@@ -1,0 +1,73 @@
+-- Each turn adds what one name's points pay.
+use Rattle.std.proofs.Common.{◌≡◌, ℕ, ◌+◌, ◌*◌, ◌<◌, ◌≤◌, length, get_or, sym, ap, ◌∙◌, subst, arith}
+use Rattle.std.proofs.Math.Nat.{mul-le-mul}
+use Rattle.residual_arcs.specs.Problem.{group_at, price_at}
+use Rattle.residual_arcs.proofs.Cells.{cell_in}
+use Rattle.residual_flow.specs.Flow.{cell_at}
+use Rattle.residual_flow.proofs.Sums.{sum_has}
+use Rattle.flow_answers.specs.Costs.{row_cost, unit_of}
+use Rattle.flow_answers.proofs.Bounded.{points_few, row_more, row_small}
+use Rattle.flow_answers.proofs.cost.cost_of_row.Goals as goal
+
+pub bounds-prices-variant : goal.bounds-prices-variant
+bounds-prices-variant c = omega (arith, c.requires.prices.size, cell_in c.args.names c.args.names (group_at c.args.groups.now c.args.g).variant c.loop-v.v (c.requires.groups.variant c.args.g c.requires.g) c.loop-v-test.true)
+
+pub unit-requires-clause-price : goal.unit-requires-clause-price
+unit-requires-clause-price c =
+    λ z is. c.requires.prices.each ((group_at c.args.groups.now c.args.g).variant * c.args.names + c.loop-v.v) z (cell_in c.args.names c.args.names (group_at c.args.groups.now c.args.g).variant c.loop-v.v (c.requires.groups.variant c.args.g c.requires.g) c.loop-v-test.true) is
+
+added : (cost cell r u v w s : ℕ) → r ≡ cell → u ≡ w → cost ≡ s → cost + r * u ≡ s + cell * w
+added cost cell r u v w s r_is u_is cost_is = ap (λ x. x + r * u) cost_is ∙ (ap (λ x. s + x * u) r_is ∙ ap (λ x. s + cell * x) u_is)
+
+pub loop-v-preserved : goal.loop-v-preserved
+loop-v-preserved c =
+    let groups = c.args.groups.now in
+    let prices = c.args.prices.now in
+    let placed = c.args.placed.now in
+    let k = c.args.names in
+    let g = c.args.g in
+    let v = c.loop-v.v in
+    added c.loop-v.cost (cell_at placed k g v) c.from.result c.unit.result v (unit_of (group_at groups g).count (price_at prices k (group_at groups g).variant v)) (row_cost groups prices placed k g v) c.from.ensures c.unit.ensures.value c.loop-v.invariant
+    ∙ sym (row_more groups prices placed k c.requires.groups c.requires.prices g c.requires.g c.requires.spent v)
+
+pub overflow_mul-cost : goal.overflow_mul-cost
+overflow_mul-cost c =
+    let groups = c.args.groups.now in
+    let placed = c.args.placed.now in
+    let k = c.args.names in
+    let g = c.args.g in
+    let v = c.loop-v.v in
+    let few : c.from.result ≤ 1000000 = omega (
+      arith,
+      c.from.ensures,
+      sum_has k (cell_at placed k g) v c.loop-v-test.true,
+      c.requires.spent,
+      points_few groups c.args.prices.now placed k c.requires.groups c.requires.prices g c.requires.g,
+    ) in
+    let most : c.from.result * c.unit.result ≤ 1000000 * (1000000 * 1000000) = mul-le-mul few c.unit.ensures.small in
+    omega (arith, most)
+
+pub overflow_add-cost : goal.overflow_add-cost
+overflow_add-cost c =
+    let groups = c.args.groups.now in
+    let prices = c.args.prices.now in
+    let placed = c.args.placed.now in
+    let k = c.args.names in
+    let g = c.args.g in
+    let v = c.loop-v.v in
+    let sum = added c.loop-v.cost (cell_at placed k g v) c.from.result c.unit.result v (unit_of (group_at groups g).count (price_at prices k (group_at groups g).variant v)) (row_cost groups prices placed k g v) c.from.ensures c.unit.ensures.value c.loop-v.invariant
+    ∙ sym (row_more groups prices placed k c.requires.groups c.requires.prices g c.requires.g c.requires.spent v) in
+    omega (
+      arith,
+      sum,
+      row_small groups prices placed k c.requires.groups c.requires.prices g c.requires.g c.requires.spent (v + 1) (omega (arith, c.loop-v-test.true)),
+      points_few groups prices placed k c.requires.groups c.requires.prices g c.requires.g,
+    )
+
+pub returns-clause-small : goal.returns-clause-small
+returns-clause-small c =
+    omega (
+      arith,
+      c.loop-v.invariant,
+      row_small c.args.groups.now c.args.prices.now c.args.placed.now c.args.names c.requires.groups c.requires.prices c.args.g c.requires.g c.requires.spent c.loop-v.v c.loop-v.auto.v-end,
+    )

@@ -1,0 +1,12 @@
+-- The law is complementary slackness, by the facts of the flow by number.
+use Rattle.std.proofs.Common.{sym, ◌∙◌}
+use Rattle.flow_certificates.proofs.Optimal.{proved}
+use Rattle.flow_answers.proofs.Costs.{cost_listed}
+use Rattle.flow_answers.proofs.Numbered.{optimal_is, spent_is}
+use Rattle.flow_answers.proofs.Offering.{least_offers}
+use Rattle.flow_answers.proofs.laws.an_optimal_flow_is_proved.Goals as goal
+
+pub returns : goal.returns
+returns c p q placed totals arcs price alpha beta cost limits are flow optimal lows highs priced beta_is same each cost_is =
+    let spent = spent_is p q placed totals arcs price beta are flow optimal lows highs priced beta_is in
+    proved p placed alpha beta cost limits (optimal_is p q placed totals arcs price beta are flow optimal lows highs priced beta_is) same (least_offers p q alpha beta are same each) (cost_listed p q placed totals arcs are flow spent ∙ sym cost_is)
