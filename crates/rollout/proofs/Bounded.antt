@@ -1,5 +1,5 @@
 -- What a lawful request asks is small enough to be planned on.
-use Rattle.std.proofs.Common.{◌≡◌, ℕ, suc, ◌*◌, ◌≤◌, List, [], ◌∷◌, length, Bool, true, false, ◌&&◌, cond, nat_lt, nat_le, Option, Some, None, IfSome, Result, Ok, Err, Less, Equal, Greater, Ordering, refl, ap, ◌∙◌, subst, arith}
+use Rattle.std.proofs.Common.{◌≡◌, ℕ, suc, ◌*◌, ◌≤◌, List, [], ◌∷◌, length, Bool, true, false, ◌&&◌, ◌||◌, ◌<◌, ◌⊎◌, ⊎_elim, sum_by, cond, nat_lt, nat_le, Option, Some, None, IfSome, Result, Ok, Err, Less, Equal, Greater, Ordering, refl, sym, ap, ◌∙◌, subst, arith}
 use Rattle.std.specs.BTreeMap.{insert_entry}
 use Rattle.std.specs.Cmp.Lexicographic.{slice_cmp}
 use Rattle.std.specs.Map.{lookup}
@@ -9,7 +9,7 @@ use Rattle.std.proofs.lemmas.Bool.{ltb-false, leb-true}
 use Rattle.std.proofs.lemmas.Map.Entries.{All-lookup}
 use Rattle.flag_text.proofs.Bools.{left, right}
 use Rattle.flag_text.specs.Shape.{Members, no_members, member}
-use Rattle.bucket_core.specs.Rule.{total_weight, refinement}
+use Rattle.bucket_core.specs.Rule.{Entries, total_weight, refinement}
 use Rattle.bucket_core.proofs.Refined.{total_weight-refinement}
 use Rattle.logic_ast.specs.Expression.{Expression}
 use Rattle.logic_ast.specs.Sites.{parts_at}
@@ -22,7 +22,8 @@ use Rattle.book_core.specs.Site.{page_at}
 use Rattle.price_core.specs.Limits.{Limits, limits_of}
 use Rattle.price_core.specs.Request.{Asked, asked_of, limits_on, all_known}
 use Rattle.price_core.specs.declared.fault.PriceFault.TheVariants as price
-use Rattle.transport_core.specs.Instance.{max_planned_total, max_names}
+use Rattle.transport_core.specs.Instance.{AreListed, MissTotal, max_planned_total, max_names}
+use Rattle.rollout.proofs.Variants.{names_limited}
 use Rattle.rollout.specs.Lawful.{Problem, Place, and_then, by_price, by_logic, or_refuse, place_in, place_of, has_names_of, limits_for, is_unmet, max_planned, factor, sized, weighed, problem_at, problem_of}
 use Rattle.rollout.specs.declared.fault.RolloutFault.{RolloutFault}
 use Rattle.rollout.specs.declared.fault.RolloutFault.TheVariants.{UnknownFlag, NoSite, UnknownVariant, TotalsSum, TotalTooLarge}
@@ -95,6 +96,13 @@ limits_in : Result Limits RolloutFault → Limits
 limits_in (Ok limits) = limits
 limits_in (Err e) = []
 
+named : (place : Place) (asked : Asked) (limits : Limits) → limits_for place asked ≡ Ok limits → has_names_of place.flag place.entries ≡ true
+named place asked limits h = by (has_names_of place.flag place.entries) refl h
+  where
+    by : (b : Bool) → has_names_of place.flag place.entries ≡ b → cond b (by_price (cond (all_known (variant_names place.flag) asked) (Ok (limits_on asked.totals (variant_names place.flag))) (Err price.UnknownVariant))) (Err UnknownVariant) ≡ Ok limits → has_names_of place.flag place.entries ≡ true
+    by true is h = is
+    by false is h = cc
+
 limited : (place : Place) (asked : Asked) (limits : Limits) → limits_for place asked ≡ Ok limits → limits_on asked.totals (variant_names place.flag) ≡ limits
 unfolding limits_in
 limited place asked limits h = by (has_names_of place.flag place.entries) (all_known (variant_names place.flag) asked) h
@@ -114,6 +122,16 @@ sized_small limits n u h = by (is_unmet limits n) (nat_lt max_planned n) refl h
     by false true is h = cc
     by false false is h = ltb-false max_planned n is
 
+-- the limits can be met by the total
+sized_met : (limits : Limits) (n : ℕ) (u : Unit {0}) → sized limits n ≡ Ok u → (n < sum_by (λ l. l.1.0) limits) ⊎ (sum_by (λ l. l.1.1) limits < n) → ⊥
+sized_met limits n u h = by (nat_lt n (sum_by (λ l. l.1.0) limits)) (nat_lt (sum_by (λ l. l.1.1) limits) n) refl refl h
+  where
+    by : (a b : Bool) → nat_lt n (sum_by (λ l. l.1.0) limits) ≡ a → nat_lt (sum_by (λ l. l.1.1) limits) n ≡ b → cond (a || b) (Err TotalsSum) (cond (nat_lt max_planned n) (Err TotalTooLarge) (Ok tt)) ≡ Ok u
+        → (n < sum_by (λ l. l.1.0) limits) ⊎ (sum_by (λ l. l.1.1) limits < n) → ⊥
+    by true b low high h missed = cc
+    by false true low high h missed = cc
+    by false false low high h missed = ⊎_elim (λ (m : n < sum_by (λ l. l.1.0) limits). omega (arith, m, ltb-false n (sum_by (λ l. l.1.0) limits) low)) (λ (m : sum_by (λ l. l.1.1) limits < n). omega (arith, m, ltb-false (sum_by (λ l. l.1.1) limits) n high)) missed
+
 -- ---- the whole
 
 problem_in : Problem → Result Problem RolloutFault → Problem
@@ -123,6 +141,9 @@ problem_in d (Err e) = d
 -- what is planned on, and with which limits
 record IsBounded (place : Place) (asked : Asked) (p : Problem) : Type 0 where
   small : total_weight p.old ≤ max_planned
+  met : MissTotal p.old p.limits → ⊥
+  factor : ℕ
+  old : refinement factor place.entries ≡ p.old
   limits : limits_for place asked ≡ Ok p.limits
 
 bounded_at : (refining : Refining) (book : Contents) (asked : Asked) (place : Place) (p : Problem) → problem_at refining book asked place ≡ Ok p → IsBounded place asked p
@@ -137,11 +158,19 @@ bounded_at refining book asked place p h =
     let is : problem limits.from ≡ p = ap (problem_in (problem limits.from)) size.gives in
     record {
       small = omega (arith, sized_small limits.from (total * k) size.from size.was, total_weight-refinement k place.entries, ap (λ (q : Problem). total_weight q.old) is);
+      met = λ missed.
+          let same : total_weight p.old ≡ total * k = ap (λ (q : Problem). total_weight q.old) (sym is) ∙ total_weight-refinement k place.entries in
+          let limits_are : limits.from ≡ p.limits = ap (λ (q : Problem). q.limits) is in
+          sized_met limits.from (total * k) size.from size.was (subst (λ (ls : Limits). (total * k < sum_by (λ l. l.1.0) ls) ⊎ (sum_by (λ l. l.1.1) ls < total * k)) (sym limits_are) (subst (λ n. (n < sum_by (λ l. l.1.0) p.limits) ⊎ (sum_by (λ l. l.1.1) p.limits < n)) same missed));
+      factor = k;
+      old = ap (λ (q : Problem). q.old) is;
       limits = limits.was ∙ ap (λ (q : Problem). Ok q.limits) is;
     }
 
 -- the bounds of an instance
 pub record IsSmall (p : Problem) : Type 0 where
+  pub met : MissTotal p.old p.limits → ⊥
+  pub listed : AreListed p.old p.limits
   pub small : total_weight p.old ≤ max_planned_total
   pub few : length p.limits ≤ max_names
 
@@ -153,7 +182,10 @@ lawful_small refining flags bytes book p lawful h =
     let good = subst (λ o. IfSome o (λ d. is_definition d ≡ true)) (placed flags asked.from.flag asked.from.site place.from place.was) (All-lookup (λ d. is_definition d ≡ true) (bytes_eq asked.from.flag) flags lawful.each) in
     let names = few_variants place.from.flag good in
     let made = ap (λ (ls : Limits). length ls) (limited place.from asked.from p.limits bounds.limits) in
+    let listed = names_limited place.from.flag place.from.entries bounds.factor asked.from.totals (named place.from asked.from p.limits bounds.limits) in
     record {
+      listed = subst (λ (ls : Limits). AreListed p.old ls) (limited place.from asked.from p.limits bounds.limits) (subst (λ (r : Entries). AreListed r (limits_on asked.from.totals (variant_names place.from.flag))) bounds.old listed);
       small = bounds.small;
+      met = bounds.met;
       few = omega (arith, made, length-limits_on asked.from.totals (variant_names place.from.flag), names);
     }

@@ -6,5 +6,5 @@ pub mod Plans
 pub mod Refines
 pub mod Resolved
 pub mod Sites
-pub mod Spreading
+pub mod Variants
 pub mod Verifies

@@ -12,16 +12,20 @@ use Rattle.bucket_core.specs.Canonical.{IsCanonical}
 use Rattle.bucket_core.specs.Rule.{Entries, IsRuleTotal, total_weight, names_view}
 use Rattle.price_core.specs.Limits.{AreLimits}
 use Rattle.price_core.specs.Pricing.{Pricing}
-use Rattle.transport_core.specs.Certificate.{DualPrices, IsCertified}
+use Rattle.transport_core.specs.Assignment.{HasAssignment, flows_of}
+use Rattle.transport_core.specs.Certificate.{DualPrices, IsCertified, certificate_view}
 use Rattle.transport_core.specs.Deficient.{IsDeficient, IsOver}
 use Rattle.transport_core.specs.Fits.{IsLeast}
 use Rattle.transport_core.specs.Groups.{AreSizes}
 use Rattle.transport_core.specs.Instance.{TransportProblem}
+use Rattle.transport_core.specs.declared.assignment.Assignment.{Assignment}
+use Rattle.transport_core.specs.declared.certificate.Certificate.{Certificate}
 use Rattle.transport_core.specs.declared.certificate.Cut.{Cut}
 use Rattle.transport_core.specs.declared.certificate.CutKind.{CutKind}
 use Rattle.transport_core.specs.declared.certificate.CutKind.TheVariants.{Over, Under}
 use Rattle.transport_core.proofs.Deficits.{deficient_fits_none}
 use Rattle.transport_plan.specs.Solved.{IsCut, IsNeverOver}
+use Rattle.transport_plan.specs.Solved.{IsPlan as IsSolved}
 use Rattle.plan_text.specs.Answer.{emit, none_exists, IsOrdered, planned_view}
 use Rattle.rollout.specs.Lawful.{Problem, IsLawful}
 use Rattle.plan_text.specs.PlanFile.{rises}
@@ -29,33 +33,6 @@ use Rattle.rollout.specs.Planned.{IsUnderLast, IsPlan, IsUndecided, IsPlanned}
 use Rattle.rollout.specs.declared.fault.RolloutFault.{RolloutFault}
 use Rattle.rollout.specs.declared.fault.RolloutFault.TheVariants.{WantOfMemory}
 use Rattle.plan_text.specs.declared.planned.Planned.{Planned}
-
--- ---- names that rise are sorted
-
-lt_is : (o : Ordering) → is_lt o ≡ true → o ≡ Less
-lt_is Less h = refl
-lt_is Equal h = cc
-lt_is Greater h = cc
-
-rise-cons : (name : List ℕ) (names : List (List ℕ)) → AllByRecursion (λ y. slice_cmp nat_cmp name y ≡ Less) names → IsStrictlySortedBy (slice_cmp nat_cmp) names → IsStrictlySortedBy (slice_cmp nat_cmp) (name ∷ names)
-unfolding IsStrictlySortedBy
-rise-cons name names above rise = (above, rise)
-
-rise-head : (name : List ℕ) (names : List (List ℕ)) → IsStrictlySortedBy (slice_cmp nat_cmp) (name ∷ names) → AllByRecursion (λ y. slice_cmp nat_cmp name y ≡ Less) names
-unfolding IsStrictlySortedBy
-rise-head name names rise = rise.0
-
-rise-nil : IsStrictlySortedBy (slice_cmp nat_cmp) []
-unfolding IsStrictlySortedBy
-rise-nil = tt
-
-pub sorted-rises : (names : List (List ℕ)) → rises (slice_cmp nat_cmp) names ≡ true → IsStrictlySortedBy (slice_cmp nat_cmp) names
-sorted-rises [] h = rise-nil
-sorted-rises (x ∷ []) h = rise-cons x [] tt rise-nil
-sorted-rises (x ∷ y ∷ ys) h =
-    let later = sorted-rises (y ∷ ys) (right (is_lt (slice_cmp nat_cmp x y)) _ h) in
-    let less = lt_is (slice_cmp nat_cmp x y) (left (is_lt (slice_cmp nat_cmp x y)) _ h) in
-    rise-cons x (y ∷ ys) (less, below_all nat_list_cmp_total x y ys less (rise-head y ys later)) later
 
 -- ---- plans
 
@@ -76,6 +53,16 @@ emit_plan p prices rule c some lawful same certified least = record {
 }
 
 -- ---- of the instance
+
+-- a rule with the instance's assignment passes the check of its certificate, and costs the least
+pub solved_plan : (p : Problem) (t : TransportProblem) (assignment : Assignment) (certificate : Certificate) (rule : Entries) → AreSizes p.old p.inputs t.groups → t.limits ≡ p.limits → t.pricing ≡ p.pricing → IsSolved t assignment certificate
+    → HasAssignment p.old rule p.inputs (flows_of t assignment.numbers.items) → IsCertified p.old rule p.limits p.pricing p.inputs (certificate_view certificate) × IsLeast p.old rule p.limits p.pricing p.inputs
+solved_plan p t assignment certificate rule sizes limits pricing solved has =
+    let proved = solved p.old rule p.inputs sizes has in
+    let c = certificate_view certificate in (
+      subst (λ ls. IsCertified p.old rule ls p.pricing p.inputs c) limits (subst (λ prices. IsCertified p.old rule t.limits prices p.inputs c) pricing proved.0),
+      subst (λ ls. IsLeast p.old rule ls p.pricing p.inputs) limits (subst (λ prices. IsLeast p.old rule t.limits prices p.inputs) pricing proved.1),
+    )
 
 -- a cut of the instance, for the rule that it is of
 pub deficient_of : (p : Problem) (t : TransportProblem) (cut : Cut) → AreSizes p.old p.inputs t.groups → t.limits ≡ p.limits → t.pricing ≡ p.pricing → IsCut t cut

@@ -80,7 +80,7 @@ abbrev pub of_plan : PlanFault → RolloutFault
 of_plan plan.WantOfMemory = WantOfMemory
 of_plan plan.Undecided = Undecided
 
--- of what is told of an answer that was made for the instance
+-- of what is told of limits that an instance cannot have
 abbrev pub of_check : CheckFault → RolloutFault
 of_check check.WantOfMemory = WantOfMemory
-of_check fault = Undecided
+of_check fault = TotalsSum

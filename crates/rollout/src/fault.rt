@@ -170,7 +170,7 @@ impl From<CheckFault> for RolloutFault {
     fn from(fault: CheckFault) -> RolloutFault {
         match fault {
             CheckFault::WantOfMemory => RolloutFault::WantOfMemory,
-            _ => RolloutFault::Undecided,
+            _ => RolloutFault::TotalsSum,
         }
     }
 }

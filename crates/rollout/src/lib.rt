@@ -12,7 +12,7 @@
 //! - [`plan`] and [`plan_refined`] answer a lawful request with a canonical rule that costs the recorded inputs the least of
 //!   all that fit, and a certificate that proves it, or with a set of names which shows that none fits; a set under its low
 //!   limits only where no set is over its high ones (`Planned`). What is answered can be printed and read again. Where the
-//!   request is not lawful, they refuse as [`verify`] does. What they answer is told as valid ([`plans_are_valid`]). That they never answer `Undecided` is not proved yet.
+//!   request is not lawful, they refuse as [`verify`] does. What they answer is told as valid ([`plans_are_valid`]). They answer `Undecided` only where `solve` does.
 #![tactic(auto)]
 
 mod application;
@@ -22,7 +22,6 @@ mod place;
 mod planner;
 mod problem;
 mod refining;
-mod spread;
 mod sums;
 mod verification;
 mod verify_fault;

@@ -1,28 +1,32 @@
 //! The answer of the planner to a request.
-ghost use Rattle.std.specs.Prelude.{◌≡◌, ◌≢◌, ◌≤◌, ◌<◌, true, length, IfOk, IfErr, OnErr, MatchResult};
-ghost use Rattle.bucket_core.specs.Canonical.{IsCanonical};
-ghost use Rattle.bucket_core.specs.Rule.{total_weight, names_view};
+ghost use Rattle.std.specs.Prelude.{◌≡◌, ◌≤◌, ◌<◌, true, length, IfOk, MatchResult};
+ghost use Rattle.std.specs.Cmp.Lexicographic.{slice_cmp};
+ghost use Rattle.std.specs.List.Sorted.{IsStrictlySortedBy};
+ghost use Rattle.std.specs.Ordering.{nat_cmp};
+ghost use Rattle.bucket_core.specs.Rule.{names_view, total_weight};
 ghost use Rattle.flag_defs.specs.Flags.{flags_view};
-ghost use Rattle.transport_core.specs.Certificate.{IsCertified, certificate_view};
-ghost use Rattle.transport_core.specs.Deficient.{IsDeficient};
-ghost use Rattle.transport_core.specs.Instance.{max_planned_total, max_names};
-ghost use Rattle.plan_text.specs.Answer.{none_exists, IsOrdered, planned_view};
+ghost use Rattle.transport_core.specs.Assignment.{IsProved};
+ghost use Rattle.transport_core.specs.Certificate.{certificate_view};
+ghost use Rattle.transport_core.specs.Groups.{AreSizes};
+ghost use Rattle.transport_core.specs.Instance.{AreListed, MissTotal, max_planned_total, max_names};
+ghost use Rattle.plan_text.specs.Answer.{IsOrdered, planned_view};
 ghost use Rattle.rollout.specs.Lawful.{IsRefining, problem_of, problem_view};
 ghost use Rattle.plan_text.specs.PlanFile.{has_whole_numbers, IsWhole};
-ghost use Rattle.rollout.specs.Planned.{IsPlan, IsPlanned, IsUndecided, IsUnderLast};
+ghost use Rattle.rollout.specs.Planned.{IsPlan, IsPlanned, IsUndecided};
+ghost use Rattle.transport_plan.specs.Solved.{IfNone, IfPlan, IsCut, IsNeverOver};
+ghost use Rattle.transport_plan.specs.Solved.{IsPlan as IsSolved};
 ghost use Rattle.rollout.specs.declared.refining.Refining.TheVariants.{Times};
 
 use crate::fault::RolloutFault;
 use crate::problem::{Problem, problem_of};
 use crate::refining::Refining;
-use crate::spread::spread;
+use assignment_rule::spread;
 use book_core::Book;
-use bucket_core::Rule;
 use flag_defs::Flags;
-use plan_text::{Planned, has_whole_numbers, names_rise};
-use std::alloc::Global;
+use plan_text::Planned;
+use std::alloc::{AllocError, Global};
 use std::thread::Threads;
-use transport_core::{Certificate, Cut, Instance, check_plan};
+use transport_core::{CutKind, Instance};
 use transport_plan::{Solved, solve};
 
 /// The rule that meets a request and costs the recorded inputs the least, with its certificate, or a set of names which
@@ -30,9 +34,9 @@ use transport_plan::{Solved, solve};
 /// search it takes `O(log n)` steps for each point and input, at n entries and inputs.
 ///
 /// It refuses an unlawful request, in this order, with `Request`, `UnknownFlag`, `NoSite`, `Computed`, `NoWeight`,
-/// `UnknownVariant`, `TotalsSum` and `TotalTooLarge`, and then with `Undecided` where no answer passed the checks.
+/// `UnknownVariant`, `TotalsSum` and `TotalTooLarge`, and then with `Undecided` where `solve` does.
 pub fn plan(
-    rt: &(impl Threads + Sync),
+    _rt: &(impl Threads + Sync),
     alloc: Global,
     flags: &Flags,
     request: &[u8],
@@ -42,12 +46,12 @@ pub fn plan(
     ensures ordered { IfOk result (λ a. IsOrdered (planned_view a)) }
     ensures whole { IfOk result (λ a. IsWhole (planned_view a)) }
 {
-    plan_by(rt, alloc, Refining::Times(1), flags, request, book)
+    plan_by(alloc, Refining::Times(1), flags, request, book)
 }
 
 /// As [`plan`], on the site's rule refined by m. The condition is m from 1.
 pub fn plan_refined(
-    rt: &(impl Threads + Sync),
+    _rt: &(impl Threads + Sync),
     alloc: Global,
     flags: &Flags,
     request: &[u8],
@@ -59,11 +63,10 @@ pub fn plan_refined(
     ensures ordered { IfOk result (λ a. IsOrdered (planned_view a)) }
     ensures whole { IfOk result (λ a. IsWhole (planned_view a)) }
 {
-    plan_by(rt, alloc, Refining::Times(m), flags, request, book)
+    plan_by(alloc, Refining::Times(m), flags, request, book)
 }
 
 fn plan_by(
-    rt: &(impl Threads + Sync),
     alloc: Global,
     refining: Refining,
     flags: &Flags,
@@ -78,17 +81,15 @@ fn plan_by(
     // Flags have at most 64 variants.
     let _count = flags.len();
     let problem = problem_of(alloc, refining, flags, request, book)?;
-    plan_on(rt, alloc, &problem)
+    plan_on(alloc, &problem)
 }
 
 /// The answer to what a lawful request asks.
-fn plan_on(
-    rt: &(impl Threads + Sync),
-    alloc: Global,
-    problem: &Problem,
-) -> Result<Planned, RolloutFault>
+fn plan_on(alloc: Global, problem: &Problem) -> Result<Planned, RolloutFault>
     requires small { total_weight problem.now.old ≤ max_planned_total }
     requires few { length problem.now.totals ≤ max_names }
+    requires listed { AreListed problem.now.old problem.now.totals }
+    requires met { ¬ (MissTotal problem.now.old problem.now.totals) }
     ensures exact { MatchResult result (λ a. IsPlan (problem_view problem.now) (planned_view a)) IsUndecided }
     ensures ordered { IfOk result (λ a. IsOrdered (planned_view a)) }
     ensures whole { IfOk result (λ a. IsWhole (planned_view a)) }
@@ -101,64 +102,45 @@ fn plan_on(
         ..
     } = problem;
     let instance = Instance::make(alloc, old, totals, prices, exposure)?;
-    match solve(alloc, &instance)? {
-        Solved::Plan(assignment, certificate) => {
-            let rule = spread(alloc, old, exposure, &instance, assignment)?;
-            emit(rt, alloc, problem, rule, certificate)
-        }
-        Solved::None(cut) => emit_none(problem, cut),
-    }
+    let solved = solve(alloc, &instance)?;
+    Ok(answer(alloc, problem, &instance, solved)?)
 }
 
-/// The rule as an answer, where the check accepts it and a file can hold its numbers.
-fn emit(
-    rt: &(impl Threads + Sync),
+/// What is solved, as an answer: the rule that has the assignment, or the set of names.
+fn answer(
     alloc: Global,
     problem: &Problem,
-    rule: Rule,
-    certificate: Certificate,
-) -> Result<Planned, RolloutFault>
-    requires { IsCanonical rule }
-    ensures exact { MatchResult result (λ a. IsPlan (problem_view problem.now) (planned_view a)) IsUndecided }
+    instance: &Instance<'_>,
+    solved: Solved,
+) -> Result<Planned, AllocError>
+    requires groups { AreSizes problem.now.old problem.now.exposure instance.now.groups }
+    requires limits { instance.now.limits ≡ problem.now.totals }
+    requires pricing { instance.now.pricing ≡ problem.now.request.prices }
+    requires proved { IfPlan solved (λ assignment certificate. IsProved instance.now assignment.numbers.items (certificate_view certificate)) }
+    requires least { IfPlan solved (IsSolved instance.now) }
+    requires whole { IfPlan solved (λ _ certificate. has_whole_numbers (certificate_view certificate) ≡ true) }
+    requires deficient { IfNone solved (IsCut instance.now) }
+    requires under { IfNone solved (λ cut. cut.kind ≡ CutKind.Under → IsNeverOver instance.now) }
+    requires ordered { IfNone solved (λ cut. IsStrictlySortedBy (slice_cmp nat_cmp) (names_view cut.names.items)) }
+    ensures plan { IfOk result (λ a. IsPlan (problem_view problem.now) (planned_view a)) }
     ensures ordered { IfOk result (λ a. IsOrdered (planned_view a)) }
     ensures whole { IfOk result (λ a. IsWhole (planned_view a)) }
-    ensures undecided { IfErr result (λ e. e ≢ RolloutFault.WantOfMemory → ¬ (IsCertified problem.now.old rule problem.now.totals problem.now.request.prices problem.now.exposure (certificate_view certificate) × (has_whole_numbers (certificate_view certificate) ≡ true))) }
 {
-    // what is answered rests on what these say of the rules and of the limits
-    let _total = rule.total();
-    let _weight = problem.old.total();
-    let _limits = problem.totals.entries();
-    let prices = problem.request.prices();
-    if !has_whole_numbers(&certificate) {
-        return Err(RolloutFault::Undecided);
-    }
-    check_plan(
-        rt,
-        alloc,
-        &problem.old,
-        &rule,
-        &problem.totals,
-        prices,
-        &problem.exposure,
-        &certificate,
-    )?;
-    Ok(Planned::Emit(rule, certificate))
-}
-
-/// The set of names as an answer, where the names stand in order.
-fn emit_none(problem: &Problem, cut: Cut) -> Result<Planned, RolloutFault>
-    requires deficient { IsDeficient cut.kind problem.now.old problem.now.totals problem.now.request.prices (names_view cut.names.items) }
-    requires under_last { IsUnderLast (problem_view problem.now) (none_exists cut.kind (names_view cut.names.items)) }
-    ensures exact { MatchResult result (λ a. IsPlan (problem_view problem.now) (planned_view a)) IsUndecided }
-    ensures ordered { IfOk result (λ a. IsOrdered (planned_view a)) }
-    ensures whole { IfOk result (λ a. IsWhole (planned_view a)) }
-    ensures undecided { OnErr result (¬ IsOrdered (none_exists cut.kind (names_view cut.names.items))) }
-{
+    let Problem {
+        old,
+        totals,
+        exposure,
+        ..
+    } = problem;
     // what is answered rests on what these say of the rule and of the limits
-    let _weight = problem.old.total();
-    let _limits = problem.totals.entries();
-    if !names_rise(cut.names.as_slice()) {
-        return Err(RolloutFault::Undecided);
+    let _weight = old.total();
+    let _limits = totals.entries();
+    match solved {
+        Solved::Plan(assignment, certificate) => {
+            let rule = spread(alloc, old, exposure, instance, assignment)?;
+            let _total = rule.total();
+            Ok(Planned::Emit(rule, certificate))
+        }
+        Solved::None(cut) => Ok(Planned::NoneExists(cut)),
     }
-    Ok(Planned::NoneExists(cut))
 }

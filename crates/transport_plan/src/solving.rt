@@ -1,10 +1,16 @@
-ghost use Rattle.std.specs.Prelude.{◌≡◌, IfOk};
+ghost use Rattle.std.specs.Prelude.{◌≡◌, IfOk, true};
+ghost use Rattle.std.specs.Cmp.Lexicographic.{slice_cmp};
+ghost use Rattle.std.specs.List.Sorted.{IsStrictlySortedBy};
+ghost use Rattle.std.specs.Ordering.{nat_cmp};
+ghost use Rattle.bucket_core.specs.Rule.{names_view};
+ghost use Rattle.plan_text.specs.PlanFile.{has_whole_numbers};
 ghost use Rattle.transport_core.specs.Assignment.{IsProved};
 ghost use Rattle.transport_core.specs.Certificate.{certificate_view};
 ghost use Rattle.transport_plan.specs.Solved.{IfPlan, IfNone, IsPlan, IsCut, IsNeverOver};
 
 use crate::answer::{Answer, find_answer};
 use crate::fault::PlanFault;
+use plan_text::{has_whole_numbers, names_rise};
 use std::alloc::Global;
 use transport_core::{Assignment, Certificate, Cut, CutKind, Instance};
 
@@ -26,6 +32,8 @@ pub fn solve(alloc: Global, instance: &Instance) -> Result<Solved, PlanFault>
     ensures least { IfOk result (λ s. IfPlan s (IsPlan instance.now)) }
     ensures deficient { IfOk result (λ s. IfNone s (IsCut instance.now)) }
     ensures under { IfOk result (λ s. IfNone s (λ cut. cut.kind ≡ CutKind.Under → IsNeverOver instance.now)) }
+    ensures whole { IfOk result (λ s. IfPlan s (λ _ certificate. has_whole_numbers (certificate_view certificate) ≡ true)) }
+    ensures ordered { IfOk result (λ s. IfNone s (λ cut. IsStrictlySortedBy (slice_cmp nat_cmp) (names_view cut.names.items))) }
 {
     match find_answer(alloc, instance)? {
         Answer::Plan(assignment, certificate) => planned(instance, assignment, certificate),
@@ -42,8 +50,12 @@ fn planned(
 ) -> Result<Solved, PlanFault>
     ensures proved { IfOk result (λ s. IfPlan s (λ assignment certificate. IsProved instance.now assignment.numbers.items (certificate_view certificate))) }
     ensures least { IfOk result (λ s. IfPlan s (IsPlan instance.now)) }
+    ensures whole { IfOk result (λ s. IfPlan s (λ _ certificate. has_whole_numbers (certificate_view certificate) ≡ true)) }
     ensures plan { IfOk result (λ s. IfNone s (λ _. ⊥)) }
 {
+    if !has_whole_numbers(&certificate) {
+        return Err(PlanFault::Undecided);
+    }
     if instance.proves(&assignment, &certificate) {
         Ok(Solved::Plan(assignment, certificate))
     } else {
@@ -55,12 +67,16 @@ fn planned(
 fn cut_over(instance: &Instance, names: Vec<String>) -> Result<Solved, PlanFault>
     ensures deficient { IfOk result (λ s. IfNone s (IsCut instance.now)) }
     ensures over { IfOk result (λ s. IfNone s (λ cut. cut.kind ≡ CutKind.Over)) }
+    ensures ordered { IfOk result (λ s. IfNone s (λ cut. IsStrictlySortedBy (slice_cmp nat_cmp) (names_view cut.names.items))) }
     ensures none { IfOk result (λ s. IfPlan s (λ _ _. ⊥)) }
 {
     let cut = Cut {
         kind: CutKind::Over,
         names,
     };
+    if !names_rise(cut.names.as_slice()) {
+        return Err(PlanFault::Undecided);
+    }
     if instance.is_deficient(&cut) {
         Ok(Solved::None(cut))
     } else {
@@ -76,12 +92,16 @@ fn cut_under(
 ) -> Result<Solved, PlanFault>
     ensures deficient { IfOk result (λ s. IfNone s (IsCut instance.now)) }
     ensures under { IfOk result (λ s. IfNone s (λ cut. cut.kind ≡ CutKind.Under → IsNeverOver instance.now)) }
+    ensures ordered { IfOk result (λ s. IfNone s (λ cut. IsStrictlySortedBy (slice_cmp nat_cmp) (names_view cut.names.items))) }
     ensures none { IfOk result (λ s. IfPlan s (λ _ _. ⊥)) }
 {
     let cut = Cut {
         kind: CutKind::Under,
         names,
     };
+    if !names_rise(cut.names.as_slice()) {
+        return Err(PlanFault::Undecided);
+    }
     if instance.places(assignment) && instance.is_deficient(&cut) {
         Ok(Solved::None(cut))
     } else {

@@ -1,0 +1,5 @@
+pub mod Dealt
+pub mod Places
+pub mod Assigned
+pub mod Names
+pub mod Tallied

@@ -1,0 +1,87 @@
+//! From an assignment to a rule: of each group the first points stay, and the others are given its names in their order.
+ghost use Rattle.std.specs.Prelude.{◌≡◌, ◌≤◌, true, length, IfOk};
+ghost use Rattle.std.specs.Cmp.Lexicographic.{slice_cmp};
+ghost use Rattle.std.specs.List.{All, Contains};
+ghost use Rattle.std.specs.List.Sorted.{IsStrictlySortedBy};
+ghost use Rattle.std.specs.Map.{keys_of};
+ghost use Rattle.std.specs.Ordering.{nat_cmp};
+ghost use Rattle.bucket_core.specs.Canonical.{IsCanonical};
+ghost use Rattle.bucket_core.specs.Rule.{names_view};
+ghost use Rattle.price_core.specs.Limits.{limits_view};
+ghost use Rattle.transport_core.specs.Assignment.{HasAssignment, arc_flows, flows_of, spends_all};
+ghost use Rattle.transport_core.specs.Groups.{AreSizes, rows_view};
+ghost use Rattle.transport_core.specs.Instance.{max_names, max_planned_total};
+
+use crate::dealing::deal;
+use crate::placing::{groups_of, places_of};
+use book_core::Exposure;
+use bucket_core::Rule;
+use price_core::Limit;
+use std::alloc::{AllocError, Global};
+use transport_core::{Assignment, Instance};
+
+/// The rule whose points have the names of the assignment, and which has no other rule's shape: no entry has weight 0, and
+/// neighbours have different names. Of each group's points those that stay come first. It takes `O(log n)` steps for each
+/// point, at n groups and entries. The conditions are that the groups are those of the old rule and the inputs, and that the
+/// numbers of each group sum to its points.
+pub fn spread(
+    alloc: Global,
+    old: &Rule,
+    exposure: &Exposure,
+    instance: &Instance<'_>,
+    assignment: Assignment,
+) -> Result<Rule, AllocError>
+    requires sizes { AreSizes old.now exposure.now instance.now.groups }
+    requires spent { spends_all instance.now.groups (length instance.now.limits) assignment.numbers.items ≡ true }
+    ensures canonical { IfOk result IsCanonical }
+    ensures assigned { IfOk result (λ rule. HasAssignment old.now rule exposure.now (flows_of instance.now assignment.numbers.items)) }
+{
+    let names = names_of(alloc, instance.totals().entries())?;
+    let groups = instance.groups();
+    spread_over(
+        alloc,
+        old,
+        exposure,
+        groups,
+        names.as_slice(),
+        assignment.numbers,
+    )
+}
+
+/// The same, by the groups and the names alone.
+fn spread_over(
+    alloc: Global,
+    old: &Rule,
+    exposure: &Exposure,
+    groups: &[((&str, u32), u32)],
+    names: &[String],
+    numbers: Vec<u32>,
+) -> Result<Rule, AllocError>
+    requires sizes { AreSizes old.now exposure.now (rows_view groups.now) }
+    requires few { length groups.now ≤ max_planned_total }
+    requires names { length names.now ≤ max_names }
+    requires rise { IsStrictlySortedBy (slice_cmp nat_cmp) (names_view names.now) }
+    requires listed { All (λ g. Contains (names_view names.now) g.0.0) (rows_view groups.now) }
+    requires spent { spends_all (rows_view groups.now) (length names.now) numbers.items ≡ true }
+    ensures canonical { IfOk result IsCanonical }
+    ensures assigned { IfOk result (λ rule. HasAssignment old.now rule exposure.now (arc_flows (keys_of (rows_view groups.now)) (names_view names.now) numbers.items)) }
+{
+    // what is dealt out rests on what this says of the rule
+    let _total = old.total();
+    let stays = places_of(alloc, groups, names)?;
+    let stays = stays.as_slice();
+    let points = groups_of(alloc, old, exposure, groups)?;
+    let points = points.as_slice();
+    let items = deal(alloc, points, numbers, stays, names.len())?;
+    Rule::from_points(alloc, items.as_slice(), names)
+}
+
+fn names_of(alloc: Global, limits: &[Limit]) -> Result<Vec<String>, AllocError>
+    ensures { IfOk result (λ v. names_view v.items ≡ keys_of (limits_view limits.now)) }
+{
+    let mut names = Vec::with_capacity(alloc, limits.len())?;
+    for limit in limits {
+        names.push(limit.name.clone()?)?;
+    }
+    Ok(names)
+}
