@@ -2,7 +2,8 @@
 
 No contract can force an allocation to succeed, so a body that answers want of memory in place of another answer would be
 proved. That none does is read here, off the sources of all crates but those of tests. A want is an `AllocError`, a fault's
-`WantOfMemory`, an `OutOfMemory` of std, and a call of `want`, which writes the line of one. It may be made
+`WantOfMemory`, an `OutOfMemory` of std, a `Short` of a run of events, and a call of `want`, which writes the line of one. It
+may be made
 - in `fn from` of an `impl From<AllocError>` or `From<AllocFailed<..>>`,
 - on the right of a match arm, or in the block of an `if let`, each of whose patterns names a want or whose guard tests for one,
 - in a closure or a block behind a condition that takes or tests for one, as `|AllocError| ..`,
@@ -16,11 +17,15 @@ import sys
 
 # The file, the line and the reason of each expression that is taken although none of the forms above fits.
 TAKEN = {
+    ("crates/snap_share/src/publisher.rt", "return Err(ShareFault::WantOfMemory);"): "`append` hands an operation back only where there is no memory",
+    ("crates/sync_server/src/follow.rt", "return Some(ReadEnd::WantOfMemory);"): "`vec!` answers no vector only where memory ran out",
+    ("crates/sync_server/src/read.rt", "None => (collected.snapshots, ReadEnd::WantOfMemory),"): "the sink there is a list, which takes a snapshot unless memory ran out",
+    ("crates/sync_server/src/serve.rt", "return Err(StreamEnd::WantOfMemory);"): "`write_frame` fails only where memory runs out",
     ("crates/flagops_commands/src/program.rt", "Err(call) => want(out, call),"): "`answer` gives a call there only where that call ran out of memory",
     ("crates/snap_core/src/names.rt", "Err(_) => return Err(WorldFault::WantOfMemory),"): "of the faults of `add`, whose clause `exact` has Known and TooMany alone, only want of memory is left there",
 }
 
-MADE = re.compile(r"\b(?:AllocError|WantOfMemory|OutOfMemory)\b|(?<![\w.])(?<!fn )want(?=\s*\()")
+MADE = re.compile(r"\b(?:AllocError|WantOfMemory|OutOfMemory)\b|(?<!struct )\bShort(?=\s*\{)|(?<![\w.])(?<!fn )want(?=\s*\()")
 NAMED = re.compile(r"\b(?:AllocError|AllocFailed|WantOfMemory|OutOfMemory)\b|\.is_memory\(\)|\.is_want\(\)")
 OPEN, CLOSE = "([{", ")]}"
 
@@ -208,6 +213,7 @@ PLANTED = [
     ("a guard that says the opposite", "fn f() -> R {\n    match g() {\n        Err(e) if e.kind() != ErrorKind::OutOfMemory => Err(Fault::WantOfMemory),\n        _ => Ok(1),\n    }\n}\n", [3]),
     ("none where there is nothing", "fn f() -> R {\n    let n = g().ok_or(AllocError)?;\n    Ok(n)\n}\n", [2]),
     ("the line of a want", "fn f(out: &mut O) -> u8 {\n    want(out, Call::Plan)\n}\n", [2]),
+    ("a run cut short", "pub struct Short {\n    pub done: usize,\n}\nfn f() -> Result<u8, Short> {\n    match g() {\n        Ok(n) => Ok(n),\n        Err(_) => Err(Short { done: 0 }),\n    }\n}\n", [7]),
     ("a block behind an arm", "fn f() -> R {\n    match g() {\n        Ok(n) => {\n            Err(Fault::WantOfMemory)\n        }\n        Err(AllocError) => Err(Fault::WantOfMemory),\n    }\n}\n", [4]),
     ("after an arm that passes one on", "fn f() -> R {\n    match g() {\n        Err(AllocError) => return Err(Fault::WantOfMemory),\n        Ok(n) => h(n),\n    }\n    Err(Fault::WantOfMemory)\n}\n", [6]),
 ]

@@ -23,13 +23,17 @@ pub fn flagops<'a>(alloc: Global) -> Result<Command<'a>, AllocError>
     with_rollout_commands(alloc, program)
 }
 
+/// What the help of the program ends with.
+const STATUSES: &str =
+    "Status: 0 done, 1 refused or the output failed, 2 words that are no command, 3 no rule fits.\ndocs/REFUSALS.md explains each line that begins with 'refused', docs/FORMATS.md has the files with\nexamples, demo/README.md a first rollout.";
+
 /// The mistake of a kind of value that is none of the four.
 pub fn unknown_kind(alloc: Global) -> Result<Error, AllocError>
     ensures { IfOk result (λ e. kind_of e ≡ InvalidValue) }
 {
     resolve(alloc)?.error(
         ErrorKind::InvalidValue,
-        "invalid value for '<KIND>': it is bool, text, whole or object",
+        "invalid value for '<KIND>': it is bool, text, whole or object (flagd's string is text, its integer whole)",
     )
 }
 
@@ -69,6 +73,7 @@ fn program<'a>(alloc: Global) -> Result<Command<'a>, AllocError>
         .bin_name("flagops")?
         .version("0.1.0")
         .about("Feature flags with rollouts that switch the fewest users.")
+        .after_help(STATUSES)
         .no_binary_name(true)
         .disable_help_subcommand(true)
         .arg_required_else_help(true)
@@ -170,7 +175,12 @@ fn resolve_begun<'a>(alloc: Global) -> Result<Command<'a>, AllocError>
         .about("Prints what the flag of a key resolves to in a context");
     let resolve = with_word(alloc, resolve, "DOC", "The flag document")?;
     let resolve = with_word(alloc, resolve, "KEY", "The flag's key")?;
-    with_word(alloc, resolve, "KIND", "bool, text, whole or object")
+    with_word(
+        alloc,
+        resolve,
+        "KIND",
+        "bool, text (flagd's string), whole (its integer) or object",
+    )
 }
 
 #[tactic(auto, unfolding(crate::specs::Words::plan_app))]
@@ -192,7 +202,9 @@ fn verify<'a>(alloc: Global) -> Result<Command<'a>, AllocError>
 {
     let verify = Command::new(alloc, "verify")
         .bin_name("flagops verify")?
-        .about("Prints what a plan proves, where it is right for a rollout request");
+        .about(
+            "Checks, apart from the planner, that a plan is right and the cheapest for a rollout request",
+        );
     let verify = with_rollout(alloc, verify)?;
     let verify = with_word(alloc, verify, "PLAN", "The plan file")?;
     with_refine(alloc, verify)
@@ -240,7 +252,8 @@ fn with_refine<'a>(alloc: Global, command: Command<'a>) -> Result<Command<'a>, A
     ensures app { IfOk result (λ c. app_of c ≡ with_rule (app_of command.entry) refine_option) }
     ensures local { IfOk result (λ c. (out-Command c).has_globals ≡ false) }
 {
-    let help = "What each weight of the old rule is multiplied by first";
+    let help =
+        "Plan in finer points: multiply each weight of the rule by M first, as 10 for half percents";
     command.arg(option_number(alloc, "M", "refine", help, 1, LARGEST_32))
 }
 

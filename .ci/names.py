@@ -1,0 +1,50 @@
+"""Checks that docs/REFUSALS.md has the name of each fault that a refusal of the program can be written with."""
+import glob
+import os
+import re
+import sys
+
+# The faults of the calls that the program makes, and those of their names that no refusal has.
+FAULTS = {
+    "TextFault": set(),
+    "RuleFault": set(),
+    "PriceFault": set(),
+    "DefFault": set(),
+    "BookFault": {"LastCall", "Stranger"},
+    "BookFileFault": set(),
+    "RolloutFault": {"Request", "Undecided"},
+    "CheckFault": set(),
+    "PlanFileFault": set(),
+    "LoadFault": set(),
+    "PriceMismatch": set(),
+}
+
+
+def names_of(source, fault):
+    """The variants of an enum."""
+    found = re.search(r"pub enum " + fault + r" \{\n(.*?)\n\}", source, re.S)
+    return re.findall(r"^    ([A-Z]\w*)", found.group(1), re.M) if found else []
+
+
+def main():
+    top = os.path.join(os.path.dirname(os.path.abspath(__file__)), "..")
+    with open(os.path.join(top, "docs", "REFUSALS.md"), encoding="utf-8") as page:
+        words = set(re.findall(r"\w+", page.read()))
+    sources = []
+    for path in glob.glob(os.path.join(top, "crates", "*", "src", "**", "*.rt"), recursive=True):
+        with open(path, encoding="utf-8") as file:
+            sources.append(file.read())
+    missing = 0
+    for fault, silent in FAULTS.items():
+        names = {name for source in sources for name in names_of(source, fault)}
+        if not names:
+            missing += 1
+            print(f"there is no fault {fault}")
+        for name in sorted(names - silent - words):
+            missing += 1
+            print(f"docs/REFUSALS.md does not have {fault}::{name}")
+    return 1 if missing else 0
+
+
+if __name__ == "__main__":
+    sys.exit(main())
