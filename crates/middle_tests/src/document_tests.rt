@@ -1,8 +1,9 @@
 //! Flag documents as they are read and printed.
 use bucket_core::Rule;
-use flag_defs::{DefFault, Flag, Flags, print_flags, read_flags};
+use flag_defs::{Flag, Flags, print_flags, read_flags};
 use flag_text::Tree;
 use logic_ast::LogicFault;
+use std::alloc::Global;
 use std::test::Fail;
 
 const A: &[u8] =
@@ -23,52 +24,58 @@ const E: &[u8] = b"{\"$evaluators\":{\"vip\":{\"in\":[{\"var\":\"key\"},[\"test\
 \"te\":{\"state\":\"ENABLED\",\"variants\":{\"red\":1,\"blue\":2},\"defaultVariant\":\"red\",\"targeting\":{\"fractional\":[[\"red\",50],[\"blue\",50]]}},
 \"zero\":{\"state\":\"ENABLED\",\"variants\":{\"on\":1},\"defaultVariant\":\"on\",\"targeting\":{\"%\":[1,0]}}}}";
 
+// Whether a document is printed so.
+fn prints(alloc: Global, document: &[u8], want: &[u8]) -> Result<bool, Fail> {
+    let flags = read_flags(alloc, document)?;
+    Ok(print_flags(alloc, &flags)?.as_slice() == want)
+}
+
 #[test]
 fn a_document_is_printed_sorted_and_reads_as_itself(rt: HostRuntime) -> Result<(), Fail> {
     let alloc = rt.alloc();
-    for document in [A, A_PRINTED] {
-        let printed = print_flags(alloc, &read_flags(alloc, document)?)?;
-        assert!(rt; printed.as_slice() == A_PRINTED);
-    }
+    assert!(rt; prints(alloc, A, A_PRINTED)? && prints(alloc, A_PRINTED, A_PRINTED)?);
     Ok(())
+}
+
+// The name of the refusal, `none` where the document is read.
+fn fault_of(alloc: Global, document: &[u8]) -> &'static str {
+    match read_flags(alloc, document) {
+        Ok(_) => "none",
+        Err(fault) => fault.name(),
+    }
 }
 
 #[test]
 fn a_cut_document_is_no_json(rt: HostRuntime) {
     for end in 0..A.len() {
-        let fault = read_flags(rt.alloc(), &A[..end]).err();
-        assert!(rt; fault == Some(DefFault::NotJson), "at {end}");
+        assert!(rt; fault_of(rt.alloc(), &A[..end]) == "NotJson", "at {end}");
     }
+}
+
+// Each key in order, with `good` or `broken`.
+fn listed(alloc: Global, flags: &Flags) -> Result<String, Fail> {
+    let mut text = String::new(alloc);
+    for i in 0..flags.len() {
+        let (key, flag) = flags.at(i);
+        let found = if flags.get(key).is_none() {
+            "lost"
+        } else if flag.is_broken() {
+            "broken"
+        } else {
+            "good"
+        };
+        text.push_str(format!(in alloc; "{key} {found}\n")?.as_str())?;
+    }
+    Ok(text)
 }
 
 #[test]
 fn keys_are_sorted_and_bad_definitions_are_broken(rt: HostRuntime) -> Result<(), Fail> {
     let flags = read_flags(rt.alloc(), E)?;
-    let wanted = [
-        ("bare", false),
-        ("color", false),
-        ("half", true),
-        ("loop", true),
-        ("lost", false),
-        ("off", false),
-        ("plain", false),
-        ("te", false),
-        ("vip", false),
-        ("zero", false),
-    ];
-    let mut i = 0;
-    for (key, is_broken) in wanted {
-        assert!(rt; i < flags.len(), "at {i}");
-        if i < flags.len() {
-            let (found, flag) = flags.at(i);
-            assert!(rt;
-                found == key && flag.is_broken() == is_broken && flags.get(key).is_some(),
-                "at {i}"
-            );
-            i += 1;
-        }
-    }
-    assert!(rt; i == flags.len() && flags.get("colour").is_none());
+    let text = listed(rt.alloc(), &flags)?;
+    let want =
+        "bare good\ncolor good\nhalf broken\nloop broken\nlost good\noff good\nplain good\nte good\nvip good\nzero good\n";
+    assert!(rt; text.as_str() == want && flags.get("colour").is_none());
     Ok(())
 }
 
@@ -105,43 +112,47 @@ fn parts_of_a_good_flag(rt: HostRuntime) -> Result<(), Fail> {
 #[test]
 fn refusals_of_a_document(rt: HostRuntime) {
     for (bytes, want) in [
-        (b"{\"flags\":{}}".as_slice(), None),
-        (b"{\"flags\":{\"\":1}}".as_slice(), None),
-        (
-            b"{\"flags\":{\"a\":1e400000}}".as_slice(),
-            Some(DefFault::NotJson),
-        ),
-        (b"{}".as_slice(), Some(DefFault::NoFlags)),
-        (b"[]".as_slice(), Some(DefFault::NoFlags)),
-        (b"{\"flags\":[]}".as_slice(), Some(DefFault::NoFlags)),
-        (b"{\"flags\":null}".as_slice(), Some(DefFault::NoFlags)),
+        (br#"{"flags":{}}"#.as_slice(), "none"),
+        (br#"{"flags":{"":1}}"#.as_slice(), "none"),
+        (br#"{"flags":{"a":1e400000}}"#.as_slice(), "NotJson"),
+        (b"{}".as_slice(), "NoFlags"),
+        (b"[]".as_slice(), "NoFlags"),
+        (br#"{"flags":[]}"#.as_slice(), "NoFlags"),
+        (br#"{"flags":null}"#.as_slice(), "NoFlags"),
     ] {
-        assert!(rt; read_flags(rt.alloc(), bytes).err() == want, "at {bytes:?}");
+        assert!(rt; fault_of(rt.alloc(), bytes) == want, "at {bytes:?}");
     }
+}
+
+// The color flag's entries are these.
+fn green(alloc: Global) -> Result<Rule, Fail> {
+    let mut entries = Vec::new(alloc);
+    entries.push((String::from_str(alloc, "green")?, 7))?;
+    Ok(Rule::make(alloc, entries)?)
+}
+
+// The flags of this list: the color flag as it was, a broken one, and the color flag once more.
+fn made(alloc: Global, color: &Flag, broken: &Flag, changed: Flag) -> Result<Flags, Fail> {
+    let mut entries = Vec::new(alloc);
+    entries.push((String::from_str(alloc, "color")?, color.copy(alloc)?))?;
+    entries.push((String::from_str(alloc, "b")?, broken.copy(alloc)?))?;
+    entries.push((String::from_str(alloc, "color")?, changed))?;
+    Ok(Flags::make(alloc, entries)?)
 }
 
 #[test]
 fn other_entries_at_a_site(rt: HostRuntime) -> Result<(), Fail> {
     let alloc = rt.alloc();
     let flags = read_flags(alloc, A)?;
-    let flag = flag_of(&flags, "color")?;
-    let broken = read_flags(alloc, b"{\"flags\":{\"b\":1}}")?;
-    let mut entries = Vec::new(alloc);
-    entries.push((String::from_str(alloc, "green")?, 7))?;
-    let rule = Rule::make(alloc, entries)?;
-    let changed = flag.with_site(alloc, 0, &rule)?;
-    let mut entries = Vec::new(alloc);
-    entries.push((String::from_str(alloc, "color")?, flag.copy(alloc)?))?;
-    entries.push((
-        String::from_str(alloc, "b")?,
-        flag_of(&broken, "b")?.copy(alloc)?,
-    ))?;
-    entries.push((String::from_str(alloc, "color")?, changed))?;
-    let made = Flags::make(alloc, entries)?;
+    let broken = read_flags(alloc, br#"{"flags":{"b":1}}"#)?;
+    let color = flag_of(&flags, "color")?;
+    let rule = green(alloc)?;
+    let changed = color.with_site(alloc, 0, &rule)?;
+    let made = made(alloc, color, flag_of(&broken, "b")?, changed)?;
     let printed = print_flags(alloc, &made.copy(alloc)?)?;
     let want =
-        b"{\"flags\":{\"b\":{},\"color\":{\"defaultVariant\":\"red\",\"state\":\"ENABLED\",\"targeting\":{\"fractional\":[{\"var\":[\"key\"]},[\"green\",7]]},\"variants\":{\"blue\":\"b\",\"green\":\"g\",\"red\":\"r\"}}}}";
-    let refused = flag.with_site(alloc, 1, &rule).err();
+        br#"{"flags":{"b":{},"color":{"defaultVariant":"red","state":"ENABLED","targeting":{"fractional":[{"var":["key"]},["green",7]]},"variants":{"blue":"b","green":"g","red":"r"}}}}"#;
+    let refused = color.with_site(alloc, 1, &rule).err();
     assert!(rt; printed.as_slice() == want.as_slice() && refused == Some(LogicFault::NoSite));
     Ok(())
 }

@@ -37,24 +37,24 @@ fn growing(alloc: Global, first: &str, operator: &str, last: usize) -> Result<Ve
     Ok(document)
 }
 
+// Whether the flag is broken.
+fn grows_too_large(alloc: Global, first: &str, operator: &str, last: usize) -> Result<bool, Fail> {
+    let document = growing(alloc, first, operator, last)?;
+    Ok(is_broken(alloc, document.as_slice())?)
+}
+
 #[test]
 fn evaluators_that_grow_past_10000_nodes_break_a_flag(rt: HostRuntime) -> Result<(), Fail> {
     let alloc = rt.alloc();
-    for (first, operator, last, want) in [
-        ("1", "+", 11, false),
-        ("1", "+", 12, true),
-        ("1", "+", 60, true),
-        ("[\"on\",1]", "cat", 1, false),
-        ("[\"on\",1]", "cat", 10, false),
-        ("[\"on\",1]", "cat", 11, true),
-        ("[\"on\",1]", "cat", 12, true),
-        ("[\"on\",1]", "cat", 60, true),
-    ] {
-        let document = growing(alloc, first, operator, last)?;
+    for (last, want) in [(11, false), (12, true), (60, true)] {
         assert!(rt;
-            is_broken(alloc, document.as_slice())? == want,
-            "at {operator} {last}"
+            grows_too_large(alloc, "1", "+", last)? == want,
+            "at {last}"
         );
+    }
+    for (last, want) in [(1, false), (10, false), (11, true), (12, true), (60, true)] {
+        let found = grows_too_large(alloc, "[\"on\",1]", "cat", last)?;
+        assert!(rt; found == want, "at {last}");
     }
     Ok(())
 }
@@ -81,18 +81,26 @@ fn heavy(alloc: Global, flags: usize, buckets: usize) -> Result<Vec<u8>, AllocEr
     Ok(document)
 }
 
+// Whether a document is refused as too large.
+fn is_too_large(alloc: Global, document: &[u8]) -> bool {
+    matches!(read_flags(alloc, document), Err(DefFault::TooLarge))
+}
+
+// Whether a document is read.
+fn is_read(alloc: Global, document: &[u8]) -> bool {
+    read_flags(alloc, document).is_ok()
+}
+
 #[test]
 fn buckets_that_print_in_too_many_bytes(rt: HostRuntime) -> Result<(), Fail> {
     let alloc = rt.alloc();
-    for (flags, buckets, want) in [
-        (1, 100, None),
-        (1, 105, Some(DefFault::TooLarge)),
-        (1, 9000, Some(DefFault::TooLarge)),
-        (300, 100, Some(DefFault::TooLarge)),
-    ] {
+    assert!(rt; is_read(alloc, heavy(alloc, 1, 100)?.as_slice()));
+    for (flags, buckets) in [(1, 105), (1, 9000), (300, 100)] {
         let document = heavy(alloc, flags, buckets)?;
-        let fault = read_flags(alloc, document.as_slice()).err();
-        assert!(rt; fault == want, "at {flags} and {buckets}");
+        assert!(rt;
+            is_too_large(alloc, document.as_slice()),
+            "at {flags} and {buckets}"
+        );
     }
     Ok(())
 }
@@ -114,6 +122,12 @@ fn chain(alloc: Global, count: usize, last: &str) -> Result<Vec<u8>, AllocError>
     Ok(document)
 }
 
+// Whether the flag is broken.
+fn chain_breaks(alloc: Global, count: usize, last: &str) -> Result<bool, Fail> {
+    let document = chain(alloc, count, last)?;
+    Ok(is_broken(alloc, document.as_slice())?)
+}
+
 #[test]
 fn chains_and_cycles_of_references(rt: HostRuntime) -> Result<(), Fail> {
     let alloc = rt.alloc();
@@ -124,27 +138,29 @@ fn chains_and_cycles_of_references(rt: HostRuntime) -> Result<(), Fail> {
         (100_000, "0", true),
         (100_000, "nobody", true),
     ] {
-        let document = chain(alloc, count, last)?;
         assert!(rt;
-            is_broken(alloc, document.as_slice())? == want,
+            chain_breaks(alloc, count, last)? == want,
             "at {count} to {last}"
         );
     }
     Ok(())
 }
 
+// A document of so many broken flags.
+fn broken_flags(alloc: Global, count: u32) -> Result<Vec<u8>, AllocError> {
+    let mut document = text(alloc, &["{\"flags\":{\"0\":0"])?;
+    for i in 1..count {
+        let flag = format!(in alloc; ",\"{i}\":0")?;
+        document.extend_from_slice(flag.as_bytes())?;
+    }
+    document.extend_from_slice(b"}}")?;
+    Ok(document)
+}
+
 #[test]
 fn up_to_10000_flags(rt: HostRuntime) -> Result<(), Fail> {
     let alloc = rt.alloc();
-    for (count, want) in [(10_000, None), (10_001, Some(DefFault::TooLarge))] {
-        let mut document = text(alloc, &["{\"flags\":{\"0\":0"])?;
-        for i in 1..count {
-            let flag = format!(in alloc; ",\"{i}\":0")?;
-            document.extend_from_slice(flag.as_bytes())?;
-        }
-        document.extend_from_slice(b"}}")?;
-        let fault = read_flags(alloc, document.as_slice()).err();
-        assert!(rt; fault == want, "at {count}");
-    }
+    assert!(rt; is_read(alloc, broken_flags(alloc, 10_000)?.as_slice()));
+    assert!(rt; is_too_large(alloc, broken_flags(alloc, 10_001)?.as_slice()));
     Ok(())
 }

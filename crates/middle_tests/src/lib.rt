@@ -15,3 +15,5 @@ mod price_tests;
 mod request_tests;
 #[cfg(test)]
 mod resolution_tests;
+#[cfg(test)]
+mod rows;

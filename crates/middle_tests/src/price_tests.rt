@@ -1,4 +1,5 @@
 //! What a change of a rule costs the inputs of a book, and where it is forbidden.
+use crate::rows::parts;
 use book_core::{Book, Exposure, Page};
 use bucket_core::{Rule, read_rule};
 use flag_text::read_tree;
@@ -35,61 +36,45 @@ const INPUTS: [&str; 7] = [
     "Hello, world!",
 ];
 
-/// What the change from red 5, blue 5 to another rule costs the seven inputs, and the least forbidden point, none where
-/// the totals differ.
+/// What the change from red 5, blue 5 to another rule costs the seven inputs, and the least forbidden point, `none` where
+/// there is none or the totals differ.
 fn priced(
     rt: &(impl Threads + Sync),
     alloc: Global,
-    new: &[u8],
-    request: &[u8],
-) -> Result<(u64, Option<u32>), Fail> {
+    new: &Rule,
+    request: &Request,
+) -> Result<String, Fail> {
     let old = rule(alloc, b"[[\"red\",5],[\"blue\",5]]")?;
-    let new = rule(alloc, new)?;
-    let request = Request::read(alloc, request)?;
     let inputs = exposure(alloc, INPUTS.as_slice())?;
     let prices = request.prices();
-    let cost = switch_cost(rt, alloc, &old, &new, &inputs, prices)?;
-    if old.total() != new.total() {
-        return Ok((cost, None));
+    let cost = switch_cost(rt, alloc, &old, new, &inputs, prices)?;
+    if old.total() == new.total() {
+        if let Some(point) = first_forbidden(&old, new, prices) {
+            return Ok(format!(in alloc; "{cost} {point}")?);
+        }
     }
-    Ok((cost, first_forbidden(&old, &new, prices)))
+    Ok(format!(in alloc; "{cost} none")?)
 }
 
-const RED_3: &[u8] = b"[[\"red\",3],[\"blue\",7]]";
+/// Whether the change to red 3, blue 7 is priced by the row's request as the row says.
+fn is_priced(rt: &(impl Threads + Sync), alloc: Global, row: &str) -> Result<bool, Fail> {
+    let (request, want) = parts(row)?;
+    let request = Request::read(alloc, request.as_bytes())?;
+    let new = rule(alloc, b"[[\"red\",3],[\"blue\",7]]")?;
+    Ok(priced(rt, alloc, &new, &request)?.as_str() == want)
+}
+
+const PRICES: &str = r#"{"plan":1,"flag":"color","totals":{}} -> 2 none
+{"plan":1,"flag":"color","totals":{},"price":1000000} -> 2000000 none
+{"plan":1,"flag":"color","totals":{},"price":0,"prices":[["red","blue",7]]} -> 14 none
+{"plan":1,"flag":"color","totals":{},"prices":[["blue","red",7]]} -> 2 none
+{"plan":1,"flag":"color","totals":{},"forbid":[["blue","red"]]} -> 2 none
+{"plan":1,"flag":"color","totals":{},"forbid":[["red","blue"],["a","b"]]} -> 2 3"#;
 
 #[test]
 fn prices_of_a_new_rule(rt: HostRuntime) -> Result<(), Fail> {
-    let alloc = rt.alloc();
-    for (request, want) in [
-        (
-            b"{\"plan\":1,\"flag\":\"color\",\"totals\":{}}".as_slice(),
-            (2, None),
-        ),
-        (
-            b"{\"plan\":1,\"flag\":\"color\",\"totals\":{},\"price\":1000000}".as_slice(),
-            (2000000, None),
-        ),
-        (
-            b"{\"plan\":1,\"flag\":\"color\",\"totals\":{},\"price\":0,\"prices\":[[\"red\",\"blue\",7]]}".as_slice(),
-            (14, None),
-        ),
-        (
-            b"{\"plan\":1,\"flag\":\"color\",\"totals\":{},\"prices\":[[\"blue\",\"red\",7]]}".as_slice(),
-            (2, None),
-        ),
-        (
-            b"{\"plan\":1,\"flag\":\"color\",\"totals\":{},\"forbid\":[[\"blue\",\"red\"]]}".as_slice(),
-            (2, None),
-        ),
-        (
-            b"{\"plan\":1,\"flag\":\"color\",\"totals\":{},\"forbid\":[[\"red\",\"blue\"],[\"a\",\"b\"]]}".as_slice(),
-            (2, Some(3)),
-        ),
-    ] {
-        assert!(rt;
-            priced(&rt, alloc, RED_3, request)? == want,
-            "at {request:?}"
-        );
+    for row in PRICES.lines() {
+        assert!(rt; is_priced(&rt, rt.alloc(), row)?, "{row}");
     }
     Ok(())
 }
@@ -110,11 +95,11 @@ fn one_price_for_all_changes(rt: HostRuntime) -> Result<(), Fail> {
             && !prices.forbidden("red", "blue")
     );
     // the same variants at all points; one variant, where the inputs on the points 6, 7 and 7 were blue
-    for (new, want) in [
-        (b"[[\"red\",5],[\"blue\",5]]".as_slice(), (0, None)),
-        (b"[[\"red\",1]]".as_slice(), (9, None)),
-    ] {
-        assert!(rt; priced(&rt, alloc, new, DEAR)? == want, "at {new:?}");
-    }
+    let same = rule(alloc, b"[[\"red\",5],[\"blue\",5]]")?;
+    let one = rule(alloc, b"[[\"red\",1]]")?;
+    assert!(rt;
+        priced(&rt, alloc, &same, &request)?.as_str() == "0 none"
+            && priced(&rt, alloc, &one, &request)?.as_str() == "9 none"
+    );
     Ok(())
 }

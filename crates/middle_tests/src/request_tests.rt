@@ -1,4 +1,5 @@
 //! Requests: what is read, what is refused and in which order, and the limits on each name's total.
+use crate::rows::parts;
 use price_core::{PriceFault, Request};
 use std::alloc::{AllocError, Global};
 use std::test::Fail;
@@ -11,75 +12,80 @@ fn names(alloc: Global, texts: &[&str]) -> Result<Vec<String>, AllocError> {
     Ok(names)
 }
 
-/// The fault of a request, none where it is read.
-fn refusal(alloc: Global, text: &[u8]) -> Option<PriceFault> {
-    Request::read(alloc, text).err()
+/// The name of a request's fault, `none` where it is read.
+fn refusal(alloc: Global, text: &str) -> &'static str {
+    match Request::read(alloc, text.as_bytes()) {
+        Ok(_) => "none",
+        Err(fault) => fault.name(),
+    }
 }
+
+const REQUESTS: &str = r#"{"plan":1,"flag":"f","totals":{"a":2147483647}}
+{"plan":2,"flag":"f","totals":{"a":[0,5],"b":7}}
+{"plan":3,"plan":1,"flag":"f","totals":{}}
+{"plan":1,"flag":"f","totals":{},"price":1000000}"#;
 
 #[test]
 fn requests(rt: HostRuntime) {
-    for text in [
-        b"{\"plan\":1,\"flag\":\"f\",\"totals\":{\"a\":2147483647}}".as_slice(),
-        b"{\"plan\":2,\"flag\":\"f\",\"totals\":{\"a\":[0,5],\"b\":7}}".as_slice(),
-        b"{\"plan\":3,\"plan\":1,\"flag\":\"f\",\"totals\":{}}".as_slice(),
-        b"{\"plan\":1,\"flag\":\"f\",\"totals\":{},\"price\":1000000}".as_slice(),
-    ] {
-        assert!(rt; refusal(rt.alloc(), text).is_none(), "at {text:?}");
+    for text in REQUESTS.lines() {
+        assert!(rt; refusal(rt.alloc(), text) == "none", "{text}");
     }
 }
+
+const NO_REQUESTS: &str = r#"{"plan":1,"flag":"f","totals":{}
+[]
+{"plan":3,"flag":"f","totals":{}}
+{"flag":"f","totals":{}}
+{"plan":1,"flag":7,"totals":{}}
+{"plan":1,"flag":"f"}
+{"plan":1,"flag":"f","totals":{"a":2147483648}}
+{"plan":1,"flag":"f","totals":{"a":[0,5]}}
+{"plan":2,"flag":"f","totals":{"a":[0,5,6]}}
+{"plan":1,"flag":"f","totals":{},"site":null}
+{"plan":1,"flag":"f","totals":{},"site":4294967296}
+{"plan":1,"flag":"f","totals":{},"price":1.5}
+{"plan":1,"flag":"f","totals":{},"prices":[["a","b"]]}
+{"plan":1,"flag":"f","totals":{},"forbid":[["a","b"],["c","c"],["a","b"]]}
+{"plan":1,"flag":"f","totals":{},"prices":[["a","b",1],["b","a",1],["a","b",1]]}"#;
 
 #[test]
 fn no_requests(rt: HostRuntime) {
-    for text in [
-        b"{\"plan\":1,\"flag\":\"f\",\"totals\":{}".as_slice(),
-        b"[]".as_slice(),
-        b"{\"plan\":3,\"flag\":\"f\",\"totals\":{}}".as_slice(),
-        b"{\"flag\":\"f\",\"totals\":{}}".as_slice(),
-        b"{\"plan\":1,\"flag\":7,\"totals\":{}}".as_slice(),
-        b"{\"plan\":1,\"flag\":\"f\"}".as_slice(),
-        b"{\"plan\":1,\"flag\":\"f\",\"totals\":{\"a\":2147483648}}".as_slice(),
-        b"{\"plan\":1,\"flag\":\"f\",\"totals\":{\"a\":[0,5]}}".as_slice(),
-        b"{\"plan\":2,\"flag\":\"f\",\"totals\":{\"a\":[0,5,6]}}".as_slice(),
-        b"{\"plan\":1,\"flag\":\"f\",\"totals\":{},\"site\":null}".as_slice(),
-        b"{\"plan\":1,\"flag\":\"f\",\"totals\":{},\"site\":4294967296}".as_slice(),
-        b"{\"plan\":1,\"flag\":\"f\",\"totals\":{},\"price\":1.5}".as_slice(),
-        b"{\"plan\":1,\"flag\":\"f\",\"totals\":{},\"prices\":[[\"a\",\"b\"]]}".as_slice(),
-        b"{\"plan\":1,\"flag\":\"f\",\"totals\":{},\"forbid\":[[\"a\",\"b\"],[\"c\",\"c\"],[\"a\",\"b\"]]}".as_slice(),
-        b"{\"plan\":1,\"flag\":\"f\",\"totals\":{},\"prices\":[[\"a\",\"b\",1],[\"b\",\"a\",1],[\"a\",\"b\",1]]}".as_slice(),
-    ] {
-        assert!(rt;
-            refusal(rt.alloc(), text) == Some(PriceFault::BadRequest),
-            "at {text:?}"
-        );
+    for text in NO_REQUESTS.lines() {
+        assert!(rt; refusal(rt.alloc(), text) == "BadRequest", "{text}");
     }
 }
 
+const ORDER: &str =
+    r#"{"plan":1,"flag":"f","totals":{},"price":-1,"prices":[["a","a",1]]} -> SelfPair
+{"plan":1,"flag":"f","totals":{},"forbid":[["a","a"]]} -> SelfPair
+{"plan":1,"flag":"f","totals":{},"price":1000001} -> PriceRange
+{"plan":2,"flag":"f","totals":{"a":[4,3]},"prices":[["a","b",-1]]} -> PriceRange
+{"plan":2,"flag":"f","totals":{"a":[4,3]}} -> EmptyRange"#;
+
 #[test]
-fn requests_are_refused_in_order(rt: HostRuntime) {
-    for (text, want) in [
-        (
-            b"{\"plan\":1,\"flag\":\"f\",\"totals\":{},\"price\":-1,\"prices\":[[\"a\",\"a\",1]]}".as_slice(),
-            PriceFault::SelfPair,
-        ),
-        (
-            b"{\"plan\":1,\"flag\":\"f\",\"totals\":{},\"forbid\":[[\"a\",\"a\"]]}".as_slice(),
-            PriceFault::SelfPair,
-        ),
-        (
-            b"{\"plan\":1,\"flag\":\"f\",\"totals\":{},\"price\":1000001}".as_slice(),
-            PriceFault::PriceRange,
-        ),
-        (
-            b"{\"plan\":2,\"flag\":\"f\",\"totals\":{\"a\":[4,3]},\"prices\":[[\"a\",\"b\",-1]]}".as_slice(),
-            PriceFault::PriceRange,
-        ),
-        (
-            b"{\"plan\":2,\"flag\":\"f\",\"totals\":{\"a\":[4,3]}}".as_slice(),
-            PriceFault::EmptyRange,
-        ),
-    ] {
-        assert!(rt; refusal(rt.alloc(), text) == Some(want), "at {text:?}");
+fn requests_are_refused_in_order(rt: HostRuntime) -> Result<(), Fail> {
+    for row in ORDER.lines() {
+        let (text, want) = parts(row)?;
+        assert!(rt; refusal(rt.alloc(), text) == want, "{row}");
     }
+    Ok(())
+}
+
+/// The limits on each name's total, a line each.
+fn limits(alloc: Global, request: &Request, texts: &[&str]) -> Result<String, Fail> {
+    let totals = request.totals(alloc, names(alloc, texts)?.as_slice())?;
+    let mut text = String::new(alloc);
+    for limit in totals.entries() {
+        let line = format!(in alloc; "{} {} {}\n", limit.name.as_str(), limit.low, limit.high)?;
+        text.push_str(line.as_str())?;
+    }
+    Ok(text)
+}
+
+/// Whether the request names what is not among these names.
+fn names_more(alloc: Global, request: &Request, texts: &[&str]) -> Result<bool, Fail> {
+    let fault = request.totals(alloc, names(alloc, texts)?.as_slice()).err();
+    Ok(fault == Some(PriceFault::UnknownVariant))
 }
 
 #[test]
@@ -87,29 +93,15 @@ fn totals_of_all_names(rt: HostRuntime) -> Result<(), Fail> {
     let alloc = rt.alloc();
     let request = Request::read(
         alloc,
-        b"{\"plan\":2,\"flag\":\"f\",\"totals\":{\"red\":[1,3],\"blue\":7},\"prices\":[[\"red\",\"green\",2]],\"forbid\":[[\"green\",\"blue\"]]}",
+        br#"{"plan":2,"flag":"f","totals":{"red":[1,3],"blue":7},"prices":[["red","green",2]],"forbid":[["green","blue"]]}"#,
     )?;
-    let totals = request.totals(
-        alloc,
-        names(alloc, &["red", "green", "blue", "red"])?.as_slice(),
-    )?;
-    let mut read = String::new(alloc);
-    for limit in totals.entries() {
-        let name = limit.name.as_str();
-        let low = limit.low;
-        let high = limit.high;
-        let line = format!(in alloc; "{name} {low} {high}\n")?;
-        read.push_str(line.as_str())?;
-    }
-    assert!(rt; read.as_str() == "blue 7 7\ngreen 0 0\nred 1 3\n");
-    let no_blue = names(alloc, &["red", "green"])?;
-    let no_green = names(alloc, &["red", "blue"])?;
-    let fault = PriceFault::UnknownVariant;
+    let text = limits(alloc, &request, &["red", "green", "blue", "red"])?;
+    assert!(rt; text.as_str() == "blue 7 7\ngreen 0 0\nred 1 3\n");
     assert!(rt;
-        request.totals(alloc, no_blue.as_slice()).err() == Some(fault)
-            && request.totals(alloc, no_green.as_slice()).err() == Some(fault)
-            && fault.number() == 2
-            && fault.name() == "UnknownVariant"
+        names_more(alloc, &request, &["red", "green"])?
+            && names_more(alloc, &request, &["red", "blue"])?
+            && PriceFault::UnknownVariant.number() == 2
+            && PriceFault::UnknownVariant.name() == "UnknownVariant"
     );
     Ok(())
 }

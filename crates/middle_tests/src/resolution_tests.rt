@@ -3,6 +3,7 @@ ghost use Rattle.std.specs.Prelude.{◌≡◌, ◌<◌, ◌^◌, true, IfOk};
 ghost use Rattle.flag_text.specs.Shape.{is_whole};
 ghost use Rattle.flag_text.specs.View.{view};
 
+use crate::rows::{pair, parts};
 use flag_defs::{Flags, read_flags};
 use flag_resolve::{Code, Kind, Reason, print_resolution, resolve};
 use flag_text::{Tree, read_tree};
@@ -38,11 +39,6 @@ const MORE_FLAGS: &[u8] = br#"{"flags":{
     "targeting":{"fractional":[{"var":"key"},["red",0],["blue",0]]}},
 "wrong":{"state":"ENABLED","variants":{"on":1},"defaultVariant":"on"}}}"#;
 
-const CONTEXT: &[u8] = br#"{"key":"test","targetingKey":"st"}"#;
-
-const UNREADABLE: &str =
-    r#"{"code":"PARSE_ERROR","reached":[],"reason":"ERROR","value":9,"variant":null}"#;
-
 fn tree(alloc: Global, bytes: &[u8]) -> Result<Tree, Fail>
     ensures { IfOk result (λ t. is_whole (view t) ≡ true) }
 {
@@ -76,152 +72,77 @@ fn resolved(
     Ok(print_resolution(alloc, &resolution)?)
 }
 
+/// Whether the row's key, kind and context resolve as the row says.
+fn is_resolved(alloc: Global, flags: &Flags, moment: u64, row: &str) -> Result<bool, Fail>
+    requires { moment < 2 ^ 53 }
+{
+    let (given, want) = parts(row)?;
+    let (asked, context) = pair(given)?;
+    let (key, kind) = asked.split_once(' ').ok_or("no kind")?;
+    let kind = Kind::named(kind).ok_or("no kind")?;
+    let text = resolved(alloc, Some(flags), key, kind, context.as_bytes(), moment)?;
+    Ok(text.as_str() == want)
+}
+
+const WORKED: &str =
+    r#"color text | {"key":"test","targetingKey":"st"} -> {"code":null,"reached":[[0,"test",10]],"reason":"TARGETING_MATCH","value":"b","variant":"blue"}
+color bool | {"key":"test","targetingKey":"st"} -> {"code":"TYPE_MISMATCH","reached":[[0,"test",10]],"reason":"ERROR","value":false,"variant":null}
+half whole | {"key":"test","targetingKey":"st"} -> {"code":"PARSE_ERROR","reached":[],"reason":"ERROR","value":9,"variant":null}
+loop whole | {"key":"test","targetingKey":"st"} -> {"code":"PARSE_ERROR","reached":[],"reason":"ERROR","value":9,"variant":null}
+zero whole | {"key":"test","targetingKey":"st"} -> {"code":"PARSE_ERROR","reached":[],"reason":"ERROR","value":9,"variant":null}
+off bool | {"key":"test","targetingKey":"st"} -> {"code":null,"reached":[],"reason":"DISABLED","value":false,"variant":null}
+plain bool | {"key":"test","targetingKey":"st"} -> {"code":null,"reached":[],"reason":"STATIC","value":true,"variant":"on"}
+vip bool | {"key":"test","targetingKey":"st"} -> {"code":null,"reached":[],"reason":"TARGETING_MATCH","value":true,"variant":"true"}
+vip bool | {"key":"x"} -> {"code":null,"reached":[],"reason":"DEFAULT","value":false,"variant":"false"}
+lost whole | {"key":"test","targetingKey":"st"} -> {"code":"GENERAL","reached":[],"reason":"ERROR","value":9,"variant":null}
+bare whole | {"key":"test","targetingKey":"st"} -> {"code":null,"reached":[],"reason":"DEFAULT","value":9,"variant":null}
+te whole | {"key":"test","targetingKey":"st"} -> {"code":null,"reached":[[0,"test",100]],"reason":"TARGETING_MATCH","value":2,"variant":"blue"}
+te whole | {} -> {"code":null,"reached":[],"reason":"DEFAULT","value":1,"variant":"red"}
+nope bool | {"key":"test","targetingKey":"st"} -> {"code":"FLAG_NOT_FOUND","reached":[],"reason":"ERROR","value":false,"variant":null}
+nope bool | [] -> {"code":"INVALID_CONTEXT","reached":[],"reason":"ERROR","value":false,"variant":null}"#;
+
 #[test]
 fn worked_resolutions(rt: HostRuntime) -> Result<(), Fail> {
-    let alloc = rt.alloc();
-    let flags = read_flags(alloc, FLAGS)?;
-    for (key, want, context, answer) in [
-        (
-            "color",
-            Kind::Text,
-            CONTEXT,
-            r#"{"code":null,"reached":[[0,"test",10]],"reason":"TARGETING_MATCH","value":"b","variant":"blue"}"#,
-        ),
-        (
-            "color",
-            Kind::Bool,
-            CONTEXT,
-            r#"{"code":"TYPE_MISMATCH","reached":[[0,"test",10]],"reason":"ERROR","value":false,"variant":null}"#,
-        ),
-        ("half", Kind::Whole, CONTEXT, UNREADABLE),
-        ("loop", Kind::Whole, CONTEXT, UNREADABLE),
-        ("zero", Kind::Whole, CONTEXT, UNREADABLE),
-        (
-            "off",
-            Kind::Bool,
-            CONTEXT,
-            r#"{"code":null,"reached":[],"reason":"DISABLED","value":false,"variant":null}"#,
-        ),
-        (
-            "plain",
-            Kind::Bool,
-            CONTEXT,
-            r#"{"code":null,"reached":[],"reason":"STATIC","value":true,"variant":"on"}"#,
-        ),
-        (
-            "vip",
-            Kind::Bool,
-            CONTEXT,
-            r#"{"code":null,"reached":[],"reason":"TARGETING_MATCH","value":true,"variant":"true"}"#,
-        ),
-        (
-            "vip",
-            Kind::Bool,
-            br#"{"key":"x"}"#.as_slice(),
-            r#"{"code":null,"reached":[],"reason":"DEFAULT","value":false,"variant":"false"}"#,
-        ),
-        (
-            "lost",
-            Kind::Whole,
-            CONTEXT,
-            r#"{"code":"GENERAL","reached":[],"reason":"ERROR","value":9,"variant":null}"#,
-        ),
-        (
-            "bare",
-            Kind::Whole,
-            CONTEXT,
-            r#"{"code":null,"reached":[],"reason":"DEFAULT","value":9,"variant":null}"#,
-        ),
-        (
-            "te",
-            Kind::Whole,
-            CONTEXT,
-            r#"{"code":null,"reached":[[0,"test",100]],"reason":"TARGETING_MATCH","value":2,"variant":"blue"}"#,
-        ),
-        (
-            "te",
-            Kind::Whole,
-            b"{}".as_slice(),
-            r#"{"code":null,"reached":[],"reason":"DEFAULT","value":1,"variant":"red"}"#,
-        ),
-        (
-            "nope",
-            Kind::Bool,
-            CONTEXT,
-            r#"{"code":"FLAG_NOT_FOUND","reached":[],"reason":"ERROR","value":false,"variant":null}"#,
-        ),
-        (
-            "nope",
-            Kind::Bool,
-            b"[]".as_slice(),
-            r#"{"code":"INVALID_CONTEXT","reached":[],"reason":"ERROR","value":false,"variant":null}"#,
-        ),
-    ] {
-        let text = resolved(alloc, Some(&flags), key, want, context, 0)?;
-        assert!(rt; text.as_str() == answer, "of {key}");
+    let flags = read_flags(rt.alloc(), FLAGS)?;
+    for row in WORKED.lines() {
+        assert!(rt; is_resolved(rt.alloc(), &flags, 0, row)?, "{row}");
     }
     Ok(())
 }
 
 #[test]
 fn without_flags_the_provider_is_not_ready(rt: HostRuntime) -> Result<(), Fail> {
-    let text = resolved(rt.alloc(), None, "color", Kind::Text, CONTEXT, 0)?;
+    let text = resolved(
+        rt.alloc(),
+        None,
+        "color",
+        Kind::Text,
+        br#"{"key":"test","targetingKey":"st"}"#,
+        0,
+    )?;
     let want =
         r#"{"code":"PROVIDER_NOT_READY","reached":[],"reason":"ERROR","value":"d","variant":null}"#;
     assert!(rt; text.as_str() == want);
     Ok(())
 }
 
+const MORE: &str =
+    r#"bare-plain object | {"key":"test","targetingKey":"st"} -> {"code":null,"reached":[],"reason":"DEFAULT","value":{"d":null},"variant":null}
+clock text | {"key":"test","targetingKey":"st"} -> {"code":null,"reached":[],"reason":"TARGETING_MATCH","value":"n","variant":"now"}
+list object | {"key":"test","targetingKey":"st"} -> {"code":"GENERAL","reached":[[0,"test",10],[0,"",10]],"reason":"ERROR","value":{"d":null},"variant":null}
+number whole | {"key":"test","targetingKey":"st"} -> {"code":"GENERAL","reached":[],"reason":"ERROR","value":9,"variant":null}
+object object | {"key":"test","targetingKey":"st"} -> {"code":null,"reached":[],"reason":"TARGETING_MATCH","value":{"a":[1,"é\n"]},"variant":"on"}
+weightless text | {"key":"test","targetingKey":"st"} -> {"code":null,"reached":[],"reason":"DEFAULT","value":"r","variant":"red"}
+wrong text | {"key":"test","targetingKey":"st"} -> {"code":"TYPE_MISMATCH","reached":[],"reason":"ERROR","value":"d","variant":null}"#;
+
 #[test]
 fn cases_that_the_worked_ones_leave_out(rt: HostRuntime) -> Result<(), Fail> {
-    let alloc = rt.alloc();
-    let flags = read_flags(alloc, MORE_FLAGS)?;
-    for (key, want, answer) in [
-        (
-            "bare-plain",
-            Kind::Object,
-            r#"{"code":null,"reached":[],"reason":"DEFAULT","value":{"d":null},"variant":null}"#,
-        ),
-        (
-            "clock",
-            Kind::Text,
-            r#"{"code":null,"reached":[],"reason":"TARGETING_MATCH","value":"n","variant":"now"}"#,
-        ),
-        (
-            "list",
-            Kind::Object,
-            r#"{"code":"GENERAL","reached":[[0,"test",10],[0,"",10]],"reason":"ERROR","value":{"d":null},"variant":null}"#,
-        ),
-        (
-            "number",
-            Kind::Whole,
-            r#"{"code":"GENERAL","reached":[],"reason":"ERROR","value":9,"variant":null}"#,
-        ),
-        (
-            "object",
-            Kind::Object,
-            r#"{"code":null,"reached":[],"reason":"TARGETING_MATCH","value":{"a":[1,"é\n"]},"variant":"on"}"#,
-        ),
-        (
-            "weightless",
-            Kind::Text,
-            r#"{"code":null,"reached":[],"reason":"DEFAULT","value":"r","variant":"red"}"#,
-        ),
-        (
-            "wrong",
-            Kind::Text,
-            r#"{"code":"TYPE_MISMATCH","reached":[],"reason":"ERROR","value":"d","variant":null}"#,
-        ),
-    ] {
-        let text = resolved(
-            alloc,
-            Some(&flags),
-            key,
-            want,
-            CONTEXT,
-            9_007_199_254_740_991,
-        )?;
-        assert!(rt; text.as_str() == answer, "of {key}");
+    let flags = read_flags(rt.alloc(), MORE_FLAGS)?;
+    for row in MORE.lines() {
+        assert!(rt;
+            is_resolved(rt.alloc(), &flags, 9_007_199_254_740_991, row)?,
+            "{row}"
+        );
     }
     Ok(())
 }

@@ -30,6 +30,9 @@ fn deficient(
     if old.total() > 1_000_000 || totals.entries().len() > 64 {
         return Err("too large".into());
     }
+    if !Instance::lists(&old, &totals) {
+        return Err("a name without limits".into());
+    }
     match Instance::make(alloc, &old, &totals, request.prices(), &inputs) {
         Ok(instance) => Ok(Some(instance.is_deficient(&cut))),
         Err(CheckFault::Totals) => Ok(None),
@@ -76,6 +79,9 @@ fn judged(alloc: Global, numbers: &[u32], plan: &Certificate) -> Result<(bool, b
     };
     if old.total() > 1_000_000 || totals.entries().len() > 64 {
         return Err("too large".into());
+    }
+    if !Instance::lists(&old, &totals) {
+        return Err("a name without limits".into());
     }
     let instance = Instance::make(alloc, &old, &totals, request.prices(), &inputs)?;
     Ok((instance.places(&spread), instance.proves(&spread, plan)))
@@ -141,6 +147,9 @@ fn rows_of_an_assignment(rt: HostRuntime) -> Result<(), Fail> {
     };
     if old.total() > 1_000_000 || totals.entries().len() > 64 {
         return Err("too large".into());
+    }
+    if !Instance::lists(&old, &totals) {
+        return Err("a name without limits".into());
     }
     let instance = Instance::make(alloc, &old, &totals, request.prices(), &inputs)?;
     let rows = spread.rows(alloc, &instance)?;

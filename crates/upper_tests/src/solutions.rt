@@ -47,6 +47,9 @@ fn planned(
     let totals = request.totals(alloc, variants)?;
     assert!(rt; old.total() <= 1000000);
     assert!(rt; totals.entries().len() <= 64);
+    if !Instance::lists(old, &totals) {
+        return Err("a name without limits".into());
+    }
     let instance = Instance::make(alloc, old, &totals, request.prices(), seen)?;
     let solved = solve(alloc, &instance)?;
     Ok(in_words(alloc, &solved)?)
@@ -236,6 +239,9 @@ fn against_all_rules(rt: HostRuntime) -> Result<(), Fail> {
         );
         assert!(rt; old.total() <= 1000000);
         assert!(rt; totals.entries().len() <= 64);
+        if !Instance::lists(&old, &totals) {
+            return Err("a name without limits".into());
+        }
         let Ok(instance) = Instance::make(alloc, &old, &totals, request.prices(), &seen) else {
             assert_eq!(rt; best, None, "round {round}");
             continue;

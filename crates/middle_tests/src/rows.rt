@@ -1,0 +1,12 @@
+//! Rows of a table, one a line: what is given, in parts between ` | `, and behind ` -> ` what is wanted.
+use std::test::Fail;
+
+/// What stands before the first ` -> ` and behind it.
+pub(crate) fn parts(row: &str) -> Result<(&str, &str), Fail> {
+    Ok(row.split_once(" -> ").ok_or("no row")?)
+}
+
+/// What stands before the first ` | ` and behind it.
+pub(crate) fn pair(given: &str) -> Result<(&str, &str), Fail> {
+    Ok(given.split_once(" | ").ok_or("no pair")?)
+}
