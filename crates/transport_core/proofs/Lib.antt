@@ -6,6 +6,7 @@ pub mod Deficits
 pub mod DualSums
 pub mod Duality
 pub mod Grouped
+pub mod Inputs
 pub mod Joined
 pub mod Keys
 pub mod Members

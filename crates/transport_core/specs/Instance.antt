@@ -1,5 +1,5 @@
 -- Instances: the transportation problem that a planner is given (Hitchcock 1941; Ahuja, Magnanti, Orlin, Network Flows, section 1.2).
-use Rattle.std.specs.Prelude.{◌≡◌, ℕ, ◌<◌, ◌≤◌, ◌⊎◌, Bool, List, length, sum_by, if◌then◌else◌}
+use Rattle.std.specs.Prelude.{◌≡◌, ℕ, ◌*◌, ◌<◌, ◌≤◌, ◌⊎◌, Bool, List, length, sum_by, if◌then◌else◌}
 use Rattle.std.specs.Cmp.Lexicographic.{slice_cmp}
 use Rattle.std.specs.List.{All, Contains}
 use Rattle.std.specs.List.Sorted.{IsStrictlySortedBy}
@@ -25,8 +25,8 @@ max_planned_total = 1000000
 abbrev pub max_names : ℕ
 max_names = 64
 
--- what holds of each instance: groups in order, none of them empty, each of a name that has limits and of at most as many inputs
--- as a page has, and limits that their points can meet in number
+-- what holds of each instance: groups in order, none of them empty, each of a name that has limits, with at most as many inputs
+-- at all their points as a page has, and limits that these points can meet in number
 pub record IsProblem (p : TransportProblem) : Type 0 where
   pub limits : AreLimits p.limits
   pub names : length p.limits ≤ max_names
@@ -34,6 +34,7 @@ pub record IsProblem (p : TransportProblem) : Type 0 where
   pub sizes : All (λ g. 0 < g.1) p.groups
   pub listed : All (λ g. Contains (keys_of p.limits) g.0.0) p.groups
   pub counts : All (λ g. g.0.1 ≤ most_inputs) p.groups
+  pub inputs : sum_by (λ g. g.0.1 * g.1) p.groups ≤ most_inputs
   pub some : 0 < whole_amount p.groups
   pub small : whole_amount p.groups ≤ max_planned_total
   pub lows : sum_by (λ l. l.1.0) p.limits ≤ whole_amount p.groups

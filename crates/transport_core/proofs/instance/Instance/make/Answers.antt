@@ -5,6 +5,7 @@ use Rattle.price_core.specs.Limits.{Limits}
 use Rattle.transport_core.specs.Groups.{rows_view}
 use Rattle.transport_core.specs.Rows.{totals_view}
 use Rattle.transport_core.proofs.Grouped.{listed_groups, few_inputs}
+use Rattle.transport_core.proofs.Inputs.{group_inputs}
 use Rattle.transport_core.proofs.Plans.{whole-groups, group_totals}
 use Rattle.transport_core.proofs.instance.Instance.make.Goals as goal
 
@@ -24,6 +25,7 @@ invariant_of-result c =
         sizes = sizes.some;
         listed = listed_groups old inputs groups sizes (keys_of c.args.totals.now) c.requires.listed;
         counts = few_inputs old inputs groups sizes most_inputs (omega (arith, ap length c.inputs.ensures.all, c.inputs.ensures.lawful.few));
+        inputs = omega (arith, group_inputs old inputs groups sizes (omega (arith, c.total.ensures.value, c.total.ensures.allowed.some)), ap length c.inputs.ensures.all, c.inputs.ensures.lawful.few);
         some = omega (arith, whole, c.total.ensures.value, c.total.ensures.allowed.some);
         small = omega (arith, whole, c.requires.small);
         lows = omega (arith, whole, lows, c.total.ensures.value, c.from-total.ensures, c.low_sum.ensures, c.if-total-low_sum.false);
