@@ -1,11 +1,10 @@
 -- Points that move step by step.
-use Rattle.std.proofs.Common.{◌≡◌, ◌≢◌, ◌==◌, ℕ, zero, suc, ◌+◌, ◌<◌, ◌≤◌, ⊎_elim, ℤ, List, [], ◌∷◌, length, drop, get_or, Bool, true, false, cond, refl, sym, ap, ◌∙◌, subst, add-one, arith}
+use Rattle.std.proofs.Common.{◌≡◌, ◌≢◌, ◌==◌, ℕ, zero, suc, ◌+◌, ◌<◌, ◌≤◌, ⊎_elim, ℤ, List, [], ◌∷◌, length, drop, get_or, cond, refl, sym, ap, ◌∙◌, subst, add-one, arith}
 use Rattle.std.proofs.Math.Seq.{drop-cons}
 use Rattle.std.proofs.lemmas.Bool.{cases_eq, cond-true, cond-false, eq-eqb, false_from_ne_true, eqb-true}
 use Rattle.std.specs.List.{All, AllPairs}
-use Rattle.flow_laws.specs.Optimal.{AreLeast, Shifts}
+use Rattle.flow_laws.specs.Optimal.{AreLeast}
 use Rattle.flow_laws.proofs.OptimalLaws.{least_after}
-use Rattle.residual_arcs.specs.Problem.{names_of}
 use Rattle.residual_arcs.specs.declared.problem.FlowProblem.{FlowProblem}
 use Rattle.residual_flow.specs.Flow.{IsFlow, IsShifted, flows_of, placed_at, total_at}
 use Rattle.residual_flow.specs.declared.flow.Flow.{Flow}

@@ -1,7 +1,7 @@
 -- Paths of a residual network, along which points may move at no cost by prices of the names (Ahuja, Magnanti, Orlin, Network
 -- Flows, section 9.7).
-use Rattle.std.specs.Prelude.{◌≡◌, ◌≢◌, ℕ, ◌+◌, ◌<◌, ◌≤◌, ◌⊎◌, ℤ, ◌+ℤ◌, true, List, [], ◌∷◌, Option, Some, slice_index}
-use Rattle.std.specs.List.{All, AllPairs}
+use Rattle.std.specs.Prelude.{◌≡◌, ◌≢◌, ℕ, ◌+◌, ◌-◌, ◌<◌, ◌≤◌, ◌⊎◌, ℤ, ◌+ℤ◌, true, List, [], ◌∷◌, Option, Some, min, slice_index}
+use Rattle.std.specs.List.{All, AllPairs, Any}
 use Rattle.residual_arcs.specs.Problem.{may_take, cost_at, names_of}
 use Rattle.residual_arcs.specs.declared.problem.FlowProblem.{FlowProblem}
 use Rattle.residual_flow.specs.Flow.{groups_of, placed_at, total_at}
@@ -49,11 +49,20 @@ pub record IsTraced (p : FlowProblem) (f : Flow) (price : ℕ → ℤ) (rank : �
   pub start : (path.first ≡ source) ⊎ ((a : Arc) × (arc_at f.arcs.items (names_of p + 1) (names_of p) path.first ≡ Some a) × (price path.first ≡ (price (names_of p) +ℤ a.cost)))
   pub settled : (path.first ≡ source) ⊎ (rank (names_of p) < names_of p + 1)
 
--- Points moved from the first name of a path to the last: a name that is over its limit is not under it now, and one that is
--- under its own not over it.
+-- So many points are the bottleneck of the steps and of the most that may move: each of these takes them, and one of them no more.
+pub record IsBottleneck (p : FlowProblem) (f : Flow) (steps : List Step) (most points : ℕ) : Type 0 where
+  pub within : points ≤ most
+  pub wide : All (λ s. points ≤ placed_at p f s.group s.from) steps
+  pub narrow : (points ≡ most) ⊎ Any (λ s. points ≡ placed_at p f s.group s.from) steps
+
+-- Points moved along a path from its first name to the last, as many as its bottleneck takes: a name that is over its limit is not
+-- under it now, and one that is under its own not over it.
 pub record IsAugmented (p : FlowProblem) (old new : Flow) (price : ℕ → ℤ) (rank : ℕ → ℕ) (limits : List ℕ) (source last : ℕ) : Type 0 where
   pub first : ℕ
   pub points : ℕ
+  pub steps : List Step
+  pub path : IsPath p old price first last steps
+  pub bottleneck : IsBottleneck p old steps (min (total_at old first - slice_index limits first) (slice_index limits last - total_at old last)) points
   pub begins : first < names_of p
   pub start : (first ≡ source) ⊎ ((a : Arc) × (arc_at old.arcs.items (names_of p + 1) (names_of p) first ≡ Some a) × (price first ≡ (price (names_of p) +ℤ a.cost)))
   pub settled : (first ≡ source) ⊎ (rank (names_of p) < names_of p + 1)

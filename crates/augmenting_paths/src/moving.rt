@@ -4,19 +4,18 @@ ghost use Rattle.std.specs.List.{All, AllPairs};
 ghost use Rattle.flow_laws.specs.Optimal.{AreLeast};
 ghost use Rattle.residual_arcs.specs.Problem.{IsFlowProblem, names_of};
 ghost use Rattle.residual_flow.specs.Flow.{IsFlow, flows_of, placed_at, total_at};
-ghost use Rattle.augmenting_paths.specs.Paths.{IsEven, IsStep, Leads};
+ghost use Rattle.augmenting_paths.specs.Paths.{IsBottleneck, IsEven, IsStep, Leads};
 
 use crate::path::Step;
 use residual_arcs::FlowProblem;
 use residual_flow::Flow;
 
-/// The most points, up to so many, that each step of a path may take.
+/// The most points, up to so many, that each step of a path may take: the bottleneck of the path.
 pub(crate) fn narrowest(problem: &FlowProblem, flow: &Flow, steps: &[Step], most: u32) -> u32
     requires problem { IsFlowProblem problem.now }
     requires flow { IsFlow problem.now flow.now }
     requires steps { All (IsStep problem.now flow.now) steps.now }
-    ensures most { result ≤ most }
-    ensures wide { All (λ s. result ≤ placed_at problem.now flow.now s.group s.from) steps.now }
+    ensures bottleneck { IsBottleneck problem.now flow.now steps.now most result }
     ensures some { 0 < most → 0 < result }
 {
     let names = problem.high.len();

@@ -143,9 +143,10 @@ way_of p ok f s s' wanted source last midway source_in size found last_is =
           on;
     }
 
-pub stuck_of : (p : FlowProblem) (f : Flow) (s s' : Search) (wanted : List Bool) (source : ℕ) → IsMidway p f s → WantsLimits p wanted → source < names_of p → get_or p.high.items source 0 < total_at f source
+pub stuck_of : (p : FlowProblem) (f : Flow) (s s' : Search) (wanted : List Bool) (source : ℕ) → IsMidway p f s → WantsLimits p wanted → source < names_of p → get_or p.high.items source 0 < total_at f source → HasSize (names_of p + 1) s'
     → IsStuck (names_of p + 1) (arc_at f.arcs.items (names_of p + 1)) wanted source (potential_of s) (potential_of s') (rank_of s') → IsStuckAbove p f s'
-stuck_of p f s s' wanted source midway wants source_in over stuck = record {
+stuck_of p f s s' wanted source midway wants source_in over size stuck = record {
+  size = size;
   above = source;
   within = source_in;
   settled = stuck.source_in;

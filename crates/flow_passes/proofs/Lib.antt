@@ -1,4 +1,5 @@
 pub mod Ends
 pub mod Filled
 pub mod Reached
+pub mod Spending
 pub mod Wanted

@@ -72,12 +72,13 @@ way_below p ok f s s' wanted node meeting wants size found =
       traced = λ v v_in on. found.tight v v_in on;
     }
 
-pub stuck_below : (p : FlowProblem) (f : Flow) (s s' : Search) (wanted : List Bool) → IsMeeting p f s → WantsBelow p f wanted
+pub stuck_below : (p : FlowProblem) (f : Flow) (s s' : Search) (wanted : List Bool) → IsMeeting p f s → WantsBelow p f wanted → HasSize (names_of p + 1) s'
     → IsStuck (names_of p + 1) (arc_at f.arcs.items (names_of p + 1)) wanted (names_of p) (potential_of s) (potential_of s') (rank_of s')
     → (v : ℕ) → v < names_of p → total_at f v < get_or p.low.items v 0 → IsStuckBelow p f s'
-stuck_below p f s s' wanted meeting wants stuck below within under =
+stuck_below p f s s' wanted meeting wants size stuck below within under =
     let n : ℕ = names_of p + 1 in
     record {
+      size = size;
       flow = meeting.flow;
       placed = meeting.placed;
       below = below;
@@ -101,7 +102,7 @@ pub found_below : (p : FlowProblem) (ok : IsFlowProblem p) (f : Flow) (s s' : Se
     → MatchOption r (IsStuck n (arc_at arcs n) wanted k (potential_of s) (potential_of s') (rank_of s')) (HasFound n (arc_at arcs n) wanted k (potential_of s) (potential_of s') (parent_of s') (rank_of s'))
     → MatchOption r ((v : ℕ) → v < names_of p → total_at f v < get_or p.low.items v 0 → IsStuckBelow p f s') (λ last. IsWayBelow p f s' last)
 found_below p ok f s s' wanted None arcs n k meeting wants arcs_are n_is k_is size known =
-    stuck_below p f s s' wanted meeting wants
+    stuck_below p f s s' wanted meeting wants (subst (λ m. HasSize m s') n_is size)
     (subst (λ x. IsStuck (names_of p + 1) (arc_at f.arcs.items (names_of p + 1)) wanted x (potential_of s) (potential_of s') (rank_of s')) k_is
     (subst (λ (xs : List (Option Arc)). IsStuck (names_of p + 1) (arc_at xs (names_of p + 1)) wanted k (potential_of s) (potential_of s') (rank_of s')) arcs_are
     (subst (λ m. IsStuck m (arc_at arcs m) wanted k (potential_of s) (potential_of s') (rank_of s')) n_is known)))

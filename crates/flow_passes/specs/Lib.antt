@@ -1,3 +1,4 @@
 pub mod Cheapest
+pub mod Effort
 pub mod Meeting
 pub mod Placing

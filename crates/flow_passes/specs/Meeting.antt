@@ -44,6 +44,7 @@ pub record IsWayBelow (p : FlowProblem) (f : Flow) (s : Search) (last : ℕ) : T
 -- the names that the last search did not settle have no points to spare, one of them is below its low limit, and no point of
 -- another name may enter one
 pub record IsStuckBelow (p : FlowProblem) (f : Flow) (s : Search) : Type 0 where
+  pub size : HasSize (names_of p + 1) s
   pub flow : IsFlow p f
   pub placed : (v : ℕ) → v < names_of p → total_at f v ≤ slice_index p.high.items v
   pub below : ℕ

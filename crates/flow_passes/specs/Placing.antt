@@ -1,9 +1,9 @@
 -- A flow whose points are placed within the high limits, name by name.
-use Rattle.std.specs.Prelude.{◌≡◌, ℕ, ◌*◌, ◌+◌, ◌<◌, ◌≤◌, pos, ◌≤ℤ◌, true, Bool, List, length, slice_get, slice_index, Some}
+use Rattle.std.specs.Prelude.{◌≡◌, ℕ, ◌*◌, ◌+◌, ◌-◌, ◌<◌, ◌≤◌, pos, ◌≤ℤ◌, true, Bool, List, length, slice_get, slice_index, Some}
 use Rattle.std.proofs.Common.{neg_ℤ}
 use Rattle.augmenting_paths.specs.Paths.{AreTraced}
 use Rattle.flow_laws.specs.Optimal.{IsOptimal}
-use Rattle.residual_arcs.specs.Problem.{may_take, names_of}
+use Rattle.residual_arcs.specs.Problem.{may_take, names_of, sum_to}
 use Rattle.residual_arcs.specs.declared.problem.FlowProblem.{FlowProblem}
 use Rattle.residual_flow.specs.Flow.{IsFlow, flows_of, groups_of, placed_at, total_at}
 use Rattle.residual_flow.specs.declared.flow.Flow.{Flow}
@@ -14,6 +14,10 @@ use Rattle.shortest_path.specs.declared.search.Search.{Search}
 -- how far potentials are from that of the node that a search finds
 abbrev pub reach : ℕ
 reach = 2 * (65 * max_cost)
+
+-- the points that the names are above their high limits
+abbrev pub excess : FlowProblem → Flow → ℕ
+excess p f = sum_to (names_of p) (λ v. total_at f v - slice_index p.high.items v)
 
 -- the flow is optimal by the potentials, which are near that of the limits, 0
 pub record IsMidway (p : FlowProblem) (f : Flow) (s : Search) : Type 0 where
@@ -45,6 +49,7 @@ pub record IsWay (p : FlowProblem) (f : Flow) (s : Search) (from last : ℕ) : T
 
 -- the names that the last search settled are full, one of them is above its high limit, and no point leaves them
 pub record IsStuckAbove (p : FlowProblem) (f : Flow) (s : Search) : Type 0 where
+  pub size : HasSize (names_of p + 1) s
   pub above : ℕ
   pub within : above < names_of p
   pub settled : rank_of s above < names_of p + 1

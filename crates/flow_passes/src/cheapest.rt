@@ -1,6 +1,7 @@
 //! Both passes, from the flow in which each point stays.
-ghost use Rattle.std.specs.Prelude.{◌≡◌, IfOk, OnOk};
+ghost use Rattle.std.specs.Prelude.{◌≡◌, ◌≤◌, ◌+◌, ◌*◌, IfOk, OnOk};
 ghost use Rattle.flow_passes.specs.Cheapest.{IsCheapest};
+ghost use Rattle.flow_passes.specs.Effort.{Searches, nodes_of, points_of};
 ghost use Rattle.flow_passes.specs.Meeting.{IsStuckBelow};
 ghost use Rattle.flow_passes.specs.Placing.{IsMidway, IsStuckAbove};
 ghost use Rattle.residual_arcs.specs.Problem.{IsFlowProblem};
@@ -10,8 +11,10 @@ use crate::meeting::meet_low;
 use crate::passes::place_within_high;
 use residual_arcs::FlowProblem;
 use residual_flow::Flow;
+use search_effort::Effort;
 use shortest_path::Search;
 use std::alloc::{AllocError, Global};
+use std::sync::ledger::Ledger;
 
 /// How the passes ended.
 #[derive(Clone, Copy, Debug, PartialEq, Eq)]
@@ -32,18 +35,25 @@ pub struct Passed {
     pub search: Search,
 }
 
-/// The cheapest flow within all limits, or one that shows that there is none. A search takes `O(k^2)` steps at k names, and there
-/// are at most as many augmentations as points in each of the two passes.
-pub fn cheapest_flow(alloc: Global, problem: &FlowProblem) -> Result<Passed, AllocError>
+/// The cheapest flow within all limits, or one that shows that there is none. Augmentations and settlings are counted: there are at
+/// most as many augmentations as points in each of the two passes, and one search more than augmentations, each of which settles
+/// each name and the limits at most once. A search takes `O(k^2)` steps at k names.
+pub fn cheapest_flow<L: Ledger>(
+    alloc: Global,
+    problem: &FlowProblem,
+    effort: &mut Effort<L>,
+) -> Result<Passed, AllocError>
     requires { IsFlowProblem problem.now }
     ensures flow { IfOk result (λ r. IsFlow problem.now r.flow) }
     ensures cheapest { IfOk result (λ r. r.outcome ≡ Outcome.Cheapest → IsCheapest problem.now r.flow r.search) }
     ensures over { IfOk result (λ r. r.outcome ≡ Outcome.Over → IsStuckAbove problem.now r.flow r.search) }
     ensures under { IfOk result (λ r. r.outcome ≡ Outcome.Under → IsStuckBelow problem.now r.flow r.search) }
+    ensures augmentations { effort.new.augmentations ≤ effort.old.augmentations + 2 * points_of problem.now }
+    ensures searches { Searches (nodes_of problem.now) 1 effort.old effort.new }
 {
     let mut flow = Flow::staying(alloc, problem)?;
     let mut search = Search::new(alloc, problem.high.len() + 1)?;
-    let outcome = pass(alloc, problem, &mut flow, &mut search)?;
+    let outcome = pass(alloc, problem, &mut flow, &mut search, effort)?;
     Ok(Passed {
         outcome,
         flow,
@@ -52,11 +62,12 @@ pub fn cheapest_flow(alloc: Global, problem: &FlowProblem) -> Result<Passed, All
 }
 
 /// Both passes over a flow.
-fn pass(
+fn pass<L: Ledger>(
     alloc: Global,
     problem: &FlowProblem,
     flow: &mut Flow,
     search: &mut Search,
+    effort: &mut Effort<L>,
 ) -> Result<Outcome, AllocError>
     requires problem { IsFlowProblem problem.now }
     requires midway { IsMidway problem.now flow.old search.old }
@@ -64,11 +75,13 @@ fn pass(
     ensures cheapest { IfOk result (λ outcome. outcome ≡ Outcome.Cheapest → IsCheapest problem.now flow.new search.new) }
     ensures over { IfOk result (λ outcome. outcome ≡ Outcome.Over → IsStuckAbove problem.now flow.new search.new) }
     ensures under { IfOk result (λ outcome. outcome ≡ Outcome.Under → IsStuckBelow problem.now flow.new search.new) }
+    ensures augmentations { effort.new.augmentations ≤ effort.old.augmentations + 2 * points_of problem.now }
+    ensures searches { Searches (nodes_of problem.now) 1 effort.old effort.new }
 {
-    if !place_within_high(alloc, problem, flow, search)? {
+    if !place_within_high(alloc, problem, flow, search, effort)? {
         return Ok(Outcome::Over);
     }
-    if !meet_low(alloc, problem, flow, search)? {
+    if !meet_low(alloc, problem, flow, search, effort)? {
         return Ok(Outcome::Under);
     }
     Ok(Outcome::Cheapest)

@@ -1,36 +1,44 @@
 //! The second pass: names below their low limits get points from names that have more than theirs.
-ghost use Rattle.std.specs.Prelude.{◌≡◌, ◌≤◌, ◌<◌, ◌+◌, ℕ, IfOk, MatchBool, MatchOption, OnOk, false, length, nat_lt, slice_index, slice_index_or};
+ghost use Rattle.std.specs.Prelude.{◌≡◌, ◌≤◌, ◌<◌, ◌+◌, ℕ, IfOk, IsTrue, MatchBool, MatchOption, MatchResult, OnOk, false, length, nat_lt, slice_index, slice_index_or};
+ghost use Rattle.flow_passes.specs.Effort.{Searches, nodes_of};
 ghost use Rattle.flow_passes.specs.Meeting.{IsMeeting, IsStuckBelow, IsWayBelow, WantsBelow, missing};
 ghost use Rattle.residual_arcs.specs.Problem.{IsFlowProblem, names_of};
 ghost use Rattle.residual_flow.specs.Flow.{IsFlow, total_at};
+ghost use Rattle.search_effort.specs.Spent.{Settles};
 
 use augmenting_paths::augment;
 use residual_arcs::FlowProblem;
 use residual_flow::Flow;
+use search_effort::Effort;
 use shortest_path::Search;
 use std::alloc::{AllocError, Global};
+use std::sync::ledger::Ledger;
 
 /// Moves points to the names below their low limits, each time along a shortest path from the names that have more than theirs.
 /// Answers whether none is below; if not, the last search reached no such name.
-pub fn meet_low(
+pub fn meet_low<L: Ledger>(
     alloc: Global,
     problem: &FlowProblem,
     flow: &mut Flow,
     search: &mut Search,
+    effort: &mut Effort<L>,
 ) -> Result<bool, AllocError>
     requires problem { IsFlowProblem problem.now }
     requires meeting { IsMeeting problem.now flow.old search.old }
-    ensures { IfOk result (λ met. MatchBool met
+    ensures met { IfOk result (λ met. MatchBool met
         (IsMeeting problem.now flow.new search.new × ((v : ℕ) → v < names_of problem.now → slice_index problem.now.low.items v ≤ total_at flow.new v))
         (IsStuckBelow problem.now flow.new search.new)) }
+    ensures augmentations { effort.new.augmentations ≤ effort.old.augmentations + missing problem.now flow.old }
+    ensures searches { Searches (nodes_of problem.now) 1 effort.old effort.new }
+    ensures found { IfOk result (λ met. IsTrue met → Searches (nodes_of problem.now) 0 effort.old effort.new) }
 {
     let mut wanted = vec![in alloc; false; problem.high.len() + 1]?;
     'points: while let Some(_) = name_below(problem, flow) {
         mark_wanted(&mut wanted, problem, flow);
-        let Some(last) = find_below(problem, flow, search, wanted.as_slice()) else {
+        let Some(last) = find_below(problem, flow, search, wanted.as_slice(), effort) else {
             return Ok(false);
         };
-        fill_below(alloc, problem, flow, search, last)?;
+        fill_below(alloc, problem, flow, search, last, effort)?;
     }
     Ok(true)
 }
@@ -75,34 +83,39 @@ fn mark_wanted(wanted: &mut [bool], problem: &FlowProblem, flow: &Flow)
 }
 
 /// The nearest name below its low limit.
-fn find_below(
+fn find_below<L: Ledger>(
     problem: &FlowProblem,
     flow: &Flow,
     search: &mut Search,
     wanted: &[bool],
+    effort: &mut Effort<L>,
 ) -> Option<usize>
     requires problem { IsFlowProblem problem.now }
     requires meeting { IsMeeting problem.now flow.now search.old }
     requires wanted { WantsBelow problem.now flow.now wanted.now }
-    ensures { MatchOption result
+    ensures way { MatchOption result
         ((v : ℕ) → v < names_of problem.now → total_at flow.now v < slice_index problem.now.low.items v → IsStuckBelow problem.now flow.now search.new)
         (λ last. IsWayBelow problem.now flow.now search.new last) }
+    ensures effort { Settles (nodes_of problem.now) effort.old effort.new }
 {
-    search.find(flow.arcs.as_slice(), wanted, problem.high.len())
+    search.find(flow.arcs.as_slice(), wanted, problem.high.len(), effort)
 }
 
 /// Moves points along the path to a name below its low limit.
-fn fill_below(
+fn fill_below<L: Ledger>(
     alloc: Global,
     problem: &FlowProblem,
     flow: &mut Flow,
     search: &Search,
     last: usize,
+    effort: &mut Effort<L>,
 ) -> Result<(), AllocError>
     requires problem { IsFlowProblem problem.now }
     requires way { IsWayBelow problem.now flow.old search.now last }
     ensures meeting { OnOk result (IsMeeting problem.now flow.new search.now) }
     ensures fewer { OnOk result (missing problem.now flow.new < missing problem.now flow.old) }
+    ensures augmentations { MatchResult result (λ _. effort.new.augmentations ≡ effort.old.augmentations + 1) (λ _. effort.new.augmentations ≡ effort.old.augmentations) }
+    ensures settlings { effort.new.settlings ≡ effort.old.settlings }
 {
     augment(
         alloc,
@@ -113,5 +126,6 @@ fn fill_below(
         problem.high.len(),
         last,
     )?;
+    effort.count_augmentation();
     Ok(())
 }

@@ -1,32 +1,47 @@
 //! The first pass: all points are placed within the high limits.
-ghost use Rattle.std.specs.Prelude.{◌<◌, ◌≤◌, ℕ, IfOk, MatchBool, slice_index};
-ghost use Rattle.flow_passes.specs.Placing.{IsMidway, IsStuckAbove, WantsLimits};
+ghost use Rattle.std.specs.Prelude.{◌<◌, ◌≤◌, ◌+◌, ℕ, IfOk, IsTrue, MatchBool, slice_index};
+ghost use Rattle.flow_passes.specs.Effort.{Searches, nodes_of};
+ghost use Rattle.flow_passes.specs.Placing.{IsMidway, IsStuckAbove, WantsLimits, excess};
 ghost use Rattle.residual_arcs.specs.Problem.{IsFlowProblem, names_of};
 ghost use Rattle.residual_flow.specs.Flow.{IsFlow, total_at};
 
 use crate::placing::empty_to_high;
 use residual_arcs::FlowProblem;
 use residual_flow::Flow;
+use search_effort::Effort;
 use shortest_path::Search;
 use std::alloc::{AllocError, Global};
+use std::sync::ledger::Ledger;
 
 /// Moves points away from the names above their high limits. Answers whether none is above; if not, the last search reached no
 /// name with room.
-pub fn place_within_high(
+pub fn place_within_high<L: Ledger>(
     alloc: Global,
     problem: &FlowProblem,
     flow: &mut Flow,
     search: &mut Search,
+    effort: &mut Effort<L>,
 ) -> Result<bool, AllocError>
     requires problem { IsFlowProblem problem.now }
     requires midway { IsMidway problem.now flow.old search.old }
-    ensures { IfOk result (λ placed. MatchBool placed
+    ensures placed { IfOk result (λ placed. MatchBool placed
         (IsMidway problem.now flow.new search.new × ((v : ℕ) → v < names_of problem.now → total_at flow.new v ≤ slice_index problem.now.high.items v))
         (IsStuckAbove problem.now flow.new search.new × IsFlow problem.now flow.new)) }
+    ensures augmentations { effort.new.augmentations ≤ effort.old.augmentations + excess problem.now flow.old }
+    ensures searches { Searches (nodes_of problem.now) 1 effort.old effort.new }
+    ensures found { IfOk result (λ placed. IsTrue placed → Searches (nodes_of problem.now) 0 effort.old effort.new) }
 {
     let wanted = only_limits(alloc, problem)?;
     for name in 0..problem.high.len() {
-        if !empty_to_high(alloc, problem, flow, search, wanted.as_slice(), name)? {
+        if !empty_to_high(
+            alloc,
+            problem,
+            flow,
+            search,
+            wanted.as_slice(),
+            name,
+            effort,
+        )? {
             return Ok(false);
         }
     }

@@ -1,24 +1,29 @@
 //! Points of a name above its high limit move to names with room.
-ghost use Rattle.std.specs.Prelude.{◌≡◌, ◌<◌, ◌≤◌, ℕ, IfOk, MatchBool, MatchOption, OnOk, slice_index};
-ghost use Rattle.flow_passes.specs.Placing.{IsMidway, IsStuckAbove, IsWay, StayPlaced, WantsLimits};
+ghost use Rattle.std.specs.Prelude.{◌≡◌, ◌<◌, ◌≤◌, ◌+◌, ℕ, IfOk, IsTrue, MatchBool, MatchOption, MatchResult, OnOk, slice_index};
+ghost use Rattle.flow_passes.specs.Effort.{Searches, nodes_of};
+ghost use Rattle.flow_passes.specs.Placing.{IsMidway, IsStuckAbove, IsWay, StayPlaced, WantsLimits, excess};
 ghost use Rattle.residual_arcs.specs.Problem.{IsFlowProblem, names_of};
 ghost use Rattle.residual_flow.specs.Flow.{IsFlow, total_at};
+ghost use Rattle.search_effort.specs.Spent.{Settles};
 
 use augmenting_paths::augment;
 use residual_arcs::FlowProblem;
 use residual_flow::Flow;
+use search_effort::Effort;
 use shortest_path::Search;
 use std::alloc::{AllocError, Global};
+use std::sync::ledger::Ledger;
 
 /// Moves points away from a name above its high limit, each time along a shortest path. Answers whether it is not above any more;
 /// if not, the last search reached no name with room.
-pub(crate) fn empty_to_high(
+pub(crate) fn empty_to_high<L: Ledger>(
     alloc: Global,
     problem: &FlowProblem,
     flow: &mut Flow,
     search: &mut Search,
     wanted: &[bool],
     from: usize,
+    effort: &mut Effort<L>,
 ) -> Result<bool, AllocError>
     requires problem { IsFlowProblem problem.now }
     requires midway { IsMidway problem.now flow.old search.old }
@@ -27,12 +32,16 @@ pub(crate) fn empty_to_high(
     ensures emptied { IfOk result (λ emptied. MatchBool emptied
         (IsMidway problem.now flow.new search.new × (total_at flow.new from ≤ slice_index problem.now.high.items from) × StayPlaced problem.now flow.old flow.new)
         (IsStuckAbove problem.now flow.new search.new × IsFlow problem.now flow.new)) }
+    ensures excess { IfOk result (λ emptied. effort.new.augmentations + excess problem.now flow.new ≤ effort.old.augmentations + excess problem.now flow.old) }
+    ensures augmentations { effort.new.augmentations ≤ effort.old.augmentations + excess problem.now flow.old }
+    ensures searches { Searches (nodes_of problem.now) 1 effort.old effort.new }
+    ensures found { IfOk result (λ emptied. IsTrue emptied → Searches (nodes_of problem.now) 0 effort.old effort.new) }
 {
     'points: while is_above(problem, flow, from) {
-        let Some(last) = find_room(problem, flow, search, wanted, from) else {
+        let Some(last) = find_room(problem, flow, search, wanted, from, effort) else {
             return Ok(false);
         };
-        fill(alloc, problem, flow, search, from, last)?;
+        fill(alloc, problem, flow, search, from, last, effort)?;
     }
     Ok(true)
 }
@@ -48,34 +57,37 @@ fn is_above(problem: &FlowProblem, flow: &Flow, name: usize) -> bool
 }
 
 /// The nearest name with room.
-fn find_room(
+fn find_room<L: Ledger>(
     problem: &FlowProblem,
     flow: &Flow,
     search: &mut Search,
     wanted: &[bool],
     from: usize,
+    effort: &mut Effort<L>,
 ) -> Option<usize>
     requires problem { IsFlowProblem problem.now }
     requires midway { IsMidway problem.now flow.now search.old }
     requires wanted { WantsLimits problem.now wanted.now }
     requires from { from < names_of problem.now }
     requires above { slice_index problem.now.high.items from < total_at flow.now from }
-    ensures { MatchOption result (IsStuckAbove problem.now flow.now search.new) (λ last. IsWay problem.now flow.now search.new from last) }
+    ensures way { MatchOption result (IsStuckAbove problem.now flow.now search.new) (λ last. IsWay problem.now flow.now search.new from last) }
+    ensures effort { Settles (nodes_of problem.now) effort.old effort.new }
 {
-    match search.find(flow.arcs.as_slice(), wanted, from) {
+    match search.find(flow.arcs.as_slice(), wanted, from, effort) {
         Some(limits) => Some(search.parents[limits]),
         None => None,
     }
 }
 
 /// Moves points along the path to a name with room.
-fn fill(
+fn fill<L: Ledger>(
     alloc: Global,
     problem: &FlowProblem,
     flow: &mut Flow,
     search: &Search,
     from: usize,
     last: usize,
+    effort: &mut Effort<L>,
 ) -> Result<(), AllocError>
     requires problem { IsFlowProblem problem.now }
     requires way { IsWay problem.now flow.old search.now from last }
@@ -83,6 +95,9 @@ fn fill(
     ensures midway { OnOk result (IsMidway problem.now flow.new search.now) }
     ensures fewer { OnOk result (total_at flow.new from < total_at flow.old from) }
     ensures placed { OnOk result (StayPlaced problem.now flow.old flow.new) }
+    ensures excess { OnOk result (excess problem.now flow.new < excess problem.now flow.old) }
+    ensures augmentations { MatchResult result (λ _. effort.new.augmentations ≡ effort.old.augmentations + 1) (λ _. effort.new.augmentations ≡ effort.old.augmentations) }
+    ensures settlings { effort.new.settlings ≡ effort.old.settlings }
 {
     augment(
         alloc,
@@ -93,5 +108,6 @@ fn fill(
         from,
         last,
     )?;
+    effort.count_augmentation();
     Ok(())
 }

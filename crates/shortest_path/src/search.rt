@@ -2,9 +2,12 @@ ghost use Rattle.std.specs.Prelude.{IfOk, MatchBool, MatchOption, ◌≡◌, ◌
 ghost use Rattle.shortest_path.specs.Network.{IsShort, IsReduced, IsWithin, arc_at, max_cost, max_nodes};
 ghost use Rattle.shortest_path.specs.Found.{HasSize, HasFound, IsStuck, potential_of, parent_of, rank_of};
 ghost use Rattle.shortest_path.specs.Searched.{Relaxes, IsSearched, IsNearest, HasNone, Lowers};
+ghost use Rattle.search_effort.specs.Spent.{Settles};
 
 use crate::arc::Arc;
+use search_effort::Effort;
 use std::alloc::{AllocError, Global};
+use std::sync::ledger::Ledger;
 
 /// The nodes of a residual network with their potentials, and what the last search found of them.
 #[derive(Drop)]
@@ -32,9 +35,15 @@ impl Search {
         })
     }
 
-    /// Searches for the nearest node that is wanted, and lowers potentials where it finds one. It takes `O(n^2)` steps at
-    /// n nodes.
-    pub fn find(&mut self, arcs: &[Option<Arc>], wanted: &[bool], source: usize) -> Option<usize>
+    /// Searches for the nearest node that is wanted, and lowers potentials where it finds one. Each node that it settles is
+    /// counted. It takes `O(n^2)` steps at n nodes.
+    pub fn find<L: Ledger>(
+        &mut self,
+        arcs: &[Option<Arc>],
+        wanted: &[bool],
+        source: usize,
+        effort: &mut Effort<L>,
+    ) -> Option<usize>
         requires few { length wanted.now ≤ max_nodes }
         requires size { HasSize (length wanted.now) self.old }
         requires arcs { length arcs.now ≡ length wanted.now * length wanted.now }
@@ -46,6 +55,7 @@ impl Search {
         ensures found { MatchOption result
             (IsStuck (length wanted.now) (arc_at arcs.now (length wanted.now)) wanted.now source (potential_of self.old) (potential_of self.new) (rank_of self.new))
             (HasFound (length wanted.now) (arc_at arcs.now (length wanted.now)) wanted.now source (potential_of self.old) (potential_of self.new) (parent_of self.new) (rank_of self.new)) }
+        ensures effort { Settles (length wanted.now) effort.old effort.new }
     {
         search_from(
             &mut self.potentials,
@@ -55,12 +65,13 @@ impl Search {
             arcs,
             wanted,
             source,
+            effort,
         )
     }
 }
 
 /// The same, over the tables of a search.
-fn search_from(
+fn search_from<L: Ledger>(
     potentials: &mut [i64],
     lengths: &mut [Option<i64>],
     parents: &mut [usize],
@@ -68,6 +79,7 @@ fn search_from(
     arcs: &[Option<Arc>],
     wanted: &[bool],
     source: usize,
+    effort: &mut Effort<L>,
 ) -> Option<usize>
     requires few { length ranks.old ≤ max_nodes }
     requires lengths { length lengths.old ≡ length ranks.old }
@@ -82,9 +94,12 @@ fn search_from(
     ensures found { MatchOption result
         (IsStuck (length ranks.old) (arc_at arcs.now (length ranks.old)) wanted.now source (λ v. slice_index_or potentials.old v (pos 0)) (λ v. slice_index_or potentials.new v (pos 0)) (λ v. slice_index ranks.new v))
         (HasFound (length ranks.old) (arc_at arcs.now (length ranks.old)) wanted.now source (λ v. slice_index_or potentials.old v (pos 0)) (λ v. slice_index_or potentials.new v (pos 0)) (λ v. slice_index parents.new v) (λ v. slice_index ranks.new v)) }
+    ensures effort { Settles (length ranks.old) effort.old effort.new }
 {
     begin(lengths, ranks, source);
-    match settle(lengths, parents, ranks, arcs, potentials, wanted, source) {
+    match settle(
+        lengths, parents, ranks, arcs, potentials, wanted, source, effort,
+    ) {
         Some((node, so_far)) => {
             lower(potentials, lengths, ranks, node, so_far);
             Some(node)
@@ -95,7 +110,7 @@ fn search_from(
 
 /// Settles nodes in the order of their distance by reduced costs, up to the first that is wanted. Answers that one, with
 /// the length of the path to it.
-fn settle(
+fn settle<L: Ledger>(
     lengths: &mut [Option<i64>],
     parents: &mut [usize],
     ranks: &mut [usize],
@@ -103,6 +118,7 @@ fn settle(
     potentials: &[i64],
     wanted: &[bool],
     source: usize,
+    effort: &mut Effort<L>,
 ) -> Option<(usize, i64)>
     requires few { length ranks.old ≤ max_nodes }
     requires lengths { length lengths.old ≡ length ranks.old }
@@ -126,6 +142,7 @@ fn settle(
     ensures found { MatchOption result
         (HasNone (length ranks.old) (λ v. slice_index_or lengths.new v None) (λ v. slice_index ranks.new v))
         (λ r. IsNearest (length ranks.old) (λ v. slice_index_or potentials.now v (pos 0)) (λ v. slice_index_or lengths.new v None) (λ v. slice_index ranks.new v) r.0 r.1 × (slice_get wanted.now r.0 ≡ Some true)) }
+    ensures effort { Settles (length ranks.old) effort.old effort.new }
 {
     let nodes = ranks.len();
     let mut count = 0;
@@ -134,6 +151,7 @@ fn settle(
             return Some((node, so_far));
         }
         ranks[node] = count;
+        effort.count_settling();
         let first = node * nodes;
         relax(
             lengths,

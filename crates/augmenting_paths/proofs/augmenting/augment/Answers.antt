@@ -1,8 +1,9 @@
 -- The path's steps are even by the potentials, and its ends keep their limits.
-use Rattle.std.proofs.Common.{◌≡◌, ◌-◌, ◌<◌, ◌≤◌, ℕ, List, length, get_or, min, sym, ap, ◌∙◌, subst, arith}
+use Rattle.std.proofs.Common.{◌≡◌, ◌-◌, List, get_or, min, sym, ap, ◌∙◌, subst, arith}
 use Rattle.std.specs.List.{All}
+use Rattle.residual_flow.specs.Flow.{total_at}
 use Rattle.shortest_path.specs.Found.{potential_of, rank_of}
-use Rattle.augmenting_paths.specs.Paths.{IsEven, IsStep, Leads}
+use Rattle.augmenting_paths.specs.Paths.{IsBottleneck, IsEven, Leads}
 use Rattle.augmenting_paths.specs.declared.path.Step.{Step}
 use Rattle.augmenting_paths.proofs.Augmented.{start_over, augmented}
 use Rattle.augmenting_paths.proofs.augmenting.augment.Goals as goal
@@ -23,7 +24,12 @@ returns-clause-augmented c =
     let first_is = ap (λ xs. get_or xs path.first 0) totals in
     let last_is = ap (λ xs. get_or xs c.args.last 0) totals in
     let over = start_over p c.args.flow.now (potential_of c.args.search.now) (rank_of c.args.search.now) c.args.limits.now c.args.source c.args.last path c.in_ok-path.ensures c.requires.above in
+    let points = c.narrowest-points.result in
+    let old = c.args.flow.now in
+    let most_is : c.room_between-most.result ≡ min (total_at old path.first - get_or c.args.limits.now path.first 0) (get_or c.args.limits.now c.args.last 0 - total_at old c.args.last) =
+    most ∙ ap (λ xs. min (get_or xs path.first 0 - get_or c.args.limits.now path.first 0) (get_or c.args.limits.now c.args.last 0 - get_or xs c.args.last 0)) totals in
+    let bottleneck = subst (λ m. IsBottleneck p old path.steps.items m points) most_is (subst (λ (xs : List Step). IsBottleneck p old xs c.room_between-most.result points) c.as_slice-steps.ensures.value c.narrowest-points.ensures.bottleneck) in
     augmented p c.args.flow.now c.shift_along.new.flow (potential_of c.args.search.now) (rank_of c.args.search.now) c.args.limits.now c.args.source c.args.last c.narrowest-points.result path c.in_ok-path.ensures c.requires.above c.requires.below
-    (omega (arith, c.narrowest-points.ensures.most, most, first_is, last_is))
+    bottleneck
     (c.narrowest-points.ensures.some (omega (arith, most, first_is, last_is, over, c.requires.below)))
     (c.shift_along.ensures.totals path.first c.args.last leads)

@@ -1,5 +1,5 @@
 -- Each turn goes one step back.
-use Rattle.std.proofs.Common.{◌≡◌, ◌≢◌, ◌⊎◌, inl, inr, ⊎_elim, ◌+◌, ◌<◌, ℕ, length, ◌*◌, get_or, refl, sym, ap, ◌∙◌, subst, rules, arith}
+use Rattle.std.proofs.Common.{◌≡◌, ◌⊎◌, inl, inr, ⊎_elim, ◌+◌, length, ◌*◌, get_or, refl, sym, ap, ◌∙◌, subst, rules, arith}
 use Rattle.residual_arcs.specs.Problem.{names_of}
 use Rattle.shortest_path.specs.Found.{parent_of, potential_of, rank_of}
 use Rattle.shortest_path.specs.Network.{arc_at}

@@ -1,5 +1,5 @@
 -- Each turn takes one step.
-use Rattle.std.proofs.Common.{get_or, arith}
+use Rattle.std.proofs.Common.{get_or}
 use Rattle.augmenting_paths.proofs.Moved.{any_default, step_here, no_step, moves_more}
 use Rattle.augmenting_paths.proofs.moving.shift_along.Goals as goal
 

@@ -7,7 +7,7 @@ use Rattle.flow_passes.proofs.Reached.{fewer_missing, meeting_after}
 use Rattle.flow_passes.proofs.meeting.fill_below.Goals as goal
 
 pub returns-clause-meeting : goal.returns-clause-meeting
-returns-clause-meeting c =
+returns-clause-meeting g c =
     let p = c.args.problem.now in
     let s = c.args.search.now in
     let old = c.args.flow.now in
@@ -19,7 +19,7 @@ returns-clause-meeting c =
     meeting_after p c.requires.problem old new s c.args.last c.requires.way e.flow e.least aug
 
 pub returns-clause-fewer : goal.returns-clause-fewer
-returns-clause-fewer c =
+returns-clause-fewer g c =
     let p = c.args.problem.now in
     let s = c.args.search.now in
     let old = c.args.flow.now in

@@ -4,10 +4,11 @@ use Rattle.residual_flow.specs.Flow.{total_at}
 use Rattle.shortest_path.specs.Found.{potential_of, rank_of}
 use Rattle.augmenting_paths.specs.Paths.{IsAugmented}
 use Rattle.flow_passes.proofs.Filled.{fewer_after, filled, placed_after}
+use Rattle.flow_passes.proofs.Spending.{less_excess}
 use Rattle.flow_passes.proofs.placing.fill.Goals as goal
 
 pub augment-requires-clause-above : goal.augment-requires-clause-above
-augment-requires-clause-above c =
+augment-requires-clause-above g c =
     λ v v_in on.
     ⊎_elim
     (λ (is : v ≡ c.args.from). omega (arith, c.requires.above, ap (λ x. total_at c.args.flow.now x) is, ap (λ x. get_or c.args.problem.now.high.items x 0) is, ap (λ xs. get_or xs v 0) c.as_slice.ensures.value))
@@ -15,7 +16,7 @@ augment-requires-clause-above c =
     on
 
 pub returns-clause-midway : goal.returns-clause-midway
-returns-clause-midway c =
+returns-clause-midway g c =
     let p = c.args.problem.now in
     let s = c.args.search.now in
     let old = c.args.flow.now in
@@ -25,7 +26,7 @@ returns-clause-midway c =
     filled p c.requires.problem old new s c.args.from c.args.last c.requires.way c.in_ok-augment.ensures.flow c.in_ok-augment.ensures.least aug
 
 pub returns-clause-fewer : goal.returns-clause-fewer
-returns-clause-fewer c =
+returns-clause-fewer g c =
     let p = c.args.problem.now in
     let s = c.args.search.now in
     let old = c.args.flow.now in
@@ -35,7 +36,7 @@ returns-clause-fewer c =
     fewer_after p old new s c.args.from c.args.last c.requires.way aug
 
 pub returns-clause-placed : goal.returns-clause-placed
-returns-clause-placed c =
+returns-clause-placed g c =
     let p = c.args.problem.now in
     let s = c.args.search.now in
     let old = c.args.flow.now in
@@ -43,3 +44,13 @@ returns-clause-placed c =
     let aug : IsAugmented p old new (potential_of s) (rank_of s) p.high.items c.args.from c.args.last =
     subst (λ xs. IsAugmented p old new (potential_of s) (rank_of s) xs c.args.from c.args.last) c.as_slice.ensures.value c.in_ok-augment.ensures.augmented in
     placed_after p old new (potential_of s) (rank_of s) c.args.from c.args.last aug
+
+pub returns-clause-excess : goal.returns-clause-excess
+returns-clause-excess g c =
+    let p = c.args.problem.now in
+    let s = c.args.search.now in
+    let old = c.args.flow.now in
+    let new = c.augment.new.flow in
+    let aug : IsAugmented p old new (potential_of s) (rank_of s) p.high.items c.args.from c.args.last =
+    subst (λ xs. IsAugmented p old new (potential_of s) (rank_of s) xs c.args.from c.args.last) c.as_slice.ensures.value c.in_ok-augment.ensures.augmented in
+    less_excess p old new (potential_of s) (rank_of s) c.args.from c.args.last aug

@@ -19,7 +19,7 @@ shown_is : (a : ℤ) → IsShort a → to_z w64 (of_z w64 a) ≡ a
 shown_is a s = omega (arith, ints, s.low, s.high)
 
 pub settle-requires-clause-start : goal.settle-requires-clause-start
-settle-requires-clause-start c =
+settle-requires-clause-start g c =
     let n : ℕ = length c.begin.new.ranks in
     let many : n ≡ length c.args.ranks.now = c.begin.ensures.ranks in
     begun n (arc_at c.args.arcs.now n) (λ v. get_or c.args.potentials.now v (pos 0)) c.args.source (λ v. get_or c.begin.new.lengths v None) (λ v. get_or c.args.parents.now v 0) (λ v. get_or c.begin.new.ranks v 0)
@@ -29,7 +29,7 @@ settle-requires-clause-start c =
     c.begin.ensures.start
 
 pub lower-requires-clause-so_far : goal.lower-requires-clause-so_far
-lower-requires-clause-so_far c =
+lower-requires-clause-so_far g c =
     let n : ℕ = length c.begin.new.ranks in
     let many : n ≡ length c.args.ranks.now = c.begin.ensures.ranks in
     let s = c.in-Some.ensures in
@@ -37,14 +37,14 @@ lower-requires-clause-so_far c =
     shown_short c.in-Some.so_far (short_found n (arc_at c.args.arcs.now n) (λ v. get_or c.args.potentials.now v (pos 0)) c.args.source (λ v. get_or c.settle.new.lengths v None) (λ v. get_or c.settle.new.parents v 0) (λ v. get_or c.settle.new.ranks v 0) (omega (arith, many, c.requires.few)) s.searched c.in-Some.node c.in-Some.so_far near.within near.reached)
 
 pub lower-requires-clause-short_lengths : goal.lower-requires-clause-short_lengths
-lower-requires-clause-short_lengths c =
+lower-requires-clause-short_lengths g c =
     let n : ℕ = length c.begin.new.ranks in
     let many : n ≡ length c.args.ranks.now = c.begin.ensures.ranks in
     let s = c.in-Some.ensures in
     λ v a within is. short_found n (arc_at c.args.arcs.now n) (λ v. get_or c.args.potentials.now v (pos 0)) c.args.source (λ v. get_or c.settle.new.lengths v None) (λ v. get_or c.settle.new.parents v 0) (λ v. get_or c.settle.new.ranks v 0) (omega (arith, many, c.requires.few)) s.searched v a (omega (arith, s.ranks, within)) is
 
-pub returns-in-Some : goal.returns-in-Some
-returns-in-Some c =
+pub returns-in-Some-clause-found : goal.returns-in-Some-clause-found
+returns-in-Some-clause-found g c =
     let n : ℕ = length c.args.ranks.now in
     let m : ℕ = length c.begin.new.ranks in
     let many : m ≡ n = c.begin.ensures.ranks in
@@ -61,14 +61,12 @@ returns-in-Some c =
     let near : IsNearest n pot len rank node so_far = subst (λ k. IsNearest k pot len rank node so_far) many near_m in
     let search : IsSearched n (arc_at arcs n) pot c.args.source max_cost n len parent rank = subst (λ k. IsSearched k (arc_at arcs k) pot c.args.source max_cost k len parent rank) many s.searched in
     let lowers : Lowers n pot pot' len rank node (to_z w64 (of_z w64 so_far)) = subst (λ k. Lowers k pot pot' len rank node (to_z w64 (of_z w64 so_far))) (s.ranks ∙ many) c.lower.ensures.lowers in
-    record {
-      found = found n (arc_at arcs n) c.args.wanted.now c.args.source pot pot' len parent rank node so_far (to_z w64 (of_z w64 so_far)) c.requires.reduced search near lowers
-          (shown_is so_far (short_found n (arc_at arcs n) pot c.args.source len parent rank c.requires.few search node so_far near.within near.reached))
-          s.found.1 (λ v within settled. s.unwanted v (omega (arith, many, within)) (omega (arith, many, settled)));
-    }
+    found n (arc_at arcs n) c.args.wanted.now c.args.source pot pot' len parent rank node so_far (to_z w64 (of_z w64 so_far)) c.requires.reduced search near lowers
+    (shown_is so_far (short_found n (arc_at arcs n) pot c.args.source len parent rank c.requires.few search node so_far near.within near.reached))
+    s.found.1 (λ v within settled. s.unwanted v (omega (arith, many, within)) (omega (arith, many, settled)))
 
-pub returns-in-None : goal.returns-in-None
-returns-in-None c =
+pub returns-in-None-clause-found : goal.returns-in-None-clause-found
+returns-in-None-clause-found g c =
     let n : ℕ = length c.args.ranks.now in
     let m : ℕ = length c.begin.new.ranks in
     let many : m ≡ n = c.begin.ensures.ranks in
@@ -80,4 +78,4 @@ returns-in-None c =
     let s = c.in-None.ensures in
     let search : IsSearched n (arc_at arcs n) pot c.args.source max_cost n len parent rank = subst (λ k. IsSearched k (arc_at arcs k) pot c.args.source max_cost k len parent rank) many s.searched in
     let none : HasNone n len rank = subst (λ k. HasNone k len rank) many s.found in
-    record { found = stuck n (arc_at arcs n) c.args.wanted.now c.args.source n pot len parent rank c.requires.source search none (λ v within settled. s.unwanted v (omega (arith, many, within)) (omega (arith, many, settled))) }
+    stuck n (arc_at arcs n) c.args.wanted.now c.args.source n pot len parent rank c.requires.source search none (λ v within settled. s.unwanted v (omega (arith, many, within)) (omega (arith, many, settled)))

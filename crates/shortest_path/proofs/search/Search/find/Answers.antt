@@ -25,7 +25,7 @@ same_tables result arcs wanted source n m old old' new new' parents parents' ran
     (HasFound k (arc_at arcs k) wanted source (λ v. get_or old v (pos 0)) (λ v. get_or new v (pos 0)) (λ v. get_or parents v 0) (λ v. get_or ranks v 0))) size known))))
 
 pub returns-clause-found : goal.returns-clause-found
-returns-clause-found c =
+returns-clause-found g c =
     let s = c.args.self.now in
     let t = c.search_from in
     same_tables t.result c.args.arcs.now c.args.wanted.now c.args.source (length c.deref_mut-4.result.now) (length c.args.wanted.now)
