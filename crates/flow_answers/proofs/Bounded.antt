@@ -1,6 +1,6 @@
 -- The cost of a flow fits 64 bits.
-use Rattle.std.proofs.Common.{◌≡◌, ℕ, suc, ◌+◌, ◌*◌, ◌<◌, ◌≤◌, ℤ, pos, negsuc, List, length, get_or, unsigned_abs, to_z, of_z, Option, Some, None, refl, sym, ap, ◌∙◌, arith}
-use Rattle.std.proofs.Math.Nat.{mul-le-mul, mul-le-mul_left, mul-le-mul_right}
+use Rattle.std.proofs.Common.{◌≡◌, ℕ, suc, ◌+◌, ◌*◌, ◌<◌, ◌≤◌, ℤ, pos, negsuc, List, length, unsigned_abs, to_z, of_z, Option, Some, None, refl, ap, ◌∙◌, arith}
+use Rattle.std.proofs.Math.Nat.{mul-le-mul, mul-le-mul_right}
 use Rattle.std.proofs.lemmas.Int.{ints}
 use Rattle.std.specs.Int.{w64}
 use Rattle.residual_arcs.specs.Offered.{IsPrice}
@@ -38,7 +38,7 @@ more n f = ap (λ m. sum_to m f) (next n)
     next n = omega arith
 
 module _ (groups : List Group) (prices : List (Option ℤ)) (placed : List ℕ) (names : ℕ) (are : AreGroups names prices groups) (priced : ArePrices names prices) where
-  price_in : (g v : ℕ) (z : ℤ) → g < length groups → v < names → price_at prices names (group_at groups g).variant v ≡ Some z → IsPrice z
+  pub price_in : (g v : ℕ) (z : ℤ) → g < length groups → v < names → price_at prices names (group_at groups g).variant v ≡ Some z → IsPrice z
   price_in g v z g_in v_in is = priced.each ((group_at groups g).variant * names + v) z (cell_in names names (group_at groups g).variant v (are.variant g g_in) v_in) is
 
   unit_at : (g v : ℕ) → g < length groups → v < names → unit_of (group_at groups g).count (price_at prices names (group_at groups g).variant v) ≤ 1000000 * 1000000

@@ -1,17 +1,17 @@
 -- What a flow costs, by number and by its arcs.
-use Rattle.std.proofs.Common.{◌≡◌, ℕ, zero, suc, ◌+◌, ◌*◌, ◌<◌, ◌≤◌, ⊎_elim, ℤ, pos, negsuc, List, [], ◌∷◌, length, take, drop, get_or, sum_by, Option, Some, None, true, false, refl, sym, ap, ◌∙◌, subst, arith}
-use Rattle.std.proofs.Math.Nat.{mul-le-mul, mul-le-mul_left, add-mul}
+use Rattle.std.proofs.Common.{◌≡◌, ℕ, zero, suc, ◌+◌, ◌*◌, ◌<◌, ◌≤◌, ⊎_elim, pos, List, [], ◌∷◌, length, take, drop, get_or, sum_by, Option, Some, None, true, false, refl, sym, ap, ◌∙◌, arith}
+use Rattle.std.proofs.Math.Nat.{mul-le-mul_left, add-mul}
 use Rattle.std.proofs.lemmas.Bool.{cases_lt, false≢true}
-use Rattle.std.proofs.lemmas.List.{get_or-take, get_or-drop, length-take-le}
+use Rattle.std.proofs.lemmas.List.{get_or-take, length-take-le}
 use Rattle.std.proofs.lemmas.List.Sums.{sum_by-cons}
 use Rattle.std.proofs.lemmas.Map.Entries.{length-keys_of}
 use Rattle.std.specs.Map.{keys_of}
 use Rattle.std.specs.Prelude.{if◌then◌else◌, Bool}
 use Rattle.price_core.specs.Pricing.{Pricing, is_forbidden, price_of}
-use Rattle.residual_arcs.specs.Problem.{may_take, names_of, group_at, is_there, price_at, sum_to}
+use Rattle.residual_arcs.specs.Problem.{names_of, group_at, is_there, price_at, sum_to}
 use Rattle.residual_arcs.specs.declared.problem.FlowProblem.{FlowProblem}
 use Rattle.residual_flow.specs.Flow.{IsFlowAt, cell_at, groups_of}
-use Rattle.residual_flow.proofs.Sums.{sum_at_most, sum_prefix, sum_same}
+use Rattle.residual_flow.proofs.Sums.{sum_same}
 use Rattle.shortest_path.specs.declared.arc.Arc as arcs
 use Rattle.transport_core.specs.Assignment.{Arc, arc_flows, flow_cost, flows_of, row_flows, spends_all}
 use Rattle.transport_core.specs.Groups.{GroupKey}

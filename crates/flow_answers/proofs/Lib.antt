@@ -1,6 +1,10 @@
 pub mod Bounded
+pub mod Certified
 pub mod Costs
+pub mod Largest
 pub mod Listed
 pub mod Numbered
 pub mod Offering
+pub mod Paid
 pub mod Priced
+pub mod Pushed

@@ -1,5 +1,5 @@
 -- Facts of a flow by number, as facts of its list of numbers by rows and columns.
-use Rattle.std.proofs.Common.{◌≡◌, ◌==◌, ◌&&◌, ℕ, zero, suc, ◌+◌, ◌*◌, ◌<◌, ◌≤◌, ⊎_elim, ℤ, pos, ◌+ℤ◌, ◌≤ℤ◌, List, [], ◌∷◌, length, length-drop, take, drop, get_or, replicate, true, false, refl, sym, ap, ◌∙◌, arith}
+use Rattle.std.proofs.Common.{◌≡◌, ◌==◌, ◌&&◌, ℕ, zero, suc, ◌+◌, ◌*◌, ◌<◌, ◌≤◌, ℤ, pos, ◌+ℤ◌, ◌≤ℤ◌, List, [], ◌∷◌, length, length-drop, take, drop, get_or, replicate, true, false, refl, ap, ◌∙◌, arith}
 use Rattle.std.specs.Prelude.{nat_le, sum}
 use Rattle.std.proofs.lemmas.Bool.{and_from, eq-eqb, le-leb}
 use Rattle.std.proofs.lemmas.List.{get_or-take, get_or-drop, length-take-le}
@@ -9,7 +9,7 @@ use Rattle.price_core.specs.Pricing.{Pricing, is_forbidden}
 use Rattle.transport_core.specs.Assignment.{spends_all}
 use Rattle.transport_core.specs.Groups.{GroupKey}
 use Rattle.transport_core.proofs.Arcs.{spends}
-use Rattle.flow_certificates.specs.Slackness.{AreBalanced, AreOptimalRows, IsOptimalRow, charge, columns, plus}
+use Rattle.flow_certificates.specs.Slackness.{AreBalanced, AreOptimalRows, charge, columns, plus}
 use Rattle.flow_certificates.proofs.Slackness.{length-columns}
 use Rattle.residual_arcs.specs.Problem.{sum_to}
 

@@ -1,11 +1,11 @@
 -- An optimal flow by number is optimal for the problem.
-use Rattle.std.proofs.Common.{◌≡◌, ℕ, ◌+◌, ◌*◌, ◌<◌, ◌≤◌, ⊎_elim, ℤ, pos, ◌+ℤ◌, ◌-ℤ◌, ◌*ℤ◌, ◌≤ℤ◌, List, [], length, get_or, Option, Some, None, true, false, refl, sym, ap, ◌∙◌, subst, arith}
-use Rattle.std.proofs.lemmas.Bool.{cases_Bool, false≢true}
+use Rattle.std.proofs.Common.{◌≡◌, ℕ, ◌+◌, ◌*◌, ◌<◌, ◌≤◌, ℤ, pos, ◌-ℤ◌, ◌*ℤ◌, List, [], length, get_or, Option, Some, None, true, false, refl, sym, ap, ◌∙◌, subst, arith}
+use Rattle.std.proofs.lemmas.Bool.{false≢true}
 use Rattle.std.proofs.lemmas.Int.{ints}
 use Rattle.std.proofs.lemmas.Map.Entries.{length-keys_of}
 use Rattle.std.specs.Map.{keys_of}
 use Rattle.std.specs.Prelude.{if◌then◌else◌, Bool}
-use Rattle.price_core.specs.Pricing.{Pricing, is_forbidden, price_of}
+use Rattle.price_core.specs.Pricing.{is_forbidden, price_of}
 use Rattle.flow_certificates.specs.Slackness.{IsOptimal, charge, columns}
 use Rattle.flow_certificates.proofs.Slackness.{length-columns}
 use Rattle.flow_laws.specs.Optimal as numbers
@@ -14,10 +14,9 @@ use Rattle.residual_arcs.specs.declared.problem.FlowProblem.{FlowProblem}
 use Rattle.residual_flow.specs.Flow.{IsFlowAt, cell_at, flows_at, groups_of}
 use Rattle.shortest_path.specs.declared.arc.Arc.{Arc}
 use Rattle.transport_core.specs.Assignment.{spends_all}
-use Rattle.transport_core.specs.Groups.{GroupKey}
 use Rattle.transport_core.specs.Instance.{TransportProblem}
 use Rattle.transport_network.specs.Network.{switch_price}
-use Rattle.transport_network.specs.Numbered.{IsNumbered, limit_at, name_at, row_at}
+use Rattle.transport_network.specs.Numbered.{IsNumbered, name_at, row_at}
 use Rattle.flow_answers.proofs.Listed.{IsOptimalAt, balanced, column_is, optimal_rows, spent_all}
 
 may_by : (forbidden : Bool) (c : ℕ) → is_there (if forbidden then None else Some (pos c)) ≡ true → forbidden ≡ false

@@ -1,11 +1,10 @@
 -- Prices that are pushed one after the other.
-use Rattle.std.proofs.Common.{◌≡◌, ℕ, ◌+◌, ◌-◌, ◌*◌, ◌<◌, ◌≤◌, ⊎_elim, ℤ, pos, ◌+ℤ◌, ◌*ℤ◌, ◌≤ℤ◌, List, [], ◌∷◌, ◌++◌, length, length-append, take, drop, get_or, Option, Some, None, refl, sym, ap, ◌∙◌, subst, arith}
+use Rattle.std.proofs.Common.{◌≡◌, ℕ, ◌+◌, ◌<◌, ⊎_elim, ℤ, pos, List, [], ◌∷◌, ◌++◌, length, length-append, get_or, Option, None, sym, ap, ◌∙◌, subst, arith}
 use Rattle.std.proofs.lemmas.Bool.{cases_eq}
-use Rattle.std.proofs.lemmas.Int.{ints}
 use Rattle.std.proofs.lemmas.List.{get_or_append_left}
 use Rattle.std.proofs.Math.Seq.{get_or-append_seam}
 use Rattle.flow_certificates.specs.Offers.{HasSlack, IsTight, MayTake}
-use Rattle.residual_arcs.specs.Problem.{AreGroups, ArePrices, group_at, price_at}
+use Rattle.residual_arcs.specs.Problem.{AreGroups, ArePrices, group_at}
 use Rattle.residual_arcs.specs.declared.problem.Group.{Group}
 use Rattle.residual_arcs.proofs.Parts.{part_at, part_length, part_of}
 use Rattle.flow_answers.specs.Prices.{IsLeastAt}

@@ -1,5 +1,5 @@
 -- What a flow costs the inputs, by number.
-use Rattle.std.specs.Prelude.{ℕ, ◌+◌, ◌*◌, ℤ, pos, negsuc, List, length, Option, Some, None}
+use Rattle.std.specs.Prelude.{ℕ, ◌*◌, ℤ, pos, negsuc, List, Option, Some, None}
 use Rattle.residual_arcs.specs.Problem.{group_at, price_at, sum_to}
 use Rattle.residual_arcs.specs.declared.problem.Group.{Group}
 use Rattle.residual_flow.specs.Flow.{cell_at}

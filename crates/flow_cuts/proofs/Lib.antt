@@ -1,3 +1,6 @@
+pub mod Above
+pub mod Below
 pub mod Choosing
-pub mod Listing
 pub mod Holding
+pub mod Listing
+pub mod Standing

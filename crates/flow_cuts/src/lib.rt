@@ -1,9 +1,11 @@
 //! Which names the cut of a failed search has (Hall's condition; Hoffman's circulation theorem).
 //!
-//! Proved: [`mark_held`] marks the old name of each group that has points at a settled name, and none from which a name that is
-//! not settled may be taken; [`marked`] gives the names that are marked, in their order.
+//! Proved: [`names_above`] gives names whose points outnumber the high limits of all that they may keep or change to, where the
+//! search of the first pass failed; [`names_below`] gives names whose low limits sum above the points that have or may take one of
+//! them, where that of the second pass failed, and then no set of names is over its high limits. Both give the names in order.
 #![tactic(auto)]
 
+mod cuts;
 mod marks;
 
-pub use marks::{mark_held, marked};
+pub use cuts::{names_above, names_below};

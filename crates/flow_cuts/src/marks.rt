@@ -1,61 +1,74 @@
 //! Which names a cut has.
-ghost use Rattle.std.specs.Prelude.{◌≡◌, ◌≤◌, ◌<◌, ◌+◌, ◌*◌, ℕ, true, false, IfOk, MatchBool, length, slice_index, slice_index_or};
+ghost use Rattle.std.specs.Prelude.{◌≡◌, ◌≤◌, ◌<◌, ◌+◌, ℕ, false, IfOk, MatchBool, length, slice_index_or};
 ghost use Rattle.std.specs.Map.{keys_of};
 ghost use Rattle.bucket_core.specs.Rule.{names_view};
 ghost use Rattle.flow_cuts.specs.Chosen.{chosen};
+ghost use Rattle.flow_cuts.specs.Marked.{AreHeld, AreUnsettled};
+ghost use Rattle.flow_passes.specs.Placing.{IsStuckAbove};
 ghost use Rattle.price_core.specs.Limits.{limits_view};
-ghost use Rattle.residual_arcs.specs.Problem.{AreGroups, group_at, is_there, price_at};
+ghost use Rattle.residual_arcs.specs.Problem.{IsFlowProblem, names_of};
+ghost use Rattle.residual_flow.specs.Flow.{IsFlow, groups_of, placed_at};
+ghost use Rattle.shortest_path.specs.Found.{HasSize, rank_of};
 
 use price_core::Limit;
-use residual_arcs::Group;
+use residual_arcs::FlowProblem;
+use residual_flow::Flow;
+use shortest_path::Search;
 use std::alloc::{AllocError, Global};
 
 /// Marks the old names of the groups that have points at settled names.
-pub fn mark_held(
-    marks: &mut [bool],
-    groups: &[Group],
-    prices: &[Option<i64>],
-    placed: &[u32],
-    ranks: &[usize],
-)
+pub(crate) fn mark_held(marks: &mut [bool], problem: &FlowProblem, flow: &Flow, search: &Search)
+    requires size { length marks.old ≡ names_of problem.now }
     requires none { (u : ℕ) → u < length marks.old → slice_index_or marks.old u false ≡ false }
-    requires groups { AreGroups (length marks.old) prices.now groups.now }
-    requires placed { length placed.now ≡ length groups.now * length marks.old }
-    requires ranks { length ranks.now ≡ length marks.old + 1 }
-    requires few { length marks.old ≤ 64 }
-    requires closed { (g v w : ℕ) → g < length groups.now → v < length marks.old → w < length marks.old → 0 < slice_index placed.now (g * length marks.old + v) → slice_index ranks.now v < length marks.old + 1
-        → is_there (price_at prices.now (length marks.old) (group_at groups.now g).variant w) ≡ true → slice_index ranks.now w < length marks.old + 1 }
-    ensures size { length marks.new ≡ length marks.old }
-    ensures held { (g v : ℕ) → g < length groups.now → v < length marks.old → 0 < slice_index placed.now (g * length marks.old + v) → slice_index ranks.now v < length marks.old + 1 → slice_index_or marks.new (group_at groups.now g).variant false ≡ true }
-    ensures closed { (u w : ℕ) → u < length marks.old → w < length marks.old → slice_index_or marks.new u false ≡ true → is_there (price_at prices.now (length marks.old) u w) ≡ true → slice_index ranks.now w < length marks.old + 1 }
+    requires lawful { IsFlowProblem problem.now }
+    requires flow { IsFlow problem.now flow.now }
+    requires stuck { IsStuckAbove problem.now flow.now search.now }
+    ensures { AreHeld problem.now flow.now search.now marks.new }
 {
-    let names = marks.len();
-    for group in 0..groups.len() {
-        let first = group * names;
-        if stands_inside(placed, first, names, ranks) {
-            marks[groups[group].variant] = true;
+    for group in 0..problem.groups.len() {
+        if stands_inside(problem, flow, search, group) {
+            marks[problem.groups[group].variant] = true;
         }
     }
 }
 
-/// Whether a group, whose numbers begin here, has points at a settled name.
-fn stands_inside(placed: &[u32], first: usize, names: usize, ranks: &[usize]) -> bool
-    requires row { first + names ≤ length placed.now }
-    requires ranks { length ranks.now ≡ names + 1 }
+/// Whether a group has points at a settled name.
+fn stands_inside(problem: &FlowProblem, flow: &Flow, search: &Search, group: usize) -> bool
+    requires flow { IsFlow problem.now flow.now }
+    requires few { names_of problem.now ≤ 64 }
+    requires search { HasSize (names_of problem.now + 1) search.now }
+    requires group { group < groups_of problem.now }
     ensures { MatchBool result
-        ((v : ℕ) × (v < names) × (0 < slice_index placed.now (first + v)) × (slice_index ranks.now v < names + 1))
-        ((v : ℕ) → v < names → 0 < slice_index placed.now (first + v) → slice_index ranks.now v < names + 1 → ⊥) }
+        ((v : ℕ) × (v < names_of problem.now) × (0 < placed_at problem.now flow.now group v) × (rank_of search.now v < names_of problem.now + 1))
+        ((v : ℕ) → v < names_of problem.now → 0 < placed_at problem.now flow.now group v → rank_of search.now v < names_of problem.now + 1 → ⊥) }
 {
+    let names = problem.high.len();
     for v in 0..names {
-        if placed[first + v] > 0 && ranks[v] <= names {
+        if flow.placed[group * names + v] > 0 && search.ranks[v] <= names {
             return true;
         }
     }
     false
 }
 
+/// Marks the names that are not settled.
+pub(crate) fn mark_unsettled(marks: &mut [bool], problem: &FlowProblem, search: &Search)
+    requires size { length marks.old ≡ names_of problem.now }
+    requires search { HasSize (names_of problem.now + 1) search.now }
+    ensures { AreUnsettled problem.now search.now marks.new }
+{
+    let names = problem.high.len();
+    for name in 0..names {
+        marks[name] = names < search.ranks[name];
+    }
+}
+
 /// The names of the limits that are marked.
-pub fn marked(alloc: Global, limits: &[Limit], marks: &[bool]) -> Result<Vec<String>, AllocError>
+pub(crate) fn marked(
+    alloc: Global,
+    limits: &[Limit],
+    marks: &[bool],
+) -> Result<Vec<String>, AllocError>
     requires { length marks.now ≡ length limits.now }
     ensures { IfOk result (λ v. names_view v.items ≡ chosen (keys_of (limits_view limits.now)) (λ v. slice_index_or marks.now v false)) }
 {

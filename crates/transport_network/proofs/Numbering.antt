@@ -33,7 +33,7 @@ sum_to-first : (n : ℕ) (f : ℕ → ℕ) → sum_to (suc n) f ≡ f 0 + sum_to
 sum_to-first zero f = omega arith
 sum_to-first (suc n) f = omega (arith, sum_to-first n f)
 
-sum_to-list : {X : Type 0} (f : X → ℕ) (xs : List X) (s : ℕ → ℕ) → ((d : X) (i : ℕ) → i < length xs → s i ≡ f (get_or xs i d)) → sum_to (length xs) s ≡ sum_by f xs
+pub sum_to-list : {X : Type 0} (f : X → ℕ) (xs : List X) (s : ℕ → ℕ) → ((d : X) (i : ℕ) → i < length xs → s i ≡ f (get_or xs i d)) → sum_to (length xs) s ≡ sum_by f xs
 sum_to-list f [] s same = refl
 sum_to-list f (x ∷ xs) s same =
     omega (arith, sum_to-first (length xs) s, same x 0 (omega arith), sum_to-list f xs (λ i. s (suc i)) (λ d i below. same d (suc i) (omega (arith, below))), sum_by-cons f x xs)

@@ -1,5 +1,5 @@
 -- Each turn adds what one group's points pay.
-use Rattle.std.proofs.Common.{◌≡◌, ℕ, ◌+◌, ◌*◌, ◌<◌, ◌≤◌, arith}
+use Rattle.std.proofs.Common.{◌+◌, arith}
 use Rattle.flow_answers.proofs.Bounded.{all_more, all_small}
 use Rattle.flow_answers.proofs.cost.cost_of.Goals as goal
 

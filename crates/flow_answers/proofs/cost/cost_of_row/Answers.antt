@@ -1,5 +1,5 @@
 -- Each turn adds what one name's points pay.
-use Rattle.std.proofs.Common.{◌≡◌, ℕ, ◌+◌, ◌*◌, ◌<◌, ◌≤◌, length, get_or, sym, ap, ◌∙◌, subst, arith}
+use Rattle.std.proofs.Common.{◌≡◌, ℕ, ◌+◌, ◌*◌, ◌≤◌, sym, ap, ◌∙◌, arith}
 use Rattle.std.proofs.Math.Nat.{mul-le-mul}
 use Rattle.residual_arcs.specs.Problem.{group_at, price_at}
 use Rattle.residual_arcs.proofs.Cells.{cell_in}

@@ -1,5 +1,5 @@
 -- A count of at most 1,000,000 times a price of at most 1,000,000.
-use Rattle.std.proofs.Common.{◌≡◌, ◌*◌, ◌≤◌, ℕ, Some, sym, ap, ◌∙◌, subst, arith}
+use Rattle.std.proofs.Common.{sym, ap, ◌∙◌, arith}
 use Rattle.flow_answers.specs.Costs.{unit_of}
 use Rattle.flow_answers.proofs.Bounded.{product_is, unit_small}
 use Rattle.flow_answers.proofs.cost.unit.Goals as goal

@@ -1,6 +1,6 @@
 -- The prices of a group's old variant are a row of the table.
-use Rattle.std.proofs.Common.{◌≡◌, ℕ, ◌+◌, ◌*◌, ◌<◌, ℤ, pos, None, List, length, get_or, to_z, of_z, sym, ap, ◌∙◌, subst, arith}
-use Rattle.std.proofs.lemmas.Int.{ints, to_z-of_z}
+use Rattle.std.proofs.Common.{◌≡◌, ℕ, ◌+◌, ◌*◌, ◌<◌, pos, None, length, to_z, of_z, sym, ◌∙◌, subst, arith}
+use Rattle.std.proofs.lemmas.Int.{to_z-of_z}
 use Rattle.std.specs.Int.{w64}
 use Rattle.residual_arcs.specs.Problem.{group_at}
 use Rattle.residual_arcs.proofs.Cells.{cell_in}
