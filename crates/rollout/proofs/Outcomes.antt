@@ -8,7 +8,7 @@ use Rattle.rollout.specs.declared.fault.RolloutFault.{RolloutFault}
 use Rattle.rollout.specs.declared.fault.RolloutFault.TheVariants as fault
 use Rattle.rollout.specs.declared.verify_fault.VerifyFault.TheVariants.{Request, Check}
 
-only_want : (e : RolloutFault) → (e ≢ fault.WantOfMemory → ⊥) → e ≡ fault.WantOfMemory
+pub only_want : (e : RolloutFault) → (e ≢ fault.WantOfMemory → ⊥) → e ≡ fault.WantOfMemory
 only_want fault.WantOfMemory h = refl
 only_want (fault.Request e) h = absurd (h (λ q. cc))
 only_want fault.UnknownFlag h = absurd (h (λ q. cc))
@@ -17,7 +17,6 @@ only_want fault.Computed h = absurd (h (λ q. cc))
 only_want fault.UnknownVariant h = absurd (h (λ q. cc))
 only_want fault.TotalsSum h = absurd (h (λ q. cc))
 only_want fault.TotalTooLarge h = absurd (h (λ q. cc))
-only_want fault.Undecided h = absurd (h (λ q. cc))
 only_want fault.NoWeight h = absurd (h (λ q. cc))
 only_want fault.TooLarge h = absurd (h (λ q. cc))
 

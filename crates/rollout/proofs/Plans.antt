@@ -29,10 +29,11 @@ use Rattle.transport_plan.specs.Solved.{IsPlan as IsSolved}
 use Rattle.plan_text.specs.Answer.{emit, none_exists, IsOrdered, planned_view}
 use Rattle.rollout.specs.Lawful.{Problem, IsLawful}
 use Rattle.plan_text.specs.PlanFile.{rises}
-use Rattle.rollout.specs.Planned.{IsUnderLast, IsPlan, IsUndecided, IsPlanned}
+use Rattle.rollout.specs.Planned.{IsUnderLast, IsPlan, IsPlanned}
 use Rattle.rollout.specs.declared.fault.RolloutFault.{RolloutFault}
 use Rattle.rollout.specs.declared.fault.RolloutFault.TheVariants.{WantOfMemory}
 use Rattle.plan_text.specs.declared.planned.Planned.{Planned}
+use Rattle.rollout.proofs.Outcomes.{only_want}
 
 -- ---- plans
 
@@ -83,13 +84,10 @@ emit_ordered p prices rule c lawful canonical certified =
 
 -- ---- what is told
 
-only_want : (e : RolloutFault) → (e ≢ WantOfMemory → ⊥) → IsUndecided e
-only_want e h = λ want. absurd (h want)
-
 pub planned_refused : (r : Result Problem RolloutFault) (e : RolloutFault) → (e ≢ WantOfMemory → r ≡ Err e) → IsPlanned r (Err e)
 planned_refused (Err f) e h = λ want. let same = h want in cc
 planned_refused (Ok p) e h = only_want e (λ want. let same = h want in cc)
 
-pub planned_as : (r : Result Problem RolloutFault) (p : Problem) (answer : Result Planned RolloutFault) → r ≡ Ok p → MatchResult answer (λ a. IsPlan p (planned_view a)) IsUndecided → IsPlanned r answer
+pub planned_as : (r : Result Problem RolloutFault) (p : Problem) (answer : Result Planned RolloutFault) → r ≡ Ok p → MatchResult answer (λ a. IsPlan p (planned_view a)) (λ e. e ≡ WantOfMemory) → IsPlanned r answer
 planned_as r p (Ok a) is h = rw is h
 planned_as r p (Err e) is h = rw is h

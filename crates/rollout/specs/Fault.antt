@@ -13,7 +13,7 @@ use Rattle.transport_core.specs.declared.fault.CheckFault.TheVariants as check
 use Rattle.transport_plan.specs.declared.fault.PlanFault.{PlanFault}
 use Rattle.transport_plan.specs.declared.fault.PlanFault.TheVariants as plan
 use Rattle.rollout.specs.declared.fault.RolloutFault.{RolloutFault}
-use Rattle.rollout.specs.declared.fault.RolloutFault.TheVariants.{WantOfMemory, Request, UnknownFlag, NoSite, Computed, UnknownVariant, TotalsSum, TotalTooLarge, Undecided, NoWeight, TooLarge}
+use Rattle.rollout.specs.declared.fault.RolloutFault.TheVariants.{WantOfMemory, Request, UnknownFlag, NoSite, Computed, UnknownVariant, TotalsSum, TotalTooLarge, NoWeight, TooLarge}
 
 -- want of memory is 0
 abbrev pub number_of : RolloutFault → ℕ
@@ -25,7 +25,6 @@ number_of Computed = 4
 number_of UnknownVariant = 5
 number_of TotalsSum = 6
 number_of TotalTooLarge = 7
-number_of Undecided = 8
 number_of NoWeight = 9
 number_of TooLarge = 10
 
@@ -39,7 +38,6 @@ name_of Computed = codes "Computed"
 name_of UnknownVariant = codes "UnknownVariant"
 name_of TotalsSum = codes "TotalsSum"
 name_of TotalTooLarge = codes "TotalTooLarge"
-name_of Undecided = codes "Undecided"
 name_of NoWeight = codes "NoWeight"
 name_of TooLarge = codes "TooLarge"
 
@@ -78,7 +76,6 @@ of_document document.TooLarge = TooLarge
 -- of what is told of an instance
 abbrev pub of_plan : PlanFault → RolloutFault
 of_plan plan.WantOfMemory = WantOfMemory
-of_plan plan.Undecided = Undecided
 
 -- of what is told of limits that an instance cannot have
 abbrev pub of_check : CheckFault → RolloutFault

@@ -6,7 +6,7 @@ use Rattle.plan_text.specs.Answer.{Answer, emit, none_exists, planned_view}
 use Rattle.rollout.specs.Lawful.{Problem, IsLawful}
 use Rattle.rollout.specs.Verified.{Proves, Shows}
 use Rattle.rollout.specs.declared.fault.RolloutFault.{RolloutFault}
-use Rattle.rollout.specs.declared.fault.RolloutFault.TheVariants.{WantOfMemory, Undecided}
+use Rattle.rollout.specs.declared.fault.RolloutFault.TheVariants.{WantOfMemory}
 use Rattle.plan_text.specs.declared.planned.Planned.{Planned}
 
 -- a set is told as under its low limits only where no set is over its high ones
@@ -25,13 +25,9 @@ pub record IsPlan (p : Problem) (answer : Answer) : Type 0 where
   pub shows : Shows p answer
   pub under_last : IsUnderLast p answer
 
--- nothing was found that passes the checks, unless memory ran out
-abbrev pub IsUndecided : RolloutFault → Type 0
-IsUndecided e = e ≢ WantOfMemory → e ≡ Undecided
-
--- What is planned: the refusal of the request where it is not lawful; else an answer, or Undecided. Want of memory may come of either.
+-- What is planned: the refusal of the request where it is not lawful, and else an answer. Want of memory may come of either.
 abbrev pub IsPlanned : Result Problem RolloutFault → Result Planned RolloutFault → Type 0
 IsPlanned (Err f) (Ok planned) = ⊥
 IsPlanned (Err f) (Err e) = e ≢ WantOfMemory → e ≡ f
 IsPlanned (Ok p) (Ok planned) = IsPlan p (planned_view planned)
-IsPlanned (Ok p) (Err e) = IsUndecided e
+IsPlanned (Ok p) (Err e) = e ≡ WantOfMemory

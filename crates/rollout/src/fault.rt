@@ -11,7 +11,7 @@ use thiserror::Error;
 use transport_core::CheckFault;
 use transport_plan::PlanFault;
 
-/// Why a rollout is refused. A request is tested for 1, 2, 3, 4, 9, 5, 6 and 7 in that order.
+/// Why a rollout is refused. A request is tested for 1, 2, 3, 4, 9, 5, 6 and 7 in that order. No refusal has the number 8.
 #[derive(Clone, Copy, Debug, PartialEq, Eq, Error)]
 pub enum RolloutFault {
     /// Memory ran out.
@@ -38,9 +38,6 @@ pub enum RolloutFault {
     /// That total is above 1,000,000.
     #[error("the rule's total is too large to be planned on")]
     TotalTooLarge,
-    /// No answer was found that passes the checks.
-    #[error("undecided")]
-    Undecided,
     /// The weights of the site sum to 0.
     #[error("the weights sum to 0")]
     NoWeight,
@@ -63,7 +60,6 @@ impl RolloutFault {
             RolloutFault::UnknownVariant => 5,
             RolloutFault::TotalsSum => 6,
             RolloutFault::TotalTooLarge => 7,
-            RolloutFault::Undecided => 8,
             RolloutFault::NoWeight => 9,
             RolloutFault::TooLarge => 10,
         }
@@ -82,7 +78,6 @@ impl RolloutFault {
             RolloutFault::UnknownVariant => "UnknownVariant",
             RolloutFault::TotalsSum => "TotalsSum",
             RolloutFault::TotalTooLarge => "TotalTooLarge",
-            RolloutFault::Undecided => "Undecided",
             RolloutFault::NoWeight => "NoWeight",
             RolloutFault::TooLarge => "TooLarge",
         }
@@ -159,7 +154,6 @@ impl From<PlanFault> for RolloutFault {
     fn from(fault: PlanFault) -> RolloutFault {
         match fault {
             PlanFault::WantOfMemory => RolloutFault::WantOfMemory,
-            PlanFault::Undecided => RolloutFault::Undecided,
         }
     }
 }

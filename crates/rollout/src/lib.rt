@@ -11,8 +11,9 @@
 //!   what chooses alike under both rules resolves as before (`Change`).
 //! - [`plan`] and [`plan_refined`] answer a lawful request with a canonical rule that costs the recorded inputs the least of
 //!   all that fit, and a certificate that proves it, or with a set of names which shows that none fits; a set under its low
-//!   limits only where no set is over its high ones (`Planned`). What is answered can be printed and read again. Where the
-//!   request is not lawful, they refuse as [`verify`] does. What they answer is told as valid ([`plans_are_valid`]). They answer `Undecided` only where `solve` does.
+//!   limits only where no set is over its high ones (`Planned`). A lawful request is always decided: memory that runs out is
+//!   all that can hinder it. What is answered can be printed and read again, and is told as valid ([`plans_are_valid`]). Where
+//!   the request is not lawful, they refuse as [`verify`] does.
 #![tactic(auto)]
 
 mod application;

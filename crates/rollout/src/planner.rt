@@ -12,9 +12,10 @@ ghost use Rattle.transport_core.specs.Instance.{AreListed, MissTotal, max_planne
 ghost use Rattle.plan_text.specs.Answer.{IsOrdered, planned_view};
 ghost use Rattle.rollout.specs.Lawful.{IsRefining, problem_of, problem_view};
 ghost use Rattle.plan_text.specs.PlanFile.{has_whole_numbers, IsWhole};
-ghost use Rattle.rollout.specs.Planned.{IsPlan, IsPlanned, IsUndecided};
+ghost use Rattle.rollout.specs.Planned.{IsPlan, IsPlanned};
 ghost use Rattle.transport_plan.specs.Solved.{IfNone, IfPlan, IsCut, IsNeverOver};
 ghost use Rattle.transport_plan.specs.Solved.{IsPlan as IsSolved};
+ghost use Rattle.rollout.specs.declared.fault.RolloutFault.TheVariants.{WantOfMemory};
 ghost use Rattle.rollout.specs.declared.refining.Refining.TheVariants.{Times};
 
 use crate::fault::RolloutFault;
@@ -27,14 +28,14 @@ use plan_text::Planned;
 use std::alloc::{AllocError, Global};
 use std::thread::Threads;
 use transport_core::{CutKind, Instance};
-use transport_plan::{Solved, solve};
+use transport_plan::{Solved, solve_uncounted};
 
 /// The rule that meets a request and costs the recorded inputs the least, with its certificate, or a set of names which
 /// shows that no rule does: a set over its high limits where there is one, and else one under its low limits. Beside the
 /// search it takes `O(log n)` steps for each point and input, at n entries and inputs.
 ///
 /// It refuses an unlawful request, in this order, with `Request`, `UnknownFlag`, `NoSite`, `Computed`, `NoWeight`,
-/// `UnknownVariant`, `TotalsSum` and `TotalTooLarge`, and then with `Undecided` where `solve` does.
+/// `UnknownVariant`, `TotalsSum` and `TotalTooLarge`. A lawful one is always decided, unless memory runs out.
 pub fn plan(
     _rt: &(impl Threads + Sync),
     alloc: Global,
@@ -90,7 +91,7 @@ fn plan_on(alloc: Global, problem: &Problem) -> Result<Planned, RolloutFault>
     requires few { length problem.now.totals ≤ max_names }
     requires listed { AreListed problem.now.old problem.now.totals }
     requires met { ¬ (MissTotal problem.now.old problem.now.totals) }
-    ensures exact { MatchResult result (λ a. IsPlan (problem_view problem.now) (planned_view a)) IsUndecided }
+    ensures exact { MatchResult result (λ a. IsPlan (problem_view problem.now) (planned_view a)) (λ e. e ≡ WantOfMemory) }
     ensures ordered { IfOk result (λ a. IsOrdered (planned_view a)) }
     ensures whole { IfOk result (λ a. IsWhole (planned_view a)) }
 {
@@ -102,7 +103,7 @@ fn plan_on(alloc: Global, problem: &Problem) -> Result<Planned, RolloutFault>
         ..
     } = problem;
     let instance = Instance::make(alloc, old, totals, prices, exposure)?;
-    let solved = solve(alloc, &instance)?;
+    let solved = solve_uncounted(alloc, &instance)?;
     Ok(answer(alloc, problem, &instance, solved)?)
 }
 

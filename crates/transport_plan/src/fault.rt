@@ -5,24 +5,20 @@ ghost use Rattle.transport_plan.specs.declared.fault.PlanFault.TheVariants.{Want
 use std::alloc::{AllocError, AllocFailed};
 use thiserror::Error;
 
-/// Why an instance is left without an answer.
+/// Why an instance is left without an answer: only for want of memory.
 #[derive(Clone, Copy, Debug, PartialEq, Eq, Error)]
 pub enum PlanFault {
     #[error("out of memory")]
     WantOfMemory,
-    /// The answer that was found did not pass the tests of the instance. That never shows, but that is not proved yet.
-    #[error("the answer did not pass its check")]
-    Undecided,
 }
 
 impl PlanFault {
-    /// The number that a refusal is printed with, from 0 for want of memory.
+    /// The number that a refusal is printed with: 0.
     pub fn number(&self) -> u32
         ensures { result ≡ number_of self.now }
     {
         match self {
             PlanFault::WantOfMemory => 0,
-            PlanFault::Undecided => 1,
         }
     }
 
@@ -32,7 +28,6 @@ impl PlanFault {
     {
         match self {
             PlanFault::WantOfMemory => "WantOfMemory",
-            PlanFault::Undecided => "Undecided",
         }
     }
 }

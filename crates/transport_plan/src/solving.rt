@@ -1,18 +1,33 @@
-ghost use Rattle.std.specs.Prelude.{◌≡◌, IfOk, true};
+ghost use Rattle.std.specs.Prelude.{◌≡◌, ◌+◌, ◌*◌, ◌≤◌, IfOk, IfErr, length, true};
 ghost use Rattle.std.specs.Cmp.Lexicographic.{slice_cmp};
 ghost use Rattle.std.specs.List.Sorted.{IsStrictlySortedBy};
 ghost use Rattle.std.specs.Ordering.{nat_cmp};
 ghost use Rattle.bucket_core.specs.Rule.{names_view};
+ghost use Rattle.flow_passes.specs.Cheapest.{IsCheapest};
+ghost use Rattle.flow_passes.specs.Meeting.{IsStuckBelow};
+ghost use Rattle.flow_passes.specs.Placing.{IsStuckAbove};
 ghost use Rattle.plan_text.specs.PlanFile.{has_whole_numbers};
+ghost use Rattle.residual_arcs.specs.Problem.{IsFlowProblem};
+ghost use Rattle.residual_flow.specs.Flow.{IsFlow};
 ghost use Rattle.transport_core.specs.Assignment.{IsProved};
 ghost use Rattle.transport_core.specs.Certificate.{certificate_view};
+ghost use Rattle.transport_core.specs.Rows.{whole_amount};
+ghost use Rattle.transport_network.specs.Numbered.{IsNumbered};
 ghost use Rattle.transport_plan.specs.Solved.{IfPlan, IfNone, IsPlan, IsCut, IsNeverOver};
 
-use crate::answer::{Answer, find_answer};
 use crate::fault::PlanFault;
-use plan_text::{has_whole_numbers, names_rise};
-use std::alloc::Global;
+use flow_answers::certificate;
+use flow_cuts::{names_above, names_below};
+use flow_passes::{Outcome, Passed, cheapest_flow};
+use residual_arcs::FlowProblem;
+use residual_flow::Flow;
+use search_effort::Effort;
+use shortest_path::Search;
+use std::alloc::{AllocError, Global};
+use std::marker::Brand;
+use std::sync::ledger::{Blank, Ledger};
 use transport_core::{Assignment, Certificate, Cut, CutKind, Instance};
+use transport_network::flow_problem;
 
 /// What the planner answers of an instance.
 #[derive(Debug, Drop)]
@@ -24,87 +39,159 @@ pub enum Solved {
 }
 
 /// The cheapest assignment of an instance's points with its certificate, or a cut where no rule fits: `Over` where the
-/// points cannot be placed within the high limits, and else `Under`. What is answered has passed the tests of the instance;
-/// it refuses with `Undecided` where it did not. A search takes `O(k^2)` steps at k names, and there are at most as many
-/// augmentations as points in each of the two passes.
-pub fn solve(alloc: Global, instance: &Instance) -> Result<Solved, PlanFault>
+/// points cannot be placed within the high limits, and else `Under`.
+///
+/// Each augmentation and each settling of a name in a search is counted. At W points there are at most 2 W augmentations, and
+/// at most (2 W + 2) (groups + names) settlings. A search takes `O(k^2)` steps at k names.
+pub fn solve<L: Ledger>(
+    alloc: Global,
+    instance: &Instance<'_>,
+    effort: &mut Effort<L>,
+) -> Result<Solved, PlanFault>
     ensures proved { IfOk result (λ s. IfPlan s (λ assignment certificate. IsProved instance.now assignment.numbers.items (certificate_view certificate))) }
     ensures least { IfOk result (λ s. IfPlan s (IsPlan instance.now)) }
     ensures deficient { IfOk result (λ s. IfNone s (IsCut instance.now)) }
     ensures under { IfOk result (λ s. IfNone s (λ cut. cut.kind ≡ CutKind.Under → IsNeverOver instance.now)) }
     ensures whole { IfOk result (λ s. IfPlan s (λ _ certificate. has_whole_numbers (certificate_view certificate) ≡ true)) }
     ensures ordered { IfOk result (λ s. IfNone s (λ cut. IsStrictlySortedBy (slice_cmp nat_cmp) (names_view cut.names.items))) }
+    ensures decides { IfErr result (λ fault. fault ≡ PlanFault.WantOfMemory) }
+    ensures augmentations { effort.new.augmentations ≤ effort.old.augmentations + 2 * whole_amount instance.now.groups }
+    ensures settlings { effort.new.settlings ≤ effort.old.settlings + (2 * whole_amount instance.now.groups + 2) * (length instance.now.groups + length instance.now.limits) }
 {
-    match find_answer(alloc, instance)? {
-        Answer::Plan(assignment, certificate) => planned(instance, assignment, certificate),
-        Answer::Over(names) => cut_over(instance, names),
-        Answer::Under(assignment, names) => cut_under(instance, &assignment, names),
-    }
+    let problem = flow_problem(alloc, instance)?;
+    let Passed {
+        outcome,
+        flow,
+        search,
+    } = find_flow(alloc, instance, &problem, effort)?;
+    Ok(match outcome {
+        Outcome::Cheapest => planned(alloc, instance, &problem, flow, &search)?,
+        Outcome::Over => cut_over(alloc, instance, &problem, &flow, &search)?,
+        Outcome::Under => cut_under(alloc, instance, &problem, &flow, &search)?,
+    })
 }
 
-/// A plan, where the instance proves it.
-fn planned(
-    instance: &Instance,
-    assignment: Assignment,
-    certificate: Certificate,
+/// As [`solve`], for a caller that counts nothing.
+pub fn solve_uncounted(alloc: Global, instance: &Instance<'_>) -> Result<Solved, PlanFault>
+    ensures proved { IfOk result (λ s. IfPlan s (λ assignment certificate. IsProved instance.now assignment.numbers.items (certificate_view certificate))) }
+    ensures least { IfOk result (λ s. IfPlan s (IsPlan instance.now)) }
+    ensures deficient { IfOk result (λ s. IfNone s (IsCut instance.now)) }
+    ensures under { IfOk result (λ s. IfNone s (λ cut. cut.kind ≡ CutKind.Under → IsNeverOver instance.now)) }
+    ensures whole { IfOk result (λ s. IfPlan s (λ _ certificate. has_whole_numbers (certificate_view certificate) ≡ true)) }
+    ensures ordered { IfOk result (λ s. IfNone s (λ cut. IsStrictlySortedBy (slice_cmp nat_cmp) (names_view cut.names.items))) }
+    ensures decides { IfErr result (λ fault. fault ≡ PlanFault.WantOfMemory) }
+{
+    solve_on::<Brand>(alloc, instance, Blank::new(2))
+}
+
+/// As [`solve`], over a counter of its own.
+fn solve_on<L: Ledger>(
+    alloc: Global,
+    instance: &Instance<'_>,
+    blank: Blank,
 ) -> Result<Solved, PlanFault>
+    requires name { blank.name ≡ L.name }
+    requires parts { blank.parts ≡ L.parts }
+    requires two { blank.parts ≡ 2 }
+    ensures proved { IfOk result (λ s. IfPlan s (λ assignment certificate. IsProved instance.now assignment.numbers.items (certificate_view certificate))) }
+    ensures least { IfOk result (λ s. IfPlan s (IsPlan instance.now)) }
+    ensures deficient { IfOk result (λ s. IfNone s (IsCut instance.now)) }
+    ensures under { IfOk result (λ s. IfNone s (λ cut. cut.kind ≡ CutKind.Under → IsNeverOver instance.now)) }
+    ensures whole { IfOk result (λ s. IfPlan s (λ _ certificate. has_whole_numbers (certificate_view certificate) ≡ true)) }
+    ensures ordered { IfOk result (λ s. IfNone s (λ cut. IsStrictlySortedBy (slice_cmp nat_cmp) (names_view cut.names.items))) }
+    ensures decides { IfErr result (λ fault. fault ≡ PlanFault.WantOfMemory) }
+{
+    let mut effort = Effort::<L>::none(blank);
+    solve(alloc, instance, &mut effort)
+}
+
+/// The cheapest flow of an instance's problem, and what it takes by the instance's points and names.
+fn find_flow<L: Ledger>(
+    alloc: Global,
+    instance: &Instance<'_>,
+    problem: &FlowProblem,
+    effort: &mut Effort<L>,
+) -> Result<Passed, AllocError>
+    requires numbered { IsNumbered instance.now problem.now }
+    requires lawful { IsFlowProblem problem.now }
+    ensures flow { IfOk result (λ r. IsFlow problem.now r.flow) }
+    ensures cheapest { IfOk result (λ r. r.outcome ≡ Outcome.Cheapest → IsCheapest problem.now r.flow r.search) }
+    ensures over { IfOk result (λ r. r.outcome ≡ Outcome.Over → IsStuckAbove problem.now r.flow r.search) }
+    ensures under { IfOk result (λ r. r.outcome ≡ Outcome.Under → IsStuckBelow problem.now r.flow r.search) }
+    ensures augmentations { effort.new.augmentations ≤ effort.old.augmentations + 2 * whole_amount instance.now.groups }
+    ensures settlings { effort.new.settlings ≤ effort.old.settlings + (2 * whole_amount instance.now.groups + 2) * (length instance.now.groups + length instance.now.limits) }
+{
+    // there is a group, as these say
+    let _groups = instance.groups();
+    cheapest_flow(alloc, problem, effort)
+}
+
+/// The plan of a cheapest flow.
+fn planned(
+    alloc: Global,
+    instance: &Instance<'_>,
+    problem: &FlowProblem,
+    flow: Flow,
+    search: &Search,
+) -> Result<Solved, AllocError>
+    requires numbered { IsNumbered instance.now problem.now }
+    requires lawful { IsFlowProblem problem.now }
+    requires flow { IsFlow problem.now flow }
+    requires cheapest { IsCheapest problem.now flow search.now }
     ensures proved { IfOk result (λ s. IfPlan s (λ assignment certificate. IsProved instance.now assignment.numbers.items (certificate_view certificate))) }
     ensures least { IfOk result (λ s. IfPlan s (IsPlan instance.now)) }
     ensures whole { IfOk result (λ s. IfPlan s (λ _ certificate. has_whole_numbers (certificate_view certificate) ≡ true)) }
     ensures plan { IfOk result (λ s. IfNone s (λ _. ⊥)) }
 {
-    if !has_whole_numbers(&certificate) {
-        return Err(PlanFault::Undecided);
-    }
-    if instance.proves(&assignment, &certificate) {
-        Ok(Solved::Plan(assignment, certificate))
-    } else {
-        Err(PlanFault::Undecided)
-    }
+    // what is proved of each rule rests on what these say of the points and of the limits
+    let _groups = instance.groups();
+    let certificate = certificate(alloc, instance, problem, &flow, search)?;
+    let numbers = flow.placed;
+    Ok(Solved::Plan(Assignment { numbers }, certificate))
 }
 
-/// A cut over the high limits, where it is one.
-fn cut_over(instance: &Instance, names: Vec<String>) -> Result<Solved, PlanFault>
+/// The cut over the high limits that the search of the first pass left.
+fn cut_over(
+    alloc: Global,
+    instance: &Instance<'_>,
+    problem: &FlowProblem,
+    flow: &Flow,
+    search: &Search,
+) -> Result<Solved, AllocError>
+    requires numbered { IsNumbered instance.now problem.now }
+    requires lawful { IsFlowProblem problem.now }
+    requires flow { IsFlow problem.now flow.now }
+    requires stuck { IsStuckAbove problem.now flow.now search.now }
     ensures deficient { IfOk result (λ s. IfNone s (IsCut instance.now)) }
     ensures over { IfOk result (λ s. IfNone s (λ cut. cut.kind ≡ CutKind.Over)) }
     ensures ordered { IfOk result (λ s. IfNone s (λ cut. IsStrictlySortedBy (slice_cmp nat_cmp) (names_view cut.names.items))) }
     ensures none { IfOk result (λ s. IfPlan s (λ _ _. ⊥)) }
 {
-    let cut = Cut {
+    Ok(Solved::None(Cut {
         kind: CutKind::Over,
-        names,
-    };
-    if !names_rise(cut.names.as_slice()) {
-        return Err(PlanFault::Undecided);
-    }
-    if instance.is_deficient(&cut) {
-        Ok(Solved::None(cut))
-    } else {
-        Err(PlanFault::Undecided)
-    }
+        names: names_above(alloc, instance, problem, flow, search)?,
+    }))
 }
 
-/// A cut under the low limits, where it is one and the assignment places all points within the high limits.
+/// The cut under the low limits that the search of the second pass left. All points are within the high limits by then.
 fn cut_under(
-    instance: &Instance,
-    assignment: &Assignment,
-    names: Vec<String>,
-) -> Result<Solved, PlanFault>
+    alloc: Global,
+    instance: &Instance<'_>,
+    problem: &FlowProblem,
+    flow: &Flow,
+    search: &Search,
+) -> Result<Solved, AllocError>
+    requires numbered { IsNumbered instance.now problem.now }
+    requires lawful { IsFlowProblem problem.now }
+    requires flow { IsFlow problem.now flow.now }
+    requires stuck { IsStuckBelow problem.now flow.now search.now }
     ensures deficient { IfOk result (λ s. IfNone s (IsCut instance.now)) }
-    ensures under { IfOk result (λ s. IfNone s (λ cut. cut.kind ≡ CutKind.Under → IsNeverOver instance.now)) }
+    ensures never { IfOk result (λ s. IfNone s (λ _. IsNeverOver instance.now)) }
     ensures ordered { IfOk result (λ s. IfNone s (λ cut. IsStrictlySortedBy (slice_cmp nat_cmp) (names_view cut.names.items))) }
     ensures none { IfOk result (λ s. IfPlan s (λ _ _. ⊥)) }
 {
-    let cut = Cut {
+    Ok(Solved::None(Cut {
         kind: CutKind::Under,
-        names,
-    };
-    if !names_rise(cut.names.as_slice()) {
-        return Err(PlanFault::Undecided);
-    }
-    if instance.places(assignment) && instance.is_deficient(&cut) {
-        Ok(Solved::None(cut))
-    } else {
-        Err(PlanFault::Undecided)
-    }
+        names: names_below(alloc, instance, problem, flow, search)?,
+    }))
 }

@@ -1,7 +1,7 @@
-use Rattle.std.proofs.Common.{◌≡◌, refl}
+-- The certificate proves the cost for each rule of lawful groups.
+use Rattle.transport_core.specs.Certificate.{certificate_view}
+use Rattle.transport_plan.proofs.Plans.{plan_of}
 use Rattle.transport_plan.proofs.solving.planned.Goals as goal
 
--- the test says so for every old rule with these groups and every new rule with the assignment
-pub returns-then-proves-clause-least : goal.returns-then-proves-clause-least
-returns-then-proves-clause-least c = λ old new inputs sizes has.
-    (c.if-proves.ensures.certified refl old new inputs sizes has, c.if-proves.ensures.least refl old new inputs sizes has)
+pub returns-clause-least : goal.returns-clause-least
+returns-clause-least c = plan_of c.args.instance.now c.args.flow.placed.items (certificate_view c.in_ok-certificate.certificate) c.groups-groups.ensures.lawful c.in_ok-certificate.ensures.proved
