@@ -1,3 +1,4 @@
 pub mod Fronts
 pub mod Adding
 pub mod Numbers
+pub mod Crossings

@@ -7,3 +7,7 @@ mod frame_tests;
 mod memory;
 #[cfg(test)]
 mod read_tests;
+#[cfg(test)]
+mod seat_tests;
+#[cfg(test)]
+mod serve_tests;

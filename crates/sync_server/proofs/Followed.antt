@@ -18,6 +18,7 @@ use Rattle.sync_frames.proofs.Feeds.{opening, is_quiet}
 use Rattle.sync_server.specs.End.{of_fault}
 use Rattle.sync_server.specs.Ends.{AllOf, FirstOf, Ends}
 use Rattle.sync_server.specs.Follows.{Stands, LeadsTo, AtEnd}
+use Rattle.sync_server.specs.Handed.{Took, Handed}
 use Rattle.sync_server.specs.declared.end.ReadEnd.{ReadEnd}
 use Rattle.sync_server.specs.declared.end.ReadEnd.TheVariants as end
 use Rattle.sync_server.specs.declared.follow.Step.{Step}
@@ -82,6 +83,31 @@ ends_behind old mid new x piece ss more left fault gives works refuses (fed, all
 pub no_items : (xs : List Snapshot) → snapshots_view xs ≡ [] → xs ≡ []
 no_items [] e = refl
 no_items (x ∷ xs) e = absurd (cc (e))
+
+-- ---- the sink
+
+module _ {X : Type 0} (took refused : X → Numbered → X → Type 0) where
+  -- these, and behind them those
+  pub took_both : (x y z : X) (ss ts : List Numbered) → Took took x ss y → Took took y ts z → Took took x (ss ++ ts) z
+  took_both x y z [] ts h next = subst (λ (w : X). Took took w ts z) h next
+  took_both x y z (s ∷ ss) ts (w, t, h) next = (w, t, took_both w y z ss ts h next)
+
+  pub took_more : (x y z : X) (ss : List Numbered) (s : Numbered) → Took took x ss y → took y s z → Took took x (ss ++ s ∷ []) z
+  took_more x y z ss s h t = took_both x y z ss (s ∷ []) h (z, t, refl)
+
+  pub handed_behind : (x y z : X) (ss ts : List Numbered) (full : Bool) → Took took x ss y → Handed took refused y ts full z → Handed took refused x (ss ++ ts) full z
+  handed_behind x y z ss ts false h next = took_both x y z ss ts h next
+  handed_behind x y z ss ts true h (taken, last, w, is, t, r) =
+      (ss ++ taken, last, w, ap (λ (l : List Numbered). ss ++ l) is ∙ sym (append_assoc ss taken (last ∷ [])), took_both x y w ss taken h t, r)
+
+-- what is taken into a list
+pub collected : {X : Type 0} (view : X → List Numbered) (x y : X) (ss : List Numbered) → Took (λ old s new. view new ≡ view old ++ s ∷ []) x ss y → view y ≡ view x ++ ss
+collected view x y [] h = ap view h ∙ sym (append-nil (view x))
+collected view x y (s ∷ ss) (z, t, h) = collected view z y ss h ∙ ap (λ (l : List Numbered). l ++ ss) t ∙ append_assoc (view x) (s ∷ []) ss
+
+-- less of what is first is first
+pub first_less : (stream : List ℕ) (taken more : List Numbered) → FirstOf stream (taken ++ more) → FirstOf stream taken
+first_less stream taken more (front, behind, others, whole, all) = (front, behind, more ++ others, whole, subst (AllOf front) (append_assoc taken more others) all)
 
 -- ---- the input
 

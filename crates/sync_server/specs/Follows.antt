@@ -1,11 +1,12 @@
 -- What a sink was handed of a stream.
-use Rattle.std.specs.Prelude.{◌≡◌, ℕ, List, ◌++◌, Option, Some, None, Bool, false}
+use Rattle.std.specs.Prelude.{◌≡◌, ℕ, List, ◌++◌, Option, Some, None, Bool, true, false, is_none}
 use Rattle.std.specs.Io.KnownBytes.{Consumes}
 use Rattle.snap_core.specs.Hub.{Numbered}
 use Rattle.sync_frames.specs.Feed.{HasBeenFed, has_failed}
 use Rattle.sync_frames.specs.Frames.{ShowsNothing, IsDone}
 use Rattle.sync_frames.specs.declared.feed.Feed.{Feed}
 use Rattle.sync_server.specs.Ends.{AllOf, FirstOf, Ends}
+use Rattle.sync_server.specs.Handed.{Handed}
 use Rattle.sync_server.specs.declared.end.ReadEnd.{ReadEnd}
 use Rattle.sync_server.specs.declared.end.ReadEnd.TheVariants.{Ended, EndedInside}
 use Rattle.sync_server.specs.declared.follow.Step.{Step}
@@ -16,10 +17,10 @@ abbrev pub FollowedTo : List ℕ → List Numbered → Option (List ℕ) → Boo
 FollowedTo stream ss left broken (Some end) = Ends stream ss left broken end
 FollowedTo stream ss left broken None = FirstOf stream ss
 
--- The sink was handed the snapshots of what was taken from the input.
-abbrev pub Follows : Option (List ℕ) → Option (List ℕ) → Bool → List Numbered → List Numbered → Option ReadEnd → Type 0
-Follows before left broken old new result =
-    (stream : List ℕ) × (ss : List Numbered) × Consumes before left stream × (new ≡ old ++ ss) × FollowedTo stream ss left broken result
+-- The sink, by what it says of taking and refusing one, was handed the snapshots of what was taken from the input.
+abbrev pub Follows : {X : Type 0} → (X → Numbered → X → Type 0) → (X → Numbered → X → Type 0) → Option (List ℕ) → Option (List ℕ) → Bool → X → X → Option ReadEnd → Type 0
+Follows took refused before left broken old new result =
+    (stream : List ℕ) × (ss : List Numbered) × Consumes before left stream × Handed took refused old ss (is_none result) new × FollowedTo stream ss left broken result
 
 -- what a feed that was given the stream goes on with, and all that is whole there was handed on
 abbrev pub Stands : Feed → List ℕ → List Numbered → Type 0
@@ -31,10 +32,15 @@ LeadsTo feed stream ss left broken GoesOn = Stands feed stream ss × (has_failed
 LeadsTo feed stream ss left broken (StepEnds end) = Ends stream ss left broken end
 LeadsTo feed stream ss left broken Full = FirstOf stream ss
 
+-- the sink did not take a snapshot
+abbrev pub is_full : Step → Bool
+is_full Full = true
+is_full step = false
+
 -- A step takes a piece of the input, and hands its snapshots on.
-abbrev pub Steps : Option (List ℕ) → Option (List ℕ) → Bool → Feed → Feed → List Numbered → List Numbered → Step → Type 0
-Steps before left broken feed feed' old new step =
-    (piece : List ℕ) × (more : List Numbered) × Consumes before left piece × (new ≡ old ++ more)
+abbrev pub Steps : {X : Type 0} → (X → Numbered → X → Type 0) → (X → Numbered → X → Type 0) → Option (List ℕ) → Option (List ℕ) → Bool → Feed → Feed → X → X → Step → Type 0
+Steps took refused before left broken feed feed' old new step =
+    (piece : List ℕ) × (more : List Numbered) × Consumes before left piece × Handed took refused old more (is_full step) new
     × ((stream : List ℕ) (ss : List Numbered) → Stands feed stream ss → LeadsTo feed' (stream ++ piece) (ss ++ more) left broken step)
 
 -- how the reading ends where the input does: by whether all of the stream is whole frames

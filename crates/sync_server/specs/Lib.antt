@@ -1,4 +1,5 @@
 pub mod End
 pub mod Ends
 pub mod Follows
+pub mod Handed
 pub mod Served

@@ -1,9 +1,10 @@
 //! Following a stream of snapshots.
-ghost use Rattle.std.specs.Prelude.{◌≡◌, ℕ, ◌<◌, List, [], ◌++◌, false, length, Option};
+ghost use Rattle.std.specs.Prelude.{◌≡◌, ℕ, ◌<◌, List, [], ◌++◌, false, not, length, Option, is_none};
 ghost use Rattle.std.specs.Bool.{MatchBool};
 ghost use Rattle.snap_core.specs.Hub.{Numbered};
 ghost use Rattle.sync_frames.specs.Feed.{HasBeenFed, has_failed, snapshots_view};
-ghost use Rattle.sync_server.specs.Follows.{AtEnd, Follows, LeadsTo, Stands, Steps};
+ghost use Rattle.sync_server.specs.Follows.{AtEnd, Follows, LeadsTo, Stands, Steps, is_full};
+ghost use Rattle.sync_server.specs.Handed.{Handed};
 
 use crate::end::{ReadEnd, end_by};
 use crate::inlet::Inlet;
@@ -24,16 +25,18 @@ enum Step {
 
 /// Hands the snapshots of a stream to the sink, each with the read that has the last byte of its frame, one read a turn,
 /// until the input ends, a frame fault shows, a read fails, memory runs out, or `limit` turns were taken; None where the
-/// sink did not take a snapshot. A fault that the bytes show ends the reading before another read. The condition is an
-/// inlet that is not broken.
+/// sink did not take a snapshot. A fault that the bytes show ends the reading before another read. The conditions are an
+/// inlet that is not broken and a sink that is not full.
 pub fn follow_stream<I: Inlet, S: Sink>(
     alloc: Global,
     inlet: &mut I,
     sink: &mut S,
     limit: u64,
 ) -> Option<ReadEnd>
-    requires { I.is_broken inlet.old ≡ false }
-    ensures { Follows (I.bytes inlet.old) (I.bytes inlet.new) (I.is_broken inlet.new) (S.taken sink.old) (S.taken sink.new) result }
+    requires whole { I.is_broken inlet.old ≡ false }
+    requires takes { S.is_full sink.old ≡ false }
+    ensures follows { Follows S.took S.refused (I.bytes inlet.old) (I.bytes inlet.new) (I.is_broken inlet.new) sink.old sink.new result }
+    ensures full { S.is_full sink.new ≡ is_none result }
 {
     let mut feed = Feed::new(alloc);
     let Ok(mut buffer) = vec![in alloc; 0u8; READ_AT_MOST] else {
@@ -60,7 +63,9 @@ fn take_turn<I: Inlet, S: Sink>(
     requires whole { I.is_broken inlet.old ≡ false }
     requires works { has_failed feed.old ≡ false }
     requires room { 0 < length buffer.old }
-    ensures steps { Steps (I.bytes inlet.old) (I.bytes inlet.new) (I.is_broken inlet.new) feed.old feed.new (S.taken sink.old) (S.taken sink.new) result }
+    requires takes { S.is_full sink.old ≡ false }
+    ensures steps { Steps S.took S.refused (I.bytes inlet.old) (I.bytes inlet.new) (I.is_broken inlet.new) feed.old feed.new sink.old sink.new result }
+    ensures full { S.is_full sink.new ≡ is_full result }
     ensures room { length buffer.new ≡ length buffer.old }
 {
     match inlet.read(buffer) {
@@ -72,8 +77,10 @@ fn take_turn<I: Inlet, S: Sink>(
 
 /// Takes a piece of the stream.
 fn take_piece<S: Sink>(alloc: Global, sink: &mut S, feed: &mut Feed, piece: &[u8]) -> Step
-    requires { has_failed feed.old ≡ false }
-    ensures { (more : List Numbered) × (S.taken sink.new ≡ S.taken sink.old ++ more) × ((stream : List ℕ) (ss : List Numbered) (left : Option (List ℕ)) → Stands feed.old stream ss → LeadsTo feed.new (stream ++ piece.now) (ss ++ more) left false result) }
+    requires works { has_failed feed.old ≡ false }
+    requires takes { S.is_full sink.old ≡ false }
+    ensures full { S.is_full sink.new ≡ is_full result }
+    ensures leads { (more : List Numbered) × Handed S.took S.refused sink.old more (is_full result) sink.new × ((stream : List ℕ) (ss : List Numbered) (left : Option (List ℕ)) → Stands feed.old stream ss → LeadsTo feed.new (stream ++ piece.now) (ss ++ more) left false result) }
 {
     match feed.feed(alloc, piece) {
         Ok(snapshots) => {
@@ -91,7 +98,9 @@ fn take_piece<S: Sink>(alloc: Global, sink: &mut S, feed: &mut Feed, piece: &[u8
 
 /// Hands snapshots on, and says whether all were taken.
 fn hand_on<S: Sink>(sink: &mut S, snapshots: Vec<Snapshot>) -> bool
-    ensures { (taken : List Numbered) × (left : List Numbered) × (snapshots_view snapshots.items ≡ taken ++ left) × (S.taken sink.new ≡ S.taken sink.old ++ taken) × MatchBool result (left ≡ []) (Unit {0}) }
+    requires { S.is_full sink.old ≡ false }
+    ensures full { S.is_full sink.new ≡ not result }
+    ensures handed { (taken : List Numbered) × (left : List Numbered) × (snapshots_view snapshots.items ≡ taken ++ left) × Handed S.took S.refused sink.old taken (not result) sink.new × MatchBool result (left ≡ []) (Unit {0}) }
 {
     for snapshot in snapshots {
         if !sink.take(snapshot) {

@@ -14,15 +14,22 @@ use std::alloc::Global;
 #[derive(Drop)]
 struct Collected {
     snapshots: Vec<Snapshot>,
+    full: bool,
 }
 
 impl Sink for Collected {
+    ghost use Rattle.std.specs.Prelude.{◌≡◌, [], ◌∷◌, ◌++◌};
     ghost use Rattle.sync_frames.specs.Feed.{snapshots_view};
 
-    ghost taken = { λ c. snapshots_view c.snapshots.items };
+    ghost took = { λ old s new. snapshots_view new.snapshots.items ≡ snapshots_view old.snapshots.items ++ s ∷ [] };
+
+    ghost refused = { λ old s new. snapshots_view new.snapshots.items ≡ snapshots_view old.snapshots.items };
+
+    ghost is_full = { λ c. c.full };
 
     fn take(&mut self, snapshot: Snapshot) -> bool {
-        self.snapshots.push(snapshot).is_ok()
+        self.full = self.snapshots.push(snapshot).is_err();
+        !self.full
     }
 }
 
@@ -33,7 +40,10 @@ pub fn read_stream<I: Inlet>(alloc: Global, inlet: &mut I, limit: u64) -> (Vec<S
     ensures { ReadsTo (I.bytes inlet.old) (I.bytes inlet.new) (I.is_broken inlet.new) (snapshots_view result.0.items) result.1 }
 {
     let snapshots = Vec::new(alloc);
-    let mut collected = Collected { snapshots };
+    let mut collected = Collected {
+        snapshots,
+        full: false,
+    };
     match follow_stream(alloc, inlet, &mut collected, limit) {
         Some(end) => (collected.snapshots, end),
         None => (collected.snapshots, ReadEnd::WantOfMemory),

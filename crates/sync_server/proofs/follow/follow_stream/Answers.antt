@@ -1,21 +1,22 @@
-use Rattle.std.proofs.Common.{ℕ, ◌<◌, List, [], ◌++◌, length, arith, sym, ap, subst, ◌∙◌, append-nil, append_assoc}
+use Rattle.std.proofs.Common.{ℕ, ◌<◌, List, [], ◌++◌, length, true, arith, refl, sym, subst, ◌∙◌}
 use Rattle.snap_core.specs.Hub.{Numbered}
-use Rattle.sync_server.proofs.Followed.{consumes_both, consumes_none, first_of_nothing, refilled, stands_first, works_first}
+use Rattle.sync_server.proofs.Followed.{consumes_both, consumes_none, first_of_nothing, handed_behind, refilled, stands_first, took_both, works_first}
 use Rattle.sync_server.proofs.follow.follow_stream.Goals as goal
 
-pub returns-in_default : goal.returns-in_default
-returns-in_default g c = ([], [], consumes_none (g.I.Inlet.bytes c.args.inlet.now), sym (append-nil (g.S.Sink.taken c.args.sink.now)), first_of_nothing)
+pub returns-in_default-clause-follows : goal.returns-in_default-clause-follows
+returns-in_default-clause-follows g c = ([], [], consumes_none (g.I.Inlet.bytes c.args.inlet.now), refl, first_of_nothing)
 
 pub loop-turn-init : goal.loop-turn-init
 loop-turn-init g c = (
   [],
   [],
   consumes_none (g.I.Inlet.bytes c.args.inlet.now),
-  sym (append-nil (g.S.Sink.taken c.args.sink.now)),
+  refl,
   stands_first c.new-feed.result c.new-feed.ensures.fed,
   works_first c.new-feed.result c.new-feed.ensures.fresh,
-  c.requires,
+  c.requires.whole,
   omega (arith, c.in-Ok.ensures.len, c.in-Ok.buffer.ok.0),
+  c.requires.takes,
 )
 
 pub take_turn-requires-clause-whole : goal.take_turn-requires-clause-whole
@@ -27,25 +28,28 @@ take_turn-requires-clause-works g c = c.loop-turn.invariant.5
 pub take_turn-requires-clause-room : goal.take_turn-requires-clause-room
 take_turn-requires-clause-room g c = subst (λ (l : List ℕ). 0 < length l) (sym c.deref_mut.ensures.value) c.loop-turn.invariant.7
 
-pub returns-in-Ends : goal.returns-in-Ends
-returns-in-Ends g c =
+pub take_turn-requires-clause-takes : goal.take_turn-requires-clause-takes
+take_turn-requires-clause-takes g c = c.loop-turn.invariant.8
+
+pub returns-in-Ends-clause-follows : goal.returns-in-Ends-clause-follows
+returns-in-Ends-clause-follows g c =
     let i = c.loop-turn.invariant in
     let s = c.in-Ends.ensures.steps in (
       i.0 ++ s.0,
       i.1 ++ s.1,
       consumes_both (g.I.Inlet.bytes c.args.inlet.now) (g.I.Inlet.bytes c.loop-turn.inlet) (g.I.Inlet.bytes c.take_turn.new.inlet) i.0 s.0 i.2 s.2,
-      s.3 ∙ ap (λ (l : List Numbered). l ++ s.1) i.3 ∙ append_assoc (g.S.Sink.taken c.args.sink.now) i.1 s.1,
+      took_both g.S.Sink.took g.S.Sink.refused c.args.sink.now c.loop-turn.sink c.take_turn.new.sink i.1 s.1 i.3 s.3,
       s.4 i.0 i.1 i.4,
     )
 
-pub returns-in-Full : goal.returns-in-Full
-returns-in-Full g c =
+pub returns-in-Full-clause-follows : goal.returns-in-Full-clause-follows
+returns-in-Full-clause-follows g c =
     let i = c.loop-turn.invariant in
     let s = c.in-Full.ensures.steps in (
       i.0 ++ s.0,
       i.1 ++ s.1,
       consumes_both (g.I.Inlet.bytes c.args.inlet.now) (g.I.Inlet.bytes c.loop-turn.inlet) (g.I.Inlet.bytes c.take_turn.new.inlet) i.0 s.0 i.2 s.2,
-      s.3 ∙ ap (λ (l : List Numbered). l ++ s.1) i.3 ∙ append_assoc (g.S.Sink.taken c.args.sink.now) i.1 s.1,
+      handed_behind g.S.Sink.took g.S.Sink.refused c.args.sink.now c.loop-turn.sink c.take_turn.new.sink i.1 s.1 true i.3 s.3,
       s.4 i.0 i.1 i.4,
     )
 
@@ -58,12 +62,16 @@ loop-turn-preserved g c =
       i.0 ++ s.0,
       i.1 ++ s.1,
       consumes_both (g.I.Inlet.bytes c.args.inlet.now) (g.I.Inlet.bytes c.loop-turn.inlet) (g.I.Inlet.bytes c.take_turn.new.inlet) i.0 s.0 i.2 s.2,
-      s.3 ∙ ap (λ (l : List Numbered). l ++ s.1) i.3 ∙ append_assoc (g.S.Sink.taken c.args.sink.now) i.1 s.1,
+      took_both g.S.Sink.took g.S.Sink.refused c.args.sink.now c.loop-turn.sink c.take_turn.new.sink i.1 s.1 i.3 s.3,
       t.0,
       t.1,
       t.2,
       refilled c.loop-turn.buffer.len c.take_turn.new.buffer c.loop-turn.buffer.items (subst (λ (n : ℕ). 0 < n) (sym c.loop-turn.buffer.ok.0) i.7) (subst (λ (n : ℕ). 0 < n) (sym c.take_turn.ensures.room) room),
+      c.in-GoesOn.ensures.full,
     )
 
-pub returns : goal.returns
-returns g c = let i = c.loop-turn.invariant in (i.0, i.1, i.2, i.3, (i.4.1, i.4.2))
+pub returns-clause-follows : goal.returns-clause-follows
+returns-clause-follows g c = let i = c.loop-turn.invariant in (i.0, i.1, i.2, i.3, (i.4.1, i.4.2))
+
+pub returns-clause-full : goal.returns-clause-full
+returns-clause-full g c = c.loop-turn.invariant.8

@@ -1,4 +1,4 @@
-use Rattle.std.proofs.Common.{ℕ, List, [], ◌++◌, ◌<◌, Bool, false, take, length, sym, subst, append-nil}
+use Rattle.std.proofs.Common.{ℕ, List, [], ◌++◌, ◌<◌, Bool, false, take, length, refl, sym, subst}
 use Rattle.std.specs.Io.KnownBytes.{Consumes}
 use Rattle.sync_server.specs.Follows.{LeadsTo}
 use Rattle.sync_server.proofs.Followed.{at_end, at_fault, broken_now, consumes_kept, unbroken}
@@ -15,13 +15,13 @@ returns-in-Ok-eq0-clause-steps g c =
       [],
       [],
       nothing,
-      sym (append-nil (g.S.Sink.taken c.args.sink.now)),
+      refl,
       λ stream ss st. at_end c.args.feed.now stream ss new (g.I.Inlet.is_broken c.read.new.self) c.end_of_input.result st (e.1 c.in-Ok-eq0.field-0-test room) (c.end_of_input.ensures stream st.0),
     )
 
 pub returns-in-Ok-clause-steps : goal.returns-in-Ok-clause-steps
 returns-in-Ok-clause-steps g c =
-    let p = c.take_piece.ensures in
+    let p = c.take_piece.ensures.leads in
     let new = g.I.Inlet.bytes c.read.new.self in
     let piece = take c.in-Ok.n c.read.new.buf in (
       piece,
@@ -38,6 +38,6 @@ returns-in-Err-clause-steps g c =
       [],
       [],
       consumes_kept old new c.in-Err.ensures.bytes,
-      sym (append-nil (g.S.Sink.taken c.args.sink.now)),
+      refl,
       λ stream ss st. at_fault c.args.feed.now stream ss new (g.I.Inlet.is_broken c.read.new.self) st (broken_now (g.I.Inlet.is_broken c.args.inlet.now) (g.I.Inlet.is_broken c.read.new.self) c.requires.whole c.in-Err.ensures.broken),
     )
