@@ -62,7 +62,7 @@ count-insert (e ∷ es) page inputs sorted =
       | Greater ↦ λ none. behind (length inputs) (length e.1) (input_count es) (length (inputs_in es page)) (input_count (insert_entry page_cmp es page inputs)) (input_count (e ∷ insert_entry page_cmp es page inputs)) (input_count (e ∷ es)) (sum_by-cons size e (insert_entry page_cmp es page inputs)) old later
     ] low
 
-rising_on : (book : Contents) (page : PageName) → IsBook book → IsStrictlySortedBy bytes_cmp (inputs_on book page)
+pub rising_on : (book : Contents) (page : PageName) → IsBook book → IsStrictlySortedBy bytes_cmp (inputs_on book page)
 unfolding inputs_on
 rising_on book page is_book = (exposure_found (is_at (page_cmp page)) book is_book.filled).rising
 

@@ -104,7 +104,7 @@ unfolding IsDistinct
 distinct_by_bytes [] d = tt
 distinct_by_bytes (x ∷ xs) d = (All-same (λ y. eq_by_cmp bytes_cmp x y ≡ false) (λ y. bytes_eq x y ≡ false) (λ y e. sym (is_eq-slice_cmp x y) ∙ e) xs d.0, distinct_by_bytes xs d.1)
 
-rising_distinct : (xs : Inputs) → IsStrictlySortedBy bytes_cmp xs → IsDistinct bytes_eq xs
+pub rising_distinct : (xs : Inputs) → IsStrictlySortedBy bytes_cmp xs → IsDistinct bytes_eq xs
 rising_distinct xs rising = distinct_by_bytes xs (IsDistinct-from_sorted bytes_cmp xs rising)
 
 -- inputs in order, each once

@@ -1,5 +1,5 @@
 //! Asks, answered by workers that share a book.
-ghost use Rattle.std.specs.Prelude.{◌≡◌, ◌≢◌, ◌<◌, ◌≤◌, ◌*◌, ◌^◌, ℕ, Some, None, List, length, map, count_by, sum_by, true, All, Ok, Err, IfOk, MatchResult};
+ghost use Rattle.std.specs.Prelude.{◌≡◌, ◌≢◌, ◌<◌, ◌≤◌, ◌*◌, ◌^◌, ℕ, Some, None, List, length, map, count_by, sum_by, true, false, All, Ok, Err, IfErr, IfOk, MatchResult};
 ghost use Rattle.logic_eval.specs.Views.{reach_view};
 ghost use Rattle.book_core.specs.Book.{Contents, IsBook, input_count, reply_to};
 ghost use Rattle.flag_defs.specs.Flags.{flags_view};
@@ -8,7 +8,7 @@ ghost use Rattle.book_share.specs.Asked.{is_long, long_inputs, long_of as long_o
 ghost use Rattle.book_share.specs.Driven.{AreNoted, IsFull};
 ghost use Rattle.book_share.specs.Sealed.{all_told};
 ghost use Rattle.book_share.specs.declared.drive_fault.DriveFault.{DriveFault as Fault};
-ghost use Rattle.book_share.specs.DriveFault.{workers_fault};
+ghost use Rattle.book_share.specs.DriveFault.{is_of_workers, workers_fault};
 
 use crate::ask::Ask;
 use crate::blanks::Blanks;
@@ -69,6 +69,7 @@ pub fn drive<G: Gate, R: Threads + Wait + Sync>(
     ensures noted { IfOk result (λ d. AreNoted (mentions (flags_view flags.now) asks.now) d.book d.calls d.news d.full) }
     ensures long { IfOk result (λ d. d.long ≡ long_of_asks (flags_view flags.now) asks.now) }
     ensures workers { (e : Fault) → workers_fault workers ≡ Some e → result ≡ Err e }
+    ensures refused { IfErr result (λ e. is_of_workers e ≡ true → workers_fault workers ≡ Some e) }
     ensures unstalled { G.always → result ≢ Err DriveFault.Stalled }
 {
     let blanks = blanks_of(workers)?;
@@ -103,6 +104,7 @@ fn driven_by<L: BookName + Send + Sync, G: Gate, R: Threads + Wait + Sync>(
     ensures noted { IfOk result (λ d. AreNoted (mentions (flags_view flags.now) asks.now) d.book d.calls d.news d.full) }
     ensures long { IfOk result (λ d. d.long ≡ long_of_asks (flags_view flags.now) asks.now) }
     ensures unstalled { G.always → result ≢ Err DriveFault.Stalled }
+    ensures started { IfErr result (λ e. is_of_workers e ≡ false) }
 {
     let step = blanks.seats;
     let (book, seats) = SharedBook::<L>::new(alloc, blanks)?;
@@ -151,7 +153,8 @@ fn calls_of<L: BookName>(seats: &[Seat<L>]) -> u128
 }
 
 fn fault_of(fault: SealFault) -> DriveFault
-    ensures { result ≢ DriveFault.Stalled }
+    ensures unstalled { result ≢ DriveFault.Stalled }
+    ensures started { is_of_workers result ≡ false }
 {
     match fault {
         SealFault::WantOfMemory => DriveFault::WantOfMemory,
@@ -167,6 +170,7 @@ fn checked(alloc: Global, book: Book, refused: &[Refusal]) -> Result<(Book, u128
     ensures number { IfOk result (λ r. r.1 ≡ input_count r.0) }
     ensures full { IfOk result (λ r. All (IsFull r.0) refused.now) }
     ensures unstalled { result ≢ Err DriveFault.Stalled }
+    ensures started { IfErr result (λ e. is_of_workers e ≡ false) }
 {
     let mut book = book;
     if !are_refused(alloc, &mut book, refused)? {

@@ -1,7 +1,8 @@
 //! What the workers made, put together.
-ghost use Rattle.std.specs.Prelude.{◌≡◌, ◌≢◌, [], List, vec_len, All, Err, IfOk};
+ghost use Rattle.std.specs.Prelude.{◌≡◌, ◌≢◌, [], List, false, vec_len, All, Err, IfErr, IfOk};
 ghost use Rattle.flag_defs.specs.Document.{Definitions};
 ghost use Rattle.flag_defs.specs.Flags.{flags_view};
+ghost use Rattle.book_share.specs.DriveFault.{is_of_workers};
 ghost use Rattle.book_share.specs.Driven.{IsWork};
 ghost use Rattle.book_share.specs.Sealed.{all_told};
 ghost use Rattle.book_share.specs.declared.ask.Ask.{Ask};
@@ -49,6 +50,7 @@ pub(crate) fn parts_of<L: BookName + Send + Sync, G: Gate, R: Threads + Wait + S
     requires { All (λ seat. seat ≡ []) seats.items }
     ensures work { IfOk result (λ parts. All (λ r. IfOk r (λ p. IsWork (flags_view round.now.flags.now) round.now.asks.now p.seat p.answers.items p.refused.items)) parts.items) }
     ensures unstalled { G.always → IfOk result (λ parts. All (λ r. r ≢ Err DriveFault.Stalled) parts.items) }
+    ensures started { IfOk result (λ parts. All (λ r. IfErr r (λ e. is_of_workers e ≡ false)) parts.items) }
 {
     let jobs = jobs_of(alloc, seats)?;
     thread::map_vec(
@@ -56,7 +58,7 @@ pub(crate) fn parts_of<L: BookName + Send + Sync, G: Gate, R: Threads + Wait + S
         jobs,
         &|job: Job<L>| -> Result<Part<L>, DriveFault>
             requires { job.seat ≡ [] }
-            ensures { IfOk result (λ p. IsWork (flags_view round.entry.now.flags.now) round.entry.now.asks.now p.seat p.answers.items p.refused.items) × (G.always → result ≢ Err DriveFault.Stalled) }
+            ensures { IfOk result (λ p. IsWork (flags_view round.entry.now.flags.now) round.entry.now.asks.now p.seat p.answers.items p.refused.items) × (G.always → result ≢ Err DriveFault.Stalled) × IfErr result (λ e. is_of_workers e ≡ false) }
         { work(rt, alloc, round, job) },
     )
 }
@@ -68,6 +70,7 @@ pub(crate) fn gathered<L: BookName>(
 ) -> Result<Harvest<L>, DriveFault>
     ensures work { (flags : Definitions) (asks : List Ask) → All (λ r. IfOk r (λ p. IsWork flags asks p.seat p.answers.items p.refused.items)) parts.items → IfOk result (λ h. IsWork flags asks (all_told h.seats.items) h.answers.items h.refused.items) }
     ensures unstalled { All (λ r. r ≢ Err DriveFault.Stalled) parts.items → result ≢ Err DriveFault.Stalled }
+    ensures started { All (λ r. IfErr r (λ e. is_of_workers e ≡ false)) parts.items → IfErr result (λ e. is_of_workers e ≡ false) }
 {
     let mut seats = Vec::with_capacity(alloc, parts.len())?;
     let mut answers = Vec::new(alloc);

@@ -1,10 +1,11 @@
 //! The inputs that an evaluation reached, noted on their pages.
-ghost use Rattle.std.specs.Prelude.{◌≡◌, ◌≢◌, [], ◌∷◌, ◌++◌, map, nat_lt, length, if◌then◌else◌, Some, Err, IfOk, IfSome, option_map, string_bytes};
+ghost use Rattle.std.specs.Prelude.{◌≡◌, ◌≢◌, [], ◌∷◌, ◌++◌, map, nat_lt, length, if◌then◌else◌, false, Some, Err, IfErr, IfOk, IfSome, option_map, string_bytes};
 ghost use Rattle.flag_defs.specs.Flags.{flags_view};
 ghost use Rattle.logic_ast.specs.Expr.{view};
 ghost use Rattle.logic_eval.specs.Views.{reach_view};
 ghost use Rattle.book_core.specs.Book.{most_bytes};
 ghost use Rattle.book_share.specs.Asked.{by_at, mention, mentions_in, page_of, targeting_of as targeting_named};
+ghost use Rattle.book_share.specs.DriveFault.{is_of_workers};
 ghost use Rattle.book_share.specs.Driven.{Notes, noted_by, refused_mention};
 
 use crate::drive_fault::DriveFault;
@@ -38,6 +39,7 @@ pub(crate) fn note_reached<L: BookName, R: Wait>(
 ) -> Result<(), DriveFault>
     ensures noted { IfOk result (λ _. Notes (mentions_in key.now (targeting_named (flags_view flags.now) key.now) (map reach_view reached.now)) (noted_by seat.old refused.old.items) (noted_by seat.new refused.new.items)) }
     ensures unstalled { result ≢ Err DriveFault.Stalled }
+    ensures started { IfErr result (λ e. is_of_workers e ≡ false) }
 {
     let targeting = targeting_of(flags, key);
     let mut last: Option<Page> = None;
@@ -112,6 +114,7 @@ fn note_one<L: BookName, R: Wait>(
 ) -> Result<(), DriveFault>
     ensures noted { IfOk result (λ _. Notes (if nat_lt most_bytes (length input.now) then [] else mention page.now input.now ∷ []) (noted_by seat.old refused.old.items) (noted_by seat.new refused.new.items)) }
     ensures unstalled { result ≢ Err DriveFault.Stalled }
+    ensures started { IfErr result (λ e. is_of_workers e ≡ false) }
 {
     match book.note(rt, alloc, seat, page, input) {
         Ok(_) => Ok(()),

@@ -1,8 +1,9 @@
 //! What one worker does.
-ghost use Rattle.std.specs.Prelude.{◌≡◌, ◌≢◌, ◌<◌, ◌≤◌, ◌+◌, ◌^◌, [], true, length, count_by, Err, IfOk, Bool};
+ghost use Rattle.std.specs.Prelude.{◌≡◌, ◌≢◌, ◌<◌, ◌≤◌, ◌+◌, ◌^◌, [], true, false, length, count_by, Err, IfErr, IfOk, Bool};
 ghost use Rattle.flag_defs.specs.Flags.{flags_view};
 ghost use Rattle.flag_resolve.specs.Views.{resolution_view};
 ghost use Rattle.book_share.specs.Asked.{Mention, mentions_of, resolved as resolution_of_ask};
+ghost use Rattle.book_share.specs.DriveFault.{is_of_workers};
 ghost use Rattle.book_share.specs.Driven.{IsAnswer, IsWork, Notes, mentions_at, noted_by};
 ghost use Rattle.book_share.specs.Limits.{most_seats};
 
@@ -64,6 +65,7 @@ pub(crate) fn work<L: BookName, G: Gate, R: Wait>(
     requires { job.seat ≡ [] }
     ensures work { IfOk result (λ p. IsWork (flags_view round.now.flags.now) round.now.asks.now p.seat p.answers.items p.refused.items) }
     ensures unstalled { G.always → result ≢ Err DriveFault.Stalled }
+    ensures started { IfErr result (λ e. is_of_workers e ≡ false) }
 {
     let Job { mut seat, first } = job;
     let mut answers = Vec::new(alloc);
@@ -95,6 +97,7 @@ fn answered<L: BookName, G: Gate, R: Wait>(
     ensures answer { IfOk result (λ a. IsAnswer (flags_view round.now.flags.now) round.now.asks.now a) }
     ensures noted { IfOk result (λ a. (p : Mention → Bool) → count_by p (noted_by seat.new refused.new.items) ≡ count_by p (noted_by seat.old refused.old.items) + mentions_at (flags_view round.now.flags.now) round.now.asks.now p a.ask) }
     ensures unstalled { G.always → result ≢ Err DriveFault.Stalled }
+    ensures started { IfErr result (λ e. is_of_workers e ≡ false) }
 {
     if !starts(round.gate, ask) {
         return Err(DriveFault::Stalled);
@@ -117,6 +120,7 @@ fn resolved<L: BookName, G: Gate, R: Wait>(
     ensures resolution { IfOk result (λ r. resolution_view r ≡ resolution_of_ask (flags_view round.now.flags.now) ask.now) }
     ensures noted { IfOk result (λ _. Notes (mentions_of (flags_view round.now.flags.now) ask.now) (noted_by seat.old refused.old.items) (noted_by seat.new refused.new.items)) }
     ensures unstalled { result ≢ Err DriveFault.Stalled }
+    ensures started { IfErr result (λ e. is_of_workers e ≡ false) }
 {
     let resolution = resolution(alloc, round.flags, ask)?;
     note_reached(

@@ -2,4 +2,6 @@
 #![tactic(auto)]
 
 #[cfg(test)]
+mod drive_tests;
+#[cfg(test)]
 mod seat_tests;

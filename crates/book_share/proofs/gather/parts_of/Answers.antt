@@ -29,3 +29,9 @@ returns-clause-unstalled g c = λ always.
     both_ok c.map_vec.result _ _ _ c.map_vec.ensures.len c.map_vec.ensures.each (λ v len gives.
     let same : length v.items ≡ length c.in_ok-jobs.jobs.items = search (rules, len) in
     λ k d within. (gives k d (subst (λ n. k < n) same within)).1.call.met.1 always)
+
+pub returns-clause-started : goal.returns-clause-started
+returns-clause-started g c =
+    both_ok c.map_vec.result _ _ _ c.map_vec.ensures.len c.map_vec.ensures.each (λ v len gives.
+    let same : length v.items ≡ length c.in_ok-jobs.jobs.items = search (rules, len) in
+    λ k d within. (gives k d (subst (λ n. k < n) same within)).1.call.met.2)

@@ -1,0 +1,4 @@
+pub mod Asks
+pub mod Driven
+pub mod Fault
+pub mod Lines

@@ -1,0 +1,62 @@
+//! The command over what it read.
+ghost use Rattle.std.specs.Prelude.{◌≡◌, true, IfOk, Ok, map};
+ghost use Rattle.book_core.specs.Book.{input_count};
+ghost use Rattle.book_core.specs.Printing.{book_text};
+ghost use Rattle.book_core.specs.Reading.{book_of};
+ghost use Rattle.flag_defs.specs.Flags.{flags_view};
+ghost use Rattle.flag_text.specs.Shape.{is_whole};
+ghost use Rattle.flag_text.specs.View.{view};
+ghost use Rattle.flag_resolve.specs.Views.{resolution_view};
+ghost use Rattle.flagops_drive.specs.Asks.{asks_of as asks_of_shape};
+ghost use Rattle.flagops_drive.specs.Driven.{Drives};
+ghost use Rattle.flagops_drive.specs.Lines.{drive_text};
+
+use crate::asks::asks_of;
+use crate::fault::DriveRefusal;
+use crate::lines::lines;
+use book_core::print_book;
+use book_share::{Driven, OpenGate, drive};
+use flag_defs::Flags;
+use flag_text::Tree;
+use std::alloc::{AllocError, Global};
+use std::sync::Wait;
+use std::thread::Threads;
+
+/// The whole output of the command.
+#[derive(Debug, Drop)]
+pub struct Drove {
+    /// The lines that are printed.
+    pub text: Vec<u8>,
+    /// The file of the book.
+    pub book: Vec<u8>,
+}
+
+/// Answers the asks of a file, in their order, by so many workers, and notes what they reach. It is refused with BadAsks,
+/// then with NoWorkers and TooManyWorkers (more than 64), or with Disagrees, which no run is known to meet. A refusal comes
+/// after all workers have ended. Cost: as `resolve` for each ask, and as a note for each input that it reaches.
+pub fn drive_asks<R: Threads + Wait + Sync>(
+    rt: &R,
+    alloc: Global,
+    flags: &Flags,
+    asks: &Tree,
+    workers: usize,
+) -> Result<Drove, DriveRefusal>
+    requires { is_whole (view asks.now) ≡ true }
+    ensures { Drives (flags_view flags.now) (asks_of_shape (view asks.now)) workers result }
+{
+    let asks = asks_of(alloc, asks)?;
+    match drive(rt, alloc, flags, asks.as_slice(), workers, &OpenGate) {
+        Ok(driven) => Ok(output_of(alloc, &driven)?),
+        Err(fault) => Err(DriveRefusal::Drive(fault)),
+    }
+}
+
+fn output_of(alloc: Global, driven: &Driven) -> Result<Drove, AllocError>
+    ensures text { IfOk result (λ d. d.text.items ≡ drive_text (map resolution_view driven.now.answers.items) (input_count driven.now.book) driven.now.calls driven.now.news driven.now.full driven.now.long) }
+    ensures file { IfOk result (λ d. d.book.items ≡ book_text driven.now.book) }
+    ensures reads_back { IfOk result (λ d. book_of d.book.items ≡ Ok driven.now.book) }
+{
+    let text = lines(alloc, driven)?.into_bytes();
+    let book = print_book(alloc, &driven.book)?;
+    Ok(Drove { text, book })
+}

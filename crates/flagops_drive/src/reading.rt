@@ -1,0 +1,64 @@
+//! From an object of an asks file to the parts of an ask.
+ghost use Rattle.std.specs.Prelude.{◌≡◌, ◌<◌, ◌^◌, true, IfSome, option_copied, option_map};
+ghost use Rattle.flag_text.specs.Shape.{is_whole};
+ghost use Rattle.flag_text.specs.View.{view};
+ghost use Rattle.flagops_drive.specs.Asks.{ask_in, context_in, key_in, moment_in, parts_view, want_in};
+
+use crate::parts::Parts;
+use flag_resolve::Kind;
+use flag_text::Tree;
+
+/// The first moment that is too late, 2^53 seconds after 1970.
+const MOMENTS: i64 = 1 << 53;
+
+/// The parts of the ask that an object is. Each of its members is required; others are passed over.
+#[tactic(auto, unfolding(crate::specs::Asks::ask_in))]
+pub(crate) fn parts_in<'a>(tree: &'a Tree) -> Option<Parts<'a>>
+    requires { is_whole (view tree.now) ≡ true }
+    ensures { option_map parts_view result ≡ ask_in (view tree.now) }
+{
+    let key = key_in(tree)?;
+    let want = want_in(tree)?;
+    let default = tree.member("default")?;
+    let context = context_in(tree)?;
+    let moment = moment_in(tree)?;
+    Some(Parts {
+        key,
+        want,
+        default,
+        context,
+        moment,
+    })
+}
+
+fn key_in<'a>(tree: &'a Tree) -> Option<&'a str>
+    ensures { option_copied result ≡ key_in (view tree.now) }
+{
+    tree.member("key")?.as_text()
+}
+
+fn want_in(tree: &Tree) -> Option<Kind>
+    ensures { result ≡ want_in (view tree.now) }
+{
+    Kind::named(tree.member("want")?.as_text()?)
+}
+
+fn context_in<'a>(tree: &'a Tree) -> Option<&'a Tree>
+    ensures { option_map (λ t. view t.now) result ≡ context_in (view tree.now) }
+{
+    let context = tree.member("context")?;
+    match context {
+        Tree::Object(_) => Some(context),
+        _ => None,
+    }
+}
+
+fn moment_in(tree: &Tree) -> Option<u64>
+    ensures value { result ≡ moment_in (view tree.now) }
+    ensures small { IfSome result (λ n. n < 2 ^ 53) }
+{
+    match tree.member("moment")? {
+        Tree::Whole(moment) if 0 <= *moment && *moment < MOMENTS => Some(*moment as u64),
+        _ => None,
+    }
+}

@@ -1,0 +1,8 @@
+use Rattle.flag_defs.specs.Flags.{flags_view}
+use Rattle.sealed_plans.specs.Recorded.{told_to}
+use Rattle.sealed_plans.proofs.Holding.{plan_holds}
+use Rattle.sealed_plans.proofs.planning.plan_sealed.Goals as goal
+
+pub returns-in-Ok-plan_over : goal.returns-in-Ok-plan_over
+returns-in-Ok-plan_over g c =
+    plan_holds (told_to c.args.seats.items) 1 (flags_view c.args.flags.now) c.args.request.now c.in-Ok.book c.in-Ok-plan_over.planned c.in-Ok-plan_over.ensures.lawful c.in-Ok.ensures.sealed.told.union c.in-Ok-plan_over.ensures.exact

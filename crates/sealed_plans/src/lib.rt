@@ -1,0 +1,14 @@
+//! From the seats of a shared book to a plan: what is planned on a sealed book is least over just what its seats were told.
+//!
+//! [`plan_sealed`] ends a shared book and plans on it. Proved, over `Recorded.HoldsOf` of `specs/`: the rule that it gives fits
+//! the request and costs the inputs that the seats were told on the page of the request's site, each counted once, the least
+//! of all rules that fit; or no rule fits. [`plans_hold_of_what_was_recorded`] says the same of `book_share::seal` and
+//! `rollout::plan` called apart, and of a book that `book_share::drive` gives: its plan is least over the inputs that the asks
+//! reached, where no page was full.
+#![tactic(auto)]
+
+mod laws;
+mod planning;
+
+pub use laws::plans_hold_of_what_was_recorded;
+pub use planning::{PlanRefused, plan_sealed};
