@@ -1,7 +1,8 @@
 """Runs each example of the given pages and compares what it prints, and its status, with what the page shows.
 
 An example is a line of a ```console block that begins with '$ '. The lines below it, up to the next such line or the
-block's end, are what it prints on standard output and standard error. Where the page shows no line, it prints nothing.
+block's end, are what it prints on standard output and then, for a person, on standard error. Where the page shows no
+line, it prints nothing. Each refusal says something on standard error, and what is for a person stands nowhere else.
 Its status is what the page shows below a '$ echo $?' that follows it; without one it is 1 where the page shows a line
 of a refusal, and else 0. The last line counts the examples, and says which statuses of the program the pages show.
 """
@@ -36,6 +37,13 @@ def status_of(wanted, told):
     return 1 if any(line.startswith("refused ") for line in wanted) else 0
 
 
+def is_apart(output, told):
+    """Whether the lines of a refusal stand on the output, what is told of it beside it, and neither elsewhere."""
+    refused = any(line.startswith("refused ") for line in output)
+    mixed = any(line.startswith(("error: ", "broken: ", "note: ")) for line in output)
+    return not mixed and not any(line.startswith("refused ") for line in told) and (told != [""] or not refused)
+
+
 def main(pages):
     # The first run builds the program and says so on standard error: that is no part of an example.
     subprocess.run(["./flagops", "--version"], stdout=subprocess.DEVNULL, check=False)
@@ -43,16 +51,15 @@ def main(pages):
     statuses = set()
     for page in pages:
         for command, wanted, status in examples_of(page):
-            run = subprocess.run(
-                ["sh", "-c", command], stdout=subprocess.PIPE, stderr=subprocess.STDOUT, text=True, timeout=600, check=False
-            )
-            is_printed = run.stdout.split("\n") == wanted + [""] or run.stdout == "" and not wanted
-            if is_printed and run.returncode == status:
+            run = subprocess.run(["sh", "-c", command], capture_output=True, text=True, timeout=600, check=False)
+            printed = run.stdout + run.stderr
+            is_printed = printed.split("\n") == wanted + [""] or printed == "" and not wanted
+            if is_printed and run.returncode == status and is_apart(run.stdout.split("\n"), run.stderr.split("\n")):
                 good += 1
                 statuses.add(status)
             else:
                 bad += 1
-                print(f"{page}: {command}\n  printed, with status {run.returncode}:\n{run.stdout}\n  wanted, with status {status}:\n" + "\n".join(wanted))
+                print(f"{page}: {command}\n  printed, with status {run.returncode}:\n{printed}\n  wanted, with status {status}:\n" + "\n".join(wanted))
     for status in sorted(STATUSES - statuses):
         bad += 1
         print(f"no example ends with status {status}")

@@ -12,7 +12,7 @@ FAULTS = {
     "DefFault": set(),
     "BookFault": {"LastCall", "Stranger"},
     "BookFileFault": set(),
-    "RolloutFault": {"Request", "Undecided"},
+    "RolloutFault": {"Request"},
     "CheckFault": set(),
     "PlanFileFault": set(),
     "LoadFault": set(),

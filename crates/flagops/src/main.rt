@@ -19,7 +19,7 @@ fn main(rt: HostRuntime) -> ExitCode {
             let mut files = SystemFiles::new(&rt);
             run(&rt, words.as_slice(), &mut files, &mut out, &mut err)
         }
-        Err(e) if e.kind() == io::ErrorKind::OutOfMemory => want(&mut out, Call::Flagops),
+        Err(e) if e.kind() == io::ErrorKind::OutOfMemory => want(&mut out, &mut err, Call::Flagops),
         Err(_) => complain(&mut err, "error: the words are not UTF-8\n"),
     };
     ExitCode::from(status)

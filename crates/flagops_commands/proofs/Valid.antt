@@ -26,7 +26,8 @@ use Rattle.flagops_commands.specs.Plan.{Holds, IsPlanOf, MayBePlanned, ReadsBack
 use Rattle.flagops_commands.specs.Valid.{IsValid, IsValidPlan}
 use Rattle.flagops_commands.specs.Verify.{IsVerdict, MayBeTold, told, valid_text}
 use Rattle.flagops_files.specs.Question.{Question}
-use Rattle.flagops_files.specs.Report.{Report}
+use Rattle.flagops_files.specs.Report.{Report, beside}
+use Rattle.flagops_commands.specs.Unrecorded.{is_unrecorded}
 use Rattle.flagops_files.specs.declared.refusal.Refusal.{Refusal}
 
 -- ---- a rule of the refined total tells its factor
@@ -91,18 +92,18 @@ same_problem None (emit rule c) q p h proves = at_request q.flags q.book rule c 
 
 -- ---- what proves a problem is told as valid
 
-told_valid : (p : Problem) (answer : Answer) (verdict : Result (Unit {0}) VerifyFault) → Proves p answer → IsOutcome (Ok p) answer verdict → IsValid answer (told answer verdict)
-told_valid p answer (Ok u) proves h = refl
-told_valid p answer (Err (Request e)) proves h = rw h refl
-told_valid p answer (Err (Check check.WantOfMemory)) proves h = refl
-told_valid p answer (Err (Check check.Weight)) proves h = absurd (h.wrong (λ same. cc) proves)
-told_valid p answer (Err (Check check.Totals)) proves h = absurd (h.wrong (λ same. cc) proves)
-told_valid p answer (Err (Check (check.Forbidden point))) proves h = absurd (h.wrong (λ same. cc) proves)
-told_valid p answer (Err (Check (check.Slack name count variant))) proves h = absurd (h.wrong (λ same. cc) proves)
-told_valid p answer (Err (Check check.Sum)) proves h = absurd (h.wrong (λ same. cc) proves)
-told_valid p answer (Err (Check check.Cost)) proves h = absurd (h.wrong (λ same. cc) proves)
-told_valid p answer (Err (Check check.NotDeficient)) proves h = absurd (h.wrong (λ same. cc) proves)
-told_valid p answer (Err (Check check.Groups)) proves h = absurd (h.wrong (λ same. cc) proves)
+told_valid : (b : Bool) (p : Problem) (answer : Answer) (verdict : Result (Unit {0}) VerifyFault) → Proves p answer → IsOutcome (Ok p) answer verdict → IsValid answer (beside b (told answer verdict))
+told_valid b p answer (Ok u) proves h = (refl, refl)
+told_valid b p answer (Err (Request e)) proves h = rw h refl
+told_valid b p answer (Err (Check check.WantOfMemory)) proves h = refl
+told_valid b p answer (Err (Check check.Weight)) proves h = absurd (h.wrong (λ same. cc) proves)
+told_valid b p answer (Err (Check check.Totals)) proves h = absurd (h.wrong (λ same. cc) proves)
+told_valid b p answer (Err (Check (check.Forbidden point))) proves h = absurd (h.wrong (λ same. cc) proves)
+told_valid b p answer (Err (Check (check.Slack name count variant))) proves h = absurd (h.wrong (λ same. cc) proves)
+told_valid b p answer (Err (Check check.Sum)) proves h = absurd (h.wrong (λ same. cc) proves)
+told_valid b p answer (Err (Check check.Cost)) proves h = absurd (h.wrong (λ same. cc) proves)
+told_valid b p answer (Err (Check check.NotDeficient)) proves h = absurd (h.wrong (λ same. cc) proves)
+told_valid b p answer (Err (Check check.Groups)) proves h = absurd (h.wrong (λ same. cc) proves)
 
 module _ (refine : Option ℕ) (q : Question) (report : Report) (p : Planned) where
   valid_at : (problem : Result Problem RolloutFault) → problem_refined (unwrap_or refine 1) q.flags q.request q.book ≡ problem → IsPlanned problem (Ok p) → Holds (planned_view p) report.text → IsValidPlan refine q report.text
@@ -112,7 +113,7 @@ module _ (refine : Option ℕ) (q : Question) (report : Report) (p : Planned) wh
     holds = holds;
     valid = λ r verdict.
         let outcome = subst (λ (it : Result Problem RolloutFault). IsOutcome it (planned_view p) verdict.0) (same_problem refine (planned_view p) q problem e h.proves) verdict.1.told in
-        subst (IsValid (planned_view p)) (sym verdict.2) (told_valid problem (planned_view p) verdict.0 h.proves outcome);
+        subst (IsValid (planned_view p)) (sym verdict.2) (told_valid (is_unrecorded q) problem (planned_view p) verdict.0 h.proves outcome);
   }
 
   planned_valid : MayBePlanned refine q (Ok p) → Holds (planned_view p) report.text → IsValidPlan refine q report.text
@@ -121,6 +122,6 @@ module _ (refine : Option ℕ) (q : Question) (report : Report) (p : Planned) wh
 pub plans_are_valid : (refine : Option ℕ) (q : Question) (report : Report) → IsPlanOf refine (Ok q) (Ok report) → IsValidPlan refine q report.text
 plans_are_valid refine q report (planned, may, is, back) = go planned may is back
   where
-    go : (planned : Result Planned RolloutFault) → MayBePlanned refine q planned → Ok report ≡ report_planned planned → ReadsBack planned (Ok report) → IsValidPlan refine q report.text
+    go : (planned : Result Planned RolloutFault) → MayBePlanned refine q planned → Ok report ≡ beside (is_unrecorded q) (report_planned planned) → ReadsBack planned (Ok report) → IsValidPlan refine q report.text
     go (Err e) may is back = absurd (refused (sym is))
     go (Ok p) may is back = planned_valid refine q report p may back

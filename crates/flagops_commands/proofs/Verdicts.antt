@@ -13,7 +13,7 @@ use Rattle.flagops_files.specs.Refusal.{GivesOne, GivesUnlessWant}
 use Rattle.flagops_files.specs.Report.{outcome_view}
 use Rattle.flagops_commands.specs.Verify.{IsVerdict, IsVerifyReport}
 use Rattle.flagops_files.specs.declared.outcome.Outcome.{Outcome}
-use Rattle.flagops_files.specs.declared.refusal.Refusal.{Refusal}
+use Rattle.flagops_files.specs.declared.refused.Refused.{Refused}
 
 -- two loads in turn, of which the first leaves the files as they are
 joined : {P Q R : Holding → Type 0} (old kept : Option Holding) → kept ≡ old → IfSome old P → IfSome kept Q → ((at : Holding) → P at → Q at → R at) → IfSome old R
@@ -24,36 +24,36 @@ joined {P} {Q} {R} old kept same p q both = go old p (subst (λ (h : Option Hold
     go (Some at) a b = both at a b
 
 module _ (document request book plan : List ℕ) (refine : Option ℕ) (q : Question) (answer : Answer) where
-  verified_over : (at : Holding) (r : Result Outcome Refusal) → IsQuestionAt at document request book (Ok q) → plan_at at plan ≡ Ok answer
+  verified_over : (at : Holding) (r : Result Outcome Refused) → IsQuestionAt at document request book (Ok q) → plan_at at plan ≡ Ok answer
       → GivesOne outcome_view r (IsVerdict refine (Ok q) (Ok answer)) → GivesOne outcome_view r (IsVerifyReport at document request book plan refine)
   unfolding IsVerifyReport
   verified_over at (Ok o) asked answered told = (Ok q, asked, rw answered told)
   verified_over at (Err e) asked answered told = λ no. (Ok q, asked, rw answered (told no))
 
-  pub verified : (old kept : Option Holding) (r : Result Outcome Refusal) → kept ≡ old → IfSome old (λ at. IsQuestionAt at document request book (Ok q))
+  pub verified : (old kept : Option Holding) (r : Result Outcome Refused) → kept ≡ old → IfSome old (λ at. IsQuestionAt at document request book (Ok q))
       → IfSome kept (λ at. plan_at at plan ≡ Ok answer) → GivesOne outcome_view r (IsVerdict refine (Ok q) (Ok answer))
       → IfSome old (λ at. GivesOne outcome_view r (IsVerifyReport at document request book plan refine))
   verified old kept r same asked answered told = joined old kept same asked answered (λ at a b. verified_over at r a b told)
 
 module _ (document request book : List ℕ) (refine : Option ℕ) (q : Question) where
-  planned_over : (at : Holding) (r : Result Outcome Refusal) → IsQuestionAt at document request book (Ok q) → GivesOne outcome_view r (IsPlanOf refine (Ok q))
+  planned_over : (at : Holding) (r : Result Outcome Refused) → IsQuestionAt at document request book (Ok q) → GivesOne outcome_view r (IsPlanOf refine (Ok q))
       → GivesOne outcome_view r (IsPlanReport at document request book refine)
   unfolding IsPlanReport
   planned_over at (Ok o) asked told = (Ok q, asked, told)
   planned_over at (Err e) asked told = λ no. (Ok q, asked, told no)
 
-  pub planned : (old : Option Holding) (r : Result Outcome Refusal) → IfSome old (λ at. IsQuestionAt at document request book (Ok q)) → GivesOne outcome_view r (IsPlanOf refine (Ok q))
+  pub planned : (old : Option Holding) (r : Result Outcome Refused) → IfSome old (λ at. IsQuestionAt at document request book (Ok q)) → GivesOne outcome_view r (IsPlanOf refine (Ok q))
       → IfSome old (λ at. GivesOne outcome_view r (IsPlanReport at document request book refine))
   planned None r asked told = tt
   planned (Some at) r asked told = planned_over at r asked told
 
 module _ (path plan key : List ℕ) (site : ℕ) (flags : Definitions) (answer : Answer) where
-  applied_over : (at : Holding) (r : Result Outcome Refusal) → IsDocumentAt at path (Ok flags) → plan_at at plan ≡ Ok answer
+  applied_over : (at : Holding) (r : Result Outcome Refused) → IsDocumentAt at path (Ok flags) → plan_at at plan ≡ Ok answer
       → GivesUnlessWant outcome_view r (applied_report flags key site answer) → GivesOne outcome_view r (IsApplyReport at path plan key site)
   unfolding IsApplyReport
   applied_over at (Ok o) loaded answered told = (Ok flags, loaded, rw answered (sym told))
   applied_over at (Err e) loaded answered told = λ no. (Ok flags, loaded, rw answered (sym (told no)))
 
-  pub applied : (old kept : Option Holding) (r : Result Outcome Refusal) → kept ≡ old → IfSome old (λ at. IsDocumentAt at path (Ok flags)) → IfSome kept (λ at. plan_at at plan ≡ Ok answer)
+  pub applied : (old kept : Option Holding) (r : Result Outcome Refused) → kept ≡ old → IfSome old (λ at. IsDocumentAt at path (Ok flags)) → IfSome kept (λ at. plan_at at plan ≡ Ok answer)
       → GivesUnlessWant outcome_view r (applied_report flags key site answer) → IfSome old (λ at. GivesOne outcome_view r (IsApplyReport at path plan key site))
   applied old kept r same loaded answered told = joined old kept same loaded answered (λ at a b. applied_over at r a b told)

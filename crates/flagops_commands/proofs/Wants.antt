@@ -3,7 +3,7 @@ use Rattle.std.proofs.Common.{◌≡◌, inr, ℕ, Bool, true, refl, sym, subst,
 use Rattle.flagops_words.specs.Asked.{Asked}
 use Rattle.flagops_commands.specs.Commands.{IsOutcome, calls_of, can_want}
 use Rattle.flagops_files.specs.Files.{Holding}
-use Rattle.flagops_files.specs.Report.{Answers, Reports, want_report}
+use Rattle.flagops_files.specs.Report.{Answers, ReportsAll, want_report}
 use Rattle.flagops_files.specs.declared.refusal.Call.{Call}
 use Rattle.flagops_files.specs.declared.refusal.Call.TheVariants as call
 
@@ -27,12 +27,12 @@ may_want asked call.Plan e = e
 may_want asked call.PrintPlanned e = e
 
 -- the words ask for a command that makes the call, whose want of memory is reported
-pub wanted : (words : Option Asked) (asked : Asked) (files : Option Holding) (c : Call) (old new : Option (List ℕ)) (broken : Bool) (status : ℕ) → words ≡ Some asked
-    → IfSome files (λ at. calls_of asked c ≡ true) → Reports old new broken status (want_report c)
-    → IfSome words (λ a. IfSome files (λ at. Answers (can_want a) old new broken status (IsOutcome at a)))
-wanted words asked files c old new broken status is calls reports =
-    subst (λ (o : Option Asked). IfSome o (λ a. IfSome files (λ at. Answers (can_want a) old new broken status (IsOutcome at a)))) (sym is) (go files calls)
+pub wanted : (words : Option Asked) (asked : Asked) (files : Option Holding) (c : Call) (out out_after : Option (List ℕ)) (is_broken : Bool) (err err_after : Option (List ℕ)) (is_err_broken : Bool) (status : ℕ) → words ≡ Some asked
+    → IfSome files (λ at. calls_of asked c ≡ true) → ReportsAll out out_after is_broken err err_after is_err_broken status (want_report c)
+    → IfSome words (λ a. IfSome files (λ at. Answers (can_want a) out out_after is_broken err err_after is_err_broken status (IsOutcome at a)))
+wanted words asked files c out out_after is_broken err err_after is_err_broken status is calls reports =
+    subst (λ (o : Option Asked). IfSome o (λ a. IfSome files (λ at. Answers (can_want a) out out_after is_broken err err_after is_err_broken status (IsOutcome at a)))) (sym is) (go files calls)
   where
-    go : (h : Option Holding) → IfSome h (λ at. calls_of asked c ≡ true) → IfSome h (λ at. Answers (can_want asked) old new broken status (IsOutcome at asked))
+    go : (h : Option Holding) → IfSome h (λ at. calls_of asked c ≡ true) → IfSome h (λ at. Answers (can_want asked) out out_after is_broken err err_after is_err_broken status (IsOutcome at asked))
     go None e = tt
     go (Some at) e = inr (c, may_want asked c e, reports)

@@ -1,5 +1,5 @@
 -- What the command `apply` answers.
-use Rattle.std.specs.Prelude.{◌≡◌, ℕ, List, ◌++◌, codes, Result, Ok}
+use Rattle.std.specs.Prelude.{◌≡◌, ℕ, false, List, ◌++◌, codes, Result, Ok}
 use Rattle.flag_defs.specs.Document.{Definitions, printed}
 use Rattle.plan_text.specs.Answer.{Answer, emit, none_exists}
 use Rattle.rollout.specs.Applied.{applied}
@@ -17,7 +17,7 @@ document_line flags = printed flags ++ codes "\n"
 
 -- what a plan without a rule reports, whatever the flag and the site are
 abbrev pub none_report : Report
-none_report = record { text = codes "none\n"; status = 3 }
+none_report = record { text = codes "none\n"; status = 3; is_told = false }
 
 -- the flags with the rule of the answer at the site, if it has one
 unfoldable pub applied_report : Definitions → List ℕ → ℕ → Answer → Result Report Refusal

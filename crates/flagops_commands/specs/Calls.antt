@@ -9,6 +9,11 @@ abbrev pub bucket_calls : Call → Bool
 bucket_calls call.Bucket = true
 bucket_calls c = loads_rule c
 
+-- the call that reading a request makes
+abbrev pub reads_request : Call → Bool
+reads_request call.ReadRequest = true
+reads_request c = false
+
 -- the calls that loading a request makes
 abbrev pub loads_request : Call → Bool
 loads_request call.Load = true
@@ -37,6 +42,11 @@ price_calls call.Price = true
 price_calls call.ReadRequest = true
 price_calls call.Note = true
 price_calls c = loads_rule c
+
+-- the call of the command `check` itself
+abbrev pub check_itself : Call → Bool
+check_itself call.Check = true
+check_itself c = false
 
 -- the calls that the command `check` makes
 abbrev pub check_calls : Call → Bool

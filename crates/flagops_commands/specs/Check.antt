@@ -1,5 +1,5 @@
 -- What the command `check` answers.
-use Rattle.std.specs.Prelude.{◌≡◌, ℕ, List, [], ◌∷◌, ◌++◌, codes, if◌then◌else◌, Result}
+use Rattle.std.specs.Prelude.{◌≡◌, ℕ, Bool, false, ◌||◌, List, [], ◌∷◌, ◌++◌, codes, if◌then◌else◌, Result}
 use Rattle.flag_text.specs.Shape.{text}
 use Rattle.flag_text.specs.Printing.{text_of}
 use Rattle.flag_defs.specs.Definition.{Definition}
@@ -8,7 +8,7 @@ use Rattle.flag_defs.specs.Flag.{is_broken}
 use Rattle.flagops_files.specs.Documents.{IsDocumentAt}
 use Rattle.flagops_files.specs.Files.{Holding}
 use Rattle.flagops_files.specs.Loading.{◌>>=◌}
-use Rattle.flagops_files.specs.Report.{Outcomes, done}
+use Rattle.flagops_files.specs.Report.{Outcomes, Report, beside, done}
 use Rattle.flagops_files.specs.declared.refusal.Refusal.{Refusal}
 
 abbrev pub good_or_broken : Definition → List ℕ
@@ -19,6 +19,15 @@ unfoldable pub check_text : Definitions → List ℕ
 check_text [] = []
 check_text (f ∷ fs) = text_of (text f.0) ++ (good_or_broken f.1 ++ check_text fs)
 
--- these lines, of the document at the path
+-- one of them is broken
+abbrev pub has_broken : Definitions → Bool
+has_broken [] = false
+has_broken (f ∷ fs) = is_broken f.1 || has_broken fs
+
+-- these lines; a person is told beside them where a flag is broken
+abbrev pub check_report : Definitions → Result Report Refusal
+check_report flags = beside (has_broken flags) (done (check_text flags))
+
+-- the report of the document at the path
 unfoldable pub IsCheckReport : Holding → List ℕ → Outcomes
-IsCheckReport at path r = (document : Result Definitions Refusal) × IsDocumentAt at path document × (r ≡ (document >>= λ flags. done (check_text flags)))
+IsCheckReport at path r = (document : Result Definitions Refusal) × IsDocumentAt at path document × (r ≡ (document >>= check_report))

@@ -8,5 +8,6 @@ pub mod Price
 pub mod Resolve
 pub mod Telling
 pub mod Totals
+pub mod Unrecorded
 pub mod Valid
 pub mod Verify

@@ -1,5 +1,5 @@
 -- What the command `plan` answers.
-use Rattle.std.specs.Prelude.{◌≡◌, ℕ, List, ◌++◌, codes, unwrap_or, IfOk, Option, Result, Ok, Err}
+use Rattle.std.specs.Prelude.{◌≡◌, ℕ, false, List, ◌++◌, codes, unwrap_or, IfOk, Option, Result, Ok, Err}
 use Rattle.plan_text.specs.Answer.{Answer, emit, none_exists, IsOrdered, planned_view}
 use Rattle.plan_text.specs.PlanFile.{IsWhole, answer_of, plan_file}
 use Rattle.rollout.specs.Planned.{IsPlanned}
@@ -9,7 +9,8 @@ use Rattle.plan_text.specs.declared.planned.Planned.{Planned}
 use Rattle.flagops_files.specs.Files.{Holding}
 use Rattle.flagops_files.specs.Loading.{◌>>=◌, refused_by}
 use Rattle.flagops_files.specs.Question.{Question, IsQuestionAt}
-use Rattle.flagops_files.specs.Report.{Outcomes, Report}
+use Rattle.flagops_files.specs.Report.{Outcomes, Report, beside}
+use Rattle.flagops_commands.specs.Unrecorded.{is_unrecorded}
 use Rattle.flagops_files.specs.declared.refusal.Refusal.{Refusal}
 use Rattle.flagops_files.specs.declared.refusal.Refusal.TheVariants.{Plan, PrintPlanned}
 
@@ -20,7 +21,7 @@ plan_status (none_exists kind names) = 3
 
 -- the plan file of the answer, as a line
 abbrev pub plan_report : Answer → Result Report Refusal
-plan_report answer = refused_by PrintPlanned (plan_file answer) >>= λ text. Ok (record { text = text ++ codes "\n"; status = plan_status answer })
+plan_report answer = refused_by PrintPlanned (plan_file answer) >>= λ text. Ok (record { text = text ++ codes "\n"; status = plan_status answer; is_told = false })
 
 -- the report of what was planned
 abbrev pub report_planned : Result Planned RolloutFault → Result Report Refusal
@@ -49,7 +50,7 @@ ReadsBack (Ok p) (Ok report) = Holds (planned_view p) report.text
 
 abbrev pub IsPlanOf : Option ℕ → Result Question Refusal → Outcomes
 IsPlanOf refine (Err e) r = r ≡ Err e
-IsPlanOf refine (Ok q) r = (planned : Result Planned RolloutFault) × MayBePlanned refine q planned × (r ≡ report_planned planned) × ReadsBack planned r
+IsPlanOf refine (Ok q) r = (planned : Result Planned RolloutFault) × MayBePlanned refine q planned × (r ≡ beside (is_unrecorded q) (report_planned planned)) × ReadsBack planned r
 
 unfoldable pub IsPlanReport : Holding → List ℕ → List ℕ → List ℕ → Option ℕ → Outcomes
 IsPlanReport at document request book refine r = (question : Result Question Refusal) × IsQuestionAt at document request book question × IsPlanOf refine question r

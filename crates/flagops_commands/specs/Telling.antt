@@ -1,32 +1,21 @@
 -- What is written where the words ask for no command.
-use Rattle.std.specs.Prelude.{◌≡◌, ◌⊎◌, ◌<◌, ℕ, Bool, true, false, List, length, Option}
-use Rattle.std.specs.Io.KnownBytes.{Appends}
+use Rattle.std.specs.Prelude.{◌≡◌, ◌⊎◌, ℕ, Bool, false, List, Option}
 use Rattle.clap.specs.Walk.{Text}
 use Rattle.clap.specs.Kinds.{IsAmong}
 use Rattle.clap.specs.declared.error.kind.ErrorKind.{ErrorKind}
 use Rattle.clap.specs.declared.error.kind.ErrorKind.TheVariants.{DisplayHelp, DisplayVersion, OutOfMemory}
-use Rattle.flag_text.specs.Outlet.{AppendsPart}
-use Rattle.flagops_files.specs.Report.{Reports, want_report}
+use Rattle.flagops_files.specs.Report.{PutsText, Reports, ReportsAll, want_report}
 use Rattle.flagops_words.specs.Words.{faults_of}
 use Rattle.flagops_files.specs.declared.refusal.Call.TheVariants.{Flagops}
 
--- the text was appended, or a front of it where the outlet failed
-abbrev pub Puts : Option (List ℕ) → Option (List ℕ) → Bool → List ℕ → Type 0
-Puts old new false text = Appends old new text
-Puts old new true text = AppendsPart old new text
-
--- a text that is not empty was put so
-abbrev pub PutsText : Option (List ℕ) → Option (List ℕ) → Bool → Type 0
-PutsText old new is_broken = (text : List ℕ) × (0 < length text) × Puts old new is_broken text
-
 module _ (out : Option (List ℕ)) (out_after : Option (List ℕ)) (is_broken : Bool) (err : Option (List ℕ)) (err_after : Option (List ℕ)) (is_err_broken : Bool) (status : ℕ) where
-  -- memory ran out, which is a line on the output
+  -- memory ran out, which is a line on the output, and told
   abbrev pub Wants : Type 0
-  Wants = (err_after ≡ err) × Reports out out_after is_broken status (want_report Flagops)
+  Wants = ReportsAll out out_after is_broken err err_after is_err_broken status (want_report Flagops)
 
   -- a text that was asked for goes to the output
   abbrev pub Shows : Type 0
-  Shows = (err_after ≡ err) × ((text : List ℕ) × Reports out out_after is_broken status (record { text = text; status = 0 }))
+  Shows = (err_after ≡ err) × ((text : List ℕ) × Reports out out_after is_broken status (record { text = text; status = 0; is_told = false }))
 
   -- a mistake in the words is told by a text beside the output, which stays as it was
   abbrev pub Complains : Type 0

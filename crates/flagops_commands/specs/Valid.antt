@@ -10,7 +10,7 @@ use Rattle.flagops_files.specs.declared.refusal.Refusal.{Refusal}
 
 -- the line of a valid answer, unless memory ran out
 abbrev pub IsValid : Answer → Outcomes
-IsValid answer (Ok report) = report ≡ record { text = valid_text answer; status = 0 }
+IsValid answer (Ok report) = (report.text ≡ valid_text answer) × (report.status ≡ 0)
 IsValid answer (Err e) = is_want e ≡ true
 
 -- the text is a plan file and a line end, and `verify` tells that the answer of the file is valid

@@ -8,7 +8,8 @@ use Rattle.flagops_files.specs.Files.{Holding}
 use Rattle.flagops_files.specs.Loading.{◌>>=◌, refused_by}
 use Rattle.flagops_files.specs.PlanFile.{plan_at}
 use Rattle.flagops_files.specs.Question.{Question, IsQuestionAt}
-use Rattle.flagops_files.specs.Report.{Outcomes, Report, done}
+use Rattle.flagops_files.specs.Report.{Outcomes, Report, beside, done}
+use Rattle.flagops_commands.specs.Unrecorded.{is_unrecorded}
 use Rattle.flagops_files.specs.declared.refusal.Refusal.{Refusal}
 use Rattle.flagops_files.specs.declared.refusal.Refusal.TheVariants.{Verify}
 
@@ -32,7 +33,7 @@ pub record MayBeTold (refine : Option ℕ) (q : Question) (answer : Answer) (ver
 abbrev pub IsVerdict : Option ℕ → Result Question Refusal → Result Answer Refusal → Outcomes
 IsVerdict refine (Err e) answer r = r ≡ Err e
 IsVerdict refine (Ok q) (Err e) r = r ≡ Err e
-IsVerdict refine (Ok q) (Ok answer) r = (verdict : Result (Unit {0}) VerifyFault) × MayBeTold refine q answer verdict × (r ≡ told answer verdict)
+IsVerdict refine (Ok q) (Ok answer) r = (verdict : Result (Unit {0}) VerifyFault) × MayBeTold refine q answer verdict × (r ≡ beside (is_unrecorded q) (told answer verdict))
 
 unfoldable pub IsVerifyReport : Holding → List ℕ → List ℕ → List ℕ → List ℕ → Option ℕ → Outcomes
 IsVerifyReport at document request book plan refine r =

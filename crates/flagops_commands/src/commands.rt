@@ -12,7 +12,7 @@ use crate::rollouts::plan::plan;
 use crate::rollouts::verify::verify;
 use crate::rules::bucket::bucket;
 use crate::rules::price::price;
-use flagops_files::{FileSet, Outcome, Refusal};
+use flagops_files::{FileSet, Outcome, Refused};
 use flagops_words::Asked;
 use std::alloc::Global;
 use std::thread::Threads;
@@ -23,7 +23,7 @@ pub fn outcome<R: Threads + Sync, F: FileSet>(
     alloc: Global,
     files: &mut F,
     asked: &Asked<'_>,
-) -> Result<Outcome, Refusal>
+) -> Result<Outcome, Refused>
     ensures exact { IfSome (F.holding files.old) (λ at. GivesOne outcome_view result (IsOutcome at (asked_view asked.now))) }
     ensures calls { ComesFrom (calls_of (asked_view asked.now)) result }
     ensures failed { F.has_failed files.new ≡ (F.has_failed files.old || is_file_fault result) }

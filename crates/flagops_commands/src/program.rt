@@ -1,16 +1,16 @@
 //! The program over whatever files and outlets it is given.
-ghost use Rattle.std.specs.Prelude.{◌≡◌, ◌||◌, false, true, map, IfErr, IfOk, IfSome, IsSome, None, Ok, Err, Some};
+ghost use Rattle.std.specs.Prelude.{◌≡◌, ◌||◌, false, true, map, IfErr, IfOk, IfSome, None, Ok, Err, Some};
 ghost use Rattle.clap.specs.Words.{kind_of};
 ghost use Rattle.flagops_words.specs.Asked.{asked_view};
 ghost use Rattle.flagops_commands.specs.Commands.{calls_of, can_want, IsOutcome};
 ghost use Rattle.flagops_files.specs.Refusal.{call_of, is_want, unreadable};
-ghost use Rattle.flagops_files.specs.Report.{Answers, AnswersOrWants, is_load, outcome_view, report_of};
-ghost use Rattle.flagops_commands.specs.Telling.{PutsText, Tells, TellsWords};
+ghost use Rattle.flagops_files.specs.Report.{Answers, AnswersOrWants, PutsText, is_load, outcome_view, report_of};
+ghost use Rattle.flagops_commands.specs.Telling.{Tells, TellsWords};
 ghost use Rattle.flagops_words.specs.Words.{asked_by};
 
 use crate::commands::outcome;
-use flag_text::{Outlet, write_whole};
-use flagops_files::{Call, FileSet, Outcome, Refusal, Status, report, want};
+use flag_text::Outlet;
+use flagops_files::{Call, FileSet, Outcome, Refused, Status, report, tell, want};
 use flagops_words::{Asked, read_words};
 use std::alloc::{AllocError, Global};
 use std::convert::AsStr;
@@ -19,9 +19,10 @@ use std::thread::Threads;
 /// Does what the words after the program's name ask for, and gives the status to end with: 0
 /// done, 1 refused or the output failed, 2 words that ask for nothing, 3 no rule fits.
 ///
-/// The report goes to `out`, whole before its first byte is written. `err` gets the text of
-/// `clap` on words that it refuses, and nothing else; help and the version, where they are asked
-/// for, go to `out` with status 0.
+/// The report goes to `out`, made whole before its first byte is written. `err` gets the text of
+/// `clap` on words that it refuses, and what a person is told: of a refusal, of broken flags, and
+/// of a book without an input for the request. What becomes of `err` changes neither the report nor
+/// the status. Help and the version, where they are asked for, go to `out` with status 0.
 pub fn run<R: AllocGlobal + Threads + Sync, S: AsStr, F: FileSet, O: Outlet, E: Outlet>(
     rt: &R,
     words: &[S],
@@ -32,11 +33,10 @@ pub fn run<R: AllocGlobal + Threads + Sync, S: AsStr, F: FileSet, O: Outlet, E: 
     requires out_whole { O.is_broken out.old ≡ false }
     requires err_whole { E.is_broken err.old ≡ false }
     ensures answers { IfSome (asked_by (map S.text words.now)) (λ asked. IfSome (F.holding files.old) (λ at.
-        Answers (can_want asked) (O.bytes out.old) (O.bytes out.new) (O.is_broken out.new) result (IsOutcome at asked))) }
+        Answers (can_want asked) (O.bytes out.old) (O.bytes out.new) (O.is_broken out.new) (E.bytes err.old) (E.bytes err.new) (E.is_broken err.new) result (IsOutcome at asked))) }
     // Whatever the files hold, a read that failed is what is reported.
     ensures unread { F.has_failed files.old ≡ false → F.has_failed files.new ≡ true
-        → Answers is_load (O.bytes out.old) (O.bytes out.new) (O.is_broken out.new) result (λ r. r ≡ Err unreadable) }
-    ensures quiet { IsSome (asked_by (map S.text words.now)) → E.bytes err.new ≡ E.bytes err.old }
+        → Answers is_load (O.bytes out.old) (O.bytes out.new) (O.is_broken out.new) (E.bytes err.old) (E.bytes err.new) (E.is_broken err.new) result (λ r. r ≡ Err unreadable) }
     ensures tells { asked_by (map S.text words.now) ≡ None
         → TellsWords (O.bytes out.old) (O.bytes out.new) (O.is_broken out.new) (E.bytes err.old) (E.bytes err.new) (E.is_broken err.new) result (map S.text words.now) }
     ensures kept { F.holding files.new ≡ F.holding files.old }
@@ -44,10 +44,10 @@ pub fn run<R: AllocGlobal + Threads + Sync, S: AsStr, F: FileSet, O: Outlet, E: 
     let alloc = rt.alloc();
     match read_words(alloc, words) {
         Ok(asked) => match answer(rt, alloc, files, &asked) {
-            Ok(outcome) => report(out, &outcome),
-            Err(call) => want(out, call),
+            Ok(outcome) => report(out, err, &outcome),
+            Err(call) => want(out, err, call),
         },
-        Err(error) => tell(alloc, &error, out, err),
+        Err(error) => explain(alloc, &error, out, err),
     }
 }
 
@@ -64,15 +64,16 @@ fn answer<R: Threads + Sync, F: FileSet>(
 {
     match outcome(rt, alloc, files, asked) {
         Ok(outcome) => Ok(outcome),
-        Err(refusal) => refused(alloc, &refusal),
+        Err(it) => refused(alloc, it),
     }
 }
 
 /// The line of a refusal, or its call where memory ran out there or for the line.
-fn refused(alloc: Global, refusal: &Refusal) -> Result<Outcome, Call>
-    ensures line { IfOk result (λ o. (is_want refusal.now ≡ false) × (outcome_view o ≡ report_of (Err refusal.now))) }
-    ensures call { IfErr result (λ c. c ≡ call_of refusal.now) }
+fn refused(alloc: Global, refused: Refused) -> Result<Outcome, Call>
+    ensures line { IfOk result (λ o. (is_want refused.refusal ≡ false) × (outcome_view o ≡ report_of (Err refused.refusal))) }
+    ensures call { IfErr result (λ c. c ≡ call_of refused.refusal) }
 {
+    let Refused { refusal, remark } = refused;
     if refusal.is_want() {
         return Err(refusal.call());
     }
@@ -80,33 +81,31 @@ fn refused(alloc: Global, refusal: &Refusal) -> Result<Outcome, Call>
         Ok(text) => Ok(Outcome {
             text: text.into_bytes(),
             status: Status::Refused,
+            remark: Some(remark),
         }),
         Err(AllocError) => Err(refusal.call()),
     }
 }
 
 /// Writes the text of `clap` where it belongs.
-fn tell<O: Outlet, E: Outlet>(alloc: Global, error: &clap::Error, out: &mut O, err: &mut E) -> u8
+fn explain<O: Outlet, E: Outlet>(alloc: Global, error: &clap::Error, out: &mut O, err: &mut E) -> u8
     requires out_whole { O.is_broken out.old ≡ false }
     requires err_whole { E.is_broken err.old ≡ false }
     ensures { Tells (O.bytes out.old) (O.bytes out.new) (O.is_broken out.new) (E.bytes err.old) (E.bytes err.new) (E.is_broken err.new) result (kind_of error.now) }
 {
     if error.kind() == clap::error::ErrorKind::OutOfMemory {
-        return want(out, Call::Flagops);
+        return want(out, err, Call::Flagops);
     }
     match error.to_string(alloc) {
         Ok(text) => {
             if error.use_stderr() {
                 complain(err, text.as_str())
             } else {
-                let outcome = Outcome {
-                    text: text.into_bytes(),
-                    status: Status::Done,
-                };
-                report(out, &outcome)
+                let outcome = Outcome::plain(text.into_bytes(), Status::Done);
+                report(out, err, &outcome)
             }
         }
-        Err(AllocError) => want(out, Call::Flagops),
+        Err(AllocError) => want(out, err, Call::Flagops),
     }
 }
 
@@ -116,12 +115,6 @@ pub fn complain<E: Outlet>(err: &mut E, text: &str) -> u8
     ensures told { PutsText (E.bytes err.old) (E.bytes err.new) (E.is_broken err.new) }
     ensures status { result ≡ 2 }
 {
-    // No clause of `clap` says that its text is not empty.
-    let text = if text.is_empty() {
-        "error: the words ask for no command\n"
-    } else {
-        text
-    };
-    write_whole(err, text.as_bytes());
+    tell(err, text);
     Status::Usage.number()
 }

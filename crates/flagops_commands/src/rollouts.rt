@@ -2,4 +2,5 @@
 
 pub mod apply;
 pub mod plan;
+mod unrecorded;
 pub mod verify;

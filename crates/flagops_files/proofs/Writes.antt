@@ -26,7 +26,7 @@ part_after old mid new a r p q =
 
 -- a text with the status of a refusal, written as a report is
 pub refusal_reported : (old new : Option (List ℕ)) (broken : Bool) (status : ℕ) (text : List ℕ) (whole : Bool) → OnTrue whole (Appends old new text) → AppendsPart old new text
-    → whole ≡ not broken → status ≡ 1 → Reports old new broken status (record { text = text; status = 1 })
+    → whole ≡ not broken → status ≡ 1 → Reports old new broken status (record { text = text; status = 1; is_told = true })
 refusal_reported old new false status text whole all part is one =
     let P : Bool → Type 0 = λ b. OnTrue b (Appends old new text) in (subst P is all, one)
 refusal_reported old new true status text whole all part is one = (part, one)

@@ -14,6 +14,7 @@ use Rattle.flagops_files.specs.declared.files.LoadFault.TheVariants.{Unreadable}
 use Rattle.flagops_files.specs.declared.refusal.Call.{Call}
 use Rattle.flagops_files.specs.declared.refusal.Call.TheVariants as call
 use Rattle.flagops_files.specs.declared.refusal.Refusal.{Refusal}
+use Rattle.flagops_files.specs.declared.refused.Refused.{Refused}
 use Rattle.flagops_files.specs.declared.refusal.Refusal.TheVariants.{WantOfMemory, Load, LongBook, ReadTree, ReadRule, ReadRequest, Note, Price, ReadFlags, ReadBook, ReadPlanned, Verify, Apply, Plan, PrintPlanned}
 use Rattle.flagops_files.specs.declared.refusal.PriceMismatch.{PriceMismatch}
 use Rattle.flagops_files.specs.declared.refusal.PriceMismatch.TheVariants.{Weight, BadKeys}
@@ -37,6 +38,11 @@ call_name call.Apply = codes "apply"
 call_name call.Plan = codes "plan"
 call_name call.PrintPlanned = codes "print_planned"
 
+-- the call that loading the bytes of a file makes
+abbrev pub loads_file : Call → Bool
+loads_file call.Load = true
+loads_file c = false
+
 -- the calls that loading a tree makes
 abbrev pub loads_tree : Call → Bool
 loads_tree call.Load = true
@@ -47,6 +53,11 @@ loads_tree c = false
 abbrev pub loads_rule : Call → Bool
 loads_rule call.ReadRule = true
 loads_rule c = loads_tree c
+
+-- the call that reading a flag document makes
+abbrev pub reads_flags : Call → Bool
+reads_flags call.ReadFlags = true
+reads_flags c = false
 
 -- the calls that loading a flag document makes
 abbrev pub loads_flags : Call → Bool
@@ -157,23 +168,27 @@ unfoldable pub want_line : Call → List ℕ
 want_line c = codes "refused " ++ (call_name c ++ codes " 0 WantOfMemory\n")
 
 -- What was returned, seen by `seen`, is one of these, unless memory ran out.
-abbrev pub GivesOne : {X Y : Type 0} → (X → Y) → Result X Refusal → (Result Y Refusal → Type 0) → Type 0
+abbrev pub GivesOne : {X Y : Type 0} → (X → Y) → Result X Refused → (Result Y Refusal → Type 0) → Type 0
 GivesOne seen (Ok x) Wanted = Wanted (Ok (seen x))
-GivesOne seen (Err r) Wanted = is_want r ≡ false → Wanted (Err r)
+GivesOne seen (Err r) Wanted = is_want r.refusal ≡ false → Wanted (Err r.refusal)
 
 -- What was returned, seen by `seen`, is what the definition gives, unless memory ran out.
-abbrev pub GivesUnlessWant : {X Y : Type 0} → (X → Y) → Result X Refusal → Result Y Refusal → Type 0
+abbrev pub GivesUnlessWant : {X Y : Type 0} → (X → Y) → Result X Refused → Result Y Refusal → Type 0
 GivesUnlessWant seen (Ok x) wanted = wanted ≡ Ok (seen x)
-GivesUnlessWant seen (Err r) wanted = is_want r ≡ false → wanted ≡ Err r
+GivesUnlessWant seen (Err r) wanted = is_want r.refusal ≡ false → wanted ≡ Err r.refusal
 
 -- a refusal comes from one of these calls
-abbrev pub ComesFrom : {X : Type 0} → (Call → Bool) → Result X Refusal → Type 0
-ComesFrom calls r = IfErr r (λ e. calls (call_of e) ≡ true)
+abbrev pub ComesFrom : {X : Type 0} → (Call → Bool) → Result X Refused → Type 0
+ComesFrom calls r = IfErr r (λ e. calls (call_of e.refusal) ≡ true)
 
 -- a file could not be read
-abbrev pub is_file_fault : {X : Type 0} → Result X Refusal → Bool
-is_file_fault (Err (Load Unreadable)) = true
-is_file_fault r = false
+abbrev pub is_unread : Refusal → Bool
+is_unread (Load Unreadable) = true
+is_unread r = false
+
+abbrev pub is_file_fault : {X : Type 0} → Result X Refused → Bool
+is_file_fault (Ok x) = false
+is_file_fault (Err r) = is_unread r.refusal
 
 abbrev pub unreadable : Refusal
 unreadable = Load Unreadable

@@ -1,25 +1,63 @@
 //! From the path of a flag document to its flags.
-ghost use Rattle.std.specs.Prelude.{◌≡◌, ◌||◌, IfSome};
+ghost use Rattle.std.specs.Prelude.{◌≡◌, ◌||◌, false, IfSome};
 ghost use Rattle.flag_defs.specs.Flags.{flags_view};
-ghost use Rattle.flagops_files.specs.Documents.{IsDocumentAt};
-ghost use Rattle.flagops_files.specs.Refusal.{ComesFrom, GivesOne, is_file_fault, loads_flags};
+ghost use Rattle.flagops_files.specs.Documents.{IsDocumentAt, IsDocumentIn};
+ghost use Rattle.flagops_files.specs.Refusal.{ComesFrom, GivesOne, is_file_fault, loads_flags, reads_flags};
 
 use crate::files::FileSet;
-use crate::loading::TEXT_LIMIT;
+use crate::loading::{TEXT_LIMIT, load};
 use crate::refusal::Refusal;
+use crate::refused::{Refused, Remark};
 use flag_defs::{Flags, read_flags};
+use flagops_remarks::of_document;
 use std::alloc::Global;
 
+/// A flag document: its bytes, and the flags that they mean.
+#[derive(Drop)]
+pub struct Document {
+    pub bytes: Vec<u8>,
+    pub flags: Flags,
+}
+
 /// The flags of the document at a path.
-#[tactic(auto, unfolding(crate::specs::Documents::IsDocumentAt))]
-pub fn load_flags<F: FileSet>(alloc: Global, files: &mut F, path: &str) -> Result<Flags, Refusal>
+pub fn load_flags<F: FileSet>(alloc: Global, files: &mut F, path: &str) -> Result<Flags, Refused>
     ensures exact { IfSome (F.holding files.old) (λ at. GivesOne flags_view result (IsDocumentAt at path.now)) }
     ensures calls { ComesFrom loads_flags result }
     ensures failed { F.has_failed files.new ≡ (F.has_failed files.old || is_file_fault result) }
     ensures kept { F.holding files.new ≡ F.holding files.old }
 {
-    let bytes = files
-        .read(alloc, path, u64::from(TEXT_LIMIT))
-        .map_err(Refusal::Load)?;
-    read_flags(alloc, bytes.as_slice()).map_err(Refusal::ReadFlags)
+    let Document { flags, .. } = load_document(alloc, files, path)?;
+    Ok(flags)
+}
+
+/// The document at a path.
+#[tactic(auto, unfolding(crate::specs::Documents::IsDocumentAt))]
+pub fn load_document<F: FileSet>(
+    alloc: Global,
+    files: &mut F,
+    path: &str,
+) -> Result<Document, Refused>
+    ensures exact { IfSome (F.holding files.old) (λ at. GivesOne (λ d. flags_view d.flags) result (IsDocumentAt at path.now)) }
+    ensures calls { ComesFrom loads_flags result }
+    ensures failed { F.has_failed files.new ≡ (F.has_failed files.old || is_file_fault result) }
+    ensures kept { F.holding files.new ≡ F.holding files.old }
+{
+    let bytes = load(alloc, files, path, u64::from(TEXT_LIMIT))?;
+    let flags = flags_in(alloc, path, bytes.as_slice())?;
+    Ok(Document { bytes, flags })
+}
+
+/// The flags of a document that was loaded from a path.
+fn flags_in(alloc: Global, path: &str, bytes: &[u8]) -> Result<Flags, Refused>
+    ensures exact { GivesOne flags_view result (IsDocumentIn bytes.now) }
+    ensures calls { ComesFrom reads_flags result }
+    ensures read { is_file_fault result ≡ false }
+{
+    match read_flags(alloc, bytes) {
+        Ok(flags) => Ok(flags),
+        Err(fault) => Err(Refused {
+            refusal: Refusal::ReadFlags(fault),
+            remark: Remark::of(of_document(alloc, path, bytes, fault)),
+        }),
+    }
 }

@@ -2,13 +2,15 @@
 //!
 //! - [`FileSet`] is what a command sees of files; [`SystemFiles`] are those of the system. The functions `load_..` go from a
 //!   path to what the file stands for: a tree, a rule, a flag document, a plan file, or the [`Question`] of a rollout.
-//! - A [`Refusal`] is the fault of one of the calls that a command makes. [`Refusal::line`] is the line that it is written as.
-//! - An [`Outcome`] is the whole output of a command with its [`Status`]; [`report`] writes it, and [`want`] writes the line
-//!   of a call that ran out of memory, for which it takes none.
+//! - A [`Refusal`] is the fault of one of the calls that a command makes. [`Refusal::line`] is the line that it is written as;
+//!   a [`Refused`] has it with the [`Remark`] that a person is told.
+//! - An [`Outcome`] is the whole output of a command with its [`Status`] and perhaps a remark; [`report`] writes both, and
+//!   [`want`] writes the line of a call that ran out of memory, for which it takes none.
 //!
 //! Proved, over the definitions of `specs/`: what is loaded is what the definitions give of the files, the first refusal in
 //! its order, unless memory ran out; a file set shows a failure exactly where a load refused; the line of a refusal is
-//! `Refusal.line_of`; and what was written is the text, or a front of it with status 1 where the outlet failed.
+//! `Refusal.line_of`; and what was written is the text, or a front of it with status 1 where the outlet failed; a remark is
+//! told where there is one, whatever becomes of the output, and changes neither text nor status.
 #![tactic(auto)]
 
 mod documents;
@@ -20,16 +22,18 @@ mod plan_file;
 mod question;
 mod quoting;
 mod refusal;
+mod refused;
 mod reports;
 mod system_files;
 
-pub use documents::load_flags;
+pub use documents::{Document, load_document, load_flags};
 pub use files::{FileSet, LoadFault, StoreFault};
-pub use loading::{TEXT_LIMIT, load_rule, load_tree};
+pub use loading::{TEXT_LIMIT, load, load_rule, load_tree};
 pub use outcome::{Outcome, Status};
 pub use plan_file::load_planned;
 pub use question::{Question, load_question};
 pub use quoting::quoted;
 pub use refusal::{Call, PriceMismatch, Refusal};
-pub use reports::{report, want};
+pub use refused::{Refused, Remark};
+pub use reports::{report, tell, want};
 pub use system_files::SystemFiles;

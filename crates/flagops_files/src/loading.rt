@@ -1,14 +1,18 @@
 //! From the path of a file to what it stands for.
-ghost use Rattle.std.specs.Prelude.{◌≡◌, ◌||◌, true, IfOk, IfSome};
+ghost use Rattle.std.specs.Prelude.{◌≡◌, ◌≤◌, ◌+◌, ◌||◌, true, length, IfOk, IfSome};
 ghost use Rattle.flag_text.specs.Shape.{is_whole};
 ghost use Rattle.flag_text.specs.View.{view};
-ghost use Rattle.flagops_files.specs.Refusal.{ComesFrom, GivesUnlessWant, is_file_fault, loads_rule, loads_tree};
-ghost use Rattle.flagops_files.specs.Loading.{rule_at, tree_at};
+ghost use Rattle.flagops_files.specs.Refusal.{ComesFrom, GivesUnlessWant, is_file_fault, loads_file, loads_rule, loads_tree};
+ghost use Rattle.flagops_files.specs.Files.{load_of};
+ghost use Rattle.flagops_files.specs.Loading.{refused_by, rule_at, tree_at};
+ghost use Rattle.flagops_files.specs.declared.refusal.Refusal.TheVariants.{Load};
 
 use crate::files::FileSet;
 use crate::refusal::Refusal;
+use crate::refused::{Refused, Remark};
 use bucket_core::{Rule, read_rule};
 use flag_text::{Tree, read_tree};
+use flagops_remarks::{of_rule, of_text, of_unreadable};
 use std::alloc::Global;
 
 /// The largest rule or plan file, in bytes.
@@ -17,6 +21,28 @@ pub const RULE_LIMIT: u32 = 67_108_864;
 /// The largest request, key file, document or context, in bytes.
 pub const TEXT_LIMIT: u32 = 4_194_304;
 
+/// The bytes of the file at a path, cut after one more than so many.
+pub fn load<F: FileSet>(
+    alloc: Global,
+    files: &mut F,
+    path: &str,
+    max: u64,
+) -> Result<Vec<u8>, Refused>
+    ensures exact { IfSome (F.holding files.old) (λ at. GivesUnlessWant (λ v. v.items) result (refused_by Load (load_of at path.now max))) }
+    ensures most { IfOk result (λ v. length v.items ≤ max + 1) }
+    ensures calls { ComesFrom loads_file result }
+    ensures failed { F.has_failed files.new ≡ (F.has_failed files.old || is_file_fault result) }
+    ensures kept { F.holding files.new ≡ F.holding files.old }
+{
+    match files.read(alloc, path, max) {
+        Ok(bytes) => Ok(bytes),
+        Err(fault) => Err(Refused {
+            refusal: Refusal::Load(fault),
+            remark: Remark::of(of_unreadable(alloc, path)),
+        }),
+    }
+}
+
 /// The tree of the file at a path, of at most so many bytes.
 #[tactic(auto, unfolding(crate::specs::Loading::tree_at))]
 pub fn load_tree<F: FileSet>(
@@ -24,27 +50,37 @@ pub fn load_tree<F: FileSet>(
     files: &mut F,
     path: &str,
     limit: u32,
-) -> Result<Tree, Refusal>
+) -> Result<Tree, Refused>
     ensures exact { IfSome (F.holding files.old) (λ at. GivesUnlessWant view result (tree_at at path.now limit)) }
     ensures whole { IfOk result (λ t. is_whole (view t) ≡ true) }
     ensures calls { ComesFrom loads_tree result }
     ensures failed { F.has_failed files.new ≡ (F.has_failed files.old || is_file_fault result) }
     ensures kept { F.holding files.new ≡ F.holding files.old }
 {
-    let bytes = files
-        .read(alloc, path, u64::from(limit))
-        .map_err(Refusal::Load)?;
-    read_tree(alloc, bytes.as_slice(), limit as usize).map_err(Refusal::ReadTree)
+    let bytes = load(alloc, files, path, u64::from(limit))?;
+    match read_tree(alloc, bytes.as_slice(), limit as usize) {
+        Ok(tree) => Ok(tree),
+        Err(fault) => Err(Refused {
+            refusal: Refusal::ReadTree(fault),
+            remark: Remark::of(of_text(alloc, path, bytes.as_slice(), limit as usize, fault)),
+        }),
+    }
 }
 
 /// The rule of the rule file at a path.
 #[tactic(auto, unfolding(crate::specs::Loading::rule_at))]
-pub fn load_rule<F: FileSet>(alloc: Global, files: &mut F, path: &str) -> Result<Rule, Refusal>
+pub fn load_rule<F: FileSet>(alloc: Global, files: &mut F, path: &str) -> Result<Rule, Refused>
     ensures exact { IfSome (F.holding files.old) (λ at. GivesUnlessWant (λ r. r) result (rule_at at path.now)) }
     ensures calls { ComesFrom loads_rule result }
     ensures failed { F.has_failed files.new ≡ (F.has_failed files.old || is_file_fault result) }
     ensures kept { F.holding files.new ≡ F.holding files.old }
 {
     let tree = load_tree(alloc, files, path, RULE_LIMIT)?;
-    read_rule(alloc, &tree).map_err(Refusal::ReadRule)
+    match read_rule(alloc, &tree) {
+        Ok(rule) => Ok(rule),
+        Err(fault) => Err(Refused {
+            refusal: Refusal::ReadRule(fault),
+            remark: Remark::of(of_rule(alloc, path, &tree, fault)),
+        }),
+    }
 }

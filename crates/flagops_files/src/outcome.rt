@@ -1,5 +1,7 @@
-ghost use Rattle.std.specs.Prelude.{◌≡◌};
-ghost use Rattle.flagops_files.specs.Report.{status_number};
+ghost use Rattle.std.specs.Prelude.{◌≡◌, false};
+ghost use Rattle.flagops_files.specs.Report.{outcome_view, status_number};
+
+use crate::refused::Remark;
 
 /// How a run ended.
 #[derive(Clone, Copy, Debug, PartialEq, Eq)]
@@ -35,4 +37,19 @@ pub struct Outcome {
     pub text: Vec<u8>,
     /// The status where all of it was written.
     pub status: Status,
+    /// What a person is told beside the output, where there is something to tell.
+    pub remark: Option<Remark>,
+}
+
+impl Outcome {
+    /// An outcome of which nothing is told beside the output.
+    pub fn plain(text: Vec<u8>, status: Status) -> Outcome
+        ensures { outcome_view result ≡ record { text = text.items; status = status_number status; is_told = false } }
+    {
+        Outcome {
+            text,
+            status,
+            remark: None,
+        }
+    }
 }

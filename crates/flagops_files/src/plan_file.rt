@@ -5,8 +5,10 @@ ghost use Rattle.flagops_files.specs.PlanFile.{plan_at};
 ghost use Rattle.flagops_files.specs.Refusal.{ComesFrom, GivesUnlessWant, is_file_fault, loads_plan};
 
 use crate::files::FileSet;
-use crate::loading::RULE_LIMIT;
+use crate::loading::{RULE_LIMIT, load};
 use crate::refusal::Refusal;
+use crate::refused::{Refused, Remark};
+use flagops_remarks::of_plan_file;
 use plan_text::{Planned, read_planned};
 use std::alloc::Global;
 
@@ -16,17 +18,18 @@ pub fn load_planned<F: FileSet>(
     alloc: Global,
     files: &mut F,
     path: &str,
-) -> Result<Planned, Refusal>
+) -> Result<Planned, Refused>
     ensures exact { IfSome (F.holding files.old) (λ at. GivesUnlessWant planned_view result (plan_at at path.now)) }
     ensures calls { ComesFrom loads_plan result }
     ensures failed { F.has_failed files.new ≡ (F.has_failed files.old || is_file_fault result) }
     ensures kept { F.holding files.new ≡ F.holding files.old }
 {
-    let bytes = files
-        .read(alloc, path, u64::from(RULE_LIMIT))
-        .map_err(Refusal::Load)?;
+    let bytes = load(alloc, files, path, u64::from(RULE_LIMIT))?;
     match read_planned(alloc, bytes.as_slice()) {
         Ok(planned) => Ok(planned),
-        Err(fault) => Err(Refusal::ReadPlanned(fault)),
+        Err(fault) => Err(Refused {
+            refusal: Refusal::ReadPlanned(fault),
+            remark: Remark::of(of_plan_file(alloc, path, bytes.as_slice(), fault)),
+        }),
     }
 }

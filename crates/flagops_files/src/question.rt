@@ -5,10 +5,12 @@ ghost use Rattle.flagops_files.specs.Refusal.{ComesFrom, GivesOne, GivesUnlessWa
 
 use crate::documents::load_flags;
 use crate::files::FileSet;
-use crate::loading::TEXT_LIMIT;
+use crate::loading::{TEXT_LIMIT, load};
 use crate::refusal::Refusal;
+use crate::refused::{Refused, Remark};
 use book_core::{Book, read_book};
 use flag_defs::Flags;
+use flagops_remarks::{of_book, of_unreadable};
 use std::alloc::Global;
 
 /// The largest book file, in bytes.
@@ -30,16 +32,14 @@ pub fn load_question<F: FileSet>(
     document: &str,
     request: &str,
     book: &str,
-) -> Result<Question, Refusal>
+) -> Result<Question, Refused>
     ensures exact { IfSome (F.holding files.old) (λ at. GivesOne question_view result (IsQuestionAt at document.now request.now book.now)) }
     ensures calls { ComesFrom loads_question result }
     ensures failed { F.has_failed files.new ≡ (F.has_failed files.old || is_file_fault result) }
     ensures kept { F.holding files.new ≡ F.holding files.old }
 {
     let flags = load_flags(alloc, files, document)?;
-    let request = files
-        .read(alloc, request, u64::from(TEXT_LIMIT))
-        .map_err(Refusal::Load)?;
+    let request = load(alloc, files, request, u64::from(TEXT_LIMIT))?;
     let book = load_book(alloc, files, book)?;
     Ok(Question {
         flags,
@@ -50,15 +50,24 @@ pub fn load_question<F: FileSet>(
 
 /// The book of the file at a path.
 #[tactic(auto, unfolding(crate::specs::Question::book_at))]
-fn load_book<F: FileSet>(alloc: Global, files: &mut F, path: &str) -> Result<Book, Refusal>
+fn load_book<F: FileSet>(alloc: Global, files: &mut F, path: &str) -> Result<Book, Refused>
     ensures exact { IfSome (F.holding files.old) (λ at. GivesUnlessWant (λ b. b) result (book_at at path.now)) }
     ensures calls { ComesFrom loads_book result }
     ensures failed { F.has_failed files.new ≡ (F.has_failed files.old || is_file_fault result) }
     ensures kept { F.holding files.new ≡ F.holding files.old }
 {
-    let bytes = files.read(alloc, path, BOOK_LIMIT).map_err(Refusal::Load)?;
+    let bytes = load(alloc, files, path, BOOK_LIMIT)?;
     if bytes.len() as u64 > BOOK_LIMIT {
-        return Err(Refusal::LongBook);
+        return Err(Refused {
+            refusal: Refusal::LongBook,
+            remark: Remark::of(of_unreadable(alloc, path)),
+        });
     }
-    read_book(alloc, bytes.as_slice()).map_err(Refusal::ReadBook)
+    match read_book(alloc, bytes.as_slice()) {
+        Ok(book) => Ok(book),
+        Err(fault) => Err(Refused {
+            refusal: Refusal::ReadBook(fault),
+            remark: Remark::of(of_book(alloc, path, fault)),
+        }),
+    }
 }

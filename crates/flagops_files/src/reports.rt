@@ -1,20 +1,31 @@
 //! Writing what a run reports.
-ghost use Rattle.std.specs.Prelude.{◌≡◌, ◌++◌, false, not};
+ghost use Rattle.std.specs.Prelude.{◌≡◌, ◌++◌, false, not, is_some};
 ghost use Rattle.std.specs.Bool.{OnTrue};
 ghost use Rattle.std.specs.Io.KnownBytes.{Appends};
 ghost use Rattle.flag_text.specs.Outlet.{AppendsPart};
-ghost use Rattle.flagops_files.specs.Report.{Reports, outcome_view, want_report};
+ghost use Rattle.flagops_files.specs.Report.{PutsText, Reports, ReportsAll, TellsIf, outcome_view, want_report};
 
 use crate::outcome::{Outcome, Status};
 use crate::refusal::Call;
+use crate::refused::Remark;
 use flag_text::{Outlet, write_whole};
 
-/// Writes the text of an outcome, and gives its status, or that of a refusal where the output
-/// failed.
-pub fn report<O: Outlet>(out: &mut O, outcome: &Outcome) -> u8
+/// Writes the text of an outcome to `out` and what a person is told of it to `err`, and gives its status, or that of a
+/// refusal where the output failed. What becomes of `err` changes neither.
+pub fn report<O: Outlet, E: Outlet>(out: &mut O, err: &mut E, outcome: &Outcome) -> u8
+    requires out_whole { O.is_broken out.old ≡ false }
+    requires err_whole { E.is_broken err.old ≡ false }
+    ensures { ReportsAll (O.bytes out.old) (O.bytes out.new) (O.is_broken out.new) (E.bytes err.old) (E.bytes err.new) (E.is_broken err.new) result (outcome_view outcome.now) }
+{
+    let status = print(out, outcome);
+    tell_remark(err, &outcome.remark);
+    status
+}
+
+/// Writes the text of an outcome, and gives its status, or that of a refusal where the output failed.
+fn print<O: Outlet>(out: &mut O, outcome: &Outcome) -> u8
     requires { O.is_broken out.old ≡ false }
-    ensures { Reports (O.bytes out.old) (O.bytes out.new) (O.is_broken out.new) result
-        (outcome_view outcome.now) }
+    ensures { Reports (O.bytes out.old) (O.bytes out.new) (O.is_broken out.new) result (outcome_view outcome.now) }
 {
     if write_whole(out, outcome.text.as_slice()) {
         outcome.status.number()
@@ -23,9 +34,19 @@ pub fn report<O: Outlet>(out: &mut O, outcome: &Outcome) -> u8
     }
 }
 
-/// Writes the line of a call that ran out of memory, and takes none for it.
+/// Writes the line of a call that ran out of memory, and takes none for it; a person is told the same.
+pub fn want<O: Outlet, E: Outlet>(out: &mut O, err: &mut E, call: Call) -> u8
+    requires out_whole { O.is_broken out.old ≡ false }
+    requires err_whole { E.is_broken err.old ≡ false }
+    ensures { ReportsAll (O.bytes out.old) (O.bytes out.new) (O.is_broken out.new) (E.bytes err.old) (E.bytes err.new) (E.is_broken err.new) result (want_report call) }
+{
+    let status = print_want(out, call);
+    tell(err, Remark::Short.text());
+    status
+}
+
 #[tactic(auto, unfolding(crate::specs::Refusal::want_line))]
-pub fn want<O: Outlet>(out: &mut O, call: Call) -> u8
+fn print_want<O: Outlet>(out: &mut O, call: Call) -> u8
     requires { O.is_broken out.old ≡ false }
     ensures { Reports (O.bytes out.old) (O.bytes out.new) (O.is_broken out.new) result
         (want_report call) }
@@ -37,6 +58,30 @@ pub fn want<O: Outlet>(out: &mut O, call: Call) -> u8
         b" 0 WantOfMemory\n",
     );
     Status::Refused.number()
+}
+
+/// Tells a remark where there is one.
+fn tell_remark<E: Outlet>(err: &mut E, remark: &Option<Remark>)
+    requires { E.is_broken err.old ≡ false }
+    ensures { TellsIf (E.bytes err.old) (E.bytes err.new) (E.is_broken err.new) (is_some remark.now) }
+{
+    if let Some(remark) = remark {
+        tell(err, remark.text());
+    }
+}
+
+/// Writes what a person is told.
+pub fn tell<E: Outlet>(err: &mut E, text: &str)
+    requires { E.is_broken err.old ≡ false }
+    ensures { PutsText (E.bytes err.old) (E.bytes err.new) (E.is_broken err.new) }
+{
+    // A text that says nothing is not told: no clause says that those of `clap`, or of a remark, are not empty.
+    let text = if text.is_empty() {
+        "error: docs/REFUSALS.md explains the answer\n"
+    } else {
+        text
+    };
+    write_whole(err, text.as_bytes());
 }
 
 /// Writes all three, and says whether that went well.

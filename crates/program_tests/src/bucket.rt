@@ -94,8 +94,8 @@ fn large(rt: HostRuntime) -> Result<(), Fail> {
     files.write(alloc, "f", b"[[\"on\"]]")?;
     assert!(rt; load_tree(alloc, &mut files, "f", 8).is_ok());
     match load_tree(alloc, &mut files, "f", 7) {
-        Err(refusal) => {
-            let line = refusal.line(alloc)?;
+        Err(refused) => {
+            let line = refused.refusal.line(alloc)?;
             assert!(rt; line.as_str() == "refused read_tree 3 TooLarge\n");
         }
         Ok(_tree) => assert!(rt; false, "a file above the limit"),

@@ -19,7 +19,7 @@ fn failing_outputs(rt: HostRuntime) -> Result<(), Fail> {
             let ran = run_over(&rt, &["bucket", "f", "test"], &[("f", file)], k)?;
             let is_front = ran.out.as_slice() == &report[..k];
             assert!(rt;
-                is_front && ran.status == 1 && ran.err.is_empty(),
+                is_front && ran.status == 1 && ran.err.is_empty() == (report[0] == b'h'),
                 "after {k}"
             );
         }
@@ -39,7 +39,8 @@ fn want_of_memory(rt: HostRuntime) -> Result<(), Fail> {
     ] {
         for k in 0..line.len() + 1 {
             let mut out = MemoryOutlet::new(alloc, k);
-            let status = want(&mut out, call);
+            let mut err = MemoryOutlet::new(alloc, k);
+            let status = want(&mut out, &mut err, call);
             assert!(rt;
                 status == 1 && out.bytes.as_slice() == &line.as_bytes()[..k],
                 "after {k}"

@@ -140,9 +140,11 @@ pub struct Ran {
 }
 
 impl Ran {
-    /// Whether it ended with the status and the report, and wrote nothing else.
+    /// Whether it ended with the status and the report, and a refusal was told in words.
     pub fn ended(&self, status: u8, report: &str) -> bool {
-        self.status == status && self.out.as_slice() == report.as_bytes() && self.err.is_empty()
+        self.status == status
+            && self.out.as_slice() == report.as_bytes()
+            && (status != 1 || !self.err.is_empty())
     }
 }
 

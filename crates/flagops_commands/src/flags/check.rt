@@ -1,32 +1,71 @@
 //! The command `check`: which flags of a document are good.
-ghost use Rattle.std.specs.Prelude.{◌≡◌, ◌++◌, ◌||◌, drop, IfOk, IfSome, string_bytes};
+ghost use Rattle.std.specs.Prelude.{◌≡◌, ◌++◌, ◌||◌, false, drop, is_some, IfOk, IfSome, string_bytes};
 ghost use Rattle.flag_defs.specs.Flag.{flag_view};
 ghost use Rattle.flag_defs.specs.Flags.{flags_view};
-ghost use Rattle.flagops_commands.specs.Check.{IsCheckReport, check_text, good_or_broken};
-ghost use Rattle.flagops_commands.specs.Calls.{check_calls};
-ghost use Rattle.flagops_files.specs.Refusal.{ComesFrom, GivesOne, is_file_fault};
+ghost use Rattle.flagops_commands.specs.Check.{IsCheckReport, check_report, check_text, good_or_broken, has_broken};
+ghost use Rattle.flagops_commands.specs.Calls.{check_calls, check_itself};
+ghost use Rattle.flagops_files.specs.Refusal.{ComesFrom, GivesOne, GivesUnlessWant, is_file_fault};
 ghost use Rattle.flagops_files.specs.Report.{outcome_view};
 
 use flag_defs::{Flag, Flags};
-use flagops_files::{Call, FileSet, Outcome, Refusal, Status, load_flags, quoted};
+use flagops_files::{
+    Call, Document, FileSet, Outcome, Refusal, Refused, Remark, Status, load_document, quoted,
+};
+use flagops_remarks::of_breaches;
 use std::alloc::{AllocError, Global};
 
-/// A line for each flag of a document, by key: whether it is good or broken.
+/// A line for each flag of a document, by key: whether it is good or broken. A person is told why each broken one is.
 #[tactic(auto, unfolding(crate::specs::Check::IsCheckReport))]
-pub fn check<F: FileSet>(alloc: Global, files: &mut F, document: &str) -> Result<Outcome, Refusal>
+pub fn check<F: FileSet>(alloc: Global, files: &mut F, document: &str) -> Result<Outcome, Refused>
     ensures exact { IfSome (F.holding files.old) (λ at. GivesOne outcome_view result (IsCheckReport at document.now)) }
     ensures calls { ComesFrom check_calls result }
     ensures failed { F.has_failed files.new ≡ (F.has_failed files.old || is_file_fault result) }
     ensures kept { F.holding files.new ≡ F.holding files.old }
 {
-    let flags = load_flags(alloc, files, document)?;
-    match lines(alloc, &flags) {
+    let Document { bytes, flags } = load_document(alloc, files, document)?;
+    checked(alloc, &flags, bytes.as_slice())
+}
+
+/// The report of flags, which are those of a document.
+fn checked(alloc: Global, flags: &Flags, document: &[u8]) -> Result<Outcome, Refused>
+    ensures exact { GivesUnlessWant outcome_view result (check_report (flags_view flags.now)) }
+    ensures calls { ComesFrom check_itself result }
+    ensures read { is_file_fault result ≡ false }
+{
+    match lines(alloc, flags) {
         Ok(text) => Ok(Outcome {
             text: text.into_bytes(),
             status: Status::Done,
+            remark: remark(alloc, flags, document),
         }),
-        Err(AllocError) => Err(Refusal::WantOfMemory(Call::Check)),
+        Err(AllocError) => Err(Refused {
+            refusal: Refusal::WantOfMemory(Call::Check),
+            remark: Remark::Short,
+        }),
     }
+}
+
+/// Why each broken flag is broken, where there is one.
+fn remark(alloc: Global, flags: &Flags, document: &[u8]) -> Option<Remark>
+    ensures { is_some result ≡ has_broken (flags_view flags.now) }
+{
+    if has_broken(flags) {
+        Some(Remark::of(of_breaches(alloc, document)))
+    } else {
+        None
+    }
+}
+
+fn has_broken(flags: &Flags) -> bool
+    ensures { result ≡ has_broken (flags_view flags.now) }
+{
+    for i in 0..flags.len() {
+        let (_, flag) = flags.at(i);
+        if flag.is_broken() {
+            return true;
+        }
+    }
+    false
 }
 
 #[tactic(auto, unfolding(crate::specs::Check::check_text))]

@@ -14,7 +14,10 @@ ghost use Rattle.flagops_files.specs.declared.refusal.Refusal.TheVariants.{ReadT
 use flag_defs::Flags;
 use flag_resolve::{Kind, print_resolution};
 use flag_text::{Tree, read_tree};
-use flagops_files::{Call, FileSet, Outcome, Refusal, Status, TEXT_LIMIT, load_flags, load_tree};
+use flagops_files::{
+    Call, FileSet, Outcome, Refusal, Refused, Remark, Status, TEXT_LIMIT, load_flags, load_tree,
+};
+use flagops_remarks::of_word;
 use flagops_words::Moment;
 use std::alloc::{AllocError, Global};
 
@@ -29,7 +32,7 @@ pub fn resolve<F: FileSet>(
     default: &str,
     context: &str,
     moment: Moment,
-) -> Result<Outcome, Refusal>
+) -> Result<Outcome, Refused>
     ensures exact { IfSome (F.holding files.old) (λ at. GivesOne outcome_view result (IsResolveReport at document.now key.now kind default.now context.now moment.number)) }
     ensures calls { ComesFrom resolve_calls result }
     ensures failed { F.has_failed files.new ≡ (F.has_failed files.old || is_file_fault result) }
@@ -39,22 +42,34 @@ pub fn resolve<F: FileSet>(
     let default = default_in(alloc, default)?;
     let context = load_tree(alloc, files, context, TEXT_LIMIT)?;
     match line(alloc, &flags, key, kind, &default, &context, moment) {
-        Ok(text) => Ok(Outcome {
-            text: text.into_bytes(),
-            status: Status::Done,
+        Ok(text) => Ok(Outcome::plain(text.into_bytes(), Status::Done)),
+        Err(AllocError) => Err(Refused {
+            refusal: Refusal::WantOfMemory(Call::Resolve),
+            remark: Remark::Short,
         }),
-        Err(AllocError) => Err(Refusal::WantOfMemory(Call::Resolve)),
     }
 }
 
 /// The tree that a word spells.
-fn default_in(alloc: Global, word: &str) -> Result<Tree, Refusal>
+fn default_in(alloc: Global, word: &str) -> Result<Tree, Refused>
     ensures exact { GivesUnlessWant view result (refused_by ReadTree (tree_of word.now max_text)) }
     ensures whole { IfOk result (λ t. is_whole (view t) ≡ true) }
     ensures calls { ComesFrom loads_tree result }
     ensures read { is_file_fault result ≡ false }
 {
-    read_tree(alloc, word.as_bytes(), TEXT_LIMIT as usize).map_err(Refusal::ReadTree)
+    match read_tree(alloc, word.as_bytes(), TEXT_LIMIT as usize) {
+        Ok(tree) => Ok(tree),
+        Err(fault) => Err(Refused {
+            refusal: Refusal::ReadTree(fault),
+            remark: Remark::of(of_word(
+                alloc,
+                "DEFAULT",
+                word.as_bytes(),
+                TEXT_LIMIT as usize,
+                fault,
+            )),
+        }),
+    }
 }
 
 fn line(

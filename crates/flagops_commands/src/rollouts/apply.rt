@@ -8,7 +8,10 @@ ghost use Rattle.flagops_files.specs.Refusal.{ComesFrom, GivesOne, GivesUnlessWa
 ghost use Rattle.flagops_files.specs.Report.{done, outcome_view};
 
 use flag_defs::{Flags, print_flags};
-use flagops_files::{Call, FileSet, Outcome, Refusal, Status, load_flags, load_planned};
+use flagops_files::{
+    Call, FileSet, Outcome, Refusal, Refused, Remark, Status, load_flags, load_planned,
+};
+use flagops_remarks::of_applied;
 use plan_text::Planned;
 use std::alloc::{AllocError, Global};
 
@@ -22,7 +25,7 @@ pub fn apply<F: FileSet>(
     plan: &str,
     key: &str,
     site: u32,
-) -> Result<Outcome, Refusal>
+) -> Result<Outcome, Refused>
     ensures exact { IfSome (F.holding files.old) (λ at. GivesOne outcome_view result (IsApplyReport at document.now plan.now key.now site)) }
     ensures calls { ComesFrom apply_calls result }
     ensures failed { F.has_failed files.new ≡ (F.has_failed files.old || is_file_fault result) }
@@ -30,7 +33,7 @@ pub fn apply<F: FileSet>(
 {
     let flags = load_flags(alloc, files, document)?;
     let planned = load_planned(alloc, files, plan)?;
-    applied(alloc, &flags, key, site, &planned)
+    applied(alloc, &flags, key, site, plan, &planned)
 }
 
 #[tactic(auto, unfolding(crate::specs::Apply::applied_report))]
@@ -39,48 +42,54 @@ fn applied(
     flags: &Flags,
     key: &str,
     site: u32,
+    path: &str,
     planned: &Planned,
-) -> Result<Outcome, Refusal>
+) -> Result<Outcome, Refused>
     ensures exact { GivesUnlessWant outcome_view result (applied_report (flags_view flags.now) key.now site (planned_view planned.now)) }
     ensures calls { ComesFrom apply_itself result }
     ensures read { is_file_fault result ≡ false }
 {
     match planned {
         Planned::Emit(rule, _) => {
-            let changed = rollout::apply(alloc, flags, key, site, rule).map_err(Refusal::Apply)?;
-            document(alloc, &changed)
+            match rollout::apply(alloc, flags, key, site, rule) {
+                Ok(changed) => document(alloc, &changed),
+                Err(fault) => Err(Refused {
+                    refusal: Refusal::Apply(fault),
+                    remark: Remark::of(of_applied(alloc, path, flags, key, site, rule, fault)),
+                }),
+            }
         }
         Planned::NoneExists(_) => none(alloc),
     }
 }
 
 /// The report of the changed document.
-fn document(alloc: Global, flags: &Flags) -> Result<Outcome, Refusal>
+fn document(alloc: Global, flags: &Flags) -> Result<Outcome, Refused>
     ensures exact { GivesUnlessWant outcome_view result (done (document_line (flags_view flags.now))) }
     ensures calls { ComesFrom apply_itself result }
     ensures read { is_file_fault result ≡ false }
 {
     match document_line(alloc, flags) {
-        Ok(text) => Ok(Outcome {
-            text,
-            status: Status::Done,
+        Ok(text) => Ok(Outcome::plain(text, Status::Done)),
+        Err(AllocError) => Err(Refused {
+            refusal: Refusal::WantOfMemory(Call::Apply),
+            remark: Remark::Short,
         }),
-        Err(AllocError) => Err(Refusal::WantOfMemory(Call::Apply)),
     }
 }
 
 /// The report of a plan without a rule.
-fn none(alloc: Global) -> Result<Outcome, Refusal>
+fn none(alloc: Global) -> Result<Outcome, Refused>
     ensures exact { GivesUnlessWant outcome_view result (Ok none_report) }
     ensures calls { ComesFrom apply_itself result }
     ensures read { is_file_fault result ≡ false }
 {
     match Vec::from_slice(alloc, b"none\n") {
-        Ok(text) => Ok(Outcome {
-            text,
-            status: Status::NoneExists,
+        Ok(text) => Ok(Outcome::plain(text, Status::NoneExists)),
+        Err(AllocError) => Err(Refused {
+            refusal: Refusal::WantOfMemory(Call::Apply),
+            remark: Remark::Short,
         }),
-        Err(AllocError) => Err(Refusal::WantOfMemory(Call::Apply)),
     }
 }
 

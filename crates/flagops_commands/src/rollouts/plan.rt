@@ -1,18 +1,22 @@
 //! The command `plan`: the answer of the planner to a rollout request.
-ghost use Rattle.std.specs.Prelude.{◌≡◌, ◌||◌, false, true, Ok, IfOk, IfSome, option_map};
+ghost use Rattle.std.specs.Prelude.{◌≡◌, ◌||◌, false, true, is_some, Ok, IfOk, IfSome, option_map};
 ghost use Rattle.plan_text.specs.Answer.{IsOrdered, planned_view};
 ghost use Rattle.plan_text.specs.PlanFile.{IsWhole};
 ghost use Rattle.flagops_commands.specs.Plan.{Holds, IsPlanOf, IsPlanReport, MayBePlanned, plan_report, plan_status};
 ghost use Rattle.flagops_files.specs.Question.{question_view};
 ghost use Rattle.flagops_commands.specs.Calls.{plan_calls, prints_plan};
 ghost use Rattle.flagops_files.specs.Refusal.{ComesFrom, GivesOne, GivesUnlessWant, is_file_fault};
-ghost use Rattle.flagops_files.specs.Report.{outcome_view, status_number};
+ghost use Rattle.flagops_files.specs.Report.{beside, outcome_view, status_number};
 
-use flagops_files::{Call, FileSet, Outcome, Question, Refusal, Status, load_question};
+use crate::rollouts::unrecorded::unrecorded;
+use flagops_files::{
+    Call, FileSet, Outcome, Question, Refusal, Refused, Remark, Status, load_question,
+};
+use flagops_remarks::{of_large_plan, of_rollout};
 use flagops_words::Factor;
 use plan_text::{Planned, print_planned};
 use rollout::{RolloutFault, plan_refined};
-use std::alloc::{AllocFailed, Global};
+use std::alloc::{AllocError, AllocFailed, Global};
 use std::thread::Threads;
 
 /// The plan file of the rule that meets a request and costs the recorded inputs the least, or of a set of names which
@@ -26,28 +30,47 @@ pub fn plan<R: Threads + Sync, F: FileSet>(
     request: &str,
     book: &str,
     refine: Option<Factor>,
-) -> Result<Outcome, Refusal>
+) -> Result<Outcome, Refused>
     ensures exact { IfSome (F.holding files.old) (λ at. GivesOne outcome_view result (IsPlanReport at document.now request.now book.now (option_map (λ m. m.number) refine))) }
     ensures calls { ComesFrom plan_calls result }
     ensures failed { F.has_failed files.new ≡ (F.has_failed files.old || is_file_fault result) }
     ensures kept { F.holding files.new ≡ F.holding files.old }
 {
     let question = load_question(alloc, files, document, request, book)?;
-    answer(rt, alloc, &question, refine)
+    answer(rt, alloc, request, book, &question, refine)
 }
 
+/// The report on a question, which was loaded from these paths.
 fn answer(
     rt: &(impl Threads + Sync),
     alloc: Global,
+    request: &str,
+    book: &str,
     question: &Question,
     refine: Option<Factor>,
-) -> Result<Outcome, Refusal>
+) -> Result<Outcome, Refused>
     ensures exact { GivesOne outcome_view result (IsPlanOf (option_map (λ m. m.number) refine) (Ok (question_view question.now))) }
     ensures calls { ComesFrom prints_plan result }
     ensures read { is_file_fault result ≡ false }
 {
-    let planned = planned(rt, alloc, question, refine).map_err(Refusal::Plan)?;
-    printed(alloc, &planned)
+    let planned = match planned(rt, alloc, question, refine) {
+        Ok(planned) => planned,
+        Err(fault) => {
+            let (flags, bytes) = (&question.flags, question.request.as_slice());
+            let lines = of_rollout(alloc, request, flags, bytes, factor_of(refine), fault);
+            return Err(Refused {
+                refusal: Refusal::Plan(fault),
+                remark: Remark::of(lines),
+            });
+        }
+    };
+    match unrecorded(alloc, book, question) {
+        Ok(remark) => printed(alloc, &planned, remark),
+        Err(AllocError) => Err(Refused {
+            refusal: Refusal::WantOfMemory(Call::Plan),
+            remark: Remark::Short,
+        }),
+    }
 }
 
 /// What is planned, on the site's rule refined by the factor where one is given.
@@ -68,21 +91,34 @@ fn planned(
     }
 }
 
-fn printed(alloc: Global, planned: &Planned) -> Result<Outcome, Refusal>
+fn printed(alloc: Global, planned: &Planned, remark: Option<Remark>) -> Result<Outcome, Refused>
     requires ordered { IsOrdered (planned_view planned.now) }
     requires whole { IsWhole (planned_view planned.now) }
-    ensures exact { GivesUnlessWant outcome_view result (plan_report (planned_view planned.now)) }
+    ensures exact { GivesUnlessWant outcome_view result (beside (is_some remark) (plan_report (planned_view planned.now))) }
     ensures reads_back { IfOk result (λ o. Holds (planned_view planned.now) o.text.items) }
     ensures calls { ComesFrom prints_plan result }
     ensures read { is_file_fault result ≡ false }
 {
-    let mut text = print_planned(alloc, planned).map_err(Refusal::PrintPlanned)?;
+    let mut text = match print_planned(alloc, planned) {
+        Ok(text) => text,
+        Err(fault) => {
+            let lines = of_large_plan(alloc);
+            return Err(Refused {
+                refusal: Refusal::PrintPlanned(fault),
+                remark: Remark::of(lines),
+            });
+        }
+    };
     if let Err(AllocFailed { .. }) = text.push(b'\n') {
-        return Err(Refusal::WantOfMemory(Call::Plan));
+        return Err(Refused {
+            refusal: Refusal::WantOfMemory(Call::Plan),
+            remark: Remark::Short,
+        });
     }
     Ok(Outcome {
         text,
         status: status_of(planned),
+        remark,
     })
 }
 
@@ -92,5 +128,13 @@ fn status_of(planned: &Planned) -> Status
     match planned {
         Planned::Emit(_, _) => Status::Done,
         Planned::NoneExists(_) => Status::NoneExists,
+    }
+}
+
+/// What the weights of the site are multiplied by.
+pub(crate) fn factor_of(refine: Option<Factor>) -> u32 {
+    match refine {
+        Some(m) => m.number,
+        None => 1,
     }
 }

@@ -1,15 +1,18 @@
 //! The command `verify`: whether the answer of a plan file is right.
-ghost use Rattle.std.specs.Prelude.{◌≡◌, ◌||◌, false, Ok, IfOk, IfSome, option_map, string_bytes};
+ghost use Rattle.std.specs.Prelude.{◌≡◌, ◌||◌, false, is_some, Ok, IfOk, IfSome, option_map, string_bytes};
 ghost use Rattle.plan_text.specs.Answer.{planned_view};
 ghost use Rattle.flagops_files.specs.Question.{question_view};
 ghost use Rattle.flagops_commands.specs.Calls.{verify_calls, verify_itself};
-ghost use Rattle.flagops_files.specs.Refusal.{ComesFrom, GivesOne, is_file_fault};
-ghost use Rattle.flagops_files.specs.Report.{outcome_view};
+ghost use Rattle.flagops_files.specs.Refusal.{ComesFrom, GivesOne, GivesUnlessWant, is_file_fault};
+ghost use Rattle.flagops_files.specs.Report.{beside, done, outcome_view};
 ghost use Rattle.flagops_commands.specs.Verify.{IsVerdict, IsVerifyReport, MayBeTold, valid_text};
 
+use crate::rollouts::plan::factor_of;
+use crate::rollouts::unrecorded::unrecorded;
 use flagops_files::{
-    Call, FileSet, Outcome, Question, Refusal, Status, load_planned, load_question,
+    Call, FileSet, Outcome, Question, Refusal, Refused, Remark, Status, load_planned, load_question,
 };
+use flagops_remarks::{of_check, of_rollout};
 use flagops_words::Factor;
 use plan_text::Planned;
 use rollout::{VerifyFault, verify_refined};
@@ -27,7 +30,7 @@ pub fn verify<R: Threads + Sync, F: FileSet>(
     book: &str,
     plan: &str,
     refine: Option<Factor>,
-) -> Result<Outcome, Refusal>
+) -> Result<Outcome, Refused>
     ensures exact { IfSome (F.holding files.old) (λ at. GivesOne outcome_view result (IsVerifyReport at document.now request.now book.now plan.now (option_map (λ m. m.number) refine))) }
     ensures calls { ComesFrom verify_calls result }
     ensures failed { F.has_failed files.new ≡ (F.has_failed files.old || is_file_fault result) }
@@ -35,28 +38,92 @@ pub fn verify<R: Threads + Sync, F: FileSet>(
 {
     let question = load_question(alloc, files, document, request, book)?;
     let planned = load_planned(alloc, files, plan)?;
-    verdict(rt, alloc, &question, &planned, refine)
+    let paths = Paths {
+        request,
+        book,
+        plan,
+    };
+    verdict(rt, alloc, paths, &question, &planned, refine)
+}
+
+/// Where what is verified was loaded from.
+#[derive(Clone, Copy)]
+struct Paths<'a> {
+    request: &'a str,
+    book: &'a str,
+    plan: &'a str,
 }
 
 /// The line of an answer that is right.
 fn verdict(
     rt: &(impl Threads + Sync),
     alloc: Global,
+    paths: Paths<'_>,
     question: &Question,
     planned: &Planned,
     refine: Option<Factor>,
-) -> Result<Outcome, Refusal>
+) -> Result<Outcome, Refused>
     ensures exact { GivesOne outcome_view result (IsVerdict (option_map (λ m. m.number) refine) (Ok (question_view question.now)) (Ok (planned_view planned.now))) }
     ensures calls { ComesFrom verify_itself result }
     ensures read { is_file_fault result ≡ false }
 {
-    verified(rt, alloc, question, planned, refine).map_err(Refusal::Verify)?;
+    if let Err(fault) = verified(rt, alloc, question, planned, refine) {
+        let lines = lines_on(alloc, paths, question, planned, refine, &fault);
+        return Err(Refused {
+            refusal: Refusal::Verify(fault),
+            remark: Remark::of(lines),
+        });
+    }
+    match unrecorded(alloc, paths.book, question) {
+        Ok(remark) => valid(alloc, planned, remark),
+        Err(AllocError) => Err(Refused {
+            refusal: Refusal::WantOfMemory(Call::Verify),
+            remark: Remark::Short,
+        }),
+    }
+}
+
+/// The report of an answer that is right.
+fn valid(alloc: Global, planned: &Planned, remark: Option<Remark>) -> Result<Outcome, Refused>
+    ensures exact { GivesUnlessWant outcome_view result (beside (is_some remark) (done (valid_text (planned_view planned.now)))) }
+    ensures calls { ComesFrom verify_itself result }
+    ensures read { is_file_fault result ≡ false }
+{
     match valid_line(alloc, planned) {
         Ok(text) => Ok(Outcome {
             text: text.into_bytes(),
             status: Status::Done,
+            remark,
         }),
-        Err(AllocError) => Err(Refusal::WantOfMemory(Call::Verify)),
+        Err(AllocError) => Err(Refused {
+            refusal: Refusal::WantOfMemory(Call::Verify),
+            remark: Remark::Short,
+        }),
+    }
+}
+
+/// What a person is told of an answer that is not right, or of a request that is refused.
+fn lines_on(
+    alloc: Global,
+    paths: Paths<'_>,
+    question: &Question,
+    planned: &Planned,
+    refine: Option<Factor>,
+    fault: &VerifyFault,
+) -> Result<String, AllocError> {
+    let (flags, bytes) = (&question.flags, question.request.as_slice());
+    match fault {
+        VerifyFault::Request(fault) => {
+            of_rollout(
+                alloc,
+                paths.request,
+                flags,
+                bytes,
+                factor_of(refine),
+                *fault,
+            )
+        }
+        VerifyFault::Check(fault) => of_check(alloc, paths.plan, flags, bytes, planned, fault),
     }
 }
 

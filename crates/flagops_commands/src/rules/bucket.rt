@@ -6,7 +6,7 @@ ghost use Rattle.flagops_files.specs.Refusal.{ComesFrom, GivesUnlessWant, is_fil
 ghost use Rattle.flagops_files.specs.Report.{outcome_view};
 
 use bucket_core::{Rule, point};
-use flagops_files::{Call, FileSet, Outcome, Refusal, Status, load_rule, quoted};
+use flagops_files::{Call, FileSet, Outcome, Refusal, Refused, Remark, Status, load_rule, quoted};
 use murmur_core::hash;
 use std::alloc::{AllocError, Global};
 
@@ -17,7 +17,7 @@ pub fn bucket<F: FileSet>(
     files: &mut F,
     rule: &str,
     key: &str,
-) -> Result<Outcome, Refusal>
+) -> Result<Outcome, Refused>
     ensures exact { IfSome (F.holding files.old) (λ at. GivesUnlessWant outcome_view result (bucket_report at rule.now key.now)) }
     ensures calls { ComesFrom bucket_calls result }
     ensures failed { F.has_failed files.new ≡ (F.has_failed files.old || is_file_fault result) }
@@ -25,11 +25,11 @@ pub fn bucket<F: FileSet>(
 {
     let rule = load_rule(alloc, files, rule)?;
     match lines(alloc, &rule, key) {
-        Ok(text) => Ok(Outcome {
-            text: text.into_bytes(),
-            status: Status::Done,
+        Ok(text) => Ok(Outcome::plain(text.into_bytes(), Status::Done)),
+        Err(AllocError) => Err(Refused {
+            refusal: Refusal::WantOfMemory(Call::Bucket),
+            remark: Remark::Short,
         }),
-        Err(AllocError) => Err(Refusal::WantOfMemory(Call::Bucket)),
     }
 }
 

@@ -6,15 +6,18 @@ ghost use Rattle.flagops_commands.specs.Price.{request_at, keys_at, keys_in, if_
 ghost use Rattle.flagops_commands.specs.Calls.{loads_keys, loads_request, notes_keys, price_calls, price_itself};
 ghost use Rattle.flagops_files.specs.Refusal.{ComesFrom, GivesUnlessWant, is_file_fault};
 ghost use Rattle.flagops_files.specs.Report.{outcome_view};
+ghost use Rattle.flagops_files.specs.declared.refusal.PriceMismatch.TheVariants.{BadKeys};
+ghost use Rattle.flagops_files.specs.declared.refusal.Refusal.TheVariants.{Price};
 
 use crate::rules::totals::totals_by_name;
 use book_core::{Book, Exposure, Page};
 use bucket_core::Rule;
 use flag_text::Tree;
 use flagops_files::{
-    Call, FileSet, Outcome, PriceMismatch, Refusal, Status, TEXT_LIMIT, load_rule, load_tree,
-    quoted,
+    Call, FileSet, Outcome, PriceMismatch, Refusal, Refused, Remark, Status, TEXT_LIMIT, load,
+    load_rule, load_tree, quoted,
 };
+use flagops_remarks::{of_keys, of_noted, of_request, of_weights};
 use price_core::{Prices, Request, first_forbidden, switch_cost};
 use std::alloc::{AllocError, AllocFailed, Global};
 use std::thread::Threads;
@@ -30,7 +33,7 @@ pub fn price<R: Threads + Sync, F: FileSet>(
     new: &str,
     request: &str,
     keys: &str,
-) -> Result<Outcome, Refusal>
+) -> Result<Outcome, Refused>
     ensures exact { IfSome (F.holding files.old) (λ at. GivesUnlessWant outcome_view result (price_report at old.now new.now request.now keys.now)) }
     ensures calls { ComesFrom price_calls result }
     ensures failed { F.has_failed files.new ≡ (F.has_failed files.old || is_file_fault result) }
@@ -46,60 +49,78 @@ pub fn price<R: Threads + Sync, F: FileSet>(
 
 /// The request of the file at a path.
 #[tactic(auto, unfolding(crate::specs::Price::request_at))]
-fn load_request<F: FileSet>(alloc: Global, files: &mut F, path: &str) -> Result<Request, Refusal>
+fn load_request<F: FileSet>(alloc: Global, files: &mut F, path: &str) -> Result<Request, Refused>
     ensures exact { IfSome (F.holding files.old) (λ at. GivesUnlessWant (λ r. r) result (request_at at path.now)) }
     ensures calls { ComesFrom loads_request result }
     ensures failed { F.has_failed files.new ≡ (F.has_failed files.old || is_file_fault result) }
     ensures kept { F.holding files.new ≡ F.holding files.old }
 {
-    let bytes = files
-        .read(alloc, path, u64::from(TEXT_LIMIT))
-        .map_err(Refusal::Load)?;
-    Request::read(alloc, bytes.as_slice()).map_err(Refusal::ReadRequest)
+    let bytes = load(alloc, files, path, u64::from(TEXT_LIMIT))?;
+    match Request::read(alloc, bytes.as_slice()) {
+        Ok(request) => Ok(request),
+        Err(fault) => Err(Refused {
+            refusal: Refusal::ReadRequest(fault),
+            remark: Remark::of(of_request(alloc, path, bytes.as_slice(), fault)),
+        }),
+    }
 }
 
 /// The texts of the key file at a path.
 #[tactic(auto, unfolding(crate::specs::Price::keys_at))]
-fn load_keys<F: FileSet>(alloc: Global, files: &mut F, path: &str) -> Result<Vec<String>, Refusal>
+fn load_keys<F: FileSet>(alloc: Global, files: &mut F, path: &str) -> Result<Vec<String>, Refused>
     ensures exact { IfSome (F.holding files.old) (λ at. GivesUnlessWant (λ v. map string_bytes v.items) result (keys_at at path.now)) }
     ensures calls { ComesFrom loads_keys result }
     ensures failed { F.has_failed files.new ≡ (F.has_failed files.old || is_file_fault result) }
     ensures kept { F.holding files.new ≡ F.holding files.old }
 {
     let tree = load_tree(alloc, files, path, TEXT_LIMIT)?;
-    keys_in(alloc, tree)
+    keys_in(alloc, path, tree)
 }
 
-fn keys_in(alloc: Global, tree: Tree) -> Result<Vec<String>, Refusal>
+fn keys_in(alloc: Global, path: &str, tree: Tree) -> Result<Vec<String>, Refused>
     ensures exact { GivesUnlessWant (λ v. map string_bytes v.items) result (keys_in (view tree)) }
     ensures calls { ComesFrom price_itself result }
     ensures read { is_file_fault result ≡ false }
 {
     match tree {
-        Tree::List(items) => texts_of(alloc, items),
-        _ => Err(Refusal::Price(PriceMismatch::BadKeys)),
+        Tree::List(items) => texts_of(alloc, path, items),
+        other => Err(no_keys(alloc, path, None, &other)),
     }
 }
 
-fn texts_of(alloc: Global, items: Vec<Tree>) -> Result<Vec<String>, Refusal>
+fn texts_of(alloc: Global, path: &str, items: Vec<Tree>) -> Result<Vec<String>, Refused>
     ensures exact { GivesUnlessWant (λ v. map string_bytes v.items) result (if_keys (texts_of (items_view items.items))) }
     ensures calls { ComesFrom price_itself result }
     ensures read { is_file_fault result ≡ false }
 {
     let mut texts = Vec::new(alloc);
     for item in items {
-        let Tree::Text(text) = item else {
-            return Err(Refusal::Price(PriceMismatch::BadKeys));
+        let text = match item {
+            Tree::Text(text) => text,
+            other => return Err(no_keys(alloc, path, Some(texts.len()), &other)),
         };
         if let Err(AllocFailed { .. }) = texts.push(text) {
-            return Err(Refusal::WantOfMemory(Call::Price));
+            return Err(Refused {
+                refusal: Refusal::WantOfMemory(Call::Price),
+                remark: Remark::Short,
+            });
         }
     }
     Ok(texts)
 }
 
+/// The refusal of a value that is no list of keys, or that is no key at a place in it.
+fn no_keys(alloc: Global, path: &str, place: Option<usize>, value: &Tree) -> Refused
+    ensures { result.refusal ≡ Price BadKeys }
+{
+    Refused {
+        refusal: Refusal::Price(PriceMismatch::BadKeys),
+        remark: Remark::of(of_keys(alloc, path, place, value)),
+    }
+}
+
 /// The keys as the inputs of a page of their own.
-fn exposed(alloc: Global, keys: &[String]) -> Result<Exposure, Refusal>
+fn exposed(alloc: Global, keys: &[String]) -> Result<Exposure, Refused>
     ensures exact { GivesUnlessWant (λ e. e) result (exposed (map string_bytes keys.now)) }
     ensures calls { ComesFrom notes_keys result }
     ensures read { is_file_fault result ≡ false }
@@ -111,12 +132,20 @@ fn exposed(alloc: Global, keys: &[String]) -> Result<Exposure, Refusal>
     };
     let mut book = Book::new(alloc);
     for key in keys {
-        book.note(alloc, &page, key.as_str())
-            .map_err(Refusal::Note)?;
+        if let Err(fault) = book.note(alloc, &page, key.as_str()) {
+            let lines = of_noted(alloc, key.as_str(), fault);
+            return Err(Refused {
+                refusal: Refusal::Note(fault),
+                remark: Remark::of(lines),
+            });
+        }
     }
     match book.exposure(alloc, &page) {
         Ok(exposure) => Ok(exposure),
-        Err(AllocError) => Err(Refusal::WantOfMemory(Call::Price)),
+        Err(AllocError) => Err(Refused {
+            refusal: Refusal::WantOfMemory(Call::Price),
+            remark: Remark::Short,
+        }),
     }
 }
 
@@ -127,20 +156,24 @@ fn priced(
     new: &Rule,
     prices: &Prices,
     exposure: &Exposure,
-) -> Result<Outcome, Refusal>
+) -> Result<Outcome, Refused>
     ensures exact { GivesUnlessWant outcome_view result (weighed old.now new.now prices.now exposure.now) }
     ensures calls { ComesFrom price_itself result }
     ensures read { is_file_fault result ≡ false }
 {
     if old.total() != new.total() {
-        return Err(Refusal::Price(PriceMismatch::Weight));
+        let lines = of_weights(alloc, old.total(), new.total());
+        return Err(Refused {
+            refusal: Refusal::Price(PriceMismatch::Weight),
+            remark: Remark::of(lines),
+        });
     }
     match lines(rt, alloc, old, new, prices, exposure) {
-        Ok(text) => Ok(Outcome {
-            text: text.into_bytes(),
-            status: Status::Done,
+        Ok(text) => Ok(Outcome::plain(text.into_bytes(), Status::Done)),
+        Err(AllocError) => Err(Refused {
+            refusal: Refusal::WantOfMemory(Call::Price),
+            remark: Remark::Short,
         }),
-        Err(AllocError) => Err(Refusal::WantOfMemory(Call::Price)),
     }
 }
 

@@ -1,7 +1,7 @@
 use Rattle.std.proofs.Common.{◌≡◌, ◌∙◌}
 use Rattle.flagops_files.specs.Refusal.{want_line, call_name}
 use Rattle.flagops_files.proofs.Writes.{refusal_reported}
-use Rattle.flagops_files.proofs.reports.want.Goals as goal
+use Rattle.flagops_files.proofs.reports.print_want.Goals as goal
 
 pub returns : goal.returns
 unfolding want_line

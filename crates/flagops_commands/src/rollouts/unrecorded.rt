@@ -1,0 +1,78 @@
+//! Whether the book has no input for a request, which a person is told.
+ghost use Rattle.std.specs.Prelude.{◌≡◌, Some, is_some, option_map, IfOk};
+ghost use Rattle.logic_ast.specs.Expr.{view};
+ghost use Rattle.flag_defs.specs.Flag.{flag_view};
+ghost use Rattle.flag_defs.specs.Flags.{flags_view};
+ghost use Rattle.flagops_commands.specs.Unrecorded.{is_bare, is_unrecorded, page_asked, page_in};
+ghost use Rattle.flagops_files.specs.Question.{question_view};
+
+use book_core::{Book, Page};
+use flag_defs::{Flag, Flags};
+use flagops_files::{Question, Remark};
+use flagops_remarks::of_unrecorded;
+use logic_ast::LogicFault;
+use price_core::{PriceFault, Request};
+use std::alloc::{AllocError, Global};
+
+/// What is told where the page of a request has no input in the book, which is that of a path.
+pub fn unrecorded(
+    alloc: Global,
+    path: &str,
+    question: &Question,
+) -> Result<Option<Remark>, AllocError>
+    ensures { IfOk result (λ r. is_some r ≡ is_unrecorded (question_view question.now)) }
+{
+    match Request::read(alloc, question.request.as_slice()) {
+        Ok(request) => {
+            let page = page_asked(alloc, &question.flags, &request)?;
+            Ok(remark(alloc, path, &question.book, page))
+        }
+        Err(PriceFault::WantOfMemory) => Err(AllocError),
+        Err(_) => Ok(None),
+    }
+}
+
+/// The page of a request, where its flag has the site.
+fn page_asked(alloc: Global, flags: &Flags, request: &Request) -> Result<Option<Page>, AllocError>
+    ensures { IfOk result (λ page. page ≡ page_asked (flags_view flags.now) (Some request.now)) }
+{
+    let key = request.flag();
+    page_in(alloc, key, request.site(), flags.get(key))
+}
+
+/// The page of a site of a flag, where it has the site.
+fn page_in(
+    alloc: Global,
+    key: &str,
+    site: u32,
+    flag: Option<&Flag>,
+) -> Result<Option<Page>, AllocError>
+    ensures { IfOk result (λ page. page ≡ page_in key.now site (option_map (λ f. flag_view f.now) flag.entry)) }
+{
+    let Some(flag) = flag else {
+        return Ok(None);
+    };
+    let Some(targeting) = flag.targeting() else {
+        return Ok(None);
+    };
+    match Page::of(alloc, key, targeting, site) {
+        Ok(page) => Ok(Some(page)),
+        Err(LogicFault::WantOfMemory) => Err(AllocError),
+        Err(_) => Ok(None),
+    }
+}
+
+/// What is told of a page without inputs.
+fn remark(alloc: Global, path: &str, book: &Book, page: Option<Page>) -> Option<Remark>
+    ensures { is_some result ≡ is_bare book.now page }
+{
+    match page {
+        Some(page) if book.has_none(&page) => Some(Remark::of(lines(alloc, path, book, &page))),
+        _ => None,
+    }
+}
+
+fn lines(alloc: Global, path: &str, book: &Book, page: &Page) -> Result<String, AllocError> {
+    let others = book.pages_of(alloc, page.flag.as_str())?;
+    of_unrecorded(alloc, path, page, others.as_slice())
+}

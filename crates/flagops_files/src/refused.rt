@@ -1,0 +1,37 @@
+//! A refusal with what a person is told of it.
+use crate::refusal::Refusal;
+use std::alloc::AllocError;
+
+/// What a person is told beside the output, in words of the program's own.
+#[derive(Debug, Drop)]
+pub enum Remark {
+    /// There was no memory to say more than a fixed sentence.
+    Short,
+    /// Lines, each with its end.
+    Lines(String),
+}
+
+impl Remark {
+    /// The lines, or the fixed sentence where they could not be made.
+    pub fn of(lines: Result<String, AllocError>) -> Remark {
+        match lines {
+            Ok(lines) => Remark::Lines(lines),
+            Err(AllocError) => Remark::Short,
+        }
+    }
+
+    /// What is written of it.
+    pub(crate) fn text(&self) -> &str {
+        match self {
+            Remark::Lines(lines) => lines.as_str(),
+            Remark::Short => "error: out of memory\n",
+        }
+    }
+}
+
+/// Why a command was refused, and what a person is told of it.
+#[derive(Debug, Drop)]
+pub struct Refused {
+    pub refusal: Refusal,
+    pub remark: Remark,
+}

@@ -1,0 +1,29 @@
+//! What a person is told of a refusal, a broken flag, or a book that has no input for a request: lines in words, for the
+//! error outlet, beside the answer that is for programs.
+//!
+//! Each function makes the lines of one kind of fault from what is known of it: the path, the bytes, the tree, the names.
+//! Their wording is no one's contract; that something is told, and when, is said by the contracts of `flagops_commands`.
+//! Want of memory is the one fault of all: the caller then tells a fixed sentence.
+#![tactic(auto)]
+
+mod books;
+mod breaches;
+mod checks;
+mod documents;
+mod files;
+mod plans;
+mod requests;
+mod search;
+mod sites;
+mod texts;
+mod words;
+
+pub use books::{of_book, of_unrecorded};
+pub use breaches::of_breaches;
+pub use checks::of_check;
+pub use documents::of_document;
+pub use files::{of_keys, of_noted, of_rule, of_unreadable, of_weights};
+pub use plans::{of_large_plan, of_plan_file};
+pub use requests::of_request;
+pub use sites::{of_applied, of_rollout};
+pub use texts::{of_text, of_word};
