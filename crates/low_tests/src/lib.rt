@@ -9,6 +9,8 @@ mod expression_tests;
 #[cfg(test)]
 mod murmur_tests;
 #[cfg(test)]
+mod rows;
+#[cfg(test)]
 mod rule_tests;
 #[cfg(test)]
 mod tree_tests;

@@ -1,6 +1,8 @@
+//! Rules: points, what is read and refused, refinement, and the entries at points.
 ghost use Rattle.std.specs.Prelude.{◌<◌, ◌^◌, IsTrue, length};
 ghost use Rattle.std.specs.List.{All};
 
+use crate::rows::parts;
 use bucket_core::{Rule, RuleFault, literal_bucket, point, read_rule, scale, weight_of};
 use flag_text::{Tree, read_tree};
 use std::alloc::{AllocError, Global};
@@ -64,58 +66,82 @@ fn places_hashes_and_keys(rt: HostRuntime) {
     }
 }
 
+/// Whether a text is read as the rule of these entries, with their total.
+fn is_read(alloc: Global, text: &str, entries: &[(&str, u64)], total: u32) -> Result<bool, Fail> {
+    let rule = rule_of(alloc, text.as_bytes())?;
+    Ok(has_entries(&rule, entries) && rule.total() == total)
+}
+
 #[test]
 fn reads_rules(rt: HostRuntime) -> Result<(), Fail> {
     let alloc = rt.alloc();
-    for (text, entries, total, chosen) in [
-        (
-            b"[[\"red\",50],[\"blue\",50]]".as_slice(),
-            [("red", 50), ("blue", 50)].as_slice(),
-            100,
-            "blue",
-        ),
-        (b"[[\"on\"]]".as_slice(), [("on", 1)].as_slice(), 1, "on"),
-        (
-            b"[[\"a\",0],[\"a\",2147483647]]".as_slice(),
-            [("a", 0), ("a", 2147483647)].as_slice(),
-            2147483647,
-            "a",
-        ),
-    ] {
-        let rule = rule_of(alloc, text)?;
-        assert!(rt;
-            has_entries(&rule, entries) && rule.total() == total && rule.choose("test") == chosen,
-            "{text:?}"
-        );
+    assert!(rt;
+        is_read(
+            alloc,
+            r#"[["red",50],["blue",50]]"#,
+            &[("red", 50), ("blue", 50)],
+            100
+        )? && is_read(alloc, r#"[["on"]]"#, &[("on", 1)], 1)?
+            && is_read(
+                alloc,
+                r#"[["a",0],["a",2147483647]]"#,
+                &[("a", 0), ("a", 2147483647)],
+                2147483647
+            )?
+    );
+    Ok(())
+}
+
+/// Whether the rule of a row's text gives the key `test` the row's name.
+fn is_chosen(alloc: Global, row: &str) -> Result<bool, Fail> {
+    let (text, want) = parts(row)?;
+    Ok(rule_of(alloc, text.as_bytes())?.choose("test") == want)
+}
+
+const CHOSEN: &str = r#"[["red",50],["blue",50]] -> blue
+[["on"]] -> on
+[["a",0],["a",2147483647]] -> a"#;
+
+#[test]
+fn chooses(rt: HostRuntime) -> Result<(), Fail> {
+    for row in CHOSEN.lines() {
+        assert!(rt; is_chosen(rt.alloc(), row)?, "{row}");
     }
-    for (text, number, name) in [
-        (b"[]".as_slice(), 1, "NoWeight"),
-        (b"[[\"a\",0]]".as_slice(), 1, "NoWeight"),
-        (b"[[\"a\",2147483647],[\"b\",1]]".as_slice(), 2, "TooHeavy"),
-        (b"[[\"a\"],\"b\"]".as_slice(), 3, "BadRule"),
-        (b"[[\"a\",0],[]]".as_slice(), 3, "BadRule"),
-        (
-            b"[[\"a\",2147483647],[\"b\",1],null]".as_slice(),
-            3,
-            "BadRule",
-        ),
-        (b"[[\"a\",2147483648]]".as_slice(), 3, "BadRule"),
-        (b"[[\"a\",-1]]".as_slice(), 3, "BadRule"),
-        (b"[[\"a\",\"1\"]]".as_slice(), 3, "BadRule"),
-        (b"[[\"a\",1,1]]".as_slice(), 3, "BadRule"),
-        (b"[[1,1]]".as_slice(), 3, "BadRule"),
-        (b"{\"a\":1}".as_slice(), 3, "BadRule"),
-    ] {
-        match read_rule(alloc, &read_tree(alloc, text, 1000)?) {
-            Ok(_) => assert!(rt; false, "a rule: {text:?}"),
-            Err(fault) => {
-                assert!(rt;
-                    fault.number() == number && fault.name() == name,
-                    "{text:?}"
-                );
-            }
-        }
+    Ok(())
+}
+
+/// Whether a row's text is refused by the row's fault.
+fn is_refused(alloc: Global, row: &str) -> Result<bool, Fail> {
+    let (text, want) = parts(row)?;
+    match read_rule(alloc, &read_tree(alloc, text.as_bytes(), 1000)?) {
+        Ok(_) => Ok(false),
+        Err(fault) => Ok(fault.name() == want),
     }
+}
+
+const REFUSED: &str = r#"[] -> NoWeight
+[["a",0]] -> NoWeight
+[["a",2147483647],["b",1]] -> TooHeavy
+[["a"],"b"] -> BadRule
+[["a",0],[]] -> BadRule
+[["a",2147483647],["b",1],null] -> BadRule
+[["a",2147483648]] -> BadRule
+[["a",-1]] -> BadRule
+[["a","1"]] -> BadRule
+[["a",1,1]] -> BadRule
+[[1,1]] -> BadRule
+{"a":1} -> BadRule"#;
+
+#[test]
+fn refuses_rules(rt: HostRuntime) -> Result<(), Fail> {
+    for row in REFUSED.lines() {
+        assert!(rt; is_refused(rt.alloc(), row)?, "{row}");
+    }
+    assert!(rt;
+        RuleFault::NoWeight.number() == 1
+            && RuleFault::TooHeavy.number() == 2
+            && RuleFault::BadRule.number() == 3
+    );
     Ok(())
 }
 
@@ -137,30 +163,32 @@ fn literal_buckets(rt: HostRuntime) -> Result<(), Fail> {
     Ok(())
 }
 
+/// Whether the entry at a point, its end and its name are these.
+fn finds(rule: &Rule, p: u32, entry: usize, end: u32, name: &str) -> bool {
+    if p >= rule.total() {
+        return false;
+    }
+    let found = rule.entry_at(p);
+    found == entry
+        && rule.end_of(found) == end
+        && rule.entry_name(found) == name
+        && rule.variant_at(p) == name
+}
+
 #[test]
 fn finds_entries(rt: HostRuntime) -> Result<(), Fail> {
-    let alloc = rt.alloc();
-    let rule = rule_of(alloc, b"[[\"a\",0],[\"b\",3],[\"c\",0],[\"d\",2]]")?;
-    assert_eq!(rt; rule.total(), 5);
-    for (p, entry, end, name) in [
-        (0, 1, 3, "b"),
-        (2, 1, 3, "b"),
-        (3, 3, 5, "d"),
-        (4, 3, 5, "d"),
-    ] {
-        assert!(rt; p < rule.total());
-        let found = rule.entry_at(p);
-        assert!(rt;
-            found == entry
-                && rule.end_of(found) == end
-                && rule.entry_name(found) == name
-                && rule.variant_at(p) == name,
-            "at {p}"
-        );
-    }
-    for (name, total) in [("a", 0), ("b", 3), ("d", 2), ("e", 0)] {
-        assert_eq!(rt; rule.total_of(name), total, "of {name}");
-    }
+    let rule = rule_of(rt.alloc(), br#"[["a",0],["b",3],["c",0],["d",2]]"#)?;
+    assert!(rt;
+        rule.total() == 5
+            && finds(&rule, 0, 1, 3, "b")
+            && finds(&rule, 2, 1, 3, "b")
+            && finds(&rule, 3, 3, 5, "d")
+            && finds(&rule, 4, 3, 5, "d")
+            && rule.total_of("a") == 0
+            && rule.total_of("b") == 3
+            && rule.total_of("d") == 2
+            && rule.total_of("e") == 0
+    );
     Ok(())
 }
 

@@ -1,58 +1,75 @@
 //! The flags with a new rule.
-use crate::given::{FIVES, FREE, color, rule};
-use flag_defs::{print_flags, read_flags};
-use rollout::{Planned, RolloutFault, apply, read_planned};
+use crate::given::{FIVES, FREE, color, pair, parts, rule};
+use flag_defs::{Flags, print_flags, read_flags};
+use rollout::{Planned, apply, read_planned};
+use std::alloc::Global;
 use std::test::Fail;
+
+const APPLIED: &str =
+    r#"{"flags":{"color":{"defaultVariant":"red","state":"ENABLED","targeting":{"fractional":[{"var":["key"]},["red",2],["blue",2],["red",1],["blue",5]]},"variants":{"blue":"b","green":"g","red":"r"}}}}"#;
 
 #[test]
 fn applies(rt: HostRuntime) -> Result<(), Fail> {
     let alloc = rt.alloc();
-    let flags = color(alloc, FIVES)?;
     let Planned::Emit(rule, _) = read_planned(alloc, FREE.as_bytes())? else {
         return Err("no rule".into());
     };
-    let changed = apply(alloc, &flags, "color", 0, &rule)?;
-    let want =
-        "{\"flags\":{\"color\":{\"defaultVariant\":\"red\",\"state\":\"ENABLED\",\"targeting\":{\"fractional\":[{\"var\":[\"key\"]},[\"red\",2],[\"blue\",2],[\"red\",1],[\"blue\",5]]},\"variants\":{\"blue\":\"b\",\"green\":\"g\",\"red\":\"r\"}}}}";
-    assert_eq!(rt; print_flags(alloc, &changed)?.as_slice(), want.as_bytes());
+    let changed = apply(alloc, &color(alloc, FIVES)?, "color", 0, &rule)?;
+    assert!(rt; print_flags(alloc, &changed)?.as_slice() == APPLIED.as_bytes());
     Ok(())
+}
+
+/// Why a rule that names pink is not applied at a row's flag, on its buckets, at this site.
+fn is_refused(alloc: Global, row: &str, site: u32) -> Result<bool, Fail> {
+    let (given, want) = parts(row)?;
+    let (buckets, key) = pair(given)?;
+    let pink = rule(alloc, r#"[["red",1],["pink",0]]"#)?;
+    match apply(alloc, &color(alloc, buckets)?, key, site, &pink) {
+        Ok(_) => Ok(false),
+        Err(fault) => Ok(fault.name() == want),
+    }
 }
 
 #[test]
 fn refused(rt: HostRuntime) -> Result<(), Fail> {
-    let alloc = rt.alloc();
-    let flags = color(alloc, FIVES)?;
-    let computed = color(alloc, "[{\"var\":\"v\"},5],[\"blue\",5]")?;
-    let pink = rule(alloc, b"[[\"red\",1],[\"pink\",0]]")?;
-    for (flags, key, site, want) in [
-        (&flags, "nope", 1, RolloutFault::UnknownFlag),
-        (&flags, "color", 1, RolloutFault::NoSite),
-        (&flags, "color", 0, RolloutFault::UnknownVariant),
-        (&computed, "color", 0, RolloutFault::Computed),
+    for (row, site) in [
+        (r#"["red",5],["blue",5] | nope -> UnknownFlag"#, 1),
+        (r#"["red",5],["blue",5] | color -> NoSite"#, 1),
+        (r#"["red",5],["blue",5] | color -> UnknownVariant"#, 0),
+        (r#"[{"var":"v"},5],["blue",5] | color -> Computed"#, 0),
     ] {
-        let fault = apply(alloc, flags, key, site, &pink).err();
-        assert_eq!(rt; fault, Some(want), "at {key} {site}");
+        assert!(rt; is_refused(rt.alloc(), row, site)?, "{row}");
     }
     Ok(())
+}
+
+/// A document that is printed as it stands, in as many bytes as there may be.
+fn largest(alloc: Global) -> Result<Flags, Fail> {
+    let mut bytes = Vec::new(alloc);
+    bytes.extend_from_slice(
+        br#"{"flags":{"color":{"state":"ENABLED","targeting":{"fractional":[{"var":["key"]},["red",5],["blue",5]]},"variants":{"blue":"b","red":""#,
+    )?;
+    bytes.resize(4_194_304 - 5, b'r')?;
+    bytes.extend_from_slice(b"\"}}}}")?;
+    Ok(read_flags(alloc, bytes.as_slice())?)
+}
+
+/// The bytes of the largest document with a rule, as printed; nothing where it is refused.
+fn length_with(alloc: Global, flags: &Flags, text: &str) -> Result<Option<usize>, Fail> {
+    match apply(alloc, flags, "color", 0, &rule(alloc, text)?) {
+        Ok(changed) => Ok(Some(print_flags(alloc, &changed)?.len())),
+        Err(fault) if fault.name() == "TooLarge" => Ok(None),
+        Err(fault) => Err(fault.into()),
+    }
 }
 
 #[test]
 fn large(rt: HostRuntime) -> Result<(), Fail> {
     let alloc = rt.alloc();
-    // a document that is printed as it stands, in as many bytes as there may be
-    let head =
-        "{\"flags\":{\"color\":{\"state\":\"ENABLED\",\"targeting\":{\"fractional\":[{\"var\":[\"key\"]},[\"red\",5],[\"blue\",5]]},\"variants\":{\"blue\":\"b\",\"red\":\"";
-    let mut bytes = Vec::new(alloc);
-    bytes.extend_from_slice(head.as_bytes())?;
-    bytes.resize(4_194_304 - 5, b'r')?;
-    bytes.extend_from_slice(b"\"}}}}")?;
-    let flags = read_flags(alloc, bytes.as_slice())?;
-    // one digit more does not fit
-    let same = rule(alloc, b"[[\"red\",1],[\"blue\",9]]")?;
-    let longer = rule(alloc, b"[[\"red\",10],[\"blue\",5]]")?;
-    let changed = apply(alloc, &flags, "color", 0, &same)?;
-    let length = print_flags(alloc, &changed)?.len();
-    let fault = apply(alloc, &flags, "color", 0, &longer).err();
-    assert!(rt; length == 4_194_304 && fault == Some(RolloutFault::TooLarge));
+    let flags = largest(alloc)?;
+    assert!(rt;
+        length_with(alloc, &flags, r#"[["red",1],["blue",9]]"#)? == Some(4_194_304)
+            && length_with(alloc, &flags, r#"[["red",10],["blue",5]]"#)? == None
+    );
     Ok(())
 }

@@ -1,105 +1,141 @@
 //! Rules with the certificates of their cost.
-use crate::given::{FREE_GROUPS, OLD, RED_3_BLUE_7, ZERO, certificate, names, rule, seven};
+use crate::given::{BOOK, OLD, exposure, names, pair, parts, rule};
 use price_core::Request;
-use std::alloc::Global;
+use std::alloc::{AllocError, Global};
 use std::test::Fail;
 use std::thread::Threads;
 use transport_core::{Certificate, CheckFault, check_plan, deficient_sets_fit_none, weak_duality};
 
-/// What the check says of a new rule.
+/// The certificate whose groups are the old rule's, from the first that is listed, and whose names are the three, each with the
+/// number 0, but for the red points without inputs.
+#[derive(Drop)]
+struct Numbers {
+    red: i64,
+    first_group: usize,
+    first_name: usize,
+    cost: u64,
+}
+
+const FREE: Numbers = Numbers {
+    red: 0,
+    first_group: 0,
+    first_name: 0,
+    cost: 0,
+};
+
+const GROUPS: [(&str, u32); 6] = [
+    ("blue", 0),
+    ("blue", 1),
+    ("blue", 2),
+    ("red", 0),
+    ("red", 1),
+    ("red", 2),
+];
+
+fn certificate(alloc: Global, numbers: &Numbers) -> Result<Certificate, AllocError> {
+    let mut alpha = Vec::new(alloc);
+    for (name, count) in GROUPS.iter().skip(numbers.first_group) {
+        let number = if *name == "red" && *count == 0 {
+            numbers.red
+        } else {
+            0
+        };
+        alpha.push((String::from_str(alloc, name)?, *count, number))?;
+    }
+    let mut beta = Vec::new(alloc);
+    for name in ["blue", "green", "red"].iter().skip(numbers.first_name) {
+        beta.push((String::from_str(alloc, name)?, 0))?;
+    }
+    Ok(Certificate {
+        alpha,
+        beta,
+        cost: numbers.cost,
+    })
+}
+
+/// What the check says of a new rule with a certificate.
 fn checked(
     rt: &(impl Threads + Sync),
     alloc: Global,
     request: &str,
-    new: &[u8],
-    plan: &Certificate,
+    new: &str,
+    numbers: &Numbers,
 ) -> Result<Option<CheckFault>, Fail> {
     let old = rule(alloc, OLD)?;
     let new = rule(alloc, new)?;
     let request = Request::read(alloc, request.as_bytes())?;
-    let variants = names(alloc, &["blue", "green", "red"])?;
-    let totals = request.totals(alloc, variants.as_slice())?;
-    let inputs = seven(alloc)?;
-    let prices = request.prices();
-    Ok(check_plan(rt, alloc, &old, &new, &totals, prices, &inputs, plan).err())
+    let totals = request.totals(alloc, names(alloc, "blue green red")?.as_slice())?;
+    let inputs = exposure(alloc, BOOK)?;
+    let plan = certificate(alloc, numbers)?;
+    Ok(check_plan(
+        rt,
+        alloc,
+        &old,
+        &new,
+        &totals,
+        request.prices(),
+        &inputs,
+        &plan,
+    )
+    .err())
 }
 
-const NO_RED_TO_BLUE: &str =
-    "{\"plan\":1,\"flag\":\"color\",\"totals\":{\"red\":3,\"blue\":7},\"forbid\":[[\"red\",\"blue\"]]}";
-
-const BEST: &[u8] = b"[[\"red\",2],[\"blue\",2],[\"red\",1],[\"blue\",5]]";
-
-/// The groups of the free plan with another number for the red points without inputs.
-fn with_red(number: i64) -> [(&'static str, u32, i64); 6] {
-    let mut groups = FREE_GROUPS;
-    groups[3] = ("red", 0, number);
-    groups
+/// Whether the check of a row's new rule for its request says what the row says.
+fn says(
+    rt: &(impl Threads + Sync),
+    alloc: Global,
+    row: &str,
+    numbers: &Numbers,
+) -> Result<bool, Fail> {
+    let (given, want) = parts(row)?;
+    let (request, new) = pair(given)?;
+    match checked(rt, alloc, request, new, numbers)? {
+        None => Ok(want == "valid"),
+        Some(fault) => Ok(format!(in alloc; "{fault}")?.as_str() == want),
+    }
 }
+
+const RULES: &str =
+    r#"{"plan":1,"flag":"color","totals":{"red":3,"blue":7}} | [["red",2],["blue",2],["red",1],["blue",5]] -> valid
+{"plan":1,"flag":"color","totals":{"red":3,"blue":7}} | [["red",3],["blue",6]] -> the rules differ in their totals
+{"plan":1,"flag":"color","totals":{"red":3,"blue":7}} | [["red",4],["blue",6]] -> a total is outside its limits
+{"plan":1,"flag":"color","totals":{"red":3,"blue":7}} | [["red",3],["blue",6],["pink",1]] -> a total is outside its limits
+{"plan":1,"flag":"color","totals":{"red":3,"blue":7},"forbid":[["red","blue"]]} | [["red",2],["blue",2],["red",1],["blue",5]] -> the change of point 2 is forbidden
+{"plan":1,"flag":"color","totals":{"red":3,"blue":7}} | [["red",3],["blue",7]] -> the rule has another cost"#;
 
 #[test]
 fn rules_for_a_certificate(rt: HostRuntime) -> Result<(), Fail> {
-    let alloc = rt.alloc();
-    let free = certificate(alloc, FREE_GROUPS.as_slice(), ZERO.as_slice(), 0)?;
-    for (request, new, want) in [
-        (RED_3_BLUE_7, BEST, None),
-        (
-            RED_3_BLUE_7,
-            b"[[\"red\",3],[\"blue\",6]]".as_slice(),
-            Some(CheckFault::Weight),
-        ),
-        (
-            RED_3_BLUE_7,
-            b"[[\"red\",4],[\"blue\",6]]".as_slice(),
-            Some(CheckFault::Totals),
-        ),
-        (
-            RED_3_BLUE_7,
-            b"[[\"red\",3],[\"blue\",6],[\"pink\",1]]".as_slice(),
-            Some(CheckFault::Totals),
-        ),
-        (NO_RED_TO_BLUE, BEST, Some(CheckFault::Forbidden(2))),
-        (
-            RED_3_BLUE_7,
-            b"[[\"red\",3],[\"blue\",7]]".as_slice(),
-            Some(CheckFault::Cost),
-        ),
-    ] {
-        assert_eq!(rt;
-            checked(&rt, alloc, request, new, &free)?,
-            want,
-            "at {new:?}"
-        );
+    for row in RULES.lines() {
+        assert!(rt; says(&rt, rt.alloc(), row, &FREE)?, "{row}");
     }
     Ok(())
 }
 
-/// The rows from this one on.
-fn behind<T>(rows: &[T], first: usize) -> &[T] {
-    if first <= rows.len() {
-        &rows[first..]
-    } else {
-        rows
-    }
-}
+const SLACK: &str =
+    r#"{"plan":1,"flag":"color","totals":{"red":3,"blue":7}} | [["red",2],["blue",2],["red",1],["blue",5]] -> the prices of red with 0 inputs and of blue sum above the cost of the change"#;
+
+const SUM: &str =
+    r#"{"plan":1,"flag":"color","totals":{"red":3,"blue":7}} | [["red",2],["blue",2],["red",1],["blue",5]] -> the prices do not sum to the cost"#;
+
+const LISTED: &str =
+    r#"{"plan":1,"flag":"color","totals":{"red":3,"blue":7}} | [["red",2],["blue",2],["red",1],["blue",5]] -> the prices are not those of exactly the groups and names"#;
 
 #[test]
 fn certificates_for_a_rule(rt: HostRuntime) -> Result<(), Fail> {
-    let alloc = rt.alloc();
-    let red = String::from_str(alloc, "red")?;
-    let blue = String::from_str(alloc, "blue")?;
-    // the number of the red points without inputs, the first group and the first name that are listed, and the cost
-    for (number, group, name, cost, want) in [
-        (1, 0, 0, 0, CheckFault::Slack(red, 0, blue)),
-        (-1, 0, 0, 0, CheckFault::Sum),
-        (0, 1, 0, 0, CheckFault::Groups),
-        (0, 0, 1, 0, CheckFault::Groups),
-        (0, 0, 0, 1, CheckFault::Sum),
+    for (row, red, first_group, first_name, cost) in [
+        (SLACK, 1, 0, 0, 0),
+        (SUM, -1, 0, 0, 0),
+        (LISTED, 0, 1, 0, 0),
+        (LISTED, 0, 0, 1, 0),
+        (SUM, 0, 0, 0, 1),
     ] {
-        let groups = with_red(number);
-        let alpha = behind(groups.as_slice(), group);
-        let plan = certificate(alloc, alpha, behind(ZERO.as_slice(), name), cost)?;
-        let fault = checked(&rt, alloc, RED_3_BLUE_7, BEST, &plan)?;
-        assert_eq!(rt; fault, Some(want));
+        let numbers = Numbers {
+            red,
+            first_group,
+            first_name,
+            cost,
+        };
+        assert!(rt; says(&rt, rt.alloc(), row, &numbers)?, "{row}");
     }
     Ok(())
 }
@@ -115,7 +151,7 @@ fn numbers_and_names(rt: HostRuntime) {
         (CheckFault::NotDeficient, 7, "NotDeficient"),
         (CheckFault::Groups, 8, "Groups"),
     ] {
-        assert_eq!(rt; (fault.number(), fault.name()), (number, name));
+        assert!(rt; fault.number() == number && fault.name() == name);
     }
     weak_duality();
     deficient_sets_fit_none();

@@ -1,12 +1,20 @@
 //! Why nothing is planned.
-use crate::given::{FIVES, RED_3_BLUE_7, book, color};
-use price_core::PriceFault;
+use crate::given::{book, color, pair, parts};
 use rollout::{RolloutFault, plan, plan_refined};
 use std::alloc::Global;
 use std::test::Fail;
 use std::thread::Threads;
 
-// Why nothing is planned on these buckets.
+/// The name of a refusal, and behind it that of the request's own.
+fn name_of(fault: &Option<RolloutFault>) -> &'static str {
+    match fault {
+        None => "none",
+        Some(RolloutFault::Request(fault)) => fault.name(),
+        Some(fault) => fault.name(),
+    }
+}
+
+/// Why nothing is planned on these buckets.
 fn refusal(
     rt: &(impl Threads + Sync),
     alloc: Global,
@@ -28,90 +36,49 @@ fn refusal(
     Ok(answer.err())
 }
 
+/// Whether a row's request on its buckets is refused by the row's fault.
+fn is_refused(rt: &(impl Threads + Sync), alloc: Global, row: &str, m: u32) -> Result<bool, Fail> {
+    let (given, want) = parts(row)?;
+    let (buckets, request) = pair(given)?;
+    let fault = refusal(rt, alloc, buckets, request, m)?;
+    Ok(name_of(&fault) == want)
+}
+
+const REFUSED: &str =
+    r#"["red",5],["blue",5] | {"plan":1,"flag":"color","totals":{"red":[0,3],"blue":7}} -> BadRequest
+["red",5],["blue",5] | {"plan":2,"flag":"color","totals":{"red":[4,3],"blue":7}} -> EmptyRange
+["red",5],["blue",5] | {"plan":1,"flag":"color","totals":{"red":3,"blue":7},"forbid":[["red","red"]]} -> SelfPair
+["red",5],["blue",5] | {"plan":1,"flag":"color","totals":{"red":3,"blue":7},"price":1000001} -> PriceRange
+["red",5],["blue",5] | {"plan":1,"flag":"nope","totals":{"red":3,"blue":7}} -> UnknownFlag
+["red",5],["blue",5] | {"plan":1,"flag":"color","site":1,"totals":{"red":3,"blue":7}} -> NoSite
+["red",5],["blue",5] | {"plan":1,"flag":"color","totals":{"red":3,"blue":6,"pink":0}} -> UnknownVariant
+["red",5],["blue",5] | {"plan":1,"flag":"color","totals":{"red":3,"blue":6}} -> TotalsSum
+["red",5],["blue",5] | {"plan":2,"flag":"color","totals":{"red":[0,3],"blue":[0,6]}} -> TotalsSum
+[{"var":"v"},5],["blue",5] | {"plan":1,"flag":"color","totals":{"red":3,"blue":7}} -> Computed
+["red",0],["blue",0] | {"plan":1,"flag":"color","totals":{"red":3,"blue":7}} -> NoWeight
+["red",500001],["blue",500000] | {"plan":1,"flag":"color","totals":{"red":500000,"blue":500001}} -> TotalTooLarge"#;
+
 #[test]
 fn refused_plans(rt: HostRuntime) -> Result<(), Fail> {
-    let alloc = rt.alloc();
-    for (request, m, want) in [
-        (
-            "{\"plan\":1,\"flag\":\"color\",\"totals\":{\"red\":[0,3],\"blue\":7}}",
-            1,
-            RolloutFault::Request(PriceFault::BadRequest),
-        ),
-        (
-            "{\"plan\":2,\"flag\":\"color\",\"totals\":{\"red\":[4,3],\"blue\":7}}",
-            1,
-            RolloutFault::Request(PriceFault::EmptyRange),
-        ),
-        (
-            "{\"plan\":1,\"flag\":\"nope\",\"totals\":{\"red\":3,\"blue\":7}}",
-            1,
-            RolloutFault::UnknownFlag,
-        ),
-        (
-            "{\"plan\":1,\"flag\":\"color\",\"site\":1,\"totals\":{\"red\":3,\"blue\":7}}",
-            1,
-            RolloutFault::NoSite,
-        ),
-        (
-            "{\"plan\":1,\"flag\":\"color\",\"totals\":{\"red\":3,\"blue\":6,\"pink\":0}}",
-            1,
-            RolloutFault::UnknownVariant,
-        ),
-        (
-            "{\"plan\":1,\"flag\":\"color\",\"totals\":{\"red\":3,\"blue\":6}}",
-            1,
-            RolloutFault::TotalsSum,
-        ),
-        (
-            "{\"plan\":2,\"flag\":\"color\",\"totals\":{\"red\":[0,3],\"blue\":[0,6]}}",
-            1,
-            RolloutFault::TotalsSum,
-        ),
-        (
-            "{\"plan\":1,\"flag\":\"color\",\"totals\":{\"red\":3,\"blue\":7},\"forbid\":[[\"red\",\"red\"]]}",
-            1,
-            RolloutFault::Request(PriceFault::SelfPair),
-        ),
-        (
-            "{\"plan\":1,\"flag\":\"color\",\"totals\":{\"red\":3,\"blue\":7},\"price\":1000001}",
-            1,
-            RolloutFault::Request(PriceFault::PriceRange),
-        ),
-        (RED_3_BLUE_7, 5, RolloutFault::TotalsSum),
-        (
-            "{\"plan\":1,\"flag\":\"color\",\"totals\":{\"red\":500005,\"blue\":500005}}",
-            100001,
-            RolloutFault::TotalTooLarge,
-        ),
-    ] {
-        let fault = refusal(&rt, alloc, FIVES, request, m)?;
-        assert_eq!(rt; fault, Some(want), "of {m} at {request:?}");
+    for row in REFUSED.lines() {
+        assert!(rt; is_refused(&rt, rt.alloc(), row, 1)?, "{row}");
     }
     Ok(())
 }
 
 #[test]
-fn refused_buckets(rt: HostRuntime) -> Result<(), Fail> {
-    let alloc = rt.alloc();
-    for (buckets, request, want) in [
+fn refused_refined_plans(rt: HostRuntime) -> Result<(), Fail> {
+    for (m, row) in [
         (
-            "[{\"var\":\"v\"},5],[\"blue\",5]",
-            RED_3_BLUE_7,
-            RolloutFault::Computed,
+            5,
+            r#"["red",5],["blue",5] | {"plan":1,"flag":"color","totals":{"red":3,"blue":7}} -> TotalsSum"#,
         ),
         (
-            "[\"red\",0],[\"blue\",0]",
-            RED_3_BLUE_7,
-            RolloutFault::NoWeight,
-        ),
-        (
-            "[\"red\",500001],[\"blue\",500000]",
-            "{\"plan\":1,\"flag\":\"color\",\"totals\":{\"red\":500000,\"blue\":500001}}",
-            RolloutFault::TotalTooLarge,
+            100001,
+            r#"["red",5],["blue",5] | {"plan":1,"flag":"color","totals":{"red":500005,"blue":500005}} -> TotalTooLarge"#,
         ),
     ] {
-        let fault = refusal(&rt, alloc, buckets, request, 1)?;
-        assert_eq!(rt; fault, Some(want), "at {buckets:?}");
+        assert!(rt; is_refused(&rt, rt.alloc(), row, m)?, "of {m}: {row}");
     }
     Ok(())
 }

@@ -1,94 +1,70 @@
 //! What the planner answers.
-use crate::given::{
-    GREEN_4, GREEN_6, GREEN_FROM_6, OLD, RED_3_BLUE_7, exposure, names, rule, seven,
-};
-use book_core::{Exposure, counts};
+use crate::given::{BOOK, OLD, exposure, names, pair, parts, rule};
+use crate::instances::instance;
+use book_core::{Book, Exposure, Page, counts};
 use bucket_core::Rule;
 use price_core::{Limit, Prices, Request};
 use std::alloc::{AllocError, Global};
-use std::process::Abort;
 use std::test::Fail;
-use transport_core::{CutKind, Instance};
-use transport_plan::{Solved, solve};
+use transport_core::{Cut, CutKind};
+use transport_plan::{Solved, solve_uncounted};
+
+/// The kind and the names of a cut.
+fn names_of(alloc: Global, cut: &Cut) -> Result<String, AllocError> {
+    let kind = match cut.kind {
+        CutKind::Over => "over",
+        CutKind::Under => "under",
+    };
+    let mut text = String::from_str(alloc, kind)?;
+    for name in &cut.names {
+        text.push_str(" ")?;
+        text.push_str(name.as_str())?;
+    }
+    Ok(text)
+}
 
 /// What the planner answers, in words: the cost of the plan, or the kind and the names of the cut.
 fn in_words(alloc: Global, solved: &Solved) -> Result<String, AllocError> {
     match solved {
-        Solved::Plan(_, certificate) => {
-            let cost = certificate.cost;
-            format!(in alloc; "cost {cost}")
-        }
-        Solved::None(cut) => {
-            let mut text = String::from_str(
-                alloc,
-                match cut.kind {
-                    CutKind::Over => "over",
-                    CutKind::Under => "under",
-                },
-            )?;
-            for name in &cut.names {
-                text.push_str(" ")?;
-                text.push_str(name.as_str())?;
-            }
-            Ok(text)
-        }
+        Solved::Plan(_, certificate) => format!(in alloc; "cost {}", certificate.cost),
+        Solved::None(cut) => names_of(alloc, cut),
     }
 }
 
-/// What is planned for a rule, some inputs and a request over some names.
-fn planned(
-    rt: &impl Abort,
-    alloc: Global,
-    old: &Rule,
-    seen: &Exposure,
-    request: &Request,
-    variants: &[String],
-) -> Result<String, Fail> {
-    let totals = request.totals(alloc, variants)?;
-    assert!(rt; old.total() <= 1000000);
-    assert!(rt; totals.entries().len() <= 64);
-    if !Instance::lists(old, &totals) {
-        return Err("a name without limits".into());
+/// Whether a row's request is answered as the row says, for the inputs of a book.
+fn is_answered(alloc: Global, row: &str, book: &str) -> Result<bool, Fail> {
+    let (request, want) = parts(row)?;
+    let old = rule(alloc, OLD)?;
+    let request = Request::read(alloc, request.as_bytes())?;
+    let totals = request.totals(alloc, names(alloc, "blue green red")?.as_slice())?;
+    let inputs = exposure(alloc, book)?;
+    match instance(alloc, &old, &totals, request.prices(), &inputs)? {
+        Some(instance) => {
+            let solved = solve_uncounted(alloc, &instance)?;
+            Ok(in_words(alloc, &solved)?.as_str() == want)
+        }
+        None => Ok(want == "no instance"),
     }
-    let instance = Instance::make(alloc, old, &totals, request.prices(), seen)?;
-    let solved = solve(alloc, &instance)?;
-    Ok(in_words(alloc, &solved)?)
 }
+
+const ANSWERS: &str = r#"{"plan":1,"flag":"color","totals":{"red":3,"blue":7}} -> cost 0
+{"plan":1,"flag":"color","totals":{"red":3,"blue":4,"green":3},"forbid":[["red","green"]]} -> cost 0
+{"plan":1,"flag":"color","totals":{"red":3,"blue":1,"green":6},"forbid":[["red","green"]]} -> over red
+{"plan":1,"flag":"color","totals":{"red":2,"blue":8}} -> cost 1
+{"plan":1,"flag":"color","totals":{"red":1,"blue":5,"green":4},"forbid":[["red","green"]]} -> cost 3
+{"plan":2,"flag":"color","totals":{"red":[0,2],"blue":[8,10]}} -> cost 1
+{"plan":2,"flag":"color","totals":{"red":[1,2],"blue":[1,8],"green":[6,7]},"forbid":[["red","green"]]} -> under green"#;
+
+/// Points without inputs count as all others do.
+const UNSEEN: &str =
+    r#"{"plan":1,"flag":"color","totals":{"red":3,"blue":1,"green":6},"forbid":[["red","green"]]} -> over red"#;
 
 #[test]
 fn plans_and_cuts(rt: HostRuntime) -> Result<(), Fail> {
-    let alloc = rt.alloc();
-    let old = rule(alloc, OLD)?;
-    let seen = seven(alloc)?;
-    let unseen = exposure(alloc, &[])?;
-    let variants = names(alloc, &["blue", "green", "red"])?;
-    for (request, seen, answer) in [
-        (RED_3_BLUE_7, &seen, "cost 0"),
-        (
-            "{\"plan\":1,\"flag\":\"color\",\"totals\":{\"red\":3,\"blue\":4,\"green\":3},\"forbid\":[[\"red\",\"green\"]]}",
-            &seen,
-            "cost 0",
-        ),
-        (GREEN_6, &seen, "over red"),
-        // points without inputs count as all others do
-        (GREEN_6, &unseen, "over red"),
-        (
-            "{\"plan\":1,\"flag\":\"color\",\"totals\":{\"red\":2,\"blue\":8}}",
-            &seen,
-            "cost 1",
-        ),
-        (GREEN_4, &seen, "cost 3"),
-        (
-            "{\"plan\":2,\"flag\":\"color\",\"totals\":{\"red\":[0,2],\"blue\":[8,10]}}",
-            &seen,
-            "cost 1",
-        ),
-        (GREEN_FROM_6, &seen, "under green"),
-    ] {
-        let request = Request::read(alloc, request.as_bytes())?;
-        let found = planned(&rt, alloc, &old, seen, &request, variants.as_slice())?;
-        assert_eq!(rt; found.as_str(), answer);
+    for row in ANSWERS.lines() {
+        assert!(rt; is_answered(rt.alloc(), row, BOOK)?, "{row}");
     }
+    assert!(rt; is_answered(rt.alloc(), UNSEEN, "{\"book\":1}\n")?);
     Ok(())
 }
 
@@ -155,13 +131,19 @@ fn comma(text: &mut String) -> Result<(), AllocError> {
     Ok(())
 }
 
-fn drawn_inputs(alloc: Global, draws: &mut Draws) -> Result<Vec<String>, AllocError> {
-    let mut inputs = Vec::new(alloc);
+/// Some inputs on one page, whatever its name.
+fn drawn_inputs(alloc: Global, draws: &mut Draws) -> Result<Exposure, Fail> {
+    let page = Page {
+        flag: String::new(alloc),
+        site: 0,
+        by: None,
+    };
+    let mut book = Book::new(alloc);
     for _ in 0..draws.below(12) {
         let number = draws.below(1000);
-        inputs.push(format!(in alloc; "user-{number}")?)?;
+        book.note(alloc, &page, format!(in alloc; "user-{number}")?.as_str())?;
     }
-    Ok(inputs)
+    Ok(book.exposure(alloc, &page)?)
 }
 
 /// The least cost of all rules that fit, each of them tried, where there is one.
@@ -211,54 +193,53 @@ fn cost_of(
     Some(cost)
 }
 
+/// The variant at each point of a rule.
+fn points(alloc: Global, rule: &Rule) -> Result<Vec<&str>, AllocError> {
+    let mut points = Vec::new(alloc);
+    for point in 0..rule.total() {
+        points.push(rule.variant_at(point))?;
+    }
+    Ok(points)
+}
+
+/// The cost of a drawn problem as the planner answers it, or that there is none; and that of the cheapest of all rules.
+fn both_costs(alloc: Global, draws: &mut Draws) -> Result<(Option<u64>, Option<u64>), Fail> {
+    let width = 2 + draws.below(3).min(2);
+    let old = rule(alloc, drawn_rule(alloc, draws, width)?.as_str())?;
+    let inputs = drawn_inputs(alloc, draws)?;
+    let request = Request::read(alloc, drawn_request(alloc, draws, width)?.as_bytes())?;
+    let variants = match width {
+        2 => "a b",
+        3 => "a b c",
+        _ => "a b c d",
+    };
+    let totals = request.totals(alloc, names(alloc, variants)?.as_slice())?;
+    let olds = points(alloc, &old)?;
+    let at = counts(alloc, &inputs, old.total())?;
+    let prices = request.prices();
+    let best = cheapest(olds.as_slice(), at.as_slice(), totals.entries(), prices);
+    let cost = match instance(alloc, &old, &totals, prices, &inputs)? {
+        Some(instance) => match solve_uncounted(alloc, &instance)? {
+            Solved::Plan(_, certificate) => Some(certificate.cost),
+            Solved::None(_) => None,
+        },
+        None => None,
+    };
+    Ok((cost, best))
+}
+
 #[test]
 fn against_all_rules(rt: HostRuntime) -> Result<(), Fail> {
-    let alloc = rt.alloc();
     let mut draws = Draws(12345);
     let mut plans = 0u32;
-    let mut cuts = 0u32;
     for round in 0..300 {
-        let width = 2 + draws.below(3).min(2);
-        let old = rule(alloc, drawn_rule(alloc, &mut draws, width)?.as_bytes())?;
-        let variants = names(alloc, &LETTERS[..width as usize])?;
-        let inputs = drawn_inputs(alloc, &mut draws)?;
-        let seen = exposure(alloc, inputs.as_slice())?;
-        let text = drawn_request(alloc, &mut draws, width)?;
-        let request = Request::read(alloc, text.as_bytes())?;
-        let totals = request.totals(alloc, variants.as_slice())?;
-        let mut olds = Vec::new(alloc);
-        for point in 0..old.total() {
-            olds.push(old.variant_at(point))?;
-        }
-        let at = counts(alloc, &seen, old.total())?;
-        let best = cheapest(
-            olds.as_slice(),
-            at.as_slice(),
-            totals.entries(),
-            request.prices(),
-        );
-        assert!(rt; old.total() <= 1000000);
-        assert!(rt; totals.entries().len() <= 64);
-        if !Instance::lists(&old, &totals) {
-            return Err("a name without limits".into());
-        }
-        let Ok(instance) = Instance::make(alloc, &old, &totals, request.prices(), &seen) else {
-            assert_eq!(rt; best, None, "round {round}");
-            continue;
-        };
-        match solve(alloc, &instance)? {
-            Solved::Plan(_, certificate) => {
-                assert_eq!(rt; best, Some(certificate.cost), "round {round}");
-                plans = plans.saturating_add(1);
-            }
-            Solved::None(_) => {
-                assert_eq!(rt; best, None, "round {round}");
-                cuts = cuts.saturating_add(1);
-            }
+        let (cost, best) = both_costs(rt.alloc(), &mut draws)?;
+        assert!(rt; cost == best, "round {round}");
+        if cost.is_some() {
+            plans = plans.saturating_add(1);
         }
     }
     // both kinds of answer came often
-    assert!(rt; plans > 50);
-    assert!(rt; cuts > 20);
+    assert!(rt; plans > 50 && plans < 280);
     Ok(())
 }

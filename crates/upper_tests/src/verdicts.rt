@@ -1,13 +1,12 @@
 //! What is told of answers.
-use crate::given::{FIVES, FREE, GREEN_6, GREEN_FROM_6, RED, RED_3_BLUE_7, book, color};
+use crate::given::{FREE, book, color, pair, parts};
 use flag_defs::Flags;
 use rollout::{VerifyFault, read_planned, verify, verify_refined};
 use std::alloc::Global;
 use std::test::Fail;
 use std::thread::Threads;
-use transport_core::CheckFault;
 
-// What is told of a plan file, with the site's rule refined by m where it is above 0.
+/// What is told of a plan file, with the site's rule refined by m where it is above 0.
 fn told(
     rt: &(impl Threads + Sync),
     alloc: Global,
@@ -26,181 +25,112 @@ fn told(
     Ok(answer.err())
 }
 
-fn number_of(fault: &Option<VerifyFault>) -> (u32, &'static str) {
-    match fault {
-        None => (0, "valid"),
-        Some(fault) => (fault.number(), fault.name()),
+/// Whether a row's answer to its request on its buckets is told to be as the row says, by its number and name.
+fn is_told(rt: &(impl Threads + Sync), alloc: Global, row: &str, m: u32) -> Result<bool, Fail> {
+    let (given, want) = parts(row)?;
+    let (buckets, given) = pair(given)?;
+    let (request, plan) = pair(given)?;
+    let flags = color(alloc, buckets)?;
+    match told(rt, alloc, &flags, request, plan, m)? {
+        None => Ok(want == "0 valid"),
+        Some(fault) => Ok(
+            format!(in alloc; "{} {}", fault.number(), fault.name())?.as_str() == want,
+        ),
     }
 }
+
+const ANSWERS: &str =
+    r#"["red",5],["blue",5] | {"plan":1,"flag":"color","totals":{"red":3,"blue":7}} | {"alpha":[["blue",0,0],["blue",1,0],["blue",2,0],["red",0,0],["red",1,0],["red",2,0]],"beta":[["blue",0],["green",0],["red",0]],"cost":0,"plan":1,"rule":[["red",2],["blue",2],["red",1],["blue",5]]} -> 0 valid
+["red",5],["blue",5] | {"plan":1,"flag":"color","totals":{"red":3,"blue":7}} | {"alpha":[["blue",0,0],["blue",1,0],["blue",2,0],["red",0,-1],["red",1,0],["red",2,0]],"beta":[["blue",0],["green",0],["red",0]],"cost":0,"plan":1,"rule":[["red",2],["blue",2],["red",1],["blue",5]]} -> 5 Sum
+["red",5],["blue",5] | {"plan":1,"flag":"color","totals":{"red":3,"blue":7}} | {"alpha":[["blue",0,0],["blue",1,0],["blue",2,0],["red",0,0],["red",1,0],["red",2,0]],"beta":[["blue",0],["green",0],["red",0]],"cost":0,"plan":1,"rule":[["red",3],["blue",7]]} -> 6 Cost
+["red",5],["blue",5] | {"plan":1,"flag":"color","totals":{"red":3,"blue":7}} | {"alpha":[["blue",0,0],["blue",1,0],["blue",2,0],["red",1,0],["red",2,0]],"beta":[["blue",0],["green",0],["red",0]],"cost":0,"plan":1,"rule":[["red",2],["blue",2],["red",1],["blue",5]]} -> 8 Groups
+["red",5],["blue",5] | {"plan":1,"flag":"color","totals":{"red":3,"blue":1,"green":6},"forbid":[["red","green"]]} | {"none":["blue"],"plan":1} -> 7 NotDeficient
+["red",5],["blue",5] | {"plan":1,"flag":"color","totals":{"red":3,"blue":1,"green":6},"forbid":[["red","green"]]} | {"none":["pink"],"plan":1} -> 7 NotDeficient
+["red",5],["blue",5] | {"plan":1,"flag":"color","totals":{"red":3,"blue":1,"green":6},"forbid":[["red","green"]]} | {"none":["red"],"plan":1} -> 0 valid
+["red",5],["blue",5] | {"plan":2,"flag":"color","totals":{"red":[1,2],"blue":[1,8],"green":[6,7]},"forbid":[["red","green"]]} | {"none":["green"],"plan":2,"side":"under"} -> 0 valid
+["red",5],["blue",5] | {"plan":2,"flag":"color","totals":{"red":[1,2],"blue":[1,8],"green":[6,7]},"forbid":[["red","green"]]} | {"none":["green"],"plan":1} -> 7 NotDeficient"#;
 
 #[test]
 fn answers(rt: HostRuntime) -> Result<(), Fail> {
-    let alloc = rt.alloc();
-    let flags = color(alloc, FIVES)?;
-    let sum = FREE.replace(alloc, "[\"red\",0,0]", "[\"red\",0,-1]")?;
-    let left_out = FREE.replace(alloc, ",[\"red\",0,0]", "")?;
-    let rule = "[[\"red\",2],[\"blue\",2],[\"red\",1],[\"blue\",5]]";
-    let dearer = FREE.replace(alloc, rule, "[[\"red\",3],[\"blue\",7]]")?;
-    for (request, plan, want) in [
-        (RED_3_BLUE_7, FREE, (0, "valid")),
-        (RED_3_BLUE_7, sum.as_str(), (5, "Sum")),
-        (RED_3_BLUE_7, dearer.as_str(), (6, "Cost")),
-        (RED_3_BLUE_7, left_out.as_str(), (8, "Groups")),
-        (
-            GREEN_6,
-            "{\"none\":[\"blue\"],\"plan\":1}",
-            (7, "NotDeficient"),
-        ),
-        (
-            GREEN_6,
-            "{\"none\":[\"pink\"],\"plan\":1}",
-            (7, "NotDeficient"),
-        ),
-        (GREEN_6, RED, (0, "valid")),
-        (
-            GREEN_FROM_6,
-            "{\"none\":[\"green\"],\"plan\":2,\"side\":\"under\"}",
-            (0, "valid"),
-        ),
-        (
-            GREEN_FROM_6,
-            "{\"none\":[\"green\"],\"plan\":1}",
-            (7, "NotDeficient"),
-        ),
-    ] {
-        let fault = told(&rt, alloc, &flags, request, plan, 0)?;
-        assert_eq!(rt; number_of(&fault), want, "at {plan:?}");
+    for row in ANSWERS.lines() {
+        assert!(rt; is_told(&rt, rt.alloc(), row, 0)?, "{row}");
     }
-    let slack = FREE.replace(alloc, "[\"red\",0,0]", "[\"red\",0,1]")?;
-    let fault = told(&rt, alloc, &flags, RED_3_BLUE_7, slack.as_str(), 0)?;
-    let Some(VerifyFault::Check(CheckFault::Slack(name, count, variant))) = fault else {
-        return Err("no slack".into());
-    };
-    assert_eq!(rt;
-        (name.as_str(), count, variant.as_str()),
-        ("red", 0, "blue")
-    );
     Ok(())
 }
+
+/// The plan, but red points without inputs are priced 1 above what it costs them to become blue.
+#[test]
+fn a_pair_above_its_cost(rt: HostRuntime) -> Result<(), Fail> {
+    let alloc = rt.alloc();
+    let plan = FREE.replace(alloc, "[\"red\",0,0]", "[\"red\",0,1]")?;
+    let flags = color(alloc, "[\"red\",5],[\"blue\",5]")?;
+    let request = r#"{"plan":1,"flag":"color","totals":{"red":3,"blue":7}}"#;
+    let Some(fault) = told(&rt, alloc, &flags, request, plan.as_str(), 0)? else {
+        return Err("valid".into());
+    };
+    let want = "the prices of red with 0 inputs and of blue sum above the cost of the change";
+    assert!(rt; format!(in alloc; "{fault}")?.as_str() == want);
+    Ok(())
+}
+
+const REFUSED: &str = r#"["red",5],["blue",5] | { | {"none":["red"],"plan":1} -> 1 Request
+["red",5],["blue",5] | {"plan":1,"flag":"color","totals":{"red":3,"blue":7},"price":1000001} | {"none":["red"],"plan":1} -> 1 Request
+["red",5],["blue",5] | {"plan":1,"flag":"color","totals":{"red":3,"blue":7},"forbid":[["red","red"]]} | {"none":["red"],"plan":1} -> 1 Request
+["red",5],["blue",5] | {"plan":2,"flag":"color","totals":{"red":[4,3],"blue":7}} | {"none":["red"],"plan":1} -> 1 Request
+["red",5],["blue",5] | {"plan":1,"flag":"nope","totals":{"red":3,"blue":7}} | {"none":["red"],"plan":1} -> 2 UnknownFlag
+["red",5],["blue",5] | {"plan":1,"flag":"color","site":1,"totals":{"red":3,"blue":7}} | {"none":["red"],"plan":1} -> 3 NoSite
+["red",5],["blue",5] | {"plan":1,"flag":"color","totals":{"red":3,"blue":6,"pink":0}} | {"none":["red"],"plan":1} -> 5 UnknownVariant
+["red",5],["blue",5] | {"plan":1,"flag":"color","totals":{"red":3,"blue":6}} | {"none":["red"],"plan":1} -> 6 TotalsSum
+["red",5],["blue",5] | {"plan":2,"flag":"color","totals":{"red":[0,3],"blue":[0,6]}} | {"none":["red"],"plan":1} -> 6 TotalsSum
+[{"var":"v"},5],["blue",5] | {"plan":1,"flag":"color","totals":{"red":3,"blue":7}} | {"none":["red"],"plan":1} -> 4 Computed
+["red",0],["blue",0] | {"plan":1,"flag":"color","totals":{"red":3,"blue":7}} | {"none":["red"],"plan":1} -> 9 NoWeight
+["pink",0],["red",0] | {"plan":1,"flag":"color","totals":{"red":3,"blue":7}} | {"none":["red"],"plan":1} -> 9 NoWeight
+["red",5],["blue",5],["pink",0] | {"plan":1,"flag":"color","totals":{"red":3,"blue":7}} | {"none":["red"],"plan":1} -> 5 UnknownVariant
+["red",2147483647],["blue",2147483647] | {"plan":1,"flag":"color","totals":{"red":3,"blue":7}} | {"none":["red"],"plan":1} -> 6 TotalsSum
+["red",2147483647],["blue",2147483647] | {"plan":1,"flag":"color","totals":{"red":2147483647,"blue":2147483647}} | {"none":["red"],"plan":1} -> 7 TotalTooLarge
+["red",500001],["blue",500000] | {"plan":1,"flag":"color","totals":{"red":500000,"blue":500001}} | {"none":["red"],"plan":1} -> 7 TotalTooLarge"#;
 
 #[test]
 fn refused_requests(rt: HostRuntime) -> Result<(), Fail> {
-    let alloc = rt.alloc();
-    let flags = color(alloc, FIVES)?;
-    for (request, want) in [
-        ("{", (1, "Request")),
-        (
-            "{\"plan\":1,\"flag\":\"color\",\"totals\":{\"red\":3,\"blue\":7},\"price\":1000001}",
-            (1, "Request"),
-        ),
-        (
-            "{\"plan\":1,\"flag\":\"color\",\"totals\":{\"red\":3,\"blue\":7},\"forbid\":[[\"red\",\"red\"]]}",
-            (1, "Request"),
-        ),
-        (
-            "{\"plan\":2,\"flag\":\"color\",\"totals\":{\"red\":[4,3],\"blue\":7}}",
-            (1, "Request"),
-        ),
-        (
-            "{\"plan\":1,\"flag\":\"nope\",\"totals\":{\"red\":3,\"blue\":7}}",
-            (2, "UnknownFlag"),
-        ),
-        (
-            "{\"plan\":1,\"flag\":\"color\",\"site\":1,\"totals\":{\"red\":3,\"blue\":7}}",
-            (3, "NoSite"),
-        ),
-        (
-            "{\"plan\":1,\"flag\":\"color\",\"totals\":{\"red\":3,\"blue\":6,\"pink\":0}}",
-            (5, "UnknownVariant"),
-        ),
-        (
-            "{\"plan\":1,\"flag\":\"color\",\"totals\":{\"red\":3,\"blue\":6}}",
-            (6, "TotalsSum"),
-        ),
-        (
-            "{\"plan\":2,\"flag\":\"color\",\"totals\":{\"red\":[0,3],\"blue\":[0,6]}}",
-            (6, "TotalsSum"),
-        ),
-    ] {
-        let fault = told(&rt, alloc, &flags, request, RED, 0)?;
-        assert_eq!(rt; number_of(&fault), want, "at {request:?}");
+    for row in REFUSED.lines() {
+        assert!(rt; is_told(&rt, rt.alloc(), row, 0)?, "{row}");
     }
     Ok(())
 }
 
-#[test]
-fn refused_sites(rt: HostRuntime) -> Result<(), Fail> {
-    let alloc = rt.alloc();
-    for (buckets, red, blue, want) in [
-        (
-            "[{\"var\":\"v\"},5],[\"blue\",5]",
-            "3",
-            "7",
-            (4, "Computed"),
-        ),
-        ("[\"red\",0],[\"blue\",0]", "3", "7", (9, "NoWeight")),
-        ("[\"pink\",0],[\"red\",0]", "3", "7", (9, "NoWeight")),
-        (
-            "[\"red\",5],[\"blue\",5],[\"pink\",0]",
-            "3",
-            "7",
-            (5, "UnknownVariant"),
-        ),
-        (
-            "[\"red\",2147483647],[\"blue\",2147483647]",
-            "3",
-            "7",
-            (6, "TotalsSum"),
-        ),
-        (
-            "[\"red\",2147483647],[\"blue\",2147483647]",
-            "2147483647",
-            "2147483647",
-            (7, "TotalTooLarge"),
-        ),
-        (
-            "[\"red\",500001],[\"blue\",500000]",
-            "500000",
-            "500001",
-            (7, "TotalTooLarge"),
-        ),
-    ] {
-        let flags = color(alloc, buckets)?;
-        let request = "{\"plan\":1,\"flag\":\"color\",\"totals\":{\"red\":RED,\"blue\":BLUE}}";
-        let request = request
-            .replace(alloc, "RED", red)?
-            .replace(alloc, "BLUE", blue)?;
-        let fault = told(&rt, alloc, &flags, request.as_str(), RED, 0)?;
-        assert_eq!(rt; number_of(&fault), want, "at {buckets:?}");
-    }
-    Ok(())
-}
+const BY_0: &str =
+    r#"["red",5],["blue",5] | {"plan":1,"flag":"color","totals":{"red":23,"blue":27}} | {"alpha":[["blue",0,0],["blue",1,0],["red",0,0],["red",1,0]],"beta":[["blue",0],["green",0],["red",0]],"cost":0,"plan":1,"rule":[["red",21],["blue",1],["red",1],["blue",1],["red",1],["blue",25]]} -> 0 valid
+["red",5],["blue",5] | {"plan":1,"flag":"color","totals":{"red":3,"blue":7}} | {"alpha":[["blue",0,0],["blue",1,0],["red",0,0],["red",1,0]],"beta":[["blue",0],["green",0],["red",0]],"cost":0,"plan":1,"rule":[["red",21],["blue",1],["red",1],["blue",1],["red",1],["blue",25]]} -> 6 TotalsSum
+["red",5],["blue",5] | {"plan":1,"flag":"color","totals":{"red":15,"blue":5,"green":30},"forbid":[["red","green"]]} | {"none":["red"],"plan":1} -> 6 TotalsSum"#;
+
+const BY_1: &str =
+    r#"["red",5],["blue",5] | {"plan":1,"flag":"color","totals":{"red":23,"blue":27}} | {"alpha":[["blue",0,0],["blue",1,0],["red",0,0],["red",1,0]],"beta":[["blue",0],["green",0],["red",0]],"cost":0,"plan":1,"rule":[["red",21],["blue",1],["red",1],["blue",1],["red",1],["blue",25]]} -> 6 TotalsSum
+["red",5],["blue",5] | {"plan":1,"flag":"color","totals":{"red":3,"blue":7}} | {"alpha":[["blue",0,0],["blue",1,0],["blue",2,0],["red",0,0],["red",1,0],["red",2,0]],"beta":[["blue",0],["green",0],["red",0]],"cost":0,"plan":1,"rule":[["red",2],["blue",2],["red",1],["blue",5]]} -> 0 valid"#;
+
+const BY_5: &str =
+    r#"["red",5],["blue",5] | {"plan":1,"flag":"color","totals":{"red":23,"blue":27}} | {"alpha":[["blue",0,0],["blue",1,0],["red",0,0],["red",1,0]],"beta":[["blue",0],["green",0],["red",0]],"cost":0,"plan":1,"rule":[["red",21],["blue",1],["red",1],["blue",1],["red",1],["blue",25]]} -> 0 valid
+["red",5],["blue",5] | {"plan":1,"flag":"color","totals":{"red":23,"blue":27}} | {"alpha":[["blue",0,0],["blue",1,0],["blue",2,0],["red",0,0],["red",1,0],["red",2,0]],"beta":[["blue",0],["green",0],["red",0]],"cost":0,"plan":1,"rule":[["red",2],["blue",2],["red",1],["blue",5]]} -> 1 Weight
+["red",5],["blue",5] | {"plan":1,"flag":"color","totals":{"red":3,"blue":7}} | {"alpha":[["blue",0,0],["blue",1,0],["blue",2,0],["red",0,0],["red",1,0],["red",2,0]],"beta":[["blue",0],["green",0],["red",0]],"cost":0,"plan":1,"rule":[["red",2],["blue",2],["red",1],["blue",5]]} -> 6 TotalsSum
+["red",5],["blue",5] | {"plan":1,"flag":"color","totals":{"red":15,"blue":5,"green":30},"forbid":[["red","green"]]} | {"none":["red"],"plan":1} -> 0 valid"#;
+
+const LARGE: &str =
+    r#"["red",5],["blue",5] | {"plan":1,"flag":"color","totals":{"red":500005,"blue":500005}} | {"none":["red"],"plan":1} -> 7 TotalTooLarge"#;
+
+const LARGEST: &str =
+    r#"["red",5],["blue",5] | {"plan":1,"flag":"color","totals":{"red":500005,"blue":500005}} | {"none":["red"],"plan":1} -> 6 TotalsSum"#;
 
 #[test]
 fn refined(rt: HostRuntime) -> Result<(), Fail> {
-    let alloc = rt.alloc();
-    let flags = color(alloc, FIVES)?;
-    let fifty =
-        "{\"alpha\":[[\"blue\",0,0],[\"blue\",1,0],[\"red\",0,0],[\"red\",1,0]],\"beta\":[[\"blue\",0],[\"green\",0],[\"red\",0]],\"cost\":0,\"plan\":1,\"rule\":[[\"red\",21],[\"blue\",1],[\"red\",1],[\"blue\",1],[\"red\",1],[\"blue\",25]]}";
-    let totals = "{\"plan\":1,\"flag\":\"color\",\"totals\":{\"red\":23,\"blue\":27}}";
-    let none =
-        "{\"plan\":1,\"flag\":\"color\",\"totals\":{\"red\":15,\"blue\":5,\"green\":30},\"forbid\":[[\"red\",\"green\"]]}";
-    let large = "{\"plan\":1,\"flag\":\"color\",\"totals\":{\"red\":500005,\"blue\":500005}}";
-    for (request, plan, m, want) in [
-        (totals, fifty, 0, (0, "valid")),
-        (totals, fifty, 5, (0, "valid")),
-        (totals, fifty, 1, (6, "TotalsSum")),
-        (totals, FREE, 5, (1, "Weight")),
-        (RED_3_BLUE_7, FREE, 1, (0, "valid")),
-        (RED_3_BLUE_7, FREE, 5, (6, "TotalsSum")),
-        (RED_3_BLUE_7, fifty, 0, (6, "TotalsSum")),
-        (none, RED, 5, (0, "valid")),
-        (none, RED, 0, (6, "TotalsSum")),
-        (large, RED, 100001, (7, "TotalTooLarge")),
-        (large, RED, 4294967295, (6, "TotalsSum")),
+    for (m, rows) in [
+        (0, BY_0),
+        (1, BY_1),
+        (5, BY_5),
+        (100001, LARGE),
+        (4294967295, LARGEST),
     ] {
-        let fault = told(&rt, alloc, &flags, request, plan, m)?;
-        assert_eq!(rt; number_of(&fault), want, "of {m} at {request:?}");
+        for row in rows.lines() {
+            assert!(rt; is_told(&rt, rt.alloc(), row, m)?, "of {m}: {row}");
+        }
     }
     Ok(())
 }
