@@ -3,6 +3,17 @@
 //! A [`Book`] has a [`Page`] for each flag, site and bucketing expression; a page has the hash inputs that were noted
 //! there, each once. An [`Exposure`] is the inputs of one page, by which a change of the operation's rule is priced.
 //!
+//! ```rust
+//! use book_core::{Book, Noted, Page, print_book};
+//!
+//! let page = Page { flag: String::from_str(alloc, "color")?, site: 0, by: None };
+//! let mut book = Book::new(alloc);
+//! assert!(rt; book.note(alloc, &page, "test")? == Noted::New);
+//! assert!(rt; book.note(alloc, &page, "test")? == Noted::Again);
+//! let file = print_book(alloc, &book)?;
+//! assert!(rt; file.as_slice() == b"{\"book\":1}\n{\"by\":null,\"flag\":\"color\",\"site\":0}\n\"test\"\n".as_slice());
+//! ```
+//!
 //! Proved, over the definitions of `specs/`: which answer a note is given, and that the book then holds what it held
 //! and that input (`Book`); that a book is its calls, so that each answer follows from the calls before it and the
 //! contents are what was accepted (`Calls`); an exposure is the page's contents in strictly rising order, the number

@@ -4,6 +4,15 @@
 //! numbers from 0 to the sum of the weights; each entry holds as many of them in a row as its weight says. A hash
 //! input falls on the point `floor(hash * total / 2^32)`, with its MurmurHash3, and is given the name there.
 //!
+//! ```rust
+//! use bucket_core::{point, read_rule};
+//! use flag_text::read_tree;
+//!
+//! let tree = read_tree(alloc, br#"[["red",50],["blue",50]]"#, 1000)?;
+//! let rule = read_rule(alloc, &tree)?;
+//! assert!(rt; point(rule.total(), "test") == 72 && rule.choose("test") == "blue");
+//! ```
+//!
 //! Proved, over the definitions of `specs/`: which point an input falls on, which name a point has, how many points a
 //! name has, that a refined rule gives each input the name that it had, that a rule made of a list of points has that
 //! name at each point and is the one canonical rule that has, and which rule a tree stands for, with each refusal in

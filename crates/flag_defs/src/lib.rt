@@ -4,6 +4,17 @@
 //! variant and targeting. [`Flags`] are flags by their keys, which rise strictly; by their type they keep both limits, and
 //! each of them can be printed.
 //!
+//! ```rust
+//! use flag_defs::{Flag, read_flags};
+//!
+//! let document = br#"{"flags":{
+//!     "off": {"state": "DISABLED", "variants": {"on": true}, "defaultVariant": "on"},
+//!     "half": {"state": "ENABLED", "variants": {"a": 1.5}, "defaultVariant": "a"}}}"#;
+//! let flags = read_flags(alloc, document)?;
+//! assert!(rt; flags.len() == 2 && flags.get("half").is_some_and(Flag::is_broken));
+//! assert!(rt; flags.get("off").and_then(Flag::default_variant) == Some("on"));
+//! ```
+//!
 //! What is proved, over the definitions in `specs/`:
 //! - [`read_flags`] answers what the bytes mean (`Document`), each refusal at its place in the order, unless memory runs
 //!   out. A definition means one thing (`Definition`): it is good with its rules, or broken where there are none. Its

@@ -4,6 +4,14 @@
 //! contract sees of it is its `Shape` (`specs/Shape.antt`, by `view` of `specs/View.antt`), so two
 //! trees with equal shapes are one and the same value to every crate above.
 //!
+//! ```rust
+//! use flag_text::{Tree, print_tree, read_tree};
+//!
+//! let tree = read_tree(alloc, br#"{"weights":[5, 5],"name":"red"}"#, 1000)?;
+//! assert!(rt; tree.member("name").and_then(Tree::as_text) == Some("red"));
+//! assert!(rt; print_tree(alloc, &tree)?.as_str() == r#"{"name":"red","weights":[5,5]}"#);
+//! ```
+//!
 //! What is proved:
 //! - [`read_tree`] and [`read_doc`] give exactly what `tree_of` and `doc_of` of `specs/Reading.antt`
 //!   give of the bytes, each refusal at its place in the order, unless memory runs out. The

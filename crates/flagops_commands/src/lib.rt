@@ -3,6 +3,17 @@
 //! Each command is one function from the files and its words to its whole output or its refusal; [`run`] reads the words,
 //! does the command and writes its report.
 //!
+//! ```rust
+//! use flag_text::WriteOutlet;
+//! use flagops_commands::run;
+//! use flagops_files::SystemFiles;
+//!
+//! let words = ["bucket", "rule.json", "test"];
+//! let mut out = WriteOutlet::new(rt.stdout());
+//! let mut err = WriteOutlet::new(rt.stderr());
+//! let status = run(&rt, words.as_slice(), &mut SystemFiles::new(&rt), &mut out, &mut err);
+//! ```
+//!
 //! Proved of [`run`]: where the words ask for a command, the bytes on the output are the report of that command's definition
 //! (`specs/Commands.antt`) over the files, or a front of it with status 1 where the output failed, or the line for want of
 //! memory. A command has a definition of its own in `specs/`.

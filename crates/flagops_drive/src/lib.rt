@@ -3,6 +3,16 @@
 //! [`asks_of`] reads the asks of a file's tree; [`drive_asks`] has `book_share::drive` answer them by so many workers, and
 //! gives the whole output of the command, a [`Drove`]: a line for each resolution, five counts, and the file of the book.
 //!
+//! ```rust
+//! use flag_defs::read_flags;
+//! use flag_text::read_tree;
+//! use flagops_drive::drive_asks;
+//!
+//! let flags = read_flags(alloc, br#"{"flags":{}}"#)?;
+//! let asks = br#"[{"key":"color","want":"text","default":"d","context":{"key":"test"},"moment":0}]"#;
+//! let drove = drive_asks(&rt, alloc, &flags, &read_tree(alloc, asks, 1000)?, 8)?;
+//! ```
+//!
 //! Proved, over the definitions of `specs/`: the asks are those of `Asks.asks_of`, and are refused with BadAsks exactly where
 //! it gives none; the lines are `Lines.drive_text` of what the flags resolve the asks to, in their order; and the file is that
 //! of a book which, where no page was full, has just the inputs that the asks reached (`Driven.IsDrove`). The gate lets each

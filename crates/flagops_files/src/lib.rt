@@ -7,6 +7,16 @@
 //! - An [`Outcome`] is the whole output of a command with its [`Status`] and perhaps a remark; [`report`] writes both, and
 //!   [`want`] writes the line of a call that ran out of memory, for which it takes none.
 //!
+//! ```rust
+//! use flagops_files::{SystemFiles, load_rule};
+//!
+//! let mut files = SystemFiles::new(&rt);
+//! match load_rule(alloc, &mut files, "rule.json") {
+//!     Ok(rule) => println!(rt; "{}", rule.total()),
+//!     Err(refused) => println!(rt; "{}", refused.refusal.line(alloc)?),    // as `refused load 1 Unreadable`
+//! }
+//! ```
+//!
 //! Proved, over the definitions of `specs/`: what is loaded is what the definitions give of the files, the first refusal in
 //! its order, unless memory ran out; a file set shows a failure exactly where a load refused; the line of a refusal is
 //! `Refusal.line_of`; and what was written is the text, or a front of it with status 1 where the outlet failed; a remark is

@@ -3,6 +3,16 @@
 //! [`read_words`] gives the command that the words name, with each of its words, or the mistake that `clap` finds in them.
 //! [`Asked`] has a variant for each command; [`Moment`] and [`Factor`] are the numbers that a word may spell.
 //!
+//! ```rust
+//! use flagops_words::{Asked, read_words};
+//!
+//! let words = ["bucket", "rule.json", "test"];
+//! let Ok(Asked::Bucket { rule, key }) = read_words(alloc, words.as_slice()) else {
+//!     return Err("a bucket is asked for")?;
+//! };
+//! assert!(rt; rule == "rule.json" && key == "test");
+//! ```
+//!
 //! Proved, over the definitions of `specs/`: the command is the one of `Words.asked_by`, which is stated in terms of what
 //! `clap` is proved to read; an error has the kind of one of the words' faults, or memory ran out. Words without a fault ask
 //! for a command.

@@ -4,6 +4,16 @@
 //! its operators have as many arguments as they take, its sites (its `fractional` operations) are numbered in preorder, and
 //! it has at most 10,000 nodes and 100 levels. [`sites`], [`site`], [`by_text`] and [`replace_site`] work on its sites.
 //!
+//! ```rust
+//! use flag_text::read_tree;
+//! use logic_ast::{by_text, read_expr, sites};
+//!
+//! let tree = read_tree(alloc, br#"{"fractional":[{"var":"key"},["red",5],["blue",5]]}"#, 1000)?;
+//! let expr = read_expr(alloc, &tree)?;
+//! assert!(rt; sites(&expr) == 1);
+//! assert!(rt; by_text(alloc, &expr, 0)?.is_some_and(|by| by.as_str() == r#"{"var":["key"]}"#));
+//! ```
+//!
 //! Proved, over the definitions in `specs/`: what is read of a tree is `reading` (`Reading`, `FirstFault`, `Size`), with
 //! its refusals in their order; what is written for an expression is `written` (`Writing`), and reads as it; the n-th site
 //! is the n-th in `preorder` (`Sites`); replacing its entries changes them and nothing else.

@@ -2,6 +2,15 @@
 //!
 //! A [`Planned`] is a new rule with the certificate of its cost, or a set of names which shows that no rule fits.
 //!
+//! ```rust
+//! use plan_text::{Planned, print_planned, read_planned};
+//!
+//! let file = br#"{"none":["blue","red"],"plan":1}"#;
+//! let planned = read_planned(alloc, file)?;
+//! assert!(rt; matches!(&planned, Planned::NoneExists(cut) if cut.names.len() == 2));
+//! assert!(rt; print_planned(alloc, &planned)?.as_slice() == file.as_slice());
+//! ```
+//!
 //! Proved, over the definitions of `specs/`: [`print_planned`] writes the text of `PlanFile`, [`read_planned`] reads exactly the
 //! files that `PlanFile` says, with each refusal in its order, what is printed of an answer in order (`IsOrdered`) reads as
 //! the answer, and what is read is in order and may be printed (`IsWhole`).

@@ -5,6 +5,18 @@
 //! is the sum, over the recorded hash inputs, of the price of the change from the variant that the old rule gives the
 //! input to the variant that the new one gives it.
 //!
+//! ```rust
+//! use price_core::Request;
+//!
+//! let request = br#"{"plan":1,"flag":"color","totals":{"red":3,"blue":7},
+//!     "prices":[["red","blue",5]],"forbid":[["blue","red"]]}"#;
+//! let request = Request::read(alloc, request)?;
+//! let prices = request.prices();
+//! assert!(rt; request.flag() == "color" && request.site() == 0);
+//! assert!(rt; prices.price("red", "blue") == 5 && prices.price("red", "green") == 1);
+//! assert!(rt; prices.forbidden("blue", "red") && !prices.forbidden("red", "blue"));
+//! ```
+//!
 //! Proved, over the definitions of `specs/`: which request a text stands for, with each refusal in its order
 //! (`Request`); which limits the variants of a site have (`Limits`); what a change costs and which are forbidden
 //! (`Pricing`); the least forbidden point of two rules, and the cost of a new rule, which is added up by as many threads

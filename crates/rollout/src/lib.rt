@@ -3,6 +3,24 @@
 //! A [`Planned`] is a new rule with the certificate of its cost, or a set of names which shows that no rule fits. It stands in
 //! the file that [`print_planned`] writes and [`read_planned`] reads.
 //!
+//! ```rust
+//! use book_core::Book;
+//! use flag_defs::read_flags;
+//! use rollout::{Planned, apply, plan, verify};
+//!
+//! let document = br#"{"flags":{"color":{"state":"ENABLED","variants":{"red":"r","blue":"b"},"defaultVariant":"red",
+//!     "targeting":{"fractional":[{"var":"key"},["red",5],["blue",5]]}}}}"#;
+//! let flags = read_flags(alloc, document)?;
+//! let request = br#"{"plan":1,"flag":"color","totals":{"red":3,"blue":7}}"#;
+//! let book = Book::new(alloc);
+//! let planned = plan(&rt, alloc, &flags, request, &book)?;
+//! verify(&rt, alloc, &flags, request, &book, &planned)?;
+//! if let Planned::Emit(rule, certificate) = &planned {
+//!     assert!(rt; rule.total_of("blue") == 7 && certificate.cost == 0);
+//!     let changed = apply(alloc, &flags, "color", 0, rule)?;
+//! }
+//! ```
+//!
 //! Proved, over the definitions of `specs/`:
 //! - [`verify`] and [`verify_refined`] accept an answer exactly where the request is lawful (`Lawful`) and the checks accept
 //!   the answer (`Verified`): then the rule costs the recorded inputs the least of all rules that fit, or none fits. Each

@@ -5,6 +5,20 @@
 //! of all rules that fit; or no rule fits. [`plans_hold_of_what_was_recorded`] says the same of `book_share::seal` and
 //! `rollout::plan` called apart, and of a book that `book_share::drive` gives: its plan is least over the inputs that the asks
 //! reached, where no page was full.
+//!
+//! ```rust
+//! use book_share::{BookName, Seat, SharedBook};
+//! use flag_defs::Flags;
+//! use plan_text::Planned;
+//! use sealed_plans::plan_sealed;
+//!
+//! fn planned<L: BookName, R: Threads + Sync>(
+//!     rt: &R, alloc: Global, flags: &Flags, book: SharedBook<L>, seats: Vec<Seat<L>>,
+//! ) -> Result<Planned, Fail> {
+//!     let request = br#"{"plan":1,"flag":"color","totals":{"red":3,"blue":7}}"#;
+//!     Ok(plan_sealed(rt, alloc, flags, request, book, seats).map_err(|_| "no plan")?)
+//! }
+//! ```
 #![tactic(auto)]
 
 mod laws;

@@ -3,6 +3,17 @@
 //! A [`Hub`] keeps the last published flags with their number, and the number that each subscriber took last. A [`World`] is
 //! a service: sources whose merge is published, a hub, and the book of hash inputs. [`run_events`] runs a list of [`Event`]s.
 //!
+//! ```rust
+//! use flag_defs::read_flags;
+//! use snap_core::Hub;
+//!
+//! let mut hub = Hub::new(alloc);
+//! let subscriber = hub.join()?;
+//! assert!(rt; hub.publish(read_flags(alloc, br#"{"flags":{}}"#)?)? == 1);
+//! assert!(rt; hub.take(alloc, subscriber)?.is_some_and(|snapshot| snapshot.number == 1));
+//! assert!(rt; hub.take(alloc, subscriber)?.is_none());
+//! ```
+//!
 //! What is proved, over the definitions in `specs/`:
 //! - [`Hub::publish`], [`Hub::join`], [`Hub::take`] and [`Hub::leave`] answer and leave what `Hub` says, or refuse and leave
 //!   the hub as it was.

@@ -4,6 +4,20 @@
 //! has, key by key, the whole entry of the latest added source that has the key: a broken entry of a later source hides a
 //! good one of an earlier source, and no entry is mixed of two.
 //!
+//! ```rust
+//! use source_merge::Sources;
+//!
+//! let mut sources = Sources::new(alloc);
+//! sources.add(alloc, "base")?;
+//! sources.add(alloc, "team")?;
+//! let enabled = br#"{"flags":{"color":{"state":"ENABLED","variants":{"x":"y"},"defaultVariant":"x"}}}"#;
+//! sources.set(alloc, "base", enabled)?;
+//! sources.set(alloc, "team", br#"{"flags":{"color":{"state":"DISABLED","variants":{"x":"y"}}}}"#)?;
+//! assert!(rt; sources.merged(alloc)?.get("color").is_some_and(|color| !color.enabled()));
+//! sources.clear("team")?;
+//! assert!(rt; sources.merged(alloc)?.get("color").is_some_and(|color| color.enabled()));
+//! ```
+//!
 //! What is proved, over the definitions in `specs/`:
 //! - [`Sources::add`], [`Sources::set`] and [`Sources::clear`] leave the sources that the definitions name (`Sources`), or
 //!   refuse in their order and leave all as it was. A refused document leaves the last accepted one.

@@ -4,6 +4,19 @@
 //! their high byte first. [`write_frame`] writes one. A [`Feed`] is given a stream in pieces, cut anywhere, and answers
 //! each [`snap_core::Snapshot`] with the piece that has the last byte of its frame.
 //!
+//! ```rust
+//! use flag_defs::read_flags;
+//! use snap_core::Snapshot;
+//! use sync_frames::{Feed, write_frame};
+//!
+//! let flags = read_flags(alloc, br#"{"flags":{}}"#)?;
+//! let frame = write_frame(alloc, &Snapshot { number: 1, flags })?;
+//! let (front, last) = frame.as_slice().split_at(23);
+//! let mut feed = Feed::new(alloc);
+//! assert!(rt; feed.feed(alloc, front)?.is_empty());
+//! assert!(rt; feed.feed(alloc, last)?.len() == 1);
+//! ```
+//!
 //! What is proved, over the definitions in `specs/`:
 //! - A stream is one front, the frames of as many snapshots as can be with numbers that rise strictly, and a rest, which
 //!   may show a fault: a length that no frame has, a number that does not rise, a document that is refused (`Frames`).

@@ -4,6 +4,15 @@
 //! reads frames from an [`Inlet`] and hands each snapshot to a [`Sink`] when its last byte has come; [`read_stream`] is the
 //! case with a list. None of them knows of sockets or threads.
 //!
+//! ```rust
+//! use sync_server::{ReadEnd, ReadInlet, read_stream};
+//!
+//! let frame = b"\x00\x00\x00\x14\x00\x00\x00\x00\x00\x00\x00\x01{\"flags\":{}}";
+//! let mut inlet = ReadInlet::new(frame.as_slice());
+//! let (snapshots, end) = read_stream(alloc, &mut inlet, 1000);
+//! assert!(rt; snapshots.len() == 1 && end == ReadEnd::Ended);
+//! ```
+//!
 //! What is proved, over the definitions in `specs/`:
 //! - what [`serve_stream`] wrote is whole frames of snapshots that its source knows, with rising numbers, as many as it
 //!   says; where the writer failed a part of one more may follow (`Served`).

@@ -1,6 +1,23 @@
 //! Whether a rollout's answer is right, whoever made it: the definitions of a rule that fits and costs the least, and the
 //! checks of a plan with its certificate and of a cut.
 //!
+//! ```rust
+//! use bucket_core::read_rule;
+//! use flag_text::read_tree;
+//! use price_core::Request;
+//! use transport_core::{Cut, CutKind, check_cut};
+//!
+//! let old = read_rule(alloc, &read_tree(alloc, br#"[["red",5],["blue",5]]"#, 1000)?)?;
+//! let request = br#"{"plan":1,"flag":"color","totals":{"red":3,"blue":1,"green":6},"forbid":[["red","green"]]}"#;
+//! let request = Request::read(alloc, request)?;
+//! let [red, blue, green] = ["red", "blue", "green"].map(|name| String::from_str(alloc, name));
+//! let names = vec![in alloc; blue?, green?, red?]?;
+//! let limits = request.totals(alloc, names.as_slice())?;
+//! // The 5 points of red may not become green, and red and blue may have 4 in all.
+//! let names = vec![in alloc; String::from_str(alloc, "red")?]?;
+//! check_cut(alloc, &old, &limits, request.prices(), &Cut { kind: CutKind::Over, names })?;
+//! ```
+//!
 //! Proved, over the definitions of `specs/`: `check_plan` accepts a rule exactly where it fits (`Fits`) and the certificate's
 //! numbers, one for each group and name, are dual prices (`Dual`, `Certificate`) that prove its cost, and then no rule of any
 //! shape that fits costs the inputs less; each refusal comes first in its order (`Refusals`). `check_cut` accepts a set of

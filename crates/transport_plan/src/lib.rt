@@ -1,5 +1,17 @@
 //! The planner: a cheapest flow from the groups of an instance's points to the names that they are given.
 //!
+//! ```rust
+//! use transport_core::Instance;
+//! use transport_plan::{Solved, solve_uncounted};
+//!
+//! fn least_cost(alloc: Global, instance: &Instance) -> Result<Option<u64>, Fail> {
+//!     match solve_uncounted(alloc, instance)? {
+//!         Solved::Plan(_, certificate) => Ok(Some(certificate.cost)),
+//!         Solved::None(_) => Ok(None),
+//!     }
+//! }
+//! ```
+//!
 //! Proved, over the definitions of `specs/Solved` and of `transport_core`: `solve` always decides. It answers a plan with an
 //! assignment and a certificate such that each new rule with this assignment passes the check of the certificate and no rule
 //! that fits costs the recorded inputs less, or a cut that is deficient by its kind, one under the low limits only where no set
