@@ -39,6 +39,10 @@ module _ (k : Bor (List ℕ)) (v : Bor Flag) where
       by later Equal = refl
       by later Greater = ap (λ (fs : Definitions). (e.0.now, flag_view e.1.now) ∷ fs) later
 
+-- an entry that is put in the place of the one that its key has
+pub put_lent : (old new : List Lent) (k : Bor (List ℕ)) (v : Bor Flag) → new ≡ insert_entry lent_cmp old k v → lent_view new ≡ with_entry (lent_view old) (k.now, flag_view v.now)
+put_lent old new k v is = ap lent_view is ∙ insert-lent k v old
+
 -- the entries from place i on
 rest_at : {X : Type 0} (xs : List X) (i : ℕ) (x : X) → slice_get xs i ≡ Some x → drop i xs ≡ x ∷ drop (i + 1) xs
 rest_at {X} xs i x at =
@@ -47,10 +51,10 @@ rest_at {X} xs i x at =
     ∙ (ap (λ y. y ∷ drop (suc i) xs) (get_or_from_slice_get xs i x x at) ∙ ap (λ n. x ∷ drop n xs) next)
 
 -- one more entry of a document
-pub one_more : (old new : List Lent) (k : Bor (List ℕ)) (v : Bor Flag) (fs : Definitions) (i : ℕ) → new ≡ insert_entry lent_cmp old k v → slice_get fs i ≡ Some (k.now, flag_view v.now)
+pub one_more : (old new : List Lent) (k : Bor (List ℕ)) (v : Bor Flag) (fs : Definitions) (i : ℕ) → lent_view new ≡ with_entry (lent_view old) (k.now, flag_view v.now) → slice_get fs i ≡ Some (k.now, flag_view v.now)
     → fold with_entry (lent_view new) (drop (i + 1) fs) ≡ fold with_entry (lent_view old) (drop i fs)
 one_more old new k v fs i is at =
-    ap (λ (gs : Definitions). fold with_entry gs (drop (i + 1) fs)) (ap lent_view is ∙ insert-lent k v old)
+    ap (λ (gs : Definitions). fold with_entry gs (drop (i + 1) fs)) is
     ∙ ap (fold with_entry (lent_view old)) (sym (rest_at fs i (k.now, flag_view v.now) at))
 
 -- the entries of documents, the latest last

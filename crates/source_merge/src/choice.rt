@@ -1,6 +1,7 @@
 //! Which entry of the sources counts at each key.
 ghost use Rattle.std.specs.Prelude.{◌≡◌, IfOk, OnOk, fold};
 ghost use Rattle.flag_defs.specs.Changes.{by_key, with_entry};
+ghost use Rattle.flag_defs.specs.Flag.{flag_view};
 ghost use Rattle.flag_defs.specs.Flags.{flags_view};
 ghost use Rattle.flag_defs.specs.Lent.{lent_view};
 ghost use Rattle.source_merge.specs.Merge.{all_entries};
@@ -43,7 +44,20 @@ fn choose<'a>(chosen: &mut BTreeMap<&'a str, &'a Flag>, flags: &'a Flags) -> Res
 {
     for i in 0..flags.len() {
         let (key, flag) = flags.at(i);
-        chosen.insert(key, flag)?;
+        choose_entry(chosen, key, flag)?;
     }
+    Ok(())
+}
+
+/// Puts an entry in the place of the one that its key has.
+#[tactic(auto, using(crate::proofs::Lent::put_lent))]
+fn choose_entry<'a>(
+    chosen: &mut BTreeMap<&'a str, &'a Flag>,
+    key: &'a str,
+    flag: &'a Flag,
+) -> Result<(), AllocError>
+    ensures { OnOk result (lent_view chosen.new.entries ≡ with_entry (lent_view chosen.old.entries) (key.now, flag_view flag.now)) }
+{
+    chosen.insert(key, flag)?;
     Ok(())
 }

@@ -5,5 +5,5 @@ use Rattle.source_merge.proofs.choice.choose.Goals as goal
 
 pub loop-i-preserved : goal.loop-i-preserved
 loop-i-preserved c =
-    one_more c.loop-i.chosen.entries c.insert.new.self.entries c.at.result.0 c.at.result.1 (flags_view c.args.flags.now) c.loop-i.i c.in_ok-insert.ensures.entries c.at.ensures
+    one_more c.loop-i.chosen.entries c.choose_entry.new.chosen.entries c.at.result.0 c.at.result.1 (flags_view c.args.flags.now) c.loop-i.i c.in_ok-choose_entry.ensures c.at.ensures
     ∙ c.loop-i.invariant
