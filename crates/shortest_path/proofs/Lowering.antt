@@ -1,9 +1,35 @@
 -- A loop that lowers the potentials of settled nodes.
-use Rattle.std.proofs.Common.{◌≡◌, ℕ, ◌+◌, ◌<◌, ◌≤◌, ⊎_elim, ℤ, pos, ◌+ℤ◌, ◌-ℤ◌, List, length, get_or, set, Option, Some, sym, ap, ◌∙◌, arith}
+use Rattle.std.proofs.Common.{to_z, of_z, FitsSigned, ◌≡◌, ℕ, ◌+◌, ◌<◌, ◌≤◌, ⊎_elim, ℤ, pos, ◌+ℤ◌, ◌-ℤ◌, List, length, get_or, set, Option, Some, sym, ap, ◌∙◌, arith}
 use Rattle.std.proofs.lemmas.Bool.{cases_eq}
 use Rattle.std.proofs.lemmas.Int.{ints}
 use Rattle.std.proofs.lemmas.List.{get_or-set_same, get_or-set_other, length-set}
 use Rattle.std.proofs.lemmas.Option.{same_Some}
+use Rattle.std.specs.Int.{w64}
+use Rattle.shortest_path.specs.Network.{IsShort}
+
+-- ---- short numbers have room for a sum of three
+
+pub sum_fits : (a b : ℤ) → IsShort a → IsShort b → FitsSigned w64 (to_z w64 (of_z w64 a) +ℤ to_z w64 (of_z w64 b))
+sum_fits a b s t = omega (arith, ints, s.low, s.high, t.low, t.high)
+
+pub rest_fits : (a b d : ℤ) → IsShort a → IsShort b → IsShort d → FitsSigned w64 (to_z w64 (of_z w64 (to_z w64 (of_z w64 a) +ℤ to_z w64 (of_z w64 b))) -ℤ to_z w64 (of_z w64 d))
+rest_fits a b d s t u = omega (arith, ints, s.low, s.high, t.low, t.high, u.low, u.high)
+
+pub rest_is : (a b d : ℤ) → IsShort a → IsShort b → IsShort d → to_z w64 (of_z w64 (to_z w64 (of_z w64 (to_z w64 (of_z w64 a) +ℤ to_z w64 (of_z w64 b))) -ℤ to_z w64 (of_z w64 d))) ≡ ((a +ℤ b) -ℤ d)
+rest_is a b d s t u = omega (arith, ints, s.low, s.high, t.low, t.high, u.low, u.high)
+
+-- a short number is kept in 64 bits
+pub kept_short : (a : ℤ) → IsShort a → IsShort (to_z w64 (of_z w64 a))
+kept_short a s = record {
+  low = omega (arith, ints, s.low, s.high);
+  high = omega (arith, ints, s.low, s.high);
+}
+
+-- and a sum of three
+pub kept_sum : (r a b d : ℤ) → IsShort a → IsShort b → IsShort d → r ≡ ((to_z w64 (of_z w64 a) +ℤ to_z w64 (of_z w64 b)) -ℤ to_z w64 (of_z w64 d)) → to_z w64 (of_z w64 r) ≡ ((to_z w64 (of_z w64 a) +ℤ b) -ℤ to_z w64 (of_z w64 d))
+kept_sum r a b d s t u is = omega (arith, ints, s.low, s.high, t.low, t.high, u.low, u.high, is)
+
+-- ---- the loop
 
 -- the settled nodes below `v` are lowered, and the others are as they were
 pub record LowersBelow (nodes : ℕ) (potentials potentials' : List ℤ) (len : ℕ → Option ℤ) (rank : ℕ → ℕ) (base so_far : ℤ) (v : ℕ) : Type 0 where

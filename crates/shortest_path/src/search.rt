@@ -1,4 +1,4 @@
-ghost use Rattle.std.specs.Prelude.{IfOk, MatchBool, MatchOption, ◌≡◌, ◌≤◌, ◌<◌, ◌+◌, ◌*◌, ℕ, ℤ, pos, Some, None, ◌≤ℤ◌, ◌+ℤ◌, length, slice_index, slice_index_or, slice_get, true, ◌≢◌};
+ghost use Rattle.std.specs.Prelude.{IfOk, MatchBool, MatchOption, ◌≡◌, ◌≤◌, ◌<◌, ◌+◌, ◌*◌, ℕ, ℤ, pos, Some, None, ◌≤ℤ◌, ◌+ℤ◌, ◌-ℤ◌, length, slice_index, slice_index_or, slice_get, true, ◌≢◌};
 ghost use Rattle.shortest_path.specs.Network.{IsShort, IsReduced, IsWithin, arc_at, max_cost, max_nodes};
 ghost use Rattle.shortest_path.specs.Found.{HasSize, HasFound, IsStuck, potential_of, parent_of, rank_of};
 ghost use Rattle.shortest_path.specs.Searched.{Relaxes, IsSearched, IsNearest, HasNone, Lowers};
@@ -199,10 +199,21 @@ fn lower(potentials: &mut [i64], lengths: &[Option<i64>], ranks: &[usize], node:
     for v in 0..ranks.len() {
         if ranks[v] < ranks.len() {
             if let Some(length) = lengths[v] {
-                potentials[v] = base + length - so_far;
+                potentials[v] = lowered(base, length, so_far);
             }
         }
     }
+}
+
+/// The potential of a settled node: that of the node that was found, less by as much as the settled one is nearer.
+#[tactic(auto, using(crate::proofs::Lowering::sum_fits, crate::proofs::Lowering::rest_fits, crate::proofs::Lowering::rest_is))]
+fn lowered(base: i64, distance: i64, so_far: i64) -> i64
+    requires base { IsShort base }
+    requires distance { IsShort distance }
+    requires so_far { IsShort so_far }
+    ensures { result ≡ (base +ℤ distance) -ℤ so_far }
+{
+    base + distance - so_far
 }
 
 /// The nearest by reduced costs of the unsettled nodes that were reached, with the length of the path to it.
