@@ -21,6 +21,8 @@ use Rattle.snap_share.specs.contracts.front.Front as Front
 use Rattle.snap_share.specs.contracts.front.Front.TheInside as FrontInside
 use Rattle.snap_share.specs.contracts.stamp.Stamp as Stamp
 use Rattle.snap_share.specs.contracts.stamp.Stamp.TheInside as StampInside
+use Rattle.snap_share.specs.contracts.publisher.Told as Told
+use Rattle.snap_share.specs.contracts.publisher.Told.TheInside as ToldInside
 use Rattle.snap_share.specs.contracts.seat.ReadSeat as ReadSeat
 use Rattle.snap_share.specs.contracts.seat.ReadSeat.TheInside as SeatInside
 use Rattle.snap_share.specs.contracts.history.LawRuleFlagsU64.TheImpl as law
@@ -100,7 +102,7 @@ Flag-send = search (sendable, crosses, Tree-send, Expr-send) depth 40
 pub Flags-send : IsSend Flags.the_row
 Flags-send = search (sendable, crosses, Flag-send) depth 40
 
--- ---- a seat
+-- ---- a seat, and what it is told
 
 module _ (T : RattleType) (g : ShareName.Ghosts T.Denot) (send : IsSend T) (sync : IsSync T) where
   Front-sync : IsSync (Front.the_row T g)
@@ -120,3 +122,7 @@ module _ (T : RattleType) (g : ShareName.Ghosts T.Denot) (send : IsSend T) (sync
   ReadSeat-send =
       view_send _ _ _ _ _
       (declared_send (SeatInside.the_type T g) (search (sendable, crosses, Stamp-sync, part.the_send, part.the_sync, place.the_send, shared.the_send, shared.the_sync, lease.the_send, lease.the_sync) depth 80, (Front-send, tt)))
+
+  -- what was told goes with a lock from thread to thread
+  pub Told-send : IsSend (Told.the_row T g)
+  Told-send = view_send _ _ _ _ _ (declared_send (ToldInside.the_type T g) (Front-send, tt))
