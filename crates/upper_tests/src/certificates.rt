@@ -1,6 +1,7 @@
 //! Rules with the certificates of their cost.
-use crate::given::{BOOK, OLD, exposure, names, pair, parts, rule};
-use price_core::Request;
+use crate::given::{BOOK, pair, parts, rule};
+use crate::posed::{Problem, posed};
+use bucket_core::Rule;
 use std::alloc::{AllocError, Global};
 use std::test::Fail;
 use std::thread::Threads;
@@ -57,27 +58,25 @@ fn certificate(alloc: Global, numbers: &Numbers) -> Result<Certificate, AllocErr
 fn checked(
     rt: &(impl Threads + Sync),
     alloc: Global,
-    request: &str,
-    new: &str,
-    numbers: &Numbers,
-) -> Result<Option<CheckFault>, Fail> {
-    let old = rule(alloc, OLD)?;
-    let new = rule(alloc, new)?;
-    let request = Request::read(alloc, request.as_bytes())?;
-    let totals = request.totals(alloc, names(alloc, "blue green red")?.as_slice())?;
-    let inputs = exposure(alloc, BOOK)?;
-    let plan = certificate(alloc, numbers)?;
-    Ok(check_plan(
-        rt,
-        alloc,
-        &old,
-        &new,
-        &totals,
-        request.prices(),
-        &inputs,
-        &plan,
-    )
-    .err())
+    posed: &Problem,
+    new: &Rule,
+    plan: &Certificate,
+) -> Option<CheckFault> {
+    let Problem {
+        old,
+        request,
+        totals,
+        inputs,
+    } = posed;
+    check_plan(rt, alloc, old, new, totals, request.prices(), inputs, plan).err()
+}
+
+/// Whether what the check says is this text.
+fn reads(alloc: Global, fault: Option<CheckFault>, want: &str) -> Result<bool, AllocError> {
+    match fault {
+        None => Ok(want == "valid"),
+        Some(fault) => Ok(format!(in alloc; "{fault}")?.as_str() == want),
+    }
 }
 
 /// Whether the check of a row's new rule for its request says what the row says.
@@ -89,10 +88,10 @@ fn says(
 ) -> Result<bool, Fail> {
     let (given, want) = parts(row)?;
     let (request, new) = pair(given)?;
-    match checked(rt, alloc, request, new, numbers)? {
-        None => Ok(want == "valid"),
-        Some(fault) => Ok(format!(in alloc; "{fault}")?.as_str() == want),
-    }
+    let posed = posed(alloc, request, BOOK)?;
+    let new = rule(alloc, new)?;
+    let plan = certificate(alloc, numbers)?;
+    Ok(reads(alloc, checked(rt, alloc, &posed, &new, &plan), want)?)
 }
 
 const RULES: &str =

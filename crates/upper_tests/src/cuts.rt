@@ -1,26 +1,32 @@
 //! Sets of names which show that no rule fits.
-use crate::given::{OLD, names, pair, parts, rule};
-use price_core::Request;
+use crate::given::{BOOK, names, pair, parts};
+use crate::posed::{Problem, posed};
 use std::alloc::Global;
 use std::test::Fail;
 use transport_core::{CheckFault, Cut, CutKind, check_cut};
+
+/// What a set of names is to a request.
+fn found(alloc: Global, posed: &Problem, cut: &Cut) -> Result<&'static str, Fail> {
+    match check_cut(
+        alloc,
+        &posed.old,
+        &posed.totals,
+        posed.request.prices(),
+        cut,
+    ) {
+        Ok(()) => Ok("deficient"),
+        Err(CheckFault::NotDeficient) => Ok("not deficient"),
+        Err(fault) => Err(fault.into()),
+    }
+}
 
 /// Whether a row's set of names is found for its request as the row says.
 fn is_found(alloc: Global, row: &str, kind: CutKind) -> Result<bool, Fail> {
     let (given, want) = parts(row)?;
     let (request, set) = pair(given)?;
-    let old = rule(alloc, OLD)?;
-    let request = Request::read(alloc, request.as_bytes())?;
-    let totals = request.totals(alloc, names(alloc, "blue green red")?.as_slice())?;
-    let cut = Cut {
-        kind,
-        names: names(alloc, set)?,
-    };
-    match check_cut(alloc, &old, &totals, request.prices(), &cut) {
-        Ok(()) => Ok(want == "deficient"),
-        Err(CheckFault::NotDeficient) => Ok(want == "not deficient"),
-        Err(fault) => Err(fault.into()),
-    }
+    let posed = posed(alloc, request, BOOK)?;
+    let names = names(alloc, set)?;
+    Ok(found(alloc, &posed, &Cut { kind, names })? == want)
 }
 
 // 5 points are red, and only 3 + 1 may be red or blue; blue ones may be any of 10; all points, and as many allowed; a name that

@@ -1,30 +1,16 @@
 //! Instances: their cuts, their assignments and what proves those.
-use crate::given::{BOOK, OLD, exposure, names, pair, parts, rule};
-use book_core::Exposure;
-use bucket_core::Rule;
-use price_core::{Prices, Request, Totals};
+use crate::given::{BOOK, names, pair, parts};
+use crate::posed::{Problem, instance, posed};
 use std::alloc::{AllocError, Global};
 use std::test::Fail;
-use transport_core::{Assignment, Certificate, CheckFault, Cut, CutKind, Instance};
+use transport_core::{Assignment, AssignmentRow, Certificate, Cut, CutKind};
 
-/// The instance of a rule, of limits, prices and inputs; nothing where the limits make none.
-pub(crate) fn instance<'a>(
-    alloc: Global,
-    old: &'a Rule,
-    totals: &'a Totals,
-    prices: &'a Prices,
-    inputs: &Exposure,
-) -> Result<Option<Instance<'a>>, Fail> {
-    if old.total() > 1_000_000 || totals.entries().len() > 64 {
-        return Err("too large".into());
-    }
-    if !Instance::lists(old, totals) {
-        return Err("a name without limits".into());
-    }
-    match Instance::make(alloc, old, totals, prices, inputs) {
-        Ok(instance) => Ok(Some(instance)),
-        Err(CheckFault::Totals) => Ok(None),
-        Err(fault) => Err(fault.into()),
+/// What a set of names is to the instance of a request on the seven inputs.
+fn found(alloc: Global, posed: &Problem, cut: &Cut) -> Result<&'static str, Fail> {
+    match instance(alloc, posed)? {
+        Some(instance) if instance.is_deficient(cut) => Ok("deficient"),
+        Some(_) => Ok("not deficient"),
+        None => Ok("no instance"),
     }
 }
 
@@ -32,18 +18,9 @@ pub(crate) fn instance<'a>(
 fn is_found(alloc: Global, row: &str, kind: CutKind) -> Result<bool, Fail> {
     let (given, want) = parts(row)?;
     let (request, set) = pair(given)?;
-    let old = rule(alloc, OLD)?;
-    let request = Request::read(alloc, request.as_bytes())?;
-    let totals = request.totals(alloc, names(alloc, "blue green red")?.as_slice())?;
-    let cut = Cut {
-        kind,
-        names: names(alloc, set)?,
-    };
-    let inputs = exposure(alloc, BOOK)?;
-    match instance(alloc, &old, &totals, request.prices(), &inputs)? {
-        Some(instance) => Ok(instance.is_deficient(&cut) == (want == "deficient")),
-        None => Ok(want == "no instance"),
-    }
+    let posed = posed(alloc, request, BOOK)?;
+    let names = names(alloc, set)?;
+    Ok(found(alloc, &posed, &Cut { kind, names })? == want)
 }
 
 const OVER: &str =
@@ -107,61 +84,78 @@ fn certificate(alloc: Global, beta: &[i64; 3], cost: u64) -> Result<Certificate,
     })
 }
 
-/// Whether the instance of `GREEN_4` places the points by these numbers, and whether the certificate proves their cost.
-fn judged(alloc: Global, numbers: &[u32], plan: &Certificate) -> Result<(bool, bool), Fail> {
-    let old = rule(alloc, OLD)?;
-    let request = Request::read(alloc, GREEN_4.as_bytes())?;
-    let totals = request.totals(alloc, names(alloc, "blue green red")?.as_slice())?;
-    let inputs = exposure(alloc, BOOK)?;
-    let spread = Assignment {
-        numbers: Vec::from_slice(alloc, numbers)?,
-    };
-    match instance(alloc, &old, &totals, request.prices(), &inputs)? {
+/// Whether the instance of a request places the points by these numbers, and whether the certificate proves their cost.
+fn judged(
+    alloc: Global,
+    posed: &Problem,
+    numbers: &[u32],
+    plan: &Certificate,
+) -> Result<(bool, bool), Fail> {
+    let numbers = Vec::from_slice(alloc, numbers)?;
+    let spread = Assignment { numbers };
+    match instance(alloc, posed)? {
         Some(instance) => Ok((instance.places(&spread), instance.proves(&spread, plan))),
         None => Err("no instance".into()),
     }
 }
 
+/// Whether the numbers are judged so by the instance of `GREEN_4`, with the names priced by these numbers and this cost.
+fn is_judged(
+    alloc: Global,
+    numbers: &[u32],
+    beta: &[i64; 3],
+    cost: u64,
+    want: (bool, bool),
+) -> Result<bool, Fail> {
+    let posed = posed(alloc, GREEN_4, BOOK)?;
+    let plan = certificate(alloc, beta, cost)?;
+    Ok(judged(alloc, &posed, numbers, &plan)? == want)
+}
+
 #[test]
 fn proved_assignments(rt: HostRuntime) -> Result<(), Fail> {
-    let alloc = rt.alloc();
-    let plan = certificate(alloc, &[0, 1, -1], 3)?;
-    let free = certificate(alloc, &[0, 0, 0], 0)?;
-    assert!(rt;
-        judged(alloc, CHEAPEST.as_slice(), &plan)? == (true, true)
-            && judged(alloc, CHEAPEST.as_slice(), &free)? == (true, false)
-            && judged(alloc, DEARER.as_slice(), &plan)? == (true, false)
-            && judged(alloc, FORBIDDEN.as_slice(), &plan)? == (false, false)
-            && judged(alloc, LOST.as_slice(), &plan)? == (false, false)
-    );
+    for (numbers, beta, cost, want) in [
+        (CHEAPEST, [0, 1, -1], 3, (true, true)),
+        (CHEAPEST, [0, 0, 0], 0, (true, false)),
+        (DEARER, [0, 1, -1], 3, (true, false)),
+        (FORBIDDEN, [0, 1, -1], 3, (false, false)),
+        (LOST, [0, 1, -1], 3, (false, false)),
+    ] {
+        assert!(rt;
+            is_judged(rt.alloc(), numbers.as_slice(), &beta, cost, want)?,
+            "{numbers:?}"
+        );
+    }
     Ok(())
 }
 
+/// Whether the row of the blue points without inputs that become green is the second of 18, with three points.
+fn is_green(rows: &[AssignmentRow<'_>]) -> bool {
+    match rows {
+        [_, row, ..] => {
+            rows.len() == 18
+                && row.name == "blue"
+                && row.count == 0
+                && row.variant == "green"
+                && row.points == 3
+        }
+        _ => false,
+    }
+}
+
 /// Whether the rows of the cheapest assignment name the three blue points that become green.
-fn has_rows(alloc: Global) -> Result<bool, Fail> {
-    let old = rule(alloc, OLD)?;
-    let request = Request::read(alloc, GREEN_4.as_bytes())?;
-    let totals = request.totals(alloc, names(alloc, "blue green red")?.as_slice())?;
-    let inputs = exposure(alloc, BOOK)?;
-    let spread = Assignment {
-        numbers: Vec::from_slice(alloc, CHEAPEST.as_slice())?,
-    };
-    let Some(instance) = instance(alloc, &old, &totals, request.prices(), &inputs)? else {
-        return Err("no instance".into());
-    };
-    let rows = spread.rows(alloc, &instance)?;
-    let row = rows.get(1).ok_or("no row")?;
-    Ok(
-        rows.len() == 18
-            && row.name == "blue"
-            && row.count == 0
-            && row.variant == "green"
-            && row.points == 3,
-    )
+fn has_rows(alloc: Global, posed: &Problem) -> Result<bool, Fail> {
+    let numbers = Vec::from_slice(alloc, CHEAPEST.as_slice())?;
+    let spread = Assignment { numbers };
+    match instance(alloc, posed)? {
+        Some(instance) => Ok(is_green(spread.rows(alloc, &instance)?.as_slice())),
+        None => Err("no instance".into()),
+    }
 }
 
 #[test]
 fn rows_of_an_assignment(rt: HostRuntime) -> Result<(), Fail> {
-    assert!(rt; has_rows(rt.alloc())?);
+    let alloc = rt.alloc();
+    assert!(rt; has_rows(alloc, &posed(alloc, GREEN_4, BOOK)?)?);
     Ok(())
 }

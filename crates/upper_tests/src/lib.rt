@@ -17,6 +17,8 @@ mod plan_files;
 #[cfg(test)]
 mod plans;
 #[cfg(test)]
+mod posed;
+#[cfg(test)]
 mod refused_plans;
 #[cfg(test)]
 mod solutions;

@@ -1,9 +1,9 @@
 //! What the planner answers.
-use crate::given::{BOOK, OLD, exposure, names, pair, parts, rule};
-use crate::instances::instance;
+use crate::given::{BOOK, parts};
+use crate::posed::{Problem, instance, posed, posed_on};
 use book_core::{Book, Exposure, Page, counts};
 use bucket_core::Rule;
-use price_core::{Limit, Prices, Request};
+use price_core::{Limit, Prices};
 use std::alloc::{AllocError, Global};
 use std::test::Fail;
 use transport_core::{Cut, CutKind};
@@ -31,20 +31,19 @@ fn in_words(alloc: Global, solved: &Solved) -> Result<String, AllocError> {
     }
 }
 
+/// What the planner answers to a request, in words.
+fn answer(alloc: Global, posed: &Problem) -> Result<String, Fail> {
+    match instance(alloc, posed)? {
+        Some(instance) => Ok(in_words(alloc, &solve_uncounted(alloc, &instance)?)?),
+        None => Ok(String::from_str(alloc, "no instance")?),
+    }
+}
+
 /// Whether a row's request is answered as the row says, for the inputs of a book.
 fn is_answered(alloc: Global, row: &str, book: &str) -> Result<bool, Fail> {
     let (request, want) = parts(row)?;
-    let old = rule(alloc, OLD)?;
-    let request = Request::read(alloc, request.as_bytes())?;
-    let totals = request.totals(alloc, names(alloc, "blue green red")?.as_slice())?;
-    let inputs = exposure(alloc, book)?;
-    match instance(alloc, &old, &totals, request.prices(), &inputs)? {
-        Some(instance) => {
-            let solved = solve_uncounted(alloc, &instance)?;
-            Ok(in_words(alloc, &solved)?.as_str() == want)
-        }
-        None => Ok(want == "no instance"),
-    }
+    let posed = posed(alloc, request, book)?;
+    Ok(answer(alloc, &posed)?.as_str() == want)
 }
 
 const ANSWERS: &str = r#"{"plan":1,"flag":"color","totals":{"red":3,"blue":7}} -> cost 0
@@ -84,16 +83,24 @@ impl Draws {
 
 const LETTERS: [&str; 4] = ["a", "b", "c", "d"];
 
+/// A bucket of one of the first of the letters, with a weight below an end.
+fn drawn_bucket(
+    alloc: Global,
+    draws: &mut Draws,
+    width: u64,
+    end: u64,
+) -> Result<String, AllocError> {
+    let letter = LETTERS[draws.below(width).min(3) as usize];
+    let weight = draws.below(end);
+    format!(in alloc; ",[\"{letter}\",{weight}]")
+}
+
 /// A rule of at most 6 points over the first of the letters.
 fn drawn_rule(alloc: Global, draws: &mut Draws, width: u64) -> Result<String, AllocError> {
-    let mut text = format!(in alloc; "[[\"a\",1]")?;
-    for end in [3, 3, 2] {
-        let letter = LETTERS[draws.below(width).min(3) as usize];
-        let weight = draws.below(end);
-        text.push_str(format!(in alloc; ",[\"{letter}\",{weight}]")?.as_str())?;
-    }
-    text.push_str("]")?;
-    text.clone()
+    let second = drawn_bucket(alloc, draws, width, 3)?;
+    let third = drawn_bucket(alloc, draws, width, 3)?;
+    let fourth = drawn_bucket(alloc, draws, width, 2)?;
+    format!(in alloc; "[[\"a\",1]{second}{third}{fourth}]")
 }
 
 /// Ranges of totals for the first of the letters, prices and prohibitions.
@@ -202,30 +209,42 @@ fn points(alloc: Global, rule: &Rule) -> Result<Vec<&str>, AllocError> {
     Ok(points)
 }
 
-/// The cost of a drawn problem as the planner answers it, or that there is none; and that of the cheapest of all rules.
-fn both_costs(alloc: Global, draws: &mut Draws) -> Result<(Option<u64>, Option<u64>), Fail> {
+/// The cost of a problem as the planner answers it, or that there is none.
+fn planned_cost(alloc: Global, posed: &Problem) -> Result<Option<u64>, Fail> {
+    match instance(alloc, posed)? {
+        Some(instance) => match solve_uncounted(alloc, &instance)? {
+            Solved::Plan(_, certificate) => Ok(Some(certificate.cost)),
+            Solved::None(_) => Ok(None),
+        },
+        None => Ok(None),
+    }
+}
+
+/// The cost of the cheapest of all rules that fit a problem, or that there is none.
+fn least_cost(alloc: Global, posed: &Problem) -> Result<Option<u64>, Fail> {
+    let olds = points(alloc, &posed.old)?;
+    let counts = counts(alloc, &posed.inputs, posed.old.total())?;
+    let limits = posed.totals.entries();
+    Ok(cheapest(
+        olds.as_slice(),
+        counts.as_slice(),
+        limits,
+        posed.request.prices(),
+    ))
+}
+
+/// A problem of two to four names.
+fn drawn(alloc: Global, draws: &mut Draws) -> Result<Problem, Fail> {
     let width = 2 + draws.below(3).min(2);
-    let old = rule(alloc, drawn_rule(alloc, draws, width)?.as_str())?;
-    let inputs = drawn_inputs(alloc, draws)?;
-    let request = Request::read(alloc, drawn_request(alloc, draws, width)?.as_bytes())?;
     let variants = match width {
         2 => "a b",
         3 => "a b c",
         _ => "a b c d",
     };
-    let totals = request.totals(alloc, names(alloc, variants)?.as_slice())?;
-    let olds = points(alloc, &old)?;
-    let at = counts(alloc, &inputs, old.total())?;
-    let prices = request.prices();
-    let best = cheapest(olds.as_slice(), at.as_slice(), totals.entries(), prices);
-    let cost = match instance(alloc, &old, &totals, prices, &inputs)? {
-        Some(instance) => match solve_uncounted(alloc, &instance)? {
-            Solved::Plan(_, certificate) => Some(certificate.cost),
-            Solved::None(_) => None,
-        },
-        None => None,
-    };
-    Ok((cost, best))
+    let old = drawn_rule(alloc, draws, width)?;
+    let inputs = drawn_inputs(alloc, draws)?;
+    let request = drawn_request(alloc, draws, width)?;
+    posed_on(alloc, old.as_str(), request.as_str(), variants, inputs)
 }
 
 #[test]
@@ -233,8 +252,9 @@ fn against_all_rules(rt: HostRuntime) -> Result<(), Fail> {
     let mut draws = Draws(12345);
     let mut plans = 0u32;
     for round in 0..300 {
-        let (cost, best) = both_costs(rt.alloc(), &mut draws)?;
-        assert!(rt; cost == best, "round {round}");
+        let posed = drawn(rt.alloc(), &mut draws)?;
+        let cost = planned_cost(rt.alloc(), &posed)?;
+        assert!(rt; cost == least_cost(rt.alloc(), &posed)?, "round {round}");
         if cost.is_some() {
             plans = plans.saturating_add(1);
         }
