@@ -1,9 +1,9 @@
 -- The limits on names: each name once, in order, with lawful limits.
-use Rattle.std.proofs.Common.{◌≡◌, ℕ, suc, ◌+◌, ◌<◌, ◌≤◌, ◌^◌, List, [], ◌∷◌, map, drop, length, get_or, String, string_bytes, Global, Bool, true, false, ◌||◌, ◌&&◌, Ok, Err, Option, Some, None, IfSome, is_some, unwrap_or, refl, sym, ap, ◌∙◌, add-one, arith}
+use Rattle.std.proofs.Common.{◌≡◌, ℕ, suc, ◌+◌, ◌<◌, ◌≤◌, ◌^◌, List, [], ◌∷◌, map, drop, length, get_or, String, string_bytes, Global, Option, Some, None, IfSome, unwrap_or, sym, ap, ◌∙◌, add-one, arith}
 use Rattle.std.proofs.Math.Seq.{drop-cons}
 use Rattle.std.specs.BTreeMap.{insert_entry}
 use Rattle.std.specs.Cmp.Lexicographic.{slice_cmp}
-use Rattle.std.specs.List.{All, list_any, list_all}
+use Rattle.std.specs.List.{All}
 use Rattle.std.specs.List.Sorted.{IsStrictlySortedBy}
 use Rattle.std.specs.Map.{keys_of, lookup}
 use Rattle.std.specs.Ordering.{nat_cmp, on}
@@ -11,14 +11,10 @@ use Rattle.std.specs.Str.{bytes_eq}
 use Rattle.std.specs.declared.cmp.Ordering.{Ordering}
 use Rattle.std.proofs.lemmas.List.Elements.{All-nil}
 use Rattle.std.proofs.lemmas.Map.Entries.{All-lookup}
-use Rattle.std.proofs.lemmas.Map.Lookups.{exact_bytes}
-use Rattle.std.proofs.lemmas.Map.Made.{is_some-lookup}
 use denote.Ref.{Bor}
 use Rattle.price_core.specs.Limits.{Limits, AreLimits, limits_of}
-use Rattle.price_core.specs.Pricing.{Pricing}
-use Rattle.price_core.specs.Request.{Asked, is_known, pair_is_known, all_known, limits_on, totals_of}
-use Rattle.price_core.specs.declared.fault.PriceFault.TheVariants.{UnknownVariant}
-use Rattle.price_core.proofs.Inserts.{insert-seen, rise_seen, found-insert, all_insert}
+use Rattle.price_core.specs.Request.{limits_on}
+use Rattle.price_core.proofs.Inserts.{insert-seen, rise_seen, all_insert}
 
 -- the entries of a map by borrowed names
 abbrev pub named : Bor (List ℕ) × (ℕ × ℕ) → List ℕ × (ℕ × ℕ)
@@ -29,17 +25,6 @@ named_limits es = map named es
 
 abbrev pub name_cmp : Bor (List ℕ) → Bor (List ℕ) → Ordering
 name_cmp = on (λ (x : Bor (List ℕ)). x.now) (slice_cmp nat_cmp)
-
-found-limits_on : (asked : Limits) (names : List (List ℕ)) (name : List ℕ) → is_some (lookup (bytes_eq name) (limits_on asked names)) ≡ list_any (bytes_eq name) names
-found-limits_on asked [] name = refl
-found-limits_on asked (n ∷ ns) name = found-insert (slice_cmp nat_cmp) exact_bytes (bytes_eq name) (limits_on asked ns) n (limits_of asked n) ∙ ap (λ x. bytes_eq name n || x) (found-limits_on asked ns name)
-
--- the names that have limits are those that were given
-pub is_known-limits_on : (asked : Limits) (names : List (List ℕ)) (name : List ℕ) → is_known (keys_of (limits_on asked names)) name ≡ is_known names name
-is_known-limits_on asked names name = sym (is_some-lookup (bytes_eq name) (limits_on asked names)) ∙ found-limits_on asked names name
-
-pub known_names : (asked : Limits) (names : List (List ℕ)) → is_known (keys_of (limits_on asked names)) ≡ is_known names
-known_names asked names = λ i name. is_known-limits_on asked names name i
 
 value_of : (P : ℕ × ℕ → Type 0) (o : Option (ℕ × ℕ)) → P (0, 0) → IfSome o P → P (unwrap_or o (0, 0))
 value_of P None none h = none
@@ -68,17 +53,3 @@ limits_more asked names left i x es more k v next inside is key value put made =
 
 pub named_rise : (es : List (Bor (List ℕ) × (ℕ × ℕ))) → IsStrictlySortedBy name_cmp (keys_of es) → IsStrictlySortedBy (slice_cmp nat_cmp) (keys_of (named_limits es))
 named_rise es h = rise_seen (λ (x : Bor (List ℕ)). x.now) (slice_cmp nat_cmp) es h
-
-pub all_known_is : (asked : Asked) (names : List (List ℕ)) (limits totals : Limits) (prices : Pricing) (b : Bool) → limits ≡ limits_on asked.totals names → totals ≡ asked.totals → prices ≡ asked.prices
-    → b ≡ (list_all (is_known (keys_of limits)) (keys_of totals) && (list_all (pair_is_known (keys_of limits)) (keys_of prices.named) && list_all (pair_is_known (keys_of limits)) prices.barred))
-    → all_known names asked ≡ b
-all_known_is asked names limits totals prices b limits_are totals_are prices_are found =
-    let test : Limits → Pricing → (List ℕ → Bool) → Bool = λ ts ps k. list_all k (keys_of ts) && (list_all (λ p. k p.0 && k p.1) (keys_of ps.named) && list_all (λ p. k p.0 && k p.1) ps.barred) in
-    let known : is_known (keys_of limits) ≡ is_known names = ap (λ ls. is_known (keys_of ls)) limits_are ∙ known_names asked.totals names in
-    sym (found ∙ (λ i. test (totals_are i) (prices_are i) (known i)))
-
-pub totals_ok : (asked : Asked) (names : List (List ℕ)) (limits : Limits) → limits ≡ limits_on asked.totals names → all_known names asked ≡ true → totals_of names asked ≡ Ok limits
-totals_ok asked names limits is known = rw known (ap Ok (sym is))
-
-pub totals_err : (asked : Asked) (names : List (List ℕ)) → all_known names asked ≡ false → totals_of names asked ≡ Err UnknownVariant
-totals_err asked names unknown = rw unknown refl

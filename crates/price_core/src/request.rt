@@ -10,13 +10,13 @@ ghost use Rattle.flag_text.specs.Shape.{is_whole};
 ghost use Rattle.flag_text.specs.View.{view};
 ghost use Rattle.price_core.specs.Limits.{limits_view};
 ghost use Rattle.price_core.specs.Pricing.{IsPricing, max_price, entries_view};
-ghost use Rattle.price_core.specs.Request.{IsWritten, draft_view, is_self_pair, as_price, as_prices, if_in_range, is_range, judged, max_request, request_of, asked_of, is_known, pair_is_known, totals_of};
+ghost use Rattle.price_core.specs.Request.{IsWritten, draft_view, is_self_pair, as_price, as_prices, if_in_range, is_range, judged, max_request, request_of, asked_of, is_known, pair_is_known, all_known, totals_of};
 
 use crate::change::Change;
 use crate::draft::{Draft, written};
 use crate::fault::PriceFault;
 use crate::prices::Prices;
-use crate::totals::{Limit, Totals, find_limit, limits_on};
+use crate::totals::{Limit, Totals, limits_on};
 use flag_text::{Tree, read_tree};
 use std::alloc::Global;
 use std::marker::Model;
@@ -84,14 +84,16 @@ impl Request {
     }
 
     /// The limits on each of these names, both 0 where none are asked. It refuses a request that
-    /// names another in its totals, prices or prohibitions.
+    /// names another in its totals, prices or prohibitions, before memory is taken. Each name of the
+    /// request is sought among these, which for a flag are 64 at most.
     pub fn totals(&self, alloc: Global, names: &[String]) -> Result<Totals, PriceFault>
         ensures exact { GivesUnless PriceFault.WantOfMemory (λ t. t) result (totals_of (map string_bytes names.now) self.now) }
+        ensures unknown { all_known (map string_bytes names.now) self.now ≡ false → IsErrOf result PriceFault.UnknownVariant }
     {
-        let limits = limits_on(alloc, self.totals.as_slice(), names)?;
-        if !all_known(limits.as_slice(), self.totals.as_slice(), &self.prices) {
+        if !all_known(names, self.totals.as_slice(), &self.prices) {
             return Err(PriceFault::UnknownVariant);
         }
+        let limits = limits_on(alloc, self.totals.as_slice(), names)?;
         Ok(Totals { limits })
     }
 }
@@ -105,42 +107,42 @@ fn requested(alloc: Global, tree: &Tree) -> Result<Request, PriceFault>
     judge(alloc, draft)
 }
 
-/// Whether each name that is asked for is one of those that have limits.
-fn all_known(limits: &[Limit], asked: &[Limit], prices: &Prices) -> bool
-    requires { IsStrictlySortedBy (slice_cmp nat_cmp) (keys_of (limits_view limits.now)) }
-    ensures { result ≡ (list_all (is_known (keys_of (limits_view limits.now))) (keys_of (limits_view asked.now)) && (list_all (pair_is_known (keys_of (limits_view limits.now))) (keys_of prices.now.named) && list_all (pair_is_known (keys_of (limits_view limits.now))) prices.now.barred)) }
+/// Whether each name that is asked for is one of these.
+fn all_known(names: &[String], asked: &[Limit], prices: &Prices) -> bool
+    ensures { result ≡ (list_all (is_known (map string_bytes names.now)) (keys_of (limits_view asked.now)) && (list_all (pair_is_known (map string_bytes names.now)) (keys_of prices.now.named) && list_all (pair_is_known (map string_bytes names.now)) prices.now.barred)) }
 {
-    names_are_known(limits, asked)
-        && changes_are_known(limits, prices.named())
-        && changes_are_known(limits, prices.barred())
+    names_are_known(names, asked)
+        && changes_are_known(names, prices.named())
+        && changes_are_known(names, prices.barred())
 }
 
-/// Whether the name is one of those that have limits.
-fn is_known(limits: &[Limit], name: &str) -> bool
-    requires { IsStrictlySortedBy (slice_cmp nat_cmp) (keys_of (limits_view limits.now)) }
-    ensures { result ≡ is_known (keys_of (limits_view limits.now)) name.now }
+fn is_known(names: &[String], name: &str) -> bool
+    ensures { result ≡ is_known (map string_bytes names.now) name.now }
 {
-    find_limit(limits, name).is_some()
+    for known in names {
+        if name == known.as_str() {
+            return true;
+        }
+    }
+    false
 }
 
-fn names_are_known(limits: &[Limit], asked: &[Limit]) -> bool
-    requires { IsStrictlySortedBy (slice_cmp nat_cmp) (keys_of (limits_view limits.now)) }
-    ensures { result ≡ list_all (is_known (keys_of (limits_view limits.now))) (keys_of (limits_view asked.now)) }
+fn names_are_known(names: &[String], asked: &[Limit]) -> bool
+    ensures { result ≡ list_all (is_known (map string_bytes names.now)) (keys_of (limits_view asked.now)) }
 {
     for limit in asked {
-        if !is_known(limits, limit.name.as_str()) {
+        if !is_known(names, limit.name.as_str()) {
             return false;
         }
     }
     true
 }
 
-fn changes_are_known<X>(limits: &[Limit], entries: &[(Change, X)]) -> bool
-    requires { IsStrictlySortedBy (slice_cmp nat_cmp) (keys_of (limits_view limits.now)) }
-    ensures { result ≡ list_all (pair_is_known (keys_of (limits_view limits.now))) (keys_of (entries_view entries.now)) }
+fn changes_are_known<X>(names: &[String], entries: &[(Change, X)]) -> bool
+    ensures { result ≡ list_all (pair_is_known (map string_bytes names.now)) (keys_of (entries_view entries.now)) }
 {
     for (change, _) in entries {
-        if !is_known(limits, change.from.as_str()) || !is_known(limits, change.to.as_str()) {
+        if !is_known(names, change.from.as_str()) || !is_known(names, change.to.as_str()) {
             return false;
         }
     }

@@ -1,4 +1,4 @@
-ghost use Rattle.std.specs.Prelude.{◌≡◌, IfOk, option_map, option_copied, map, string_bytes};
+ghost use Rattle.std.specs.Prelude.{◌≡◌, ◌<◌, ◌^◌, IfOk, option_map, option_copied, map, string_bytes, sum_by};
 ghost use Rattle.std.specs.Cmp.Lexicographic.{slice_cmp};
 ghost use Rattle.std.specs.List.Sorted.{IsStrictlySortedBy};
 ghost use Rattle.std.specs.Map.{keys_of, lookup};
@@ -46,6 +46,44 @@ impl Totals {
     {
         self.limits.as_slice()
     }
+
+    /// The sum of the low limits.
+    pub fn low_sum(&self) -> u128
+        ensures value { result ≡ sum_by (λ l. l.1.0) self.now }
+        ensures small { result < 2 ^ 97 }
+    {
+        low_sum(self.limits.as_slice())
+    }
+
+    /// The sum of the high limits.
+    pub fn high_sum(&self) -> u128
+        ensures value { result ≡ sum_by (λ l. l.1.1) self.now }
+        ensures small { result < 2 ^ 97 }
+    {
+        high_sum(self.limits.as_slice())
+    }
+}
+
+fn low_sum(limits: &[Limit]) -> u128
+    ensures value { result ≡ sum_by (λ l. l.1.0) (limits_view limits.now) }
+    ensures small { result < 2 ^ 97 }
+{
+    let mut sum = 0u128;
+    for limit in limits {
+        sum += u128::from(limit.low);
+    }
+    sum
+}
+
+fn high_sum(limits: &[Limit]) -> u128
+    ensures value { result ≡ sum_by (λ l. l.1.1) (limits_view limits.now) }
+    ensures small { result < 2 ^ 97 }
+{
+    let mut sum = 0u128;
+    for limit in limits {
+        sum += u128::from(limit.high);
+    }
+    sum
 }
 
 /// The limits of a name among names in order, by halving.

@@ -1,4 +1,4 @@
-use Rattle.std.proofs.Common.{◌≡◌, drop}
+use Rattle.std.proofs.Common.{◌≡◌, drop, map, string_bytes}
 use Rattle.std.specs.List.{list_all}
 use Rattle.std.specs.Map.{keys_of}
 use Rattle.price_core.specs.Limits.{limits_view}
@@ -7,5 +7,5 @@ use Rattle.price_core.proofs.request.names_are_known.Given as goal
 
 abbrev pub invariant-loop-limit : goal.invariant-loop-limit
 invariant-loop-limit l =
-    list_all (is_known (keys_of (limits_view l.limits))) (keys_of (limits_view (drop l.limit-index l.asked)))
-    ≡ list_all (is_known (keys_of (limits_view l.limits))) (keys_of (limits_view l.asked))
+    list_all (is_known (map string_bytes l.names)) (keys_of (limits_view (drop l.limit-index l.asked)))
+    ≡ list_all (is_known (map string_bytes l.names)) (keys_of (limits_view l.asked))
