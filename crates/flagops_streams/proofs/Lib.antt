@@ -1,0 +1,4 @@
+pub mod Crossings
+pub mod Learned
+pub mod Lines
+pub mod Writes

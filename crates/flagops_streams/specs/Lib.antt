@@ -1,0 +1,4 @@
+pub mod Documents
+pub mod Printed
+pub mod Refusal
+pub mod Report

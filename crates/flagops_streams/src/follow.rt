@@ -1,0 +1,200 @@
+//! The command `follow`: what a stream of snapshots brings.
+ghost use Rattle.std.specs.Prelude.{◌≡◌, ◌⊎◌, false, not, IfOk, string_bytes};
+ghost use Rattle.flag_text.specs.Outlet.{AppendsPart};
+ghost use Rattle.std.specs.Bool.{MatchBool};
+ghost use Rattle.std.specs.Io.KnownBytes.{Appends};
+ghost use Rattle.snap_core.specs.HubView.{snapshot_view};
+ghost use Rattle.flagops_streams.specs.Printed.{Follows, Printed, last_line, snapshot_line, start_of, status_of, word_of};
+ghost use Rattle.flagops_streams.specs.Report.{RefusesBy, Writes};
+ghost use Rattle.flagops_streams.specs.declared.refusal.Refusal.TheVariants.{Unreachable};
+
+use crate::refusal::Refusal;
+use crate::remark::say_unreachable;
+use crate::report::{refuse, write_three};
+use core::mem::replace_with;
+use flag_text::{Outlet, write_whole};
+use snap_core::Snapshot;
+use std::alloc::{AllocError, Global};
+use std::net::{Net, SocketAddr, TcpStream};
+use std::thread;
+use std::time::{Clock, Duration};
+use sync_server::{Inlet, ReadEnd, ReadInlet, Sink, follow_stream};
+
+/// How often a connection is tried.
+const TRIES: u32 = 100;
+
+/// The milliseconds between two tries.
+const PAUSE: u64 = 50;
+
+/// Follows the stream that somebody serves on a port of this host, as [`follow_lines`] does.
+pub fn follow_port<R: AllocGlobal + Net + Clock, O: Outlet, E: Outlet>(
+    rt: &R,
+    port: u16,
+    turns: u64,
+    out: &mut O,
+    err: &mut E,
+) -> u8
+    requires { O.is_broken out.old ≡ false }
+    ensures { Follows (O.bytes out.old) (O.bytes out.new) (O.is_broken out.new) result ⊎ RefusesBy Unreachable (O.bytes out.old) (O.bytes out.new) (O.is_broken out.new) result }
+{
+    let alloc = rt.alloc();
+    match connect(rt, port) {
+        Some(stream) => replace_with(
+            out,
+            (alloc, stream, turns),
+            |out: O, given: (Global, R::Stream, u64)| -> (O, u8)
+                requires { O.is_broken out ≡ false }
+                ensures { Follows (O.bytes out) (O.bytes result.0) (O.is_broken result.0) result.1 }
+            {
+                let (alloc, stream, turns) = given;
+                follow_lines(alloc, &mut ReadInlet::new(stream), out, turns)
+            },
+        ),
+        None => {
+            say_unreachable(alloc, err, port);
+            refuse(alloc, out, Refusal::Unreachable)
+        }
+    }
+}
+
+/// A connection to whoever listens on a port of this host, tried once more after each pause.
+fn connect<R: Net + Clock>(rt: &R, port: u16) -> Option<R::Stream> {
+    let address = SocketAddr::from(([127, 0, 0, 1], port));
+    for left in (0..TRIES).rev() {
+        if let Ok(stream) = TcpStream::connect(rt, address) {
+            return Some(stream);
+        }
+        if left > 0 {
+            thread::sleep(rt, Duration::from_millis(PAUSE));
+        }
+    }
+    None
+}
+
+/// Prints a line for each snapshot of a stream when it has come: its number, and how many flags it has. The last line says
+/// how the stream ended. The status is 0 where the stream ended behind a whole frame or all turns were taken, else 1; also 1
+/// where the output failed, and then no more is read. The output is given back. The conditions are an inlet and an outlet
+/// that are not broken.
+pub fn follow_lines<I: Inlet, O: Outlet>(
+    alloc: Global,
+    inlet: &mut I,
+    out: O,
+    turns: u64,
+) -> (O, u8)
+    requires inlet { I.is_broken inlet.old ≡ false }
+    requires outlet { O.is_broken out ≡ false }
+    ensures { Printed (I.bytes inlet.old) (I.bytes inlet.new) (I.is_broken inlet.new) (O.bytes out) (O.bytes result.0) (O.is_broken result.0) result.1 }
+{
+    let mut printer = Printer {
+        alloc,
+        out,
+        wants: false,
+    };
+    let end = follow_stream(alloc, inlet, &mut printer, turns);
+    let Printer {
+        alloc: _alloc,
+        out,
+        wants,
+    } = printer;
+    match end {
+        Some(end) => finish(out, end),
+        None if wants => finish(out, ReadEnd::WantOfMemory),
+        None => (out, 1),
+    }
+}
+
+/// Prints how a stream ended, and gives the output back with the status.
+fn finish<O: Outlet>(out: O, end: ReadEnd) -> (O, u8)
+    requires { O.is_broken out ≡ false }
+    ensures { Writes (O.bytes out) (O.bytes result.0) (O.is_broken result.0) result.1 (last_line end) (status_of end) }
+{
+    let mut out = out;
+    let status = print_end(&mut out, end);
+    (out, status)
+}
+
+/// Prints how a stream ended, without taking memory, and gives the status.
+#[tactic(auto, using(crate::proofs::Writes::good, crate::proofs::Writes::bad), unfolding(crate::specs::Printed::last_line))]
+fn print_end<O: Outlet>(out: &mut O, end: ReadEnd) -> u8
+    requires { O.is_broken out.old ≡ false }
+    ensures { Writes (O.bytes out.old) (O.bytes out.new) (O.is_broken out.new) result (last_line end) (status_of end) }
+{
+    let (start, word) = (start_of(end), word_of(end));
+    if write_three(out, start.as_bytes(), word.as_bytes(), b"\n") {
+        status_of(end)
+    } else {
+        1
+    }
+}
+
+/// How the last line begins.
+fn start_of(end: ReadEnd) -> &'static str
+    ensures { result.now ≡ start_of end }
+{
+    match end {
+        ReadEnd::Ended => "",
+        _ => "stopped ",
+    }
+}
+
+/// The word that it has for the end.
+fn word_of(end: ReadEnd) -> &'static str
+    ensures { result.now ≡ word_of end }
+{
+    match end {
+        ReadEnd::Ended => "ended",
+        _ => end.name(),
+    }
+}
+
+/// The status that a stream's end gives.
+fn status_of(end: ReadEnd) -> u8
+    ensures { result ≡ status_of end }
+{
+    match end {
+        ReadEnd::Ended | ReadEnd::Limit => 0,
+        _ => 1,
+    }
+}
+
+/// Prints the line of each snapshot.
+struct Printer<O: Outlet> {
+    alloc: Global,
+    out: O,
+    /// Memory ran out for a line.
+    wants: bool,
+}
+
+impl<O: Outlet> Sink for Printer<O> {
+    ghost use Rattle.std.specs.Prelude.{◌≡◌, ◌||◌, true, false};
+    ghost use Rattle.std.specs.Bool.{MatchBool};
+    ghost use Rattle.std.specs.Io.KnownBytes.{Appends};
+    ghost use Rattle.flag_text.specs.Outlet.{AppendsPart};
+    ghost use Rattle.flagops_streams.specs.Printed.{snapshot_line};
+
+    ghost took = { λ old s new. Appends (O.bytes old.out) (O.bytes new.out) (snapshot_line s) × (O.is_broken new.out ≡ false) };
+
+    ghost refused = { λ old s new. MatchBool new.wants ((O.bytes new.out ≡ O.bytes old.out) × (O.is_broken new.out ≡ false)) (AppendsPart (O.bytes old.out) (O.bytes new.out) (snapshot_line s) × (O.is_broken new.out ≡ true)) };
+
+    ghost is_full = { λ p. O.is_broken p.out || p.wants };
+
+    fn take(&mut self, snapshot: Snapshot) -> bool {
+        match line_of(self.alloc, &snapshot) {
+            Ok(line) => write_whole(&mut self.out, line.as_bytes()),
+            Err(AllocError) => {
+                self.wants = true;
+                false
+            }
+        }
+    }
+}
+
+/// The line of a snapshot.
+#[tactic(auto, unfolding(crate::specs::Printed::snapshot_line))]
+fn line_of(alloc: Global, snapshot: &Snapshot) -> Result<String, AllocError>
+    ensures { IfOk result (λ s. string_bytes s ≡ snapshot_line (snapshot_view snapshot.now)) }
+{
+    let number = snapshot.number;
+    let count = snapshot.flags.len();
+    format!(in alloc; "snapshot {number} flags {count}\n")
+}

@@ -1,0 +1,28 @@
+//! What the commands of streams do: `serve` publishes documents to its subscribers, `follow` prints what it is sent.
+//!
+//! [`serve_documents`] and [`follow_port`] alone are handed the network and threads. What they do is
+//! - [`follow_lines`], over any inlet and outlet: the line of each snapshot when it has come, and at the end why;
+//! - a thread for each subscriber that runs `serve_stream` over its seat, and the numbers that the publisher puts on a board.
+//!
+//! Proved of [`follow_lines`]: what is on the output are the lines of all snapshots that are whole in the bytes read, and a
+//! last line that says how these ended, with its status; or a front of that with status 1 where the output failed
+//! (`Printed`). Of serving: the output is one line, the number of documents or that of a refusal (`Report`).
+//!
+//! What is told a person on the error outlet changes nothing of this.
+#![tactic(auto)]
+
+mod board;
+mod documents;
+mod follow;
+mod refusal;
+mod remark;
+mod report;
+mod serve;
+mod subscriber;
+
+pub use documents::Documents;
+pub use follow::{follow_lines, follow_port};
+pub use refusal::Refusal;
+pub use remark::{say, say_refused};
+pub use report::refuse;
+pub use serve::serve_documents;
