@@ -22,10 +22,8 @@ use Rattle.price_core.specs.Limits.{limit_view, limits_view}
 use Rattle.price_core.specs.Pricing.{Pricing, is_forbidden}
 use Rattle.price_core.specs.declared.totals.Limit.{Limit}
 use Rattle.transport_core.specs.Assignment.{Arc, row_flows, arc_flows, spends_all, is_free_of, inflow}
-use Rattle.transport_core.specs.Groups.{GroupKey, row_view, rows_view}
+use Rattle.transport_core.specs.Groups.{GroupKey}
 use Rattle.transport_core.proofs.Keys.{get-map, not_below_itself}
-use Rattle.transport_core.proofs.Points.{get_below}
-use Rattle.transport_core.proofs.Ranges.{from_here}
 
 pub width_of : (limits : List Limit) → length (keys_of (limits_view limits)) ≡ length limits
 width_of limits = length-keys_of (limits_view limits) ∙ length-map limits limit_view
@@ -79,11 +77,6 @@ not_barred points forbidden allowed = or_right (points == 0) (not forbidden) (no
 
 -- ---- the same of what is left in a loop
 
-pub next_of : {X : Type 0} (xs : List X) (i : ℕ) → i < length xs → (x : X) × (drop i xs ≡ x ∷ drop (i + 1) xs)
-next_of xs i below =
-    let x = get_below xs i below in
-    (x.0, from_here xs i x.0 below (sym (get_or_from_slice_get xs i x.0 x.0 x.1)))
-
 abbrev pub Row : Type 0
 Row = (Bor (List ℕ) × ℕ) × ℕ
 
@@ -93,21 +86,6 @@ no_row = ((record { ref_ptr = (0, 0); now = [] }, 0), 0)
 
 pub element_here : {X : Type 0} (xs : List X) (i : ℕ) (d : X) → i < length xs → drop i xs ≡ get_or xs i d ∷ drop (i + 1) xs
 element_here xs i d below = rw add-one (drop-cons xs i d below)
-
-module _ (groups : List Row) (i : ℕ) (x : Row) (here : drop i groups ≡ x ∷ drop (i + 1) groups) where
-  pub spends_here : (width : ℕ) (numbers : List ℕ) → spends_all (rows_view (drop i groups)) width numbers ≡ true → Spends (row_view x) (rows_view (drop (i + 1) groups)) width numbers
-  spends_here width numbers all = spends (row_view x) (rows_view (drop (i + 1) groups)) width numbers (sym (ap (λ gs. spends_all (rows_view gs) width numbers) here) ∙ all)
-
-  module _ (limits : List Limit) (numbers row more : List ℕ) (front : row ≡ take (length limits) numbers) (back : more ≡ drop (length limits) numbers) where
-    pub free_here : (pricing : Pricing) → is_free_of pricing (arc_flows (keys_of (rows_view (drop i groups))) (keys_of (limits_view limits)) numbers)
-        ≡ (is_free_of pricing (row_flows (row_view x).0 (keys_of (limits_view limits)) row) && is_free_of pricing (arc_flows (keys_of (rows_view (drop (i + 1) groups))) (keys_of (limits_view limits)) more))
-    free_here pricing = ap (λ gs. is_free_of pricing (arc_flows (keys_of (rows_view gs)) (keys_of (limits_view limits)) numbers)) here
-        ∙ free_step pricing (row_view x) (rows_view (drop (i + 1) groups)) (keys_of (limits_view limits)) (length limits) numbers row more (width_of limits) front back
-
-    pub sum_here : (f : Arc × ℕ → ℕ) → sum_by f (arc_flows (keys_of (rows_view (drop i groups))) (keys_of (limits_view limits)) numbers)
-        ≡ sum_by f (row_flows (row_view x).0 (keys_of (limits_view limits)) row) + sum_by f (arc_flows (keys_of (rows_view (drop (i + 1) groups))) (keys_of (limits_view limits)) more)
-    sum_here f = ap (λ gs. sum_by f (arc_flows (keys_of (rows_view gs)) (keys_of (limits_view limits)) numbers)) here
-        ∙ sum_step f (row_view x) (rows_view (drop (i + 1) groups)) (keys_of (limits_view limits)) (length limits) numbers row more (width_of limits) front back
 
 pub row_here : (g : GroupKey) (limits : List Limit) (row : List ℕ) (i : ℕ) (l : Limit) (k : ℕ) → drop i limits ≡ l ∷ drop (i + 1) limits → drop i row ≡ k ∷ drop (i + 1) row
     → row_flows g (keys_of (limits_view (drop i limits))) (drop i row) ≡ ((g, string_bytes l.name), k) ∷ row_flows g (keys_of (limits_view (drop (i + 1) limits))) (drop (i + 1) row)

@@ -1,13 +1,13 @@
 -- Groups by their places: each is that of a point, so its name is one of the rule's, and its inputs are some of all.
-use Rattle.std.proofs.Common.{◌≡◌, ◌==◌, ℕ, zero, suc, ◌+◌, ◌<◌, ◌≤◌, ⊎_elim, List, [], ◌∷◌, length, get_or, replicate, Bool, true, false, cond, Some, None, Option, unwrap_or, count_by, refl, sym, ap, ◌∙◌, subst, arith}
+use Rattle.std.proofs.Common.{◌≡◌, ◌==◌, ℕ, zero, suc, ◌+◌, ◌<◌, ◌≤◌, ⊎_elim, List, [], ◌∷◌, length, get_or, replicate, Bool, true, false, cond, Some, Option, unwrap_or, count_by, sym, ap, ◌∙◌, subst, arith}
 use Rattle.std.specs.List.{All, Contains, range_with_len, slice_get}
-use Rattle.std.specs.Map.{keys_of, lookup}
+use Rattle.std.specs.Map.{keys_of}
 use Rattle.std.proofs.lemmas.Bool.{cases_Bool, cond-false}
 use Rattle.std.proofs.lemmas.List.Elements.{All-append, All-nil, All-replicate, All-head, All-tail}
 use Rattle.std.proofs.lemmas.List.Sums.{sum_by-cons, count_by-le-length}
-use Rattle.std.proofs.lemmas.Option.{slice_get-get_or, get_or_from_slice_get, same_Some}
+use Rattle.std.proofs.lemmas.Option.{slice_get-get_or, get_or_from_slice_get}
 use Rattle.bucket_core.specs.Point.{point_of}
-use Rattle.bucket_core.specs.Rule.{Entries, total_weight, points, at}
+use Rattle.bucket_core.specs.Rule.{Entries, total_weight, points}
 use Rattle.transport_core.specs.Dual.{inputs_at}
 use Rattle.transport_core.specs.Groups.{GroupKey, is_same_group, group_at, group_cmp, size_of, AreSizes}
 use Rattle.transport_core.proofs.Members.{lookup_place, place_below}

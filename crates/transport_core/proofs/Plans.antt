@@ -22,9 +22,9 @@ use Rattle.transport_core.specs.Deficient.{may_become, is_among, IsOver}
 use Rattle.transport_core.specs.Dual.{inputs_at}
 use Rattle.transport_core.specs.Fits.{Fits, IsLeast}
 use Rattle.transport_core.specs.Groups.{GroupKey, is_same_group, group_cmp, group_at, AreGroups, AreSizes, row_view, rows_view}
-use Rattle.transport_core.specs.Instance.{TransportProblem, AreGroupTotals}
+use Rattle.transport_core.specs.Instance.{TransportProblem}
 use Rattle.transport_core.specs.Refusals.{is_broken, pairs_of}
-use Rattle.transport_core.specs.Rows.{whole_amount, AreTotals}
+use Rattle.transport_core.specs.Rows.{whole_amount}
 use Rattle.transport_core.proofs.Arcs.{spends, sum_step}
 use Rattle.transport_core.proofs.Assigned.{weigh, weighed, row_there}
 use Rattle.transport_core.proofs.Certified.{certified, dual_sum-is, least_from}
@@ -34,7 +34,7 @@ use Rattle.transport_core.proofs.DualSums.{place_in_range, groups_are}
 use Rattle.transport_core.proofs.Joined.{lookup-amount}
 use Rattle.transport_core.proofs.Members.{place_below}
 use Rattle.transport_core.proofs.NameTotals.{times, bytes_eq-sym}
-use Rattle.transport_core.proofs.Pairs.{row_fails, row_none}
+use Rattle.transport_core.proofs.Pairs.{row_fails}
 use Rattle.transport_core.proofs.Placed.{same_group, is_same_itself, group_order}
 use Rattle.transport_core.proofs.Points.{length-points, counted}
 use Rattle.transport_core.proofs.Ranges.{count-all}
@@ -77,12 +77,6 @@ module _ (old : Entries) (inputs : List (List ℕ)) (groups : List (GroupKey × 
   -- the points whose name passes a test are those of the groups whose name does
   pub groups-test : (test : List ℕ → Bool) → sum_by (λ g. cond (test g.0.0) g.1 0) groups ≡ count_by test (points old)
   groups-test test = sym (passing test groups) ∙ (sym (by_groups (λ g. cond (test g.0) 1 0)) ∙ sum-points old (total_weight old) (λ n. cond (test n) 1 0) refl)
-
-  pub totals_are : (totals : List (List ℕ × ℕ)) → AreGroupTotals groups totals → AreTotals old totals
-  totals_are totals are = record { rise = are.rise; counts = λ test. are.counts test ∙ groups-test test }
-
-  pub group_totals : (totals : List (List ℕ × ℕ)) → AreTotals old totals → AreGroupTotals groups totals
-  group_totals totals are = record { rise = are.rise; counts = λ test. are.counts test ∙ sym (groups-test test) }
 
 -- ---- arcs
 
@@ -143,11 +137,6 @@ same_problem p groups limits pricing groups_are limits_are pricing_is =
     ap (λ (gs : List (GroupKey × ℕ)). let q : TransportProblem = record { groups = gs; limits = limits; pricing = pricing } in q) groups_are
     ∙ (ap (λ (ls : Limits). let q : TransportProblem = record { groups = p.groups; limits = ls; pricing = pricing } in q) limits_are
     ∙ ap (λ (pr : Pricing). let q : TransportProblem = record { groups = p.groups; limits = p.limits; pricing = pr } in q) pricing_is)
-
-pub same_numbers : (c : DualPrices) (alpha : List (GroupKey × ℤ)) (beta : List (List ℕ × ℤ)) → alpha ≡ c.alpha → beta ≡ c.beta → record { alpha = alpha; beta = beta; cost = c.cost } ≡ c
-same_numbers c alpha beta alpha_is beta_is =
-    ap (λ (xs : List (GroupKey × ℤ)). let d : DualPrices = record { alpha = xs; beta = beta; cost = c.cost } in d) alpha_is
-    ∙ ap (λ (xs : List (List ℕ × ℤ)). let d : DualPrices = record { alpha = c.alpha; beta = xs; cost = c.cost } in d) beta_is
 
 -- ---- limits
 
@@ -215,34 +204,6 @@ none_broken pricing [] beta all = refl
 none_broken pricing (a ∷ alpha) beta all =
     let parts = slack_parts pricing a alpha beta all in
     row_fails (is_broken pricing) a (pairs_of alpha beta) beta (slack_row pricing a beta parts.0) ∙ none_broken pricing alpha beta parts.1
-
-slack_in_row : (pricing : Pricing) (a : GroupKey × ℤ) (beta : List (List ℕ × ℤ)) → find (λ b. is_broken pricing (a, b)) beta ≡ None → list_all (λ b. not (is_broken pricing (a, b))) beta ≡ true
-slack_in_row pricing a [] none = refl
-slack_in_row pricing a (b ∷ beta) none = by (is_broken pricing (a, b)) refl none (λ h. slack_in_row pricing a beta h)
-  where
-    by : (t : Bool) → is_broken pricing (a, b) ≡ t → cond t (Some b) (find (λ x. is_broken pricing (a, x)) beta) ≡ None → (find (λ x. is_broken pricing (a, x)) beta ≡ None → list_all (λ x. not (is_broken pricing (a, x))) beta ≡ true) → (not (is_broken pricing (a, b)) && list_all (λ x. not (is_broken pricing (a, x))) beta) ≡ true
-    by true is h later = cc
-    by false is h later = rw (is, later h) refl
-
-slack_of_parts : (pricing : Pricing) (a : GroupKey × ℤ) (alpha : List (GroupKey × ℤ)) (beta : List (List ℕ × ℤ)) → list_all (λ b. not (is_broken pricing (a, b))) beta ≡ true → has_slack pricing alpha beta ≡ true → has_slack pricing (a ∷ alpha) beta ≡ true
-slack_of_parts pricing a alpha [] row all = refl
-slack_of_parts pricing a alpha (b ∷ beta) row all =
-    let here : Bool = not (is_broken pricing (a, b)) in
-    let column : Bool = list_all (λ (x : GroupKey × ℤ). not (is_broken pricing (x, b))) alpha in
-    let rows = and_parts here (list_all (λ (y : List ℕ × ℤ). not (is_broken pricing (a, y))) beta) row in
-    let columns = and_parts column (has_slack pricing alpha beta) all in
-    and_from (here && column) (has_slack pricing (a ∷ alpha) beta) (and_from here column rows.0 columns.0) (slack_of_parts pricing a alpha beta rows.1 columns.1)
-
-slack_of_none : (beta : List (List ℕ × ℤ)) (pricing : Pricing) → has_slack pricing [] beta ≡ true
-slack_of_none [] pricing = refl
-slack_of_none (b ∷ beta) pricing = slack_of_none beta pricing
-
--- where no pair is broken all have slack
-pub slack_from_none : (pricing : Pricing) (alpha : List (GroupKey × ℤ)) (beta : List (List ℕ × ℤ)) → find (is_broken pricing) (pairs_of alpha beta) ≡ None → has_slack pricing alpha beta ≡ true
-slack_from_none pricing [] beta none = slack_of_none beta pricing
-slack_from_none pricing (a ∷ alpha) beta none =
-    let parts = row_none (is_broken pricing) a (pairs_of alpha beta) beta none in
-    slack_of_parts pricing a alpha beta (slack_in_row pricing a beta parts.0) (slack_from_none pricing alpha beta parts.1)
 
 -- ---- the plan
 

@@ -1,10 +1,8 @@
 -- Instances: the transportation problem that a planner is given (Hitchcock 1941; Ahuja, Magnanti, Orlin, Network Flows, section 1.2).
-use Rattle.std.specs.Prelude.{◌≡◌, ℕ, ◌*◌, ◌<◌, ◌≤◌, ◌⊎◌, Bool, List, length, sum_by, if◌then◌else◌}
-use Rattle.std.specs.Cmp.Lexicographic.{slice_cmp}
+use Rattle.std.specs.Prelude.{ℕ, ◌*◌, ◌<◌, ◌≤◌, ◌⊎◌, List, length, sum_by}
 use Rattle.std.specs.List.{All, Contains}
 use Rattle.std.specs.List.Sorted.{IsStrictlySortedBy}
 use Rattle.std.specs.Map.{keys_of}
-use Rattle.std.specs.Ordering.{nat_cmp}
 use Rattle.book_core.specs.Book.{most_inputs}
 use Rattle.bucket_core.specs.Rule.{Entries, total_weight}
 use Rattle.price_core.specs.Limits.{Limits, AreLimits}
@@ -47,8 +45,3 @@ AreListed old limits = All (Contains (keys_of limits)) (keys_of old)
 -- the low limits sum above the rule's total, or the high ones below it
 abbrev pub MissTotal : Entries → Limits → Type 0
 MissTotal old limits = (total_weight old < sum_by (λ l. l.1.0) limits) ⊎ (sum_by (λ l. l.1.1) limits < total_weight old)
-
--- the totals of the groups' names, by name
-pub record AreGroupTotals (groups : List (GroupKey × ℕ)) (totals : List (List ℕ × ℕ)) : Type 0 where
-  pub rise : IsStrictlySortedBy (slice_cmp nat_cmp) (keys_of totals)
-  pub counts : (test : List ℕ → Bool) → sum_by (λ r. if test r.0 then r.1 else 0) totals ≡ sum_by (λ g. if test g.0.0 then g.1 else 0) groups

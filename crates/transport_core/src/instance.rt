@@ -1,19 +1,16 @@
-//! Instances: what a planner is given, and the tests of what it answers.
-ghost use Rattle.std.specs.Prelude.{◌≡◌, ◌≤◌, ◌⊎◌, ◌↔◌, IfOk, IfErr, IsErrOf, IsTrue, length, sum_by};
+//! Instances: what a planner is given.
+ghost use Rattle.std.specs.Prelude.{◌≡◌, ◌≤◌, ◌⊎◌, ◌↔◌, IfOk, IfErr, IsErrOf, IsTrue, length};
 ghost use Rattle.bucket_core.specs.Rule.{total_weight};
-ghost use Rattle.price_core.specs.Limits.{limits_view};
 ghost use Rattle.transport_core.specs.Groups.{AreSizes, rows_view};
-ghost use Rattle.transport_core.specs.Instance.{IsProblem, AreGroupTotals, AreListed, MissTotal, max_names, max_planned_total};
-ghost use Rattle.transport_core.specs.Rows.{totals_view};
+ghost use Rattle.transport_core.specs.Instance.{IsProblem, AreListed, MissTotal, max_names, max_planned_total};
 
 use crate::cut::names_are_listed;
 use crate::fault::CheckFault;
 use crate::groups::groups;
 use crate::rows::Row;
-use crate::totals::totals as totals_of;
 use book_core::Exposure;
 use bucket_core::Rule;
-use price_core::{Limit, Prices, Totals};
+use price_core::{Prices, Totals};
 use std::alloc::Global;
 use std::marker::Model;
 
@@ -22,22 +19,19 @@ use std::marker::Model;
 #[derive(Drop)]
 pub struct Instance<'a> {
     groups: Vec<Row<'a>>,
-    // the points of each old name, by name
-    variants: Vec<(&'a str, u32)>,
     totals: &'a Totals,
     prices: &'a Prices,
 }
 
 impl<'a> Model for Instance<'a> {
     ghost use Rattle.transport_core.specs.Groups.{rows_view};
-    ghost use Rattle.transport_core.specs.Instance.{TransportProblem, IsProblem, AreGroupTotals};
-    ghost use Rattle.transport_core.specs.Rows.{totals_view};
+    ghost use Rattle.transport_core.specs.Instance.{TransportProblem, IsProblem};
 
     ghost Value = { TransportProblem };
 
     ghost view = { λ i. record { groups = rows_view i.groups.items; limits = i.totals.now; pricing = i.prices.now } };
 
-    ghost invariant = { λ i. IsProblem (record { groups = rows_view i.groups.items; limits = i.totals.now; pricing = i.prices.now }) × AreGroupTotals (rows_view i.groups.items) (totals_view i.variants.items) };
+    ghost invariant = { λ i. IsProblem (record { groups = rows_view i.groups.items; limits = i.totals.now; pricing = i.prices.now }) };
 }
 
 impl<'a> Instance<'a> {
@@ -60,16 +54,14 @@ impl<'a> Instance<'a> {
         ensures totals { IsErrOf result CheckFault.Totals ↔ MissTotal old.now totals.now }
         ensures refused { IfErr result (λ fault. (fault ≡ CheckFault.WantOfMemory) ⊎ (fault ≡ CheckFault.Totals)) }
     {
-        let total = u64::from(old.total());
-        let limits = totals.entries();
-        if total < low_sum(limits) || high_sum(limits) < total {
+        // Called for what its contract says: the limits are lawful.
+        let _limits = totals.entries();
+        let total = u128::from(old.total());
+        if total < totals.low_sum() || totals.high_sum() < total {
             return Err(CheckFault::Totals);
         }
-        let groups = groups(alloc, old, exposure.inputs())?;
-        let variants = totals_of(alloc, old)?;
         Ok(Instance {
-            groups,
-            variants,
+            groups: groups(alloc, old, exposure.inputs())?,
             totals,
             prices,
         })
@@ -90,13 +82,6 @@ impl<'a> Instance<'a> {
         self.groups.as_slice()
     }
 
-    /// The points of each old name, by name.
-    pub(crate) fn variants(&self) -> &[(&'a str, u32)]
-        ensures { AreGroupTotals self.now.groups (totals_view result.now) }
-    {
-        self.variants.as_slice()
-    }
-
     /// The limits of each name, by name.
     pub fn totals(&self) -> &'a Totals
         ensures value { result.now ≡ self.now.limits }
@@ -110,28 +95,4 @@ impl<'a> Instance<'a> {
     {
         self.prices
     }
-}
-
-/// The sum of the low limits.
-fn low_sum(limits: &[Limit]) -> u64
-    requires { length limits.now ≤ max_names }
-    ensures { result ≡ sum_by (λ l. l.1.0) (limits_view limits.now) }
-{
-    let mut sum = 0;
-    for limit in limits {
-        sum += u64::from(limit.low);
-    }
-    sum
-}
-
-/// The sum of the high limits.
-fn high_sum(limits: &[Limit]) -> u64
-    requires { length limits.now ≤ max_names }
-    ensures { result ≡ sum_by (λ l. l.1.1) (limits_view limits.now) }
-{
-    let mut sum = 0;
-    for limit in limits {
-        sum += u64::from(limit.high);
-    }
-    sum
 }

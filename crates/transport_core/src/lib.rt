@@ -25,9 +25,8 @@
 //! `deficient_sets_fit_none`.
 //!
 //! An `Instance` is what a planner is given: groups of points, limits and prices, without the rule or the inputs. Proved of it:
-//! `make` gives the groups of the rule (`Instance`); `proves` accepts an assignment and a certificate exactly where the
-//! tests of `Assignment` hold, and then `check_plan` accepts each rule with that assignment; `is_deficient` answers as
-//! `check_cut` does of each such rule; and where `places` accepts an assignment no set is deficient over its high limits.
+//! `make` gives the groups of the rule (`Instance`). What shows that an assignment on it costs the least is `IsProved`
+//! (`Assignment`), which planners are proved to reach.
 #![tactic(auto)]
 
 mod assignment;
@@ -35,12 +34,10 @@ mod certificate;
 mod cut;
 mod duals;
 mod fault;
-mod flows;
 mod groups;
 mod instance;
 mod laws;
 mod plan;
-mod proving;
 mod rows;
 mod slack;
 mod totals;

@@ -1,5 +1,5 @@
 -- what was read is what was handed in
-use Rattle.std.proofs.Common.{ℕ, List, map, string_bytes, sym, ap, ◌∙◌, refl, Some, arith}
+use Rattle.std.proofs.Common.{map, string_bytes, sym, ap, ◌∙◌, refl, Some, arith}
 use Rattle.std.proofs.lemmas.Bool.{false≢true}
 use Rattle.price_core.specs.Limits.{limits_view}
 use Rattle.transport_core.specs.Certificate.{alpha_view, beta_row, beta_view, certificate_view}
