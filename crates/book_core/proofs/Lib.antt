@@ -7,4 +7,5 @@ pub mod Noting
 pub mod Ordered
 pub mod Paged
 pub mod Printed
+mod Quoted
 pub mod Taken

@@ -32,6 +32,7 @@ mod listing;
 mod noted;
 mod page;
 mod pages;
+mod plain;
 mod print;
 mod read;
 

@@ -11,6 +11,7 @@ ghost use Rattle.book_core.specs.Reading.{is_feed, is_header, is_book_shape, is_
 
 use crate::fault::BookFileFault;
 use crate::page::Page;
+use crate::plain::plain_text;
 use flag_text::{TextFault, Tree, read_tree};
 use std::alloc::{AllocError, Global};
 
@@ -80,9 +81,20 @@ fn feed_at(bytes: &[u8]) -> Option<usize>
     bytes.iter().position(|b| *b == b'\n')
 }
 
-/// What a line stands for.
+/// What a line stands for. A plain text between two quotes, as most lines of a book are, is its own reading.
 #[tactic(auto, unfolding(crate::specs::Reading::line_of))]
 fn read_line(alloc: Global, bytes: &[u8]) -> Result<Line, BookFileFault>
+    ensures { GivesUnless BookFileFault.WantOfMemory line_view result (Ok (line_of bytes.now)) }
+{
+    match plain_text(bytes) {
+        Some(text) => Ok(Line::Input(String::from_str(alloc, text)?)),
+        None => read_as_tree(alloc, bytes),
+    }
+}
+
+/// What a line stands for, by its tree.
+#[tactic(auto, unfolding(crate::specs::Reading::line_of))]
+fn read_as_tree(alloc: Global, bytes: &[u8]) -> Result<Line, BookFileFault>
     ensures { GivesUnless BookFileFault.WantOfMemory line_view result (Ok (line_of bytes.now)) }
 {
     match read_tree(alloc, bytes, bytes.len()) {

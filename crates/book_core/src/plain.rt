@@ -1,0 +1,42 @@
+//! Lines that need no reader of JSON.
+ghost use Rattle.std.specs.Prelude.{◌≡◌, ◌++◌, [], ◌∷◌, length, Ok, IfSome};
+ghost use Rattle.std.specs.List.{list_all};
+ghost use Rattle.flag_text.specs.Reading.{tree_of};
+ghost use Rattle.flag_text.specs.Shape.{text};
+ghost use Rattle.book_core.specs.Plain.{is_plain};
+
+use std::str;
+
+/// The text that a line stands for, where it is a quoted text without an escape and nothing stands around it. `None`
+/// says nothing of the line: its reading as a tree decides. Cost: a pass over the bytes, and no memory.
+pub(crate) fn plain_text(bytes: &[u8]) -> Option<&str>
+    ensures { IfSome result (λ s. tree_of bytes.now (length bytes.now) ≡ Ok (text s.now)) }
+{
+    let inner = unquoted(bytes)?;
+    if !is_all_plain(inner) {
+        return None;
+    }
+    match str::from_utf8(inner) {
+        Ok(text) => Some(text),
+        Err(_) => None,
+    }
+}
+
+/// What stands between two quotes.
+fn unquoted(bytes: &[u8]) -> Option<&[u8]>
+    ensures { IfSome result (λ inner. bytes.now ≡ 34 ∷ (inner.now ++ 34 ∷ [])) }
+{
+    match bytes {
+        [b'"', inner @ .., b'"'] => Some(inner),
+        _ => None,
+    }
+}
+
+/// Whether each byte stands for itself in a quoted text.
+fn is_all_plain(bytes: &[u8]) -> bool
+    ensures { result ≡ list_all is_plain bytes.now }
+{
+    bytes
+        .iter()
+        .all(|b| *b >= b' ' && *b != b'"' && *b != b'\\')
+}
