@@ -1,2 +1,4 @@
+pub mod Counts
+pub mod Notes
 pub mod Rule
 pub mod Seen

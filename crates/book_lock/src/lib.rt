@@ -3,8 +3,12 @@
 
 mod call;
 mod lock;
+mod name;
 mod rule;
+mod seat;
 
 pub use call::{Call, Sight, View};
 pub use lock::{Board, BookLock, Place};
+pub use name::BookName;
 pub use rule::{Accepted, Orders};
+pub use seat::Seat;

@@ -1,5 +1,7 @@
 //! The word and the slot, and the steps of one seat on them.
-ghost use Rattle.std.specs.Prelude.{◌≡◌, ◌<◌, ◌+◌, ◌^◌, [], ◌∷◌, ◌++◌, None, IfSome, IfNone, false};
+ghost use Rattle.std.specs.Prelude.{◌≡◌, ◌<◌, ◌+◌, ◌^◌, [], ◌∷◌, ◌++◌, None, IfSome, IfNone, IfOk, OnErr, false};
+ghost use Rattle.book_core.specs.Book.{inputs_on};
+ghost use Rattle.book_lock.specs.Notes.{Answers, Looks, accepted};
 ghost use Rattle.book_core.specs.Calls.{book_of_calls};
 ghost use Rattle.book_lock.specs.Rule.{holding, idle};
 ghost use Rattle.book_lock.specs.Seen.{IsLegal, Knows, seen_in, sight};
@@ -7,8 +9,11 @@ ghost use Rattle.book_lock.specs.Seen.{IsLegal, Knows, seen_in, sight};
 use crate::call::View;
 use crate::rule::{Accepted, Give, Orders, Record, Take};
 use atomic_table::{Seat as Token, Table};
-use book_core::Book;
-use std::alloc::Global;
+use book_core::{Book, BookFault, Exposure, Noted, Page};
+use std::alloc::{AllocError, Global};
+use std::marker::Brand;
+use std::sync::Wait;
+use std::thread;
 
 /// One word beside one slot.
 pub type Board = Table<Option<Book>, View, u64, Orders, Global>;
@@ -54,17 +59,150 @@ impl BookLock {
     }
 
     /// Another seat may hold from now on. The book has accepted one call of this seat.
-    pub(crate) fn record<C: Accepted>(&self, place: &mut Place, number: u64, book: Book)
+    pub(crate) fn record<C: Accepted>(
+        &self,
+        place: &mut Place,
+        number: u64,
+        book: Book,
+        page: &Page,
+        input: &[u8],
+        noted: Noted,
+    )
         requires table { place.old.table_id ≡ self.now.table.shared.table_id }
         requires holding { place.old.me ≡ (holding number (seen_in place.old.me.0.seats), (0, None) ∷ []) }
-        requires seat { C.call.seat ≡ number }
-        requires legal { IsLegal (seen_in place.old.me.0.seats ++ C.call ∷ []) }
-        requires more { book ≡ book_of_calls [] (seen_in place.old.me.0.seats ++ C.call ∷ []) }
+        requires call { C.call ≡ accepted number page.now input.now noted }
+        requires legal { IsLegal (seen_in place.old.me.0.seats ++ accepted number page.now input.now noted ∷ []) }
+        requires more { book ≡ book_of_calls [] (seen_in place.old.me.0.seats ++ accepted number page.now input.now noted ∷ []) }
         ensures kept { place.new.table_id ≡ place.old.table_id }
-        ensures idle { place.new.me ≡ (idle number (seen_in place.old.me.0.seats ++ C.call ∷ []), []) }
+        ensures idle { place.new.me ≡ (idle number (seen_in place.old.me.0.seats ++ accepted number page.now input.now noted ∷ []), []) }
     {
+        let _ = page;
+        let _ = input;
+        let _ = noted;
         let shared = &self.table.shared;
         drop(shared.exchange(place, 0, Some(book)));
         shared.store::<Record<C>>(place, 0, 0);
+    }
+
+    /// Another seat may hold from now on. The book was given the input, and this reply.
+    fn settle(
+        &self,
+        place: &mut Place,
+        number: u64,
+        book: Book,
+        page: &Page,
+        input: &str,
+        reply: Result<Noted, BookFault>,
+    )
+        requires table { place.old.table_id ≡ self.now.table.shared.table_id }
+        requires holding { place.old.me ≡ (holding number (seen_in place.old.me.0.seats), (0, None) ∷ []) }
+        requires accepted { IfOk reply (λ noted. IsLegal (seen_in place.old.me.0.seats ++ accepted number page.now input.now noted ∷ []) × (book ≡ book_of_calls [] (seen_in place.old.me.0.seats ++ accepted number page.now input.now noted ∷ []))) }
+        requires refused { OnErr reply (book ≡ book_of_calls [] (seen_in place.old.me.0.seats)) }
+        ensures kept { place.new.table_id ≡ place.old.table_id }
+        ensures accepted { IfOk reply (λ noted. place.new.me ≡ (idle number (seen_in place.old.me.0.seats ++ accepted number page.now input.now noted ∷ []), [])) }
+        ensures refused { OnErr reply (place.new.me ≡ (idle number (seen_in place.old.me.0.seats), [])) }
+    {
+        match reply {
+            Ok(noted) => self.record::<Brand>(place, number, book, page, input.as_bytes(), noted),
+            Err(_) => self.give_back(place, number, book),
+        }
+    }
+
+    /// One try to note an input: none where another seat holds.
+    fn try_note(
+        &self,
+        alloc: Global,
+        place: &mut Place,
+        number: u64,
+        page: &Page,
+        input: &str,
+    ) -> Option<Result<Noted, BookFault>>
+        requires table { place.old.table_id ≡ self.now.table.shared.table_id }
+        requires few { number + 1 < 2 ^ 64 }
+        requires idle { place.old.me ≡ (idle number (seen_in place.old.me.0.seats), []) }
+        ensures kept { place.new.table_id ≡ place.old.table_id }
+        ensures idle { place.new.me ≡ (idle number (seen_in place.new.me.0.seats), []) }
+        ensures answer { IfSome result (λ reply. Answers number page.now input.now reply (sight number (seen_in place.old.me.0.seats)) (sight number (seen_in place.new.me.0.seats))) }
+        ensures none { IfNone result (place.new.me ≡ place.old.me) }
+    {
+        let mut book = self.try_take(place, number)?;
+        let reply = book.note(alloc, page, input);
+        self.settle(place, number, book, page, input, reply);
+        Some(reply)
+    }
+
+    /// Notes an input. It tries again until it holds, and lets other threads run between two tries.
+    pub(crate) fn note<R: Wait>(
+        &self,
+        rt: &R,
+        alloc: Global,
+        place: &mut Place,
+        number: u64,
+        page: &Page,
+        input: &str,
+    ) -> Result<Noted, BookFault>
+        requires table { place.old.table_id ≡ self.now.table.shared.table_id }
+        requires few { number + 1 < 2 ^ 64 }
+        requires idle { place.old.me ≡ (idle number (seen_in place.old.me.0.seats), []) }
+        ensures kept { place.new.table_id ≡ place.old.table_id }
+        ensures idle { place.new.me ≡ (idle number (seen_in place.new.me.0.seats), []) }
+        ensures answer { Answers number page.now input.now result (sight number (seen_in place.old.me.0.seats)) (sight number (seen_in place.new.me.0.seats)) }
+    {
+        for _ in rt.forever() {
+            if let Some(reply) = self.try_note(alloc, place, number, page, input) {
+                return reply;
+            }
+            thread::yield_now();
+        }
+        unreachable!()
+    }
+
+    /// One try to copy the inputs of a page: none where another seat holds.
+    fn try_exposure(
+        &self,
+        alloc: Global,
+        place: &mut Place,
+        number: u64,
+        page: &Page,
+    ) -> Option<Result<Exposure, AllocError>>
+        requires table { place.old.table_id ≡ self.now.table.shared.table_id }
+        requires few { number + 1 < 2 ^ 64 }
+        requires idle { place.old.me ≡ (idle number (seen_in place.old.me.0.seats), []) }
+        ensures kept { place.new.table_id ≡ place.old.table_id }
+        ensures idle { place.new.me ≡ (idle number (seen_in place.new.me.0.seats), []) }
+        ensures looks { IfSome result (λ r. Looks (sight number (seen_in place.old.me.0.seats)) (sight number (seen_in place.new.me.0.seats))) }
+        ensures inputs { IfSome result (λ r. IfOk r (λ inputs. inputs ≡ inputs_on (book_of_calls [] (seen_in place.new.me.0.seats)) page.now)) }
+        ensures none { IfNone result (place.new.me ≡ place.old.me) }
+    {
+        let book = self.try_take(place, number)?;
+        let exposure = book.exposure(alloc, page);
+        self.give_back(place, number, book);
+        Some(exposure)
+    }
+
+    /// The inputs of a page. It tries again until it holds, and lets other threads run between two tries.
+    pub(crate) fn exposure<R: Wait>(
+        &self,
+        rt: &R,
+        alloc: Global,
+        place: &mut Place,
+        number: u64,
+        page: &Page,
+    ) -> Result<Exposure, AllocError>
+        requires table { place.old.table_id ≡ self.now.table.shared.table_id }
+        requires few { number + 1 < 2 ^ 64 }
+        requires idle { place.old.me ≡ (idle number (seen_in place.old.me.0.seats), []) }
+        ensures kept { place.new.table_id ≡ place.old.table_id }
+        ensures idle { place.new.me ≡ (idle number (seen_in place.new.me.0.seats), []) }
+        ensures looks { Looks (sight number (seen_in place.old.me.0.seats)) (sight number (seen_in place.new.me.0.seats)) }
+        ensures inputs { IfOk result (λ inputs. inputs ≡ inputs_on (book_of_calls [] (seen_in place.new.me.0.seats)) page.now) }
+    {
+        for _ in rt.forever() {
+            if let Some(exposure) = self.try_exposure(alloc, place, number, page) {
+                return exposure;
+            }
+            thread::yield_now();
+        }
+        unreachable!()
     }
 }
