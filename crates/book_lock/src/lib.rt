@@ -6,9 +6,11 @@ mod lock;
 mod name;
 mod rule;
 mod seat;
+mod shared;
 
 pub use call::{Call, Sight, View};
 pub use lock::{Board, BookLock, Place};
 pub use name::BookName;
 pub use rule::{Accepted, Orders};
 pub use seat::Seat;
+pub use shared::SharedBook;

@@ -1,9 +1,12 @@
 //! A thread's pass to a shared book.
-ghost use Rattle.std.specs.Prelude.{◌≡◌, length};
+ghost use Rattle.std.specs.Prelude.{◌≡◌, ◌≤◌, length, Ok};
+ghost use Rattle.book_core.specs.Calls.{is_new};
+ghost use Rattle.book_lock.specs.Seen.{one_if};
 ghost use Rattle.book_lock.specs.Counts.{news_of, own};
 
 use crate::lock::Place;
 use crate::name::BookName;
+use book_core::Noted;
 use std::marker::{Model, PhantomData};
 
 /// A thread's pass to a shared book. Contracts see its number and the list of accepted calls that it has seen; those of
@@ -44,5 +47,16 @@ impl<L: BookName> Seat<L> {
         ensures { result ≡ news_of (own self.now) }
     {
         self.news
+    }
+}
+
+/// How many new inputs a reply tells of.
+pub(crate) fn news_in(noted: Noted) -> u64
+    ensures value { result ≡ one_if (is_new (Ok noted)) }
+    ensures few { result ≤ 1 }
+{
+    match noted {
+        Noted::New => 1,
+        Noted::Again => 0,
     }
 }
