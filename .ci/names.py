@@ -17,6 +17,9 @@ FAULTS = {
     "PlanFileFault": set(),
     "LoadFault": set(),
     "PriceMismatch": set(),
+    "StoreFault": set(),
+    "DriveFault": set(),
+    "DriveRefusal": {"Drive"},
 }
 
 

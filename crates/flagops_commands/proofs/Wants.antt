@@ -25,14 +25,16 @@ may_want asked call.Verify e = e
 may_want asked call.Apply e = e
 may_want asked call.Plan e = e
 may_want asked call.PrintPlanned e = e
+may_want asked call.Drive e = e
+may_want asked call.Store e = e
 
 -- the words ask for a command that makes the call, whose want of memory is reported
-pub wanted : (words : Option Asked) (asked : Asked) (files : Option Holding) (c : Call) (out out_after : Option (List ℕ)) (is_broken : Bool) (err err_after : Option (List ℕ)) (is_err_broken : Bool) (status : ℕ) → words ≡ Some asked
+pub wanted : (words : Option Asked) (asked : Asked) (files after : Option Holding) (c : Call) (out out_after : Option (List ℕ)) (is_broken : Bool) (err err_after : Option (List ℕ)) (is_err_broken : Bool) (status : ℕ) → words ≡ Some asked
     → IfSome files (λ at. calls_of asked c ≡ true) → ReportsAll out out_after is_broken err err_after is_err_broken status (want_report c)
-    → IfSome words (λ a. IfSome files (λ at. Answers (can_want a) out out_after is_broken err err_after is_err_broken status (IsOutcome at a)))
-wanted words asked files c out out_after is_broken err err_after is_err_broken status is calls reports =
-    subst (λ (o : Option Asked). IfSome o (λ a. IfSome files (λ at. Answers (can_want a) out out_after is_broken err err_after is_err_broken status (IsOutcome at a)))) (sym is) (go files calls)
+    → IfSome words (λ a. IfSome files (λ at. Answers (can_want a) out out_after is_broken err err_after is_err_broken status (IsOutcome at after a)))
+wanted words asked files after c out out_after is_broken err err_after is_err_broken status is calls reports =
+    subst (λ (o : Option Asked). IfSome o (λ a. IfSome files (λ at. Answers (can_want a) out out_after is_broken err err_after is_err_broken status (IsOutcome at after a)))) (sym is) (go files calls)
   where
-    go : (h : Option Holding) → IfSome h (λ at. calls_of asked c ≡ true) → IfSome h (λ at. Answers (can_want asked) out out_after is_broken err err_after is_err_broken status (IsOutcome at asked))
+    go : (h : Option Holding) → IfSome h (λ at. calls_of asked c ≡ true) → IfSome h (λ at. Answers (can_want asked) out out_after is_broken err err_after is_err_broken status (IsOutcome at after asked))
     go None e = tt
     go (Some at) e = inr (c, may_want asked c e, reports)

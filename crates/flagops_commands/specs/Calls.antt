@@ -92,3 +92,15 @@ abbrev pub plan_calls : Call → Bool
 plan_calls call.Plan = true
 plan_calls call.PrintPlanned = true
 plan_calls c = loads_question c
+
+-- the call of the command `drive` itself
+abbrev pub drive_itself : Call → Bool
+drive_itself call.Drive = true
+drive_itself c = false
+
+-- the calls that the command `drive` makes
+abbrev pub drive_calls : Call → Bool
+drive_calls call.Drive = true
+drive_calls call.Store = true
+drive_calls call.ReadTree = true
+drive_calls c = loads_flags c

@@ -1,28 +1,40 @@
 -- The table of the commands.
-use Rattle.std.specs.Prelude.{◌≡◌, Bool, true}
+use Rattle.std.specs.Prelude.{◌≡◌, Bool, true, Option, Some}
 use Rattle.flagops_commands.specs.Apply.{IsApplyReport}
 use Rattle.flagops_commands.specs.Bucket.{bucket_report}
 use Rattle.flagops_commands.specs.Check.{IsCheckReport}
-use Rattle.flagops_files.specs.Files.{Holding}
+use Rattle.flagops_commands.specs.Drive.{IsDriveReport}
+use Rattle.flagops_files.specs.Files.{Holding, KeepsOthers}
 use Rattle.flagops_commands.specs.Plan.{IsPlanReport}
 use Rattle.flagops_commands.specs.Price.{price_report}
-use Rattle.flagops_commands.specs.Calls.{bucket_calls, price_calls, check_calls, resolve_calls, verify_calls, apply_calls, plan_calls}
+use Rattle.flagops_commands.specs.Calls.{bucket_calls, price_calls, check_calls, resolve_calls, verify_calls, apply_calls, plan_calls, drive_calls}
 use Rattle.flagops_files.specs.Report.{Outcomes}
 use Rattle.flagops_commands.specs.Resolve.{IsResolveReport}
 use Rattle.flagops_commands.specs.Verify.{IsVerifyReport}
 use Rattle.flagops_files.specs.declared.refusal.Call.{Call}
 use Rattle.flagops_files.specs.declared.refusal.Call.TheVariants as call
-use Rattle.flagops_words.specs.Asked.{Asked, bucket, price, check, resolve, verify, apply, plan}
+use Rattle.flagops_words.specs.Asked.{Asked, bucket, price, check, resolve, verify, apply, plan, drive}
 
--- what each command comes to over the files
-abbrev pub IsOutcome : Holding → Asked → Outcomes
-IsOutcome at (bucket rule key) r = bucket_report at rule key ≡ r
-IsOutcome at (price old new request keys) r = price_report at old new request keys ≡ r
-IsOutcome at (check document) r = IsCheckReport at document r
-IsOutcome at (resolve document key kind default context moment) r = IsResolveReport at document key kind default context moment r
-IsOutcome at (verify document request book file refine) r = IsVerifyReport at document request book file refine r
-IsOutcome at (apply document file key site) r = IsApplyReport at document file key site r
-IsOutcome at (plan document request book refine) r = IsPlanReport at document request book refine r
+-- what each command comes to over the files, and over those that it leaves
+abbrev pub IsOutcome : Holding → Option Holding → Asked → Outcomes
+IsOutcome at after (bucket rule key) r = bucket_report at rule key ≡ r
+IsOutcome at after (price old new request keys) r = price_report at old new request keys ≡ r
+IsOutcome at after (check document) r = IsCheckReport at document r
+IsOutcome at after (resolve document key kind default context moment) r = IsResolveReport at document key kind default context moment r
+IsOutcome at after (verify document request book file refine) r = IsVerifyReport at document request book file refine r
+IsOutcome at after (apply document file key site) r = IsApplyReport at document file key site r
+IsOutcome at after (plan document request book refine) r = IsPlanReport at document request book refine r
+IsOutcome at after (drive document file workers book) r = IsDriveReport at after document file workers book r
+
+-- a command leaves the files as they are; `drive` changes the file of its book alone
+abbrev pub Leaves : Asked → Option Holding → Option Holding → Type 0
+Leaves (drive document file workers book) old new = KeepsOthers old new book
+Leaves asked old new = new ≡ old
+
+-- words that ask for no command leave them
+abbrev pub LeavesAsked : Option Asked → Option Holding → Option Holding → Type 0
+LeavesAsked (Some asked) old new = Leaves asked old new
+LeavesAsked o old new = new ≡ old
 
 -- the calls that each command makes
 abbrev pub calls_of : Asked → Call → Bool
@@ -33,6 +45,7 @@ calls_of (resolve document key kind default context moment) c = resolve_calls c
 calls_of (verify document request book file refine) c = verify_calls c
 calls_of (apply document file key site) c = apply_calls c
 calls_of (plan document request book refine) c = plan_calls c
+calls_of (drive document file workers book) c = drive_calls c
 
 -- the calls that may run out of memory: those of the command, and reading the words
 abbrev pub can_want : Asked → Call → Bool

@@ -3,6 +3,7 @@ pub mod Bucket
 pub mod Calls
 pub mod Check
 pub mod Commands
+pub mod Drive
 pub mod Plan
 pub mod Price
 pub mod Resolve

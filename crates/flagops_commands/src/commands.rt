@@ -1,10 +1,11 @@
 //! The table of the commands, and what each answers.
 ghost use Rattle.std.specs.Prelude.{◌≡◌, ◌||◌, IfSome};
-ghost use Rattle.flagops_commands.specs.Commands.{calls_of, IsOutcome};
+ghost use Rattle.flagops_commands.specs.Commands.{calls_of, IsOutcome, Leaves};
 ghost use Rattle.flagops_words.specs.Asked.{asked_view};
 ghost use Rattle.flagops_files.specs.Refusal.{ComesFrom, GivesOne, is_file_fault};
 ghost use Rattle.flagops_files.specs.Report.{outcome_view};
 
+use crate::books::drive::drive;
 use crate::flags::check::check;
 use crate::flags::resolve::resolve;
 use crate::rollouts::apply::apply;
@@ -15,19 +16,20 @@ use crate::rules::price::price;
 use flagops_files::{FileSet, Outcome, Refused};
 use flagops_words::Asked;
 use std::alloc::Global;
+use std::sync::Wait;
 use std::thread::Threads;
 
 /// What the command answers, or why it is refused.
-pub fn outcome<R: Threads + Sync, F: FileSet>(
+pub fn outcome<R: Threads + Wait + Sync, F: FileSet>(
     rt: &R,
     alloc: Global,
     files: &mut F,
     asked: &Asked<'_>,
 ) -> Result<Outcome, Refused>
-    ensures exact { IfSome (F.holding files.old) (λ at. GivesOne outcome_view result (IsOutcome at (asked_view asked.now))) }
+    ensures exact { IfSome (F.holding files.old) (λ at. GivesOne outcome_view result (IsOutcome at (F.holding files.new) (asked_view asked.now))) }
     ensures calls { ComesFrom (calls_of (asked_view asked.now)) result }
     ensures failed { F.has_failed files.new ≡ (F.has_failed files.old || is_file_fault result) }
-    ensures kept { F.holding files.new ≡ F.holding files.old }
+    ensures left { Leaves (asked_view asked.now) (F.holding files.old) (F.holding files.new) }
 {
     match asked {
         Asked::Bucket { rule, key } => bucket(alloc, files, rule, key),
@@ -67,5 +69,11 @@ pub fn outcome<R: Threads + Sync, F: FileSet>(
             key,
             site,
         } => apply(alloc, files, document, plan, key, *site),
+        Asked::Drive {
+            document,
+            asks,
+            workers,
+            book,
+        } => drive(rt, alloc, files, document, asks, *workers, book),
     }
 }

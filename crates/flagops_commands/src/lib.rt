@@ -19,6 +19,7 @@
 //! memory. A command has a definition of its own in `specs/`.
 #![tactic(auto)]
 
+mod books;
 mod commands;
 mod flags;
 mod laws;

@@ -2,9 +2,9 @@
 ghost use Rattle.std.specs.Prelude.{◌≡◌, ◌||◌, false, true, map, IfErr, IfOk, IfSome, None, Ok, Err, Some};
 ghost use Rattle.clap.specs.Words.{kind_of};
 ghost use Rattle.flagops_words.specs.Asked.{asked_view};
-ghost use Rattle.flagops_commands.specs.Commands.{calls_of, can_want, IsOutcome};
-ghost use Rattle.flagops_files.specs.Refusal.{call_of, is_want, unreadable};
-ghost use Rattle.flagops_files.specs.Report.{Answers, AnswersOrWants, PutsText, is_load, outcome_view, report_of};
+ghost use Rattle.flagops_commands.specs.Commands.{calls_of, can_want, IsOutcome, Leaves, LeavesAsked};
+ghost use Rattle.flagops_files.specs.Refusal.{call_of, is_want};
+ghost use Rattle.flagops_files.specs.Report.{Answers, AnswersOrWants, PutsText, is_of_file, IsFileRefusal, outcome_view, report_of};
 ghost use Rattle.flagops_commands.specs.Telling.{Tells, TellsWords};
 ghost use Rattle.flagops_words.specs.Words.{asked_by};
 
@@ -14,6 +14,7 @@ use flagops_files::{Call, FileSet, Outcome, Refused, Status, report, tell, want}
 use flagops_words::{Asked, read_words};
 use std::alloc::{AllocError, Global};
 use std::convert::AsStr;
+use std::sync::Wait;
 use std::thread::Threads;
 
 /// Does what the words after the program's name ask for, and gives the status to end with: 0
@@ -23,7 +24,8 @@ use std::thread::Threads;
 /// `clap` on words that it refuses, and what a person is told: of a refusal, of broken flags, and
 /// of a book without an input for the request. What becomes of `err` changes neither the report nor
 /// the status. Help and the version, where they are asked for, go to `out` with status 0.
-pub fn run<R: AllocGlobal + Threads + Sync, S: AsStr, F: FileSet, O: Outlet, E: Outlet>(
+#[tactic(auto, using(crate::proofs::Leaving::left_alone, crate::proofs::Leaving::left_by))]
+pub fn run<R: AllocGlobal + Threads + Wait + Sync, S: AsStr, F: FileSet, O: Outlet, E: Outlet>(
     rt: &R,
     words: &[S],
     files: &mut F,
@@ -33,13 +35,13 @@ pub fn run<R: AllocGlobal + Threads + Sync, S: AsStr, F: FileSet, O: Outlet, E: 
     requires out_whole { O.is_broken out.old ≡ false }
     requires err_whole { E.is_broken err.old ≡ false }
     ensures answers { IfSome (asked_by (map S.text words.now)) (λ asked. IfSome (F.holding files.old) (λ at.
-        Answers (can_want asked) (O.bytes out.old) (O.bytes out.new) (O.is_broken out.new) (E.bytes err.old) (E.bytes err.new) (E.is_broken err.new) result (IsOutcome at asked))) }
-    // Whatever the files hold, a read that failed is what is reported.
+        Answers (can_want asked) (O.bytes out.old) (O.bytes out.new) (O.is_broken out.new) (E.bytes err.old) (E.bytes err.new) (E.is_broken err.new) result (IsOutcome at (F.holding files.new) asked))) }
+    // Whatever the files hold, a read or a write that failed is what is reported.
     ensures unread { F.has_failed files.old ≡ false → F.has_failed files.new ≡ true
-        → Answers is_load (O.bytes out.old) (O.bytes out.new) (O.is_broken out.new) (E.bytes err.old) (E.bytes err.new) (E.is_broken err.new) result (λ r. r ≡ Err unreadable) }
+        → Answers is_of_file (O.bytes out.old) (O.bytes out.new) (O.is_broken out.new) (E.bytes err.old) (E.bytes err.new) (E.is_broken err.new) result IsFileRefusal }
     ensures tells { asked_by (map S.text words.now) ≡ None
         → TellsWords (O.bytes out.old) (O.bytes out.new) (O.is_broken out.new) (E.bytes err.old) (E.bytes err.new) (E.is_broken err.new) result (map S.text words.now) }
-    ensures kept { F.holding files.new ≡ F.holding files.old }
+    ensures left { LeavesAsked (asked_by (map S.text words.now)) (F.holding files.old) (F.holding files.new) }
 {
     let alloc = rt.alloc();
     match read_words(alloc, words) {
@@ -52,15 +54,16 @@ pub fn run<R: AllocGlobal + Threads + Sync, S: AsStr, F: FileSet, O: Outlet, E: 
 }
 
 /// The outcome of a command or the line of its refusal, or the call that ran out of memory.
-fn answer<R: Threads + Sync, F: FileSet>(
+#[tactic(auto, using(crate::proofs::Leaving::file_refusal))]
+fn answer<R: Threads + Wait + Sync, F: FileSet>(
     rt: &R,
     alloc: Global,
     files: &mut F,
     asked: &Asked<'_>,
 ) -> Result<Outcome, Call>
-    ensures exact { IfSome (F.holding files.old) (λ at. AnswersOrWants (calls_of (asked_view asked.now)) result (IsOutcome at (asked_view asked.now))) }
-    ensures unread { F.has_failed files.old ≡ false → F.has_failed files.new ≡ true → AnswersOrWants is_load result (λ r. r ≡ Err unreadable) }
-    ensures kept { F.holding files.new ≡ F.holding files.old }
+    ensures exact { IfSome (F.holding files.old) (λ at. AnswersOrWants (calls_of (asked_view asked.now)) result (IsOutcome at (F.holding files.new) (asked_view asked.now))) }
+    ensures unread { F.has_failed files.old ≡ false → F.has_failed files.new ≡ true → AnswersOrWants is_of_file result IsFileRefusal }
+    ensures left { Leaves (asked_view asked.now) (F.holding files.old) (F.holding files.new) }
 {
     match outcome(rt, alloc, files, asked) {
         Ok(outcome) => Ok(outcome),

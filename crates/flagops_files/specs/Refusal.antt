@@ -8,14 +8,16 @@ use Rattle.flag_defs.specs.Fault as documents
 use Rattle.rollout.specs.Fault as rollouts
 use Rattle.plan_text.specs.Fault as plan_files
 use Rattle.rollout.specs.VerifyFault as verdicts
-use Rattle.flagops_files.specs.Files.{load_number, load_name}
+use Rattle.flagops_drive.specs.Fault as drives
+use Rattle.flagops_files.specs.Files.{load_number, load_name, store_number, store_name}
 use Rattle.flagops_files.specs.Payload.{file_items, rollout_items, verify_items}
 use Rattle.flagops_files.specs.declared.files.LoadFault.TheVariants.{Unreadable}
+use Rattle.flagops_files.specs.declared.files.StoreFault.TheVariants.{Unwritable}
 use Rattle.flagops_files.specs.declared.refusal.Call.{Call}
 use Rattle.flagops_files.specs.declared.refusal.Call.TheVariants as call
 use Rattle.flagops_files.specs.declared.refusal.Refusal.{Refusal}
 use Rattle.flagops_files.specs.declared.refused.Refused.{Refused}
-use Rattle.flagops_files.specs.declared.refusal.Refusal.TheVariants.{WantOfMemory, Load, LongBook, ReadTree, ReadRule, ReadRequest, Note, Price, ReadFlags, ReadBook, ReadPlanned, Verify, Apply, Plan, PrintPlanned}
+use Rattle.flagops_files.specs.declared.refusal.Refusal.TheVariants.{WantOfMemory, Load, LongBook, ReadTree, ReadRule, ReadRequest, Note, Price, ReadFlags, ReadBook, ReadPlanned, Verify, Apply, Plan, PrintPlanned, Drive, Store}
 use Rattle.flagops_files.specs.declared.refusal.PriceMismatch.{PriceMismatch}
 use Rattle.flagops_files.specs.declared.refusal.PriceMismatch.TheVariants.{Weight, BadKeys}
 
@@ -37,6 +39,8 @@ call_name call.Verify = codes "verify"
 call_name call.Apply = codes "apply"
 call_name call.Plan = codes "plan"
 call_name call.PrintPlanned = codes "print_planned"
+call_name call.Drive = codes "drive"
+call_name call.Store = codes "store"
 
 -- the call that loading the bytes of a file makes
 abbrev pub loads_file : Call → Bool
@@ -99,6 +103,8 @@ call_of (Verify e) = call.Verify
 call_of (Apply e) = call.Apply
 call_of (Plan e) = call.Plan
 call_of (PrintPlanned e) = call.PrintPlanned
+call_of (Drive e) = call.Drive
+call_of (Store e) = call.Store
 
 -- the number and the name of what the command `price` refuses
 abbrev pub mismatch_number : PriceMismatch → ℕ
@@ -126,6 +132,8 @@ number_of (Verify e) = verdicts.number_of e
 number_of (Apply e) = rollouts.number_of e
 number_of (Plan e) = rollouts.number_of e
 number_of (PrintPlanned e) = plan_files.number_of e
+number_of (Drive e) = drives.number_of e
+number_of (Store e) = store_number e
 
 abbrev pub name_of : Refusal → List ℕ
 name_of (WantOfMemory c) = codes "WantOfMemory"
@@ -143,6 +151,8 @@ name_of (Verify e) = verdicts.name_of e
 name_of (Apply e) = rollouts.name_of e
 name_of (Plan e) = rollouts.name_of e
 name_of (PrintPlanned e) = plan_files.name_of e
+name_of (Drive e) = drives.name_of e
+name_of (Store e) = store_name e
 
 -- what a fault says beyond its name, each item behind a blank
 abbrev pub payload_of : Refusal → List ℕ
@@ -181,9 +191,10 @@ GivesUnlessWant seen (Err r) wanted = is_want r.refusal ≡ false → wanted ≡
 abbrev pub ComesFrom : {X : Type 0} → (Call → Bool) → Result X Refused → Type 0
 ComesFrom calls r = IfErr r (λ e. calls (call_of e.refusal) ≡ true)
 
--- a file could not be read
+-- a file could not be read or written
 abbrev pub is_unread : Refusal → Bool
 is_unread (Load Unreadable) = true
+is_unread (Store Unwritable) = true
 is_unread r = false
 
 abbrev pub is_file_fault : {X : Type 0} → Result X Refused → Bool
@@ -192,3 +203,11 @@ is_file_fault (Err r) = is_unread r.refusal
 
 abbrev pub unreadable : Refusal
 unreadable = Load Unreadable
+
+abbrev pub unwritable : Refusal
+unwritable = Store Unwritable
+
+-- the call that writing a file makes
+abbrev pub stores_file : Call → Bool
+stores_file call.Store = true
+stores_file c = false

@@ -2,7 +2,7 @@
 use Rattle.std.specs.Prelude.{◌≡◌, ◌<◌, ℕ, Bool, true, false, List, length, Option, is_some, Result, Ok, Err, ◌⊎◌}
 use Rattle.std.specs.Io.KnownBytes.{Appends}
 use Rattle.flag_text.specs.Outlet.{AppendsPart}
-use Rattle.flagops_files.specs.Refusal.{line_of, want_line}
+use Rattle.flagops_files.specs.Refusal.{line_of, unreadable, unwritable, want_line}
 use Rattle.flagops_files.specs.declared.outcome.Outcome.{Outcome}
 use Rattle.flagops_files.specs.declared.outcome.Status.{Status}
 use Rattle.flagops_files.specs.declared.outcome.Status.TheVariants.{Done, Refused, Usage, NoneExists}
@@ -81,7 +81,12 @@ abbrev pub AnswersOrWants : (Call → Bool) → Result Outcome Call → Outcomes
 AnswersOrWants calls (Ok o) IsOutcome = (r : Result Report Refusal) × IsOutcome r × (outcome_view o ≡ report_of r)
 AnswersOrWants calls (Err c) IsOutcome = calls c ≡ true
 
--- reading a file alone
-abbrev pub is_load : Call → Bool
-is_load call.Load = true
-is_load c = false
+-- reading or writing a file alone
+abbrev pub is_of_file : Call → Bool
+is_of_file call.Load = true
+is_of_file call.Store = true
+is_of_file c = false
+
+-- one of the two refusals of a file
+abbrev pub IsFileRefusal : Outcomes
+IsFileRefusal r = (r ≡ Err unreadable) ⊎ (r ≡ Err unwritable)

@@ -34,6 +34,7 @@ mod quoting;
 mod refusal;
 mod refused;
 mod reports;
+mod storing;
 mod system_files;
 
 pub use documents::{Document, load_document, load_flags};
@@ -46,4 +47,5 @@ pub use quoting::quoted;
 pub use refusal::{Call, PriceMismatch, Refusal};
 pub use refused::{Refused, Remark};
 pub use reports::{report, tell, want};
+pub use storing::store;
 pub use system_files::SystemFiles;

@@ -2,12 +2,13 @@
 ghost use Rattle.std.specs.Prelude.{◌≡◌, IfOk, string_bytes};
 ghost use Rattle.flagops_files.specs.Refusal.{call_of, call_name, is_want, number_of, name_of, line_of, mismatch_number, mismatch_name};
 
-use crate::files::LoadFault;
+use crate::files::{LoadFault, StoreFault};
 use crate::payload::payload;
 use book_core::{BookFault, BookFileFault};
 use bucket_core::RuleFault;
 use flag_defs::DefFault;
 use flag_text::TextFault;
+use flagops_drive::DriveRefusal;
 use plan_text::PlanFileFault;
 use price_core::PriceFault;
 use rollout::{RolloutFault, VerifyFault};
@@ -50,6 +51,10 @@ pub enum Call {
     Plan,
     /// `plan_text::print_planned`.
     PrintPlanned,
+    /// `book_share::drive` and the command around it.
+    Drive,
+    /// The writing of a file.
+    Store,
 }
 
 impl Call {
@@ -75,6 +80,8 @@ impl Call {
             Call::Apply => "apply",
             Call::Plan => "plan",
             Call::PrintPlanned => "print_planned",
+            Call::Drive => "drive",
+            Call::Store => "store",
         }
     }
 }
@@ -140,6 +147,10 @@ pub enum Refusal {
     Plan(RolloutFault),
     /// The answer is too large for a plan file.
     PrintPlanned(PlanFileFault),
+    /// The asks are no asks, or were not driven.
+    Drive(DriveRefusal),
+    /// A file was not written.
+    Store(StoreFault),
 }
 
 impl Refusal {
@@ -162,6 +173,8 @@ impl Refusal {
             Refusal::Apply(_) => Call::Apply,
             Refusal::Plan(_) => Call::Plan,
             Refusal::PrintPlanned(_) => Call::PrintPlanned,
+            Refusal::Drive(_) => Call::Drive,
+            Refusal::Store(_) => Call::Store,
         }
     }
 
@@ -185,6 +198,8 @@ impl Refusal {
             Refusal::Apply(fault) => fault.number(),
             Refusal::Plan(fault) => fault.number(),
             Refusal::PrintPlanned(fault) => fault.number(),
+            Refusal::Drive(fault) => fault.number(),
+            Refusal::Store(fault) => fault.number(),
         }
     }
 
@@ -208,6 +223,8 @@ impl Refusal {
             Refusal::Apply(fault) => fault.name(),
             Refusal::Plan(fault) => fault.name(),
             Refusal::PrintPlanned(fault) => fault.name(),
+            Refusal::Drive(fault) => fault.name(),
+            Refusal::Store(fault) => fault.name(),
         }
     }
 

@@ -6,6 +6,7 @@
 //! Want of memory is the one fault of all: the caller then tells a fixed sentence.
 #![tactic(auto)]
 
+mod asks;
 mod books;
 mod breaches;
 mod checks;
@@ -18,6 +19,7 @@ mod sites;
 mod texts;
 mod words;
 
+pub use asks::{of_asks, of_unwritable, of_workers};
 pub use books::{of_book, of_unrecorded};
 pub use breaches::of_breaches;
 pub use checks::of_check;

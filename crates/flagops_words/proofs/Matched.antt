@@ -10,16 +10,16 @@ use Rattle.clap.specs.declared.error.kind.ErrorKind.TheVariants.{InvalidValue, O
 use Rattle.clap.specs.declared.parser.matches.ArgMatches.{ArgMatches}
 use Rattle.flagops_words.specs.Asked.{Asked}
 use Rattle.flagops_words.proofs.Named.{faultless}
-use Rattle.flagops_words.specs.Words.{IsToldBy, asked_by, asked_of, faults_of, apply_app, bucket_app, check_app, kind_fault, kind_in, plan_app, price_app, resolve_app, resolve_in, verify_app, flagops_app}
+use Rattle.flagops_words.specs.Words.{IsToldBy, asked_by, asked_of, faults_of, apply_app, bucket_app, check_app, drive_app, kind_fault, kind_in, plan_app, price_app, resolve_app, resolve_in, verify_app, flagops_app}
 
 pub ruleset rows = first_value-rows
 
 is_plain : is_simple flagops_app ≡ true
-unfolding flagops_app bucket_app price_app check_app resolve_app plan_app verify_app apply_app
+unfolding flagops_app bucket_app price_app check_app resolve_app plan_app verify_app apply_app drive_app
 is_plain = refl
 
 is_free : is_simple_and_free flagops_app ≡ true
-unfolding flagops_app bucket_app price_app check_app resolve_app plan_app verify_app apply_app
+unfolding flagops_app bucket_app price_app check_app resolve_app plan_app verify_app apply_app drive_app
 is_free = refl
 
 -- a command that is read has a kind of value where it wants one

@@ -18,9 +18,9 @@ use Rattle.clap.specs.declared.error.kind.ErrorKind.TheVariants.{InvalidValue}
 use Rattle.flag_resolve.specs.Kind.{kind_named}
 use Rattle.flag_resolve.specs.declared.kind.Kind.{Kind}
 use Rattle.clap.specs.Walk.{Row, Rule, Text, answers_to, first_of, nothing_held, rows_after, settled, walk, walk_from}
-use Rattle.flagops_words.specs.Asked.{Asked, bucket, price, check, resolve, verify, apply, plan}
-use Rattle.flagops_words.specs.Numbers.{max_32, max_moment, number_in}
-use Rattle.flagops_words.specs.Words.{apply_app, asked_in, asked_of, bucket_app, check_app, flagops_app, kind_fault, plan_app, price_app, refine_in, resolve_app, verify_app}
+use Rattle.flagops_words.specs.Asked.{Asked, bucket, price, check, resolve, verify, apply, plan, drive}
+use Rattle.flagops_words.specs.Numbers.{max_16, max_32, max_moment, number_in}
+use Rattle.flagops_words.specs.Words.{apply_app, asked_in, asked_of, bucket_app, check_app, drive_app, flagops_app, kind_fault, plan_app, price_app, refine_in, resolve_app, verify_app}
 use Rattle.flagops_words.proofs.Filled.{Each, Filled, IsFull, Stores, filled_level, none_both, stores}
 
 -- ---- one command
@@ -249,13 +249,35 @@ apply_asks s name stored given words e =
     let site = number_read 0 max_32 word.0 (word.2 refl) in
     inl (apply document.0 file.0 key.0 site.0, apply_read s.name rows document.0 file.0 key.0 word.0 site.0 name document.1 file.1 key.1 word.1 site.1)
 
+abbrev Workers : Text → Text → Type 0
+Workers = IsNumber (codes "WORKERS") 0 max_16
+
+drive_read : (name : Text) (rows : List Row) (document file number book : Text) (workers : ℕ) → name ≡ codes "drive" → first_of (codes "DOC") rows ≡ Some document
+    → first_of (codes "ASKS") rows ≡ Some file → first_of (codes "WORKERS") rows ≡ Some number → number_in 0 max_16 number ≡ Some workers → first_of (codes "BOOK") rows ≡ Some book
+    → asked_in (name, rows) ≡ Some (drive document file workers book)
+drive_read name rows document file number book workers is document_is file_is number_is workers_is book_is = rw (is, document_is, file_is, number_is, workers_is, book_is) refl
+
+drive_asks : (s : Shape) → s.name ≡ codes "drive" → Each (Stores Workers) s.rules
+    → ((rows : List Row) → HasGiven s rows → (is_given (codes "DOC") rows ≡ true) × (is_given (codes "ASKS") rows ≡ true) × (is_given (codes "WORKERS") rows ≡ true)
+    × (is_given (codes "BOOK") rows ≡ true)) → Asks s
+drive_asks s name stored given words e =
+    let rows = rows_after s.rules [] words in
+    let full = filled_level Workers s [] stored words false [] e in
+    let all = given rows (level_given s words e) in
+    let document = value_taken Workers (codes "DOC") rows full all.0 in
+    let file = value_taken Workers (codes "ASKS") rows full all.1 in
+    let word = value_taken Workers (codes "WORKERS") rows full all.2 in
+    let book = value_taken Workers (codes "BOOK") rows full all.3 in
+    let workers = number_read 0 max_16 word.0 (word.2 refl) in
+    inl (drive document.0 file.0 workers.0 book.0, drive_read s.name rows document.0 file.0 word.0 book.0 workers.0 name document.1 file.1 word.1 workers.1 book.1)
+
 -- ---- the program
 
 abbrev AllAsk : List Shape → Type 0
 AllAsk = Each Asks
 
 each : AllAsk (built flagops_app).subs
-unfolding flagops_app bucket_app price_app check_app resolve_app plan_app verify_app apply_app
+unfolding flagops_app bucket_app price_app check_app resolve_app plan_app verify_app apply_app drive_app
 each = (
   bucket_asks _ refl refl (λ rows e. let rule = needed _ _ e in let key = needed _ _ rule.1 in (rule.0, key.0)),
   (
@@ -304,7 +326,17 @@ each = (
                   let key = needed _ _ file.1 in
                   let site = needed _ _ key.1 in
                   (document.0, file.0, key.0, site.0)),
-              tt,
+              (
+                drive_asks _ refl
+                    ((refl, λ v e h. cc), ((refl, λ v e h. cc), ((refl, λ v e h. passes _ _ e), ((refl, λ v e h. cc), ((refl, λ v e h. cc), tt)))))
+                    (λ rows e.
+                    let document = needed _ _ e in
+                    let file = needed _ _ document.1 in
+                    let workers = needed _ _ file.1 in
+                    let book = needed _ _ workers.1 in
+                    (document.0, file.0, workers.0, book.0)),
+                tt,
+              ),
             ),
           ),
         ),
@@ -336,7 +368,7 @@ stopped a asks (Some p) e has = named a.subs p asks e has
 
 -- what words that `clap` finds no fault with ask for
 pub faultless : (words : List Text) → fault_of flagops_app words ≡ [] → IsRead (subcommand_of flagops_app words)
-unfolding flagops_app bucket_app price_app check_app resolve_app plan_app verify_app apply_app
+unfolding flagops_app bucket_app price_app check_app resolve_app plan_app verify_app apply_app drive_app
 faultless words e =
     let app = built flagops_app in
     let stop = (walk app.top.rules (names_of app) nothing_held words).stopped in

@@ -19,6 +19,8 @@ pub data Asked : Type 0 where
   plan : List ℕ → List ℕ → List ℕ → Option ℕ → Asked
   -- a document, a plan, a flag and a site
   apply : List ℕ → List ℕ → List ℕ → ℕ → Asked
+  -- a document, asks, a number of workers and a book
+  drive : List ℕ → List ℕ → ℕ → List ℕ → Asked
 
 -- the same, without where the words lie in memory
 abbrev pub asked_view : declared.Asked → Asked
@@ -28,4 +30,5 @@ asked_view (code.Check document) = check document.now
 asked_view (code.Resolve document key kind default context moment) = resolve document.now key.now kind default.now context.now moment.number
 asked_view (code.Verify document request book file refine) = verify document.now request.now book.now file.now (option_map (λ m. m.number) refine)
 asked_view (code.Apply document file key site) = apply document.now file.now key.now site
+asked_view (code.Drive document file workers book) = drive document.now file.now workers book.now
 asked_view (code.Plan document request book refine) = plan document.now request.now book.now (option_map (λ m. m.number) refine)

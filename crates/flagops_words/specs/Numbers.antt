@@ -11,6 +11,10 @@ number_in least most word = if is_unsigned_in least most word then Some (digits_
 abbrev pub max_32 : ℕ
 max_32 = 4294967295
 
+-- the largest number of 16 bits
+abbrev pub max_16 : ℕ
+max_16 = 65535
+
 -- the latest moment, 2^53-1
 abbrev pub max_moment : ℕ
 max_moment = 9007199254740991

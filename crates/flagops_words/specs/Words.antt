@@ -10,8 +10,8 @@ use Rattle.clap.specs.declared.error.kind.ErrorKind.TheVariants.{InvalidValue, O
 use Rattle.clap.specs.Faults.{fault_of}
 use Rattle.flag_resolve.specs.Kind.{kind_named}
 use Rattle.flag_resolve.specs.declared.kind.Kind.{Kind}
-use Rattle.flagops_words.specs.Asked.{Asked, bucket, price, check, resolve, verify, apply, plan}
-use Rattle.flagops_words.specs.Numbers.{max_32, max_moment, moment_in, factor_in, number_in}
+use Rattle.flagops_words.specs.Asked.{Asked, bucket, price, check, resolve, verify, apply, plan, drive}
+use Rattle.flagops_words.specs.Numbers.{max_16, max_32, max_moment, moment_in, factor_in, number_in}
 
 -- ---- what the program takes
 
@@ -67,6 +67,11 @@ unfoldable pub apply_app : App
 apply_app =
     with_rule (with_rule (with_rule (with_rule (new_app (codes "apply")) (required (codes "DOC"))) (required (codes "PLAN"))) (required (codes "FLAG"))) (number (codes "SITE") max_32)
 
+-- `drive DOC ASKS WORKERS BOOK`
+unfoldable pub drive_app : App
+drive_app =
+    with_rule (with_rule (with_rule (with_rule (new_app (codes "drive")) (required (codes "DOC"))) (required (codes "ASKS"))) (number (codes "WORKERS") max_16)) (required (codes "BOOK"))
+
 -- a command has to be named; there is a version, and no program's name before the words
 abbrev pub takes_commands : Shape → Shape
 takes_commands s = record s {
@@ -80,9 +85,9 @@ takes_commands s = record s {
 -- the program with its commands
 unfoldable pub flagops_app : App
 flagops_app =
-    with_subcommand (with_subcommand (with_subcommand
+    with_subcommand (with_subcommand (with_subcommand (with_subcommand
     (with_subcommand (with_subcommand (with_subcommand (with_subcommand (on_top takes_commands (new_app (codes "flagops"))) bucket_app.top) price_app.top) check_app.top)
-    resolve_app.top) plan_app.top) verify_app.top) apply_app.top
+    resolve_app.top) plan_app.top) verify_app.top) apply_app.top) drive_app.top
 
 -- ---- what the words ask for
 
@@ -161,6 +166,15 @@ apply_in rows = do
   site ← number_in 0 max_32 word
   Some (apply document file key site)
 
+abbrev pub drive_in : List Row → Option Asked
+drive_in rows = do
+  document ← first_of (codes "DOC") rows
+  file ← first_of (codes "ASKS") rows
+  word ← first_of (codes "WORKERS") rows
+  workers ← number_in 0 max_16 word
+  book ← first_of (codes "BOOK") rows
+  Some (drive document file workers book)
+
 -- a command by its name, with its words
 abbrev pub asked_in : Text × List Row → Option Asked
 asked_in (name, rows) =
@@ -170,7 +184,8 @@ asked_in (name, rows) =
     (if bytes_eq name (codes "bucket") then bucket_in rows else
     (if bytes_eq name (codes "verify") then verify_in rows else
     (if bytes_eq name (codes "apply") then apply_in rows else
-    (if bytes_eq name (codes "plan") then plan_in rows else None))))))
+    (if bytes_eq name (codes "plan") then plan_in rows else
+    (if bytes_eq name (codes "drive") then drive_in rows else None)))))))
 
 -- the same of the subcommand that was met, if one was
 abbrev pub asked_of : Option (Text × List Row) → Option Asked

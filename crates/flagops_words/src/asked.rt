@@ -51,4 +51,11 @@ pub enum Asked<'a> {
         key: &'a str,
         site: u32,
     },
+    /// The resolutions of the asks of a file, and the book of what they reach.
+    Drive {
+        document: &'a str,
+        asks: &'a str,
+        workers: u16,
+        book: &'a str,
+    },
 }

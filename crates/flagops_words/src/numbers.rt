@@ -1,9 +1,12 @@
 //! Numbers, as words of the command line.
 ghost use Rattle.std.specs.Prelude.{◌≡◌, ◌≤◌, ◌<◌, ◌^◌, ◌&&◌, nat_le, if◌then◌else◌, IfSome, Some, None, option_map};
-ghost use Rattle.flagops_words.specs.Numbers.{factor_in, max_32, moment_in, number_in};
+ghost use Rattle.flagops_words.specs.Numbers.{factor_in, max_16, max_32, moment_in, number_in};
 
 /// The latest moment, 2^53-1.
 pub const LATEST_MOMENT: u64 = 9_007_199_254_740_991;
+
+/// The largest number of 16 bits.
+pub const LARGEST_16: u64 = 65_535;
 
 /// The largest number of 32 bits.
 pub const LARGEST_32: u64 = 4_294_967_295;
@@ -42,6 +45,14 @@ impl Factor {
             number: number as u32,
         })
     }
+}
+
+/// The number of 16 bits that a word spells.
+pub fn spelled_16(word: &str) -> Option<u16>
+    ensures { result ≡ number_in 0 max_16 word.now }
+{
+    let number = spelled(word, 0, LARGEST_16)?;
+    Some(number as u16)
 }
 
 /// The number of 32 bits that a word spells.

@@ -4,9 +4,9 @@ ghost use Rattle.clap.specs.Simple.{new_app, on_top, with_rule, with_subcommand}
 ghost use Rattle.clap.specs.Words.{app_of, kind_of, rule_of};
 ghost use Rattle.clap.specs.declared.builder.command.Command.TheViews.{out-Command};
 ghost use Rattle.clap.specs.declared.error.kind.ErrorKind.TheVariants.{InvalidValue};
-ghost use Rattle.flagops_words.specs.Words.{apply_app, bucket_app, check_app, flagops_app, number, option_number, plan_app, price_app, refine_option, required, resolve_app, resolve_begun, takes_commands, verify_app, with_rollout};
+ghost use Rattle.flagops_words.specs.Words.{apply_app, bucket_app, check_app, drive_app, flagops_app, number, option_number, plan_app, price_app, refine_option, required, resolve_app, resolve_begun, takes_commands, verify_app, with_rollout};
 
-use crate::numbers::{LARGEST_32, LATEST_MOMENT};
+use crate::numbers::{LARGEST_16, LARGEST_32, LATEST_MOMENT};
 use clap::builder::ValueParser;
 use clap::error::ErrorKind;
 use clap::{Arg, Command, Error};
@@ -20,7 +20,8 @@ pub fn flagops<'a>(alloc: Global) -> Result<Command<'a>, AllocError>
     let program = program(alloc)?;
     let program = with_rule_commands(alloc, program)?;
     let program = with_flag_commands(alloc, program)?;
-    with_rollout_commands(alloc, program)
+    let program = with_rollout_commands(alloc, program)?;
+    with_book_commands(alloc, program)
 }
 
 /// What the help of the program ends with.
@@ -63,6 +64,13 @@ fn with_rollout_commands<'a>(alloc: Global, program: Command<'a>) -> Result<Comm
         .subcommand(plan(alloc)?)?
         .subcommand(verify(alloc)?)?
         .subcommand(apply(alloc)?)
+}
+
+/// The program with the command that makes a book.
+fn with_book_commands<'a>(alloc: Global, program: Command<'a>) -> Result<Command<'a>, AllocError>
+    ensures { IfOk result (λ c. app_of c ≡ with_subcommand (app_of program.entry) drive_app.top) }
+{
+    program.subcommand(drive(alloc)?)
 }
 
 /// The program without its commands.
@@ -228,6 +236,26 @@ fn apply<'a>(alloc: Global) -> Result<Command<'a>, AllocError>
         "The number of the fractional operation, from 0",
         LARGEST_32,
     )
+}
+
+#[tactic(auto, unfolding(crate::specs::Words::drive_app))]
+fn drive<'a>(alloc: Global) -> Result<Command<'a>, AllocError>
+    ensures app { IfOk result (λ c. app_of c ≡ drive_app) }
+    ensures local { IfOk result (λ c. (out-Command c).has_globals ≡ false) }
+{
+    let drive = Command::new(alloc, "drive")
+        .bin_name("flagops drive")?
+        .about("Prints what the asks of a file resolve to, and writes the book of what they reach");
+    let drive = with_word(alloc, drive, "DOC", "The flag document")?;
+    let drive = with_word(alloc, drive, "ASKS", "The file of the asks")?;
+    let drive = with_number(
+        alloc,
+        drive,
+        "WORKERS",
+        "How many threads answer the asks, from 1 to 64",
+        LARGEST_16,
+    )?;
+    with_word(alloc, drive, "BOOK", "The book file that is written")
 }
 
 /// The command with the words that name a rollout.

@@ -2,10 +2,10 @@
 ghost use Rattle.std.specs.Prelude.{◌≡◌, Some, IfOk, IfErr, map, option_map};
 ghost use Rattle.clap.specs.Words.{found_of, kind_of, rows_of, subcommand_rows_of};
 ghost use Rattle.flagops_words.specs.Asked.{asked_view};
-ghost use Rattle.flagops_words.specs.Words.{IsToldBy, apply_in, asked_by, asked_of, bucket_in, check_in, plan_in, price_in, refine_in, resolve_in, verify_in};
+ghost use Rattle.flagops_words.specs.Words.{IsToldBy, apply_in, asked_by, asked_of, bucket_in, check_in, drive_in, plan_in, price_in, refine_in, resolve_in, verify_in};
 
 use crate::asked::Asked;
-use crate::numbers::{Factor, Moment, spelled_32};
+use crate::numbers::{Factor, Moment, spelled_16, spelled_32};
 use crate::usage::{flagops, unknown_kind};
 use clap::{ArgMatches, Error};
 use flag_resolve::Kind;
@@ -50,6 +50,9 @@ fn asked_of<'a>(matches: &ArgMatches<'a>) -> Option<Asked<'a>>
     }
     if name == "plan" {
         return plan_in(words);
+    }
+    if name == "drive" {
+        return drive_in(words);
     }
     None
 }
@@ -154,6 +157,22 @@ fn apply_in<'a>(words: &ArgMatches<'a>) -> Option<Asked<'a>>
         plan,
         key,
         site,
+    })
+}
+
+#[tactic(auto, using(crate::proofs::Matched::rows))]
+fn drive_in<'a>(words: &ArgMatches<'a>) -> Option<Asked<'a>>
+    ensures { option_map asked_view result ≡ drive_in (rows_of (found_of words.now)) }
+{
+    let document = words.get_str("DOC")?;
+    let asks = words.get_str("ASKS")?;
+    let workers = spelled_16(words.get_str("WORKERS")?)?;
+    let book = words.get_str("BOOK")?;
+    Some(Asked::Drive {
+        document,
+        asks,
+        workers,
+        book,
     })
 }
 

@@ -6,6 +6,8 @@ mod bucket;
 #[cfg(test)]
 mod documents;
 #[cfg(test)]
+mod drives;
+#[cfg(test)]
 mod endings;
 #[cfg(test)]
 mod files;

@@ -7,6 +7,7 @@ use flagops_commands::run;
 use flagops_files::{FileSet, LoadFault, StoreFault};
 use std::alloc::{AllocError, Global};
 use std::io;
+use std::sync::Wait;
 use std::thread::Threads;
 
 /// Files in memory; a path that is not listed cannot be read.
@@ -26,6 +27,15 @@ impl MemoryFiles {
             is_writable,
             failed: false,
         }
+    }
+}
+
+impl MemoryFiles {
+    /// Whether they may be written from now on.
+    pub fn allow_writing(&mut self, is_writable: bool)
+        ensures { ⟦<MemoryFiles as FileSet>⟧.has_failed self.new ≡ ⟦<MemoryFiles as FileSet>⟧.has_failed self.old }
+    {
+        self.is_writable = is_writable;
     }
 }
 
@@ -150,7 +160,7 @@ impl Ran {
 
 /// A run over files by their names, and an output that takes so many bytes.
 pub fn run_over(
-    rt: &(impl AllocGlobal + Threads + Sync),
+    rt: &(impl AllocGlobal + Threads + Wait + Sync),
     words: &[&str],
     files: &[(&str, &[u8])],
     room: usize,

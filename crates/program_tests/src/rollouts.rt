@@ -1,5 +1,6 @@
 use super::memory::{Ran, run_over};
 use std::alloc::AllocError;
+use std::sync::Wait;
 use std::test::Fail;
 use std::thread::Threads;
 
@@ -25,7 +26,7 @@ const PLAN: &[u8] =
 
 /// A run over a document `d`, a request `r`, a book `b` and a plan `p`.
 fn run_with<'a>(
-    rt: &(impl AllocGlobal + Threads + Sync),
+    rt: &(impl AllocGlobal + Threads + Wait + Sync),
     words: &[&str],
     request: &'a [u8],
     book: &'a [u8],

@@ -4,4 +4,4 @@ use Rattle.flagops_commands.proofs.program.run.Goals as goal
 
 pub returns-in-Err-answer-clause-answers : goal.returns-in-Err-answer-clause-answers
 returns-in-Err-answer-clause-answers g c =
-    wanted _ (asked_view c.in-Ok.asked) _ c.in-Err-answer.call _ _ _ _ _ _ _ c.in-Ok.ensures.ok c.in-Err-answer.ensures.exact c.want.ensures
+    wanted _ (asked_view c.in-Ok.asked) _ _ c.in-Err-answer.call _ _ _ _ _ _ _ c.in-Ok.ensures.ok c.in-Err-answer.ensures.exact c.want.ensures

@@ -1,0 +1,85 @@
+-- What was loaded in turn, driven and then stored, as the report of `drive`.
+use Rattle.std.proofs.Common.{◌≡◌, ℕ, List, Option, Some, None, Bool, false, IfSome, inl, inr, refl, sym, ◌∙◌, subst}
+use Rattle.std.specs.Prelude.{Result, Ok, Err}
+use Rattle.flag_defs.specs.Document.{Definitions}
+use Rattle.flag_text.specs.Shape.{Shape}
+use Rattle.flagops_drive.specs.Driven.{Drove}
+use Rattle.flagops_files.specs.Documents.{IsDocumentAt}
+use Rattle.flagops_files.specs.Files.{Holding, KeepsOthers, Stores}
+use Rattle.flagops_files.specs.Loading.{max_text, tree_at}
+use Rattle.flagops_files.specs.Refusal.{GivesOne, is_want, unwritable}
+use Rattle.flagops_files.specs.Report.{Report, done, outcome_view}
+use Rattle.flagops_files.specs.declared.outcome.Outcome.{Outcome}
+use Rattle.flagops_files.specs.declared.refused.Refused.{Refused}
+use Rattle.flagops_files.specs.declared.refusal.Refusal.{Refusal}
+use Rattle.flagops_commands.specs.Drive.{IsDriveReport, IsDroveOf, IsWritten}
+
+-- files that stay keep all others
+pub keeps : (h : Option Holding) (path : List ℕ) → KeepsOthers h h path
+keeps None path = tt
+keeps (Some at) path = λ other differs. refl
+
+pub kept_others : (old new : Option Holding) (path : List ℕ) → new ≡ old → KeepsOthers old new path
+kept_others old new path same = subst (λ (h : Option Holding). KeepsOthers old h path) (sym same) (keeps old path)
+
+pub others_after : (old mid new : Option Holding) (path : List ℕ) → mid ≡ old → KeepsOthers mid new path → KeepsOthers old new path
+others_after old mid new path same kept = subst (λ (h : Option Holding). KeepsOthers h new path) same kept
+
+-- ---- the book is written
+
+pub book_stored : (old new : Option Holding) (book : List ℕ) (d : Drove) (r : Result Report Refusal) → r ≡ done d.text → Stores old new book d.book → KeepsOthers old new book
+    → IfSome old (λ at. IsWritten at new book (Ok d) r)
+book_stored None new book d r is stored kept = tt
+book_stored (Some at) new book d r is stored kept = (kept, inl (is, stored))
+
+pub book_refused : (old new : Option Holding) (book : List ℕ) (d : Drove) (e : Refused) → (is_want e.refusal ≡ false → e.refusal ≡ unwritable) → KeepsOthers old new book
+    → IfSome old (λ at. is_want e.refusal ≡ false → IsWritten at new book (Ok d) (Err e.refusal))
+book_refused None new book d e fault kept = tt
+book_refused (Some at) new book d e fault kept = λ wanted. (kept, inr (rw (fault wanted) refl))
+
+-- ---- the whole
+
+module _ (path asks : List ℕ) (workers : ℕ) (book : List ℕ) where
+  abbrev Is : Option Holding → Option Holding → Result Outcome Refused → Type 0
+  Is old after r = IfSome old (λ at. GivesOne outcome_view r (IsDriveReport at after path asks workers book))
+
+  pub no_document : (old after : Option Holding) (e : Refused) → after ≡ old → IfSome old (λ at. is_want e.refusal ≡ false → IsDocumentAt at path (Err e.refusal)) → Is old after (Err e)
+  unfolding IsDriveReport
+  no_document None after e same loaded = tt
+  no_document (Some at) after e same loaded = λ wanted. (Err e.refusal, loaded wanted, Err e.refusal, refl, (refl, same))
+
+  module _ (flags : Definitions) where
+    pub no_asks : (old mid after : Option Holding) (e : Refused) → mid ≡ old → after ≡ mid → IfSome old (λ at. IsDocumentAt at path (Ok flags))
+        → IfSome mid (λ at. is_want e.refusal ≡ false → tree_at at asks max_text ≡ Err e.refusal) → Is old after (Err e)
+    unfolding IsDriveReport
+    no_asks old mid after e first second document tree = go old document (subst (λ (h : Option Holding). IfSome h (λ at. is_want e.refusal ≡ false → tree_at at asks max_text ≡ Err e.refusal)) first tree) (second ∙ first)
+      where
+        go : (h : Option Holding) → IfSome h (λ at. IsDocumentAt at path (Ok flags)) → IfSome h (λ at. is_want e.refusal ≡ false → tree_at at asks max_text ≡ Err e.refusal) → after ≡ h → Is h after (Err e)
+        go None document tree same = tt
+        go (Some at) document tree same = λ wanted. (Ok flags, document, Err e.refusal, rw (tree wanted) refl, (refl, same))
+
+    module _ (t : Shape) where
+      pub not_driven : (old mid after : Option Holding) (e : Refused) → mid ≡ old → after ≡ mid → IfSome old (λ at. IsDocumentAt at path (Ok flags)) → IfSome mid (λ at. tree_at at asks max_text ≡ Ok t)
+          → (is_want e.refusal ≡ false → IsDroveOf (Ok flags) (Ok t) workers (Err e.refusal)) → Is old after (Err e)
+      unfolding IsDriveReport
+      not_driven old mid after e first second document tree drove = go old document (subst (λ (h : Option Holding). IfSome h (λ at. tree_at at asks max_text ≡ Ok t)) first tree) (second ∙ first)
+        where
+          go : (h : Option Holding) → IfSome h (λ at. IsDocumentAt at path (Ok flags)) → IfSome h (λ at. tree_at at asks max_text ≡ Ok t) → after ≡ h → Is h after (Err e)
+          go None document tree same = tt
+          go (Some at) document tree same = λ wanted. (Ok flags, document, Err e.refusal, rw tree (drove wanted), (refl, same))
+
+      pub driven : (old mid last after : Option Holding) (d : Drove) (r : Result Outcome Refused) → mid ≡ old → last ≡ mid → IfSome old (λ at. IsDocumentAt at path (Ok flags)) → IfSome mid (λ at. tree_at at asks max_text ≡ Ok t)
+          → IsDroveOf (Ok flags) (Ok t) workers (Ok d) → IfSome last (λ at. GivesOne outcome_view r (IsWritten at after book (Ok d))) → Is old after r
+      unfolding IsDriveReport
+      driven old mid last after d r first second document tree drove written =
+          go old document (subst (λ (h : Option Holding). IfSome h (λ at. tree_at at asks max_text ≡ Ok t)) first tree)
+          (subst (λ (h : Option Holding). IfSome h (λ at. GivesOne outcome_view r (IsWritten at after book (Ok d)))) (second ∙ first) written)
+        where
+          ends : (at : Holding) (s : Result Outcome Refused) → IsDocumentAt at path (Ok flags) → tree_at at asks max_text ≡ Ok t → GivesOne outcome_view s (IsWritten at after book (Ok d))
+              → GivesOne outcome_view s (IsDriveReport at after path asks workers book)
+          ends at (Ok o) document tree written = (Ok flags, document, Ok d, rw tree drove, written)
+          ends at (Err e) document tree written = λ wanted. (Ok flags, document, Ok d, rw tree drove, written wanted)
+
+          go : (h : Option Holding) → IfSome h (λ at. IsDocumentAt at path (Ok flags)) → IfSome h (λ at. tree_at at asks max_text ≡ Ok t) → IfSome h (λ at. GivesOne outcome_view r (IsWritten at after book (Ok d))) → Is h after r
+          go None document tree written = tt
+          go (Some at) document tree written = ends at r document tree written

@@ -1,0 +1,3 @@
+//! The command that makes a book.
+
+pub mod drive;

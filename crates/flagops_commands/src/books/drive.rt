@@ -1,0 +1,97 @@
+//! The command `drive`: what the asks of a file resolve to, and the book of what they reach.
+ghost use Rattle.std.specs.Prelude.{◌≡◌, ◌||◌, false, true, Ok, IfSome};
+ghost use Rattle.flag_defs.specs.Flags.{flags_view};
+ghost use Rattle.flag_text.specs.Shape.{is_whole};
+ghost use Rattle.flag_text.specs.View.{view};
+ghost use Rattle.flagops_drive.specs.Driven.{drove_view};
+ghost use Rattle.flagops_commands.specs.Calls.{drive_calls, drive_itself};
+ghost use Rattle.flagops_commands.specs.Drive.{IsDriveReport, IsDroveOf, IsWritten};
+ghost use Rattle.flagops_files.specs.Files.{KeepsOthers};
+ghost use Rattle.flagops_files.specs.Refusal.{ComesFrom, GivesOne, is_file_fault, stores_file};
+ghost use Rattle.flagops_files.specs.Report.{outcome_view};
+
+use flag_defs::Flags;
+use flag_text::Tree;
+use flagops_drive::{DriveRefusal, Drove, drive_asks};
+use flagops_files::{
+    FileSet, Outcome, Refusal, Refused, Remark, Status, TEXT_LIMIT, load_flags, load_tree, store,
+};
+use flagops_remarks::{of_asks, of_workers};
+use std::alloc::{AllocError, Global};
+use std::sync::Wait;
+use std::thread::Threads;
+
+/// The resolutions of the asks of a file, in their order, and the counts of the book that they make, a line each. The book
+/// is written first.
+pub fn drive<R: Threads + Wait + Sync, F: FileSet>(
+    rt: &R,
+    alloc: Global,
+    files: &mut F,
+    document: &str,
+    asks: &str,
+    workers: u16,
+    book: &str,
+) -> Result<Outcome, Refused>
+    ensures exact { IfSome (F.holding files.old) (λ at. GivesOne outcome_view result (IsDriveReport at (F.holding files.new) document.now asks.now workers book.now)) }
+    ensures calls { ComesFrom drive_calls result }
+    ensures failed { F.has_failed files.new ≡ (F.has_failed files.old || is_file_fault result) }
+    ensures others { KeepsOthers (F.holding files.old) (F.holding files.new) book.now }
+{
+    let flags = load_flags(alloc, files, document)?;
+    let tree = load_tree(alloc, files, asks, TEXT_LIMIT)?;
+    let drove = drove(rt, alloc, &flags, asks, &tree, workers)?;
+    written(alloc, files, book, drove)
+}
+
+/// The asks of a tree, driven; the tree was loaded from a path.
+fn drove<R: Threads + Wait + Sync>(
+    rt: &R,
+    alloc: Global,
+    flags: &Flags,
+    path: &str,
+    tree: &Tree,
+    workers: u16,
+) -> Result<Drove, Refused>
+    requires { is_whole (view tree.now) ≡ true }
+    ensures exact { GivesOne drove_view result (IsDroveOf (Ok (flags_view flags.now)) (Ok (view tree.now)) workers) }
+    ensures calls { ComesFrom drive_itself result }
+    ensures read { is_file_fault result ≡ false }
+{
+    let workers = usize::from(workers);
+    match drive_asks(rt, alloc, flags, tree, workers) {
+        Ok(drove) => Ok(drove),
+        Err(refusal) => Err(Refused {
+            refusal: Refusal::Drive(refusal),
+            remark: Remark::of(of_refusal(alloc, path, tree, workers, refusal)),
+        }),
+    }
+}
+
+fn of_refusal(
+    alloc: Global,
+    path: &str,
+    tree: &Tree,
+    workers: usize,
+    refusal: DriveRefusal,
+) -> Result<String, AllocError> {
+    match refusal {
+        DriveRefusal::BadAsks => of_asks(alloc, path, tree),
+        DriveRefusal::Drive(fault) => of_workers(alloc, workers, fault.name()),
+    }
+}
+
+/// The report of what was driven, once its book was written.
+fn written<F: FileSet>(
+    alloc: Global,
+    files: &mut F,
+    book: &str,
+    drove: Drove,
+) -> Result<Outcome, Refused>
+    ensures exact { IfSome (F.holding files.old) (λ at. GivesOne outcome_view result (IsWritten at (F.holding files.new) book.now (Ok (drove_view drove)))) }
+    ensures calls { ComesFrom stores_file result }
+    ensures failed { F.has_failed files.new ≡ (F.has_failed files.old || is_file_fault result) }
+    ensures others { KeepsOthers (F.holding files.old) (F.holding files.new) book.now }
+{
+    store(alloc, files, book, drove.book.as_slice())?;
+    Ok(Outcome::plain(drove.text, Status::Done))
+}

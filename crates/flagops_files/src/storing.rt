@@ -1,0 +1,32 @@
+//! From bytes to a file at a path.
+ghost use Rattle.std.specs.Prelude.{◌≡◌, ◌||◌, false, IfErr, OnOk};
+ghost use Rattle.flagops_files.specs.Files.{KeepsOthers, Stores};
+ghost use Rattle.flagops_files.specs.Refusal.{ComesFrom, is_file_fault, is_want, stores_file, unwritable};
+
+use crate::files::FileSet;
+use crate::refusal::Refusal;
+use crate::refused::{Refused, Remark};
+use flagops_remarks::of_unwritable;
+use std::alloc::Global;
+
+/// Makes the bytes the file at a path. What that file holds after a refusal is left open.
+pub fn store<F: FileSet>(
+    alloc: Global,
+    files: &mut F,
+    path: &str,
+    bytes: &[u8],
+) -> Result<(), Refused>
+    ensures stored { OnOk result (Stores (F.holding files.old) (F.holding files.new) path.now bytes.now) }
+    ensures others { KeepsOthers (F.holding files.old) (F.holding files.new) path.now }
+    ensures fault { IfErr result (λ r. is_want r.refusal ≡ false → r.refusal ≡ unwritable) }
+    ensures calls { ComesFrom stores_file result }
+    ensures failed { F.has_failed files.new ≡ (F.has_failed files.old || is_file_fault result) }
+{
+    match files.write(alloc, path, bytes) {
+        Ok(()) => Ok(()),
+        Err(fault) => Err(Refused {
+            refusal: Refusal::Store(fault),
+            remark: Remark::of(of_unwritable(alloc, path)),
+        }),
+    }
+}
