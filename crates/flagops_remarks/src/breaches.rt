@@ -1,4 +1,5 @@
 //! What a person is told of the flags of a document that are broken.
+use crate::evaluators::search_referred;
 use crate::search::{Found, Sought, search};
 use crate::words::{listed_members, shown, step};
 use flag_defs::{Breach, breaches};
@@ -56,7 +57,13 @@ fn sentence(
         ),
         Breach::Variants => variants(alloc, &at, definition.member("variants")),
         Breach::Kinds => kinds(alloc, &at, members_in(definition, "variants")),
-        Breach::VariantNumber => number(alloc, &at, ".variants", definition.member("variants")),
+        Breach::VariantNumber => number(
+            alloc,
+            &at,
+            ".variants",
+            definition.member("variants"),
+            &[],
+        ),
         Breach::VariantLevels => format!(in alloc; "{at}.variants nests deeper than 100 levels"),
         Breach::DefaultVariant => default_variant(alloc, &at, definition),
         Breach::Targeting => valued(
@@ -72,8 +79,14 @@ fn sentence(
                 "{at}.targeting has more than 10,000 nodes or 100 levels, with its references replaced"
             )
         }
-        Breach::TargetingPart => number(alloc, &at, ".targeting", definition.member("targeting")),
-        Breach::Expression => expression(alloc, &at, definition.member("targeting")),
+        Breach::TargetingPart => number(
+            alloc,
+            &at,
+            ".targeting",
+            definition.member("targeting"),
+            evaluators,
+        ),
+        Breach::Expression => expression(alloc, &at, definition.member("targeting"), evaluators),
     }
 }
 
@@ -158,11 +171,18 @@ fn number(
     at: &String,
     name: &str,
     tree: Option<&Tree>,
+    evaluators: &[(String, Tree)],
 ) -> Result<String, AllocError> {
     if let Some(tree) = tree {
         if let Some(found) = search(alloc, tree, Sought::NotWhole)? {
             let way = &found.way;
             return format!(in alloc; "{at}{name}{way} is a number that is not whole");
+        }
+        if let Some((key, found)) = search_referred(alloc, tree, evaluators, Sought::NotWhole)? {
+            let way = &found.way;
+            return format!(in alloc;
+                "{at}{name} refers to $evaluators{key}{way}, which is a number that is not whole"
+            );
         }
     }
     by_reference(
@@ -182,7 +202,7 @@ fn default_variant(alloc: Global, at: &String, definition: &Tree) -> Result<Stri
     format!(in alloc; "{at}.defaultVariant is {shown}, no variant; there are {names}")
 }
 
-/// The first reference in the targeting to what is no evaluator; else one in an evaluator, or a cycle.
+/// The first reference to what is no evaluator, in the targeting or in what it refers to; else it is a cycle.
 fn reference(
     alloc: Global,
     at: &String,
@@ -190,11 +210,19 @@ fn reference(
     evaluators: &[(String, Tree)],
 ) -> Result<String, AllocError> {
     let targeting = definition.member("targeting");
+    let sought = Sought::Unknown(evaluators);
     if let Some(tree) = targeting {
-        if let Some(found) = search(alloc, tree, Sought::Unknown(evaluators))? {
+        if let Some(found) = search(alloc, tree, sought)? {
             let Found { way, what } = found;
             let names = listed_members(alloc, evaluators)?;
             return format!(in alloc; "{at}.targeting{way} {what}, no evaluator; there are {names}");
+        }
+        if let Some((key, found)) = search_referred(alloc, tree, evaluators, sought)? {
+            let Found { way, what } = found;
+            let names = listed_members(alloc, evaluators)?;
+            return format!(in alloc;
+                "{at}.targeting refers to $evaluators{key}{way}, which {what}, no evaluator; there are {names}"
+            );
         }
     }
     by_reference(
@@ -223,12 +251,21 @@ fn by_reference(
     format!(in alloc; "{at}.targeting has {what}")
 }
 
-/// The first operation that is none.
-fn expression(alloc: Global, at: &String, targeting: Option<&Tree>) -> Result<String, AllocError> {
+/// The first operation that is none, in the targeting or in what it refers to.
+fn expression(
+    alloc: Global,
+    at: &String,
+    targeting: Option<&Tree>,
+    evaluators: &[(String, Tree)],
+) -> Result<String, AllocError> {
     if let Some(tree) = targeting {
         if let Some(found) = search(alloc, tree, Sought::Operation)? {
             let Found { way, what } = found;
             return format!(in alloc; "{at}.targeting{way}: {what}");
+        }
+        if let Some((key, found)) = search_referred(alloc, tree, evaluators, Sought::Operation)? {
+            let Found { way, what } = found;
+            return format!(in alloc; "{at}.targeting refers to $evaluators{key}{way}: {what}");
         }
     }
     by_reference(

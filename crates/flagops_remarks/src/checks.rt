@@ -85,13 +85,21 @@ fn totals(
         let points = rule.total_of(limit.name.as_str());
         if points < u64::from(limit.low) || points > u64::from(limit.high) {
             let name = quoted(alloc, limit.name.as_str())?;
-            let (low, high) = (limit.low, limit.high);
+            let takes = limits_text(alloc, limit.low, limit.high)?;
             return format!(in alloc;
-                "{name} has {points} points in its rule, and the request takes {low} to {high}"
+                "{name} has {points} points in its rule, and the request takes {takes}"
             );
         }
     }
     String::from_str(alloc, "its rule names what is no variant of the flag")
+}
+
+fn limits_text(alloc: Global, low: u32, high: u32) -> Result<String, AllocError> {
+    if low == high {
+        format!(in alloc; "{low}")
+    } else {
+        format!(in alloc; "{low} to {high}")
+    }
 }
 
 /// The change at a point.

@@ -11,6 +11,7 @@ mod books;
 mod breaches;
 mod checks;
 mod documents;
+mod evaluators;
 mod files;
 mod plans;
 mod requests;

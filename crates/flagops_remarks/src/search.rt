@@ -109,7 +109,7 @@ fn wrong_at(alloc: Global, tree: &Tree, sought: Sought<'_>) -> Result<Option<Str
 }
 
 /// The name that an object refers to.
-fn reference(members: &[(String, Tree)]) -> Option<&str> {
+pub(crate) fn reference(members: &[(String, Tree)]) -> Option<&str> {
     match members {
         [(key, Tree::Text(name))] if key.as_str() == "$ref" => Some(name.as_str()),
         _ => None,

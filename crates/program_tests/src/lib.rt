@@ -16,6 +16,8 @@ mod memory;
 #[cfg(test)]
 mod price;
 #[cfg(test)]
+mod remarks;
+#[cfg(test)]
 mod rollouts;
 #[cfg(test)]
 mod words;
