@@ -26,7 +26,7 @@ pub fn flagops<'a>(alloc: Global) -> Result<Command<'a>, AllocError>
 
 /// What the help of the program ends with.
 const STATUSES: &str =
-    "Status: 0 done, 1 refused or the output failed, 2 words that are no command, 3 no rule fits.\ndocs/REFUSALS.md explains each line that begins with 'refused', docs/FORMATS.md has the files with\nexamples, demo/README.md a first rollout.";
+    "Status: 0 done, 1 refused or the output failed, 2 words that are no command, 3 no rule fits.\nWhat was refused, where, and what to change is told on the error outlet; docs/REFUSALS.md has each line\nthat begins with 'refused', docs/FORMATS.md the files with examples, demo/README.md a first rollout.";
 
 /// The mistake of a kind of value that is none of the four.
 pub fn unknown_kind(alloc: Global) -> Result<Error, AllocError>
