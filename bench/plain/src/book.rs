@@ -7,7 +7,9 @@ use std::io::BufRead;
 /// The text of a line: between its quotes where it has no escape, else as JSON.
 fn text(line: &str) -> Result<Cow<'_, str>, Fault> {
     match line.strip_prefix('"').and_then(|rest| rest.strip_suffix('"')) {
-        Some(inner) if inner.bytes().all(|byte| byte >= 0x20 && byte != b'"' && byte != b'\\') => Ok(Cow::Borrowed(inner)),
+        Some(inner) if inner.bytes().all(|byte| byte >= 0x20 && byte != b'"' && byte != b'\\') => {
+            Ok(Cow::Borrowed(inner))
+        }
         _ => Ok(Cow::Owned(serde_json::from_str(line)?)),
     }
 }

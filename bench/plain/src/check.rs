@@ -12,7 +12,8 @@ fn takes(name: &str) -> Option<(usize, usize)> {
         "*" | "max" | "min" => (1, usize::MAX),
         "!" | "!!" => (1, 1),
         "-" => (1, 2),
-        "missing_some" | "==" | "===" | "!=" | "!==" | ">" | ">=" | "%" | "map" | "filter" | "all" | "none" | "some" | "in" | "starts_with" | "ends_with" => (2, 2),
+        "missing_some" | "==" | "===" | "!=" | "!==" | ">" | ">=" | "%" | "map" | "filter" | "all" | "none"
+        | "some" | "in" | "starts_with" | "ends_with" => (2, 2),
         "<" | "<=" | "reduce" | "substr" => (2, 3),
         "sem_ver" => (3, 3),
         _ => return None,
@@ -60,7 +61,9 @@ impl<'a> Targeting<'a> {
             Some((first, rest)) if !first.is_array() => (Some(first), rest),
             _ => (None, items),
         };
-        by.map_or(true, |by| self.is_good(by, levels)) && !buckets.is_empty() && buckets.iter().all(|bucket| self.bucket(bucket, levels.wrapping_sub(1)))
+        by.map_or(true, |by| self.is_good(by, levels))
+            && !buckets.is_empty()
+            && buckets.iter().all(|bucket| self.bucket(bucket, levels.wrapping_sub(1)))
     }
 
     fn operation(&mut self, name: &'a str, argument: &'a Value, levels: usize) -> bool {
@@ -78,7 +81,8 @@ impl<'a> Targeting<'a> {
         if name == "fractional" {
             return self.fractional(items, levels - 2);
         }
-        takes(name).is_some_and(|(low, high)| low <= items.len() && items.len() <= high) && items.iter().all(|item| self.is_good(item, levels - 2))
+        takes(name).is_some_and(|(low, high)| low <= items.len() && items.len() <= high)
+            && items.iter().all(|item| self.is_good(item, levels - 2))
     }
 
     fn is_good(&mut self, value: &'a Value, levels: usize) -> bool {
@@ -88,7 +92,9 @@ impl<'a> Targeting<'a> {
                 self.operation(name, argument, levels)
             }
             Value::Object(_) => false,
-            Value::Array(items) => levels > 0 && self.takes(1) && items.iter().all(|item| self.is_good(item, levels - 1)),
+            Value::Array(items) => {
+                levels > 0 && self.takes(1) && items.iter().all(|item| self.is_good(item, levels - 1))
+            }
             Value::Number(_) => self.takes(1) && is_whole(value),
             _ => self.takes(1),
         }
@@ -99,7 +105,8 @@ fn is_flag(flag: &Value, evaluators: &Map<String, Value>) -> bool {
     let Some(variants) = flag["variants"].as_object() else { return false };
     let state = matches!(flag["state"].as_str(), Some("ENABLED" | "DISABLED"));
     let alike = |kind: fn(&Value) -> bool| variants.values().all(kind);
-    let kind = alike(Value::is_boolean) || alike(Value::is_string) || alike(Value::is_number) || alike(Value::is_object);
+    let kind =
+        alike(Value::is_boolean) || alike(Value::is_string) || alike(Value::is_number) || alike(Value::is_object);
     let named = match flag.get("defaultVariant") {
         None | Some(Value::Null) => true,
         Some(name) => name.as_str().is_some_and(|name| variants.contains_key(name)),
@@ -107,9 +114,16 @@ fn is_flag(flag: &Value, evaluators: &Map<String, Value>) -> bool {
     let targeting = match flag.get("targeting") {
         None | Some(Value::Null) => true,
         Some(Value::Object(members)) if members.is_empty() => true,
-        Some(value) => value.is_object() && Targeting { evaluators, open: HashSet::new(), nodes: 10_000 }.is_good(value, 100),
+        Some(value) => {
+            value.is_object() && Targeting { evaluators, open: HashSet::new(), nodes: 10_000 }.is_good(value, 100)
+        }
     };
-    state && (1..=64).contains(&variants.len()) && kind && variants.values().all(|value| is_value(value, 100)) && named && targeting
+    state
+        && (1..=64).contains(&variants.len())
+        && kind
+        && variants.values().all(|value| is_value(value, 100))
+        && named
+        && targeting
 }
 
 pub fn check(document: &Value) -> Result<String, Fault> {

@@ -36,7 +36,8 @@ impl Search<'_> {
         let mut distance: Vec<i64> = sources.iter().map(|source| if *source { 0 } else { FAR }).collect();
         let (mut before, mut done) = (vec![usize::MAX; names], vec![false; names]);
         let end = loop {
-            let next = (0..names).filter(|name| !done[*name] && distance[*name] < FAR).min_by_key(|name| distance[*name])?;
+            let next =
+                (0..names).filter(|name| !done[*name] && distance[*name] < FAR).min_by_key(|name| distance[*name])?;
             if targets[next] {
                 break next;
             }
@@ -65,13 +66,23 @@ impl Search<'_> {
 /// at least its low limit and at most its high one.
 pub fn cheapest(groups: &[Group], prices: &[Vec<Option<u64>>], limits: &[(u32, u32)]) -> Option<Flow> {
     let names = limits.len();
-    let mut search = Search { groups, prices, points: vec![vec![0; names]; groups.len()], moves: vec![vec![(FAR, 0); names + 1]; names + 1], potentials: vec![0; names + 1] };
+    let mut search = Search {
+        groups,
+        prices,
+        points: vec![vec![0; names]; groups.len()],
+        moves: vec![vec![(FAR, 0); names + 1]; names + 1],
+        potentials: vec![0; names + 1],
+    };
     for group in 0..groups.len() {
-        let best = (0..names).filter(|name| search.cost(group, *name).is_some()).min_by_key(|name| (search.cost(group, *name), *name != groups[group].name))?;
+        let best = (0..names)
+            .filter(|name| search.cost(group, *name).is_some())
+            .min_by_key(|name| (search.cost(group, *name), *name != groups[group].name))?;
         search.points[group][best] = groups[group].points;
     }
-    let mut loads: Vec<i64> = (0..names).map(|name| search.points.iter().map(|row| i64::from(row[name])).sum()).collect();
-    let mut sent: Vec<i64> = loads.iter().zip(limits).map(|(load, limit)| (*load).clamp(limit.0.into(), limit.1.into())).collect();
+    let mut loads: Vec<i64> =
+        (0..names).map(|name| search.points.iter().map(|row| i64::from(row[name])).sum()).collect();
+    let mut sent: Vec<i64> =
+        loads.iter().zip(limits).map(|(load, limit)| (*load).clamp(limit.0.into(), limit.1.into())).collect();
     let total: i64 = loads.iter().sum();
     for name in 0..names {
         refresh(&mut search, name, &sent, limits);
@@ -117,7 +128,14 @@ fn set_limits(search: &mut Search, sent: &[i64], limits: &[(u32, u32)]) {
 }
 
 /// Moves as many points along the path as it carries.
-fn augment(search: &mut Search, path: &[usize], excess: &[i64], loads: &mut [i64], sent: &mut [i64], limits: &[(u32, u32)]) {
+fn augment(
+    search: &mut Search,
+    path: &[usize],
+    excess: &[i64],
+    loads: &mut [i64],
+    sent: &mut [i64],
+    limits: &[(u32, u32)],
+) {
     let names = limits.len();
     let mut amount = excess[path[0]].min(-excess[path[path.len() - 1]]);
     for step in path.windows(2) {
@@ -127,7 +145,8 @@ fn augment(search: &mut Search, path: &[usize], excess: &[i64], loads: &mut [i64
             (from, to) => i64::from(search.points[search.moves[from][to].1][from]),
         });
     }
-    let steps: Vec<(usize, usize, usize)> = path.windows(2).map(|step| (step[0], step[1], search.moves[step[0]][step[1]].1)).collect();
+    let steps: Vec<(usize, usize, usize)> =
+        path.windows(2).map(|step| (step[0], step[1], search.moves[step[0]][step[1]].1)).collect();
     for (from, to, group) in steps {
         if to == names {
             sent[from] += amount;

@@ -47,7 +47,12 @@ fn runs(rule: &Rule, names: &[String], hashes: &[u32]) -> Vec<(usize, u32, u32)>
 fn question<'a>(document: &'a Value, request: &Value, hashes: Vec<u32>) -> Result<Question<'a>, Fault> {
     let request = Request::of(request)?;
     let rule = fractional(document, &request.flag)?;
-    let names: Vec<String> = document["flags"][&request.flag]["variants"].as_object().ok_or("a flag has variants")?.keys().cloned().collect();
+    let names: Vec<String> = document["flags"][&request.flag]["variants"]
+        .as_object()
+        .ok_or("a flag has variants")?
+        .keys()
+        .cloned()
+        .collect();
     if rule.entries.iter().any(|entry| number_of(&names, entry.0).is_none()) {
         return Err("a name is no variant".into());
     }
@@ -101,11 +106,25 @@ pub fn plan(document: &Value, request: &Value, book: &str) -> Result<String, Fau
             *to += usize::from(points > 0);
         }
     }
-    let cost_of = |group: &Group, name: usize| prices[group.name][name].map(|price| price as i64 * i64::from(group.count));
-    let least = |group: &Group| flow.potentials.iter().enumerate().filter_map(|(name, beta)| Some(cost_of(group, name)? - beta)).min().unwrap();
-    let cost: i64 = groups.iter().zip(&flow.points).flat_map(|(group, row)| row.iter().enumerate().filter(|(_, n)| **n > 0).map(move |(name, n)| i64::from(*n) * cost_of(group, name).unwrap())).sum();
-    let alpha: Vec<Value> = groups.iter().map(|group| json!([question.names[group.name], group.count, least(group)])).collect();
-    let beta: Vec<Value> = question.names.iter().zip(&flow.potentials).map(|(name, beta)| json!([name, beta])).collect();
+    let cost_of =
+        |group: &Group, name: usize| prices[group.name][name].map(|price| price as i64 * i64::from(group.count));
+    let least = |group: &Group| {
+        flow.potentials.iter().enumerate().filter_map(|(name, beta)| Some(cost_of(group, name)? - beta)).min().unwrap()
+    };
+    let cost: i64 = groups
+        .iter()
+        .zip(&flow.points)
+        .flat_map(|(group, row)| {
+            row.iter()
+                .enumerate()
+                .filter(|(_, n)| **n > 0)
+                .map(move |(name, n)| i64::from(*n) * cost_of(group, name).unwrap())
+        })
+        .sum();
+    let alpha: Vec<Value> =
+        groups.iter().map(|group| json!([question.names[group.name], group.count, least(group)])).collect();
+    let beta: Vec<Value> =
+        question.names.iter().zip(&flow.potentials).map(|(name, beta)| json!([name, beta])).collect();
     let rule: Vec<Value> = entries.iter().map(|(name, weight)| json!([question.names[*name], weight])).collect();
     Ok(format!("{}\n", json!({ "alpha": alpha, "beta": beta, "cost": cost, "plan": 1, "rule": rule })))
 }
@@ -132,8 +151,14 @@ pub fn verify(document: &Value, request: &Value, book: &str, plan: &Value) -> Re
     for (name, weight) in &new.entries {
         totals[number_of(&question.names, name).ok_or("an unknown name")?] += u64::from(*weight);
     }
-    let within = totals.iter().zip(&question.limits).all(|(total, limit)| u64::from(limit.0) <= *total && *total <= u64::from(limit.1));
-    if new.total() != question.rule.total() || !within || question.request.first_forbidden(&question.rule, &new).is_some() {
+    let within = totals
+        .iter()
+        .zip(&question.limits)
+        .all(|(total, limit)| u64::from(limit.0) <= *total && *total <= u64::from(limit.1));
+    if new.total() != question.rule.total()
+        || !within
+        || question.request.first_forbidden(&question.rule, &new).is_some()
+    {
         return Err("the rule does not fit".into());
     }
     let (alpha, beta) = (rows::<2>(&plan["alpha"])?, rows::<1>(&plan["beta"])?);
@@ -147,7 +172,10 @@ pub fn verify(document: &Value, request: &Value, book: &str, plan: &Value) -> Re
         if question.names[*name] != *other || i64::from(*count) != *number {
             return Err("other groups".into());
         }
-        let holds = |to: usize, beta: i64| prices[*name][to].map_or(true, |price| i128::from(*value) + i128::from(beta) <= i128::from(price) * i128::from(*count));
+        let holds = |to: usize, beta: i64| {
+            prices[*name][to]
+                .map_or(true, |price| i128::from(*value) + i128::from(beta) <= i128::from(price) * i128::from(*count))
+        };
         if !beta.iter().enumerate().all(|(to, (_, [beta]))| holds(to, *beta)) {
             return Err("a change costs less".into());
         }

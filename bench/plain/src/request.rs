@@ -1,5 +1,5 @@
 //! Requests: totals, prices and prohibitions.
-use crate::rule::{Rule, scaled};
+use crate::rule::{scaled, Rule};
 use crate::Fault;
 use rayon::prelude::*;
 use serde_json::Value;
@@ -41,7 +41,10 @@ impl Request {
             let entry = entry.as_array().ok_or("a price is a list")?;
             prices.insert(pair(entry)?, entry[2].as_u64().ok_or("a price is a number")?);
         }
-        let forbidden = items(value, "forbid").iter().map(|entry| pair(entry.as_array().ok_or("a pair is a list")?)).collect::<Result<_, Fault>>()?;
+        let forbidden = items(value, "forbid")
+            .iter()
+            .map(|entry| pair(entry.as_array().ok_or("a pair is a list")?))
+            .collect::<Result<_, Fault>>()?;
         Ok(Request { flag, totals, usual: value.get("price").and_then(Value::as_u64).unwrap_or(1), prices, forbidden })
     }
 
@@ -81,12 +84,23 @@ impl Request {
         };
         let from: Vec<u32> = old.entries.iter().map(|entry| number(entry.0)).collect();
         let to: Vec<u32> = new.entries.iter().map(|entry| number(entry.0)).collect();
-        let prices: HashMap<(u32, u32), u64> = self.prices.iter().filter_map(|((old, new), price)| Some(((*numbers.get(old.as_str())?, *numbers.get(new.as_str())?), *price))).collect();
+        let prices: HashMap<(u32, u32), u64> = self
+            .prices
+            .iter()
+            .filter_map(|((old, new), price)| {
+                Some(((*numbers.get(old.as_str())?, *numbers.get(new.as_str())?), *price))
+            })
+            .collect();
         hashes
             .par_iter()
             .map(|hash| {
-                let pair = (from[old.entry_at(scaled(old.total(), *hash))], to[new.entry_at(scaled(new.total(), *hash))]);
-                if pair.0 == pair.1 { 0 } else { prices.get(&pair).copied().unwrap_or(self.usual) }
+                let pair =
+                    (from[old.entry_at(scaled(old.total(), *hash))], to[new.entry_at(scaled(new.total(), *hash))]);
+                if pair.0 == pair.1 {
+                    0
+                } else {
+                    prices.get(&pair).copied().unwrap_or(self.usual)
+                }
             })
             .sum()
     }

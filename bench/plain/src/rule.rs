@@ -28,7 +28,11 @@ impl<'a> Rule<'a> {
             sum = sum.checked_add(*weight).filter(|sum| *sum < 1 << 31).ok_or("a rule is too heavy")?;
             ends.push(sum);
         }
-        if sum == 0 { Err("a rule has no weight".into()) } else { Ok(Rule { entries, ends }) }
+        if sum == 0 {
+            Err("a rule has no weight".into())
+        } else {
+            Ok(Rule { entries, ends })
+        }
     }
 
     pub fn total(&self) -> u32 {
