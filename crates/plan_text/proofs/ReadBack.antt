@@ -1,11 +1,10 @@
 -- What is written for an answer reads as the answer.
-use Rattle.std.proofs.Common.{◌≡◌, ℕ, ◌<◌, ◌≤◌, ◌^◌, List, true, max, ltb, Some, Ok, Result, refl, sym, ap, ◌∙◌, arith}
+use Rattle.std.proofs.Common.{◌≡◌, ℕ, ◌<◌, ◌≤◌, ◌^◌, List, true, ltb, Some, Ok, refl, ap, ◌∙◌, arith}
 use Rattle.std.specs.Cmp.Lexicographic.{slice_cmp}
 use Rattle.std.specs.Map.{keys_of}
 use Rattle.std.specs.Ordering.{nat_cmp}
 use Rattle.std.proofs.lemmas.Bool.{ltb-true, lt-ltb}
 use Rattle.flag_text.proofs.Bools.{left, right}
-use Rattle.flag_text.specs.Readers.{as_text}
 use Rattle.flag_text.specs.Reading.{max_levels, tree_of}
 use Rattle.flag_text.specs.Shape.{Shape, text, is_whole, items_are_whole, levels}
 use Rattle.bucket_core.specs.Rule.{Entries}
@@ -14,8 +13,7 @@ use Rattle.transport_core.specs.Groups.{group_cmp}
 use Rattle.transport_core.specs.declared.certificate.CutKind.{CutKind}
 use Rattle.transport_core.specs.declared.certificate.CutKind.TheVariants.{Over, Under}
 use Rattle.plan_text.specs.Answer.{Answer, emit, none_exists, IsOrdered, FitsFile}
-use Rattle.plan_text.specs.PlanFile.{max_plan, items_by, alpha_written, beta_written, entry_written, planned_written, alpha_in, beta_in, cost_in, rule_in, names_in, planned_of, if_plan, if_tree, answer_of}
-use Rattle.plan_text.specs.declared.fault.PlanFileFault.{PlanFileFault}
+use Rattle.plan_text.specs.PlanFile.{max_plan, items_by, alpha_written, beta_written, entry_written, planned_written, alpha_in, beta_in, cost_in, rule_in, planned_of, if_plan, if_tree, answer_of}
 use Rattle.plan_text.proofs.Orders.{rises-sorted, canonical_rule-same, weights_small}
 use Rattle.plan_text.proofs.RowsAgain.{alpha_again, beta_again, entries_again, names_again, rows_levels}
 

@@ -1,5 +1,5 @@
 -- What is read of a tree of whole numbers has whole numbers.
-use Rattle.std.proofs.Common.{◌≡◌, ℕ, ℤ, pos, negsuc, ◌<◌, ◌≤◌, ◌^◌, List, [], ◌∷◌, Bool, true, false, ◌&&◌, cond, codes, ltb, Option, Some, None, option_map, option_and_then, IfOk, Result, Ok, Err, refl, ap, ◌∙◌, subst, arith}
+use Rattle.std.proofs.Common.{◌≡◌, ℕ, ℤ, pos, negsuc, ◌≤◌, ◌^◌, List, ◌∷◌, Bool, true, false, cond, codes, ltb, Option, Some, None, option_map, option_and_then, IfOk, Result, Ok, Err, refl, subst, arith}
 use Rattle.std.specs.Cmp.Lexicographic.{slice_cmp}
 use Rattle.std.specs.Map.{keys_of}
 use Rattle.std.specs.Ordering.{nat_cmp}
@@ -10,14 +10,13 @@ use Rattle.flag_text.specs.Outcome.{GivesUnless}
 use Rattle.flag_text.proofs.Bools.{both, left, right, Holds, Holds-map, Holds-and_then}
 use Rattle.flag_text.specs.Readers.{as_whole, as_text, as_list, find_member, member_of}
 use Rattle.flag_text.specs.Shape.{Shape, null, boolean, whole, other, text, list, object, Items, no_items, item, Members, no_members, member, is_in_range, comes_first, is_whole, items_are_whole, members_are_whole}
-use Rattle.bucket_core.specs.Reading.{rule_of_entries}
 use Rattle.bucket_core.specs.Rule.{Entries, total_weight}
 use Rattle.bucket_core.specs.declared.fault.RuleFault.TheVariants.{NoWeight, TooHeavy}
 use Rattle.price_core.specs.Request.{number_below}
 use Rattle.transport_core.specs.Groups.{GroupKey, group_cmp}
 use Rattle.transport_core.specs.declared.certificate.CutKind.{CutKind}
 use Rattle.transport_core.specs.declared.certificate.CutKind.TheVariants.{Over, Under}
-use Rattle.plan_text.specs.Answer.{Answer, emit, none_exists, planned_view}
+use Rattle.plan_text.specs.Answer.{Answer, none_exists, planned_view}
 use Rattle.plan_text.specs.declared.fault.PlanFileFault.{PlanFileFault}
 use Rattle.plan_text.specs.declared.fault.PlanFileFault.TheVariants.{WantOfMemory}
 use Rattle.plan_text.specs.declared.planned.Planned.{Planned}

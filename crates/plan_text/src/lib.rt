@@ -18,7 +18,6 @@
 
 mod fault;
 mod form;
-mod numbers;
 mod order;
 mod planned;
 mod print;
@@ -26,8 +25,6 @@ mod read;
 mod rows;
 
 pub use fault::PlanFileFault;
-pub use numbers::has_whole_numbers;
-pub use order::names_rise;
 pub use planned::Planned;
 pub use print::print_planned;
 pub use read::read_planned;

@@ -55,7 +55,7 @@ fn row_comes_before(name: &str, others: &[(String, i64)]) -> bool
 }
 
 /// Whether the names rise strictly, as those of a set do.
-pub fn names_rise(names: &[String]) -> bool
+pub(crate) fn names_rise(names: &[String]) -> bool
     ensures { result ≡ rises (slice_cmp nat_cmp) (names_view names.now) }
 {
     let mut rest = names;

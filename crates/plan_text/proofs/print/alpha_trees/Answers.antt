@@ -1,4 +1,4 @@
-use Rattle.std.proofs.Common.{rules, ℕ, ℤ, ◌<◌, ◌^◌, String, Global, get_or, ap, ◌∙◌, map, subst, arith}
+use Rattle.std.proofs.Common.{ℕ, ℤ, ◌<◌, ◌^◌, String, Global, get_or, ap, ◌∙◌, map, subst, arith}
 use Rattle.std.specs.List.{All}
 use Rattle.std.proofs.lemmas.Grind.{common_steps}
 use Rattle.std.proofs.lemmas.List.{take_all}
