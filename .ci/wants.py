@@ -21,6 +21,7 @@ TAKEN = {
     ("crates/sync_server/src/follow.rt", "return Some(ReadEnd::WantOfMemory);"): "`vec!` answers no vector only where memory ran out",
     ("crates/sync_server/src/read.rt", "None => (collected.snapshots, ReadEnd::WantOfMemory),"): "the sink there is a list, which takes a snapshot unless memory ran out",
     ("crates/sync_server/src/serve.rt", "return Err(StreamEnd::WantOfMemory);"): "`write_frame` fails only where memory runs out",
+    ("crates/flagops_streams/src/follow.rt", "None if wants => finish(out, ReadEnd::WantOfMemory),"): "the printer sets `wants` only where there was no memory for a line",
     ("crates/flagops_commands/src/program.rt", "Err(call) => want(out, err, call),"): "`answer` gives a call there only where that call ran out of memory",
     ("crates/snap_core/src/names.rt", "Err(_) => return Err(WorldFault::WantOfMemory),"): "of the faults of `add`, whose clause `exact` has Known and TooMany alone, only want of memory is left there",
 }
