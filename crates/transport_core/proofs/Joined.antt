@@ -75,11 +75,11 @@ all_above : {K : Type 0} (R : K → K → Ordering) (order : IsTotalOrder R) (lo
 all_above R order low high [] less above = tt
 all_above R order low high (k ∷ ks) less above = (order.trans low high k less above.0, all_above R order low high ks less above.1)
 
-rise-cons : {K : Type 0} (R : K → K → Ordering) (k : K) (ks : List K) → AllByRecursion (λ y. R k y ≡ Less) ks → IsStrictlySortedBy R ks → IsStrictlySortedBy R (k ∷ ks)
+pub rise-cons : {K : Type 0} (R : K → K → Ordering) (k : K) (ks : List K) → AllByRecursion (λ y. R k y ≡ Less) ks → IsStrictlySortedBy R ks → IsStrictlySortedBy R (k ∷ ks)
 unfolding IsStrictlySortedBy
 rise-cons R k ks above rise = (above, rise)
 
-rise-nil : {K : Type 0} (R : K → K → Ordering) → IsStrictlySortedBy R []
+pub rise-nil : {K : Type 0} (R : K → K → Ordering) → IsStrictlySortedBy R []
 unfolding IsStrictlySortedBy
 rise-nil R = tt
 

@@ -9,6 +9,7 @@ pub mod Grouped
 pub mod Inputs
 pub mod Joined
 pub mod Keys
+mod Laden
 pub mod Members
 pub mod NameTotals
 pub mod Pairs

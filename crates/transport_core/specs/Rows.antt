@@ -33,6 +33,11 @@ pub record IsLoads (total : ℕ) (inputs : List (List ℕ)) (loads : List (ℕ �
   pub within : All (λ load. load.0 < total) loads
   pub counts : (p : ℕ) → unwrap_or (lookup (λ q. p == q) loads) 0 ≡ inputs_at total inputs p
 
+-- the places from `place` on whose count is not 0, each with its count
+abbrev pub laden_from : ℕ → List ℕ → List (ℕ × ℕ)
+laden_from place [] = []
+laden_from place (count ∷ counts) = if count == 0 then laden_from (place + 1) counts else (place, count) ∷ laden_from (place + 1) counts
+
 -- how many points from `from` on and below `to` are of the group, if each has this number of inputs
 abbrev pub points_between : Entries → ℕ → ℕ → ℕ → GroupKey → ℕ
 points_between rule count from to g = count_by (λ p. is_same_group g (unwrap_or (at rule p) [], count)) (range_with_len from (to - from))

@@ -1,8 +1,9 @@
 ghost use Rattle.std.specs.Prelude.{◌≡◌, ◌<◌, ◌^◌, IfOk, length, map, string_bytes};
+ghost use Rattle.book_core.specs.Counts.{counts_of};
 ghost use Rattle.bucket_core.specs.Point.{point_of};
 ghost use Rattle.bucket_core.specs.Rule.{IsRuleTotal};
 ghost use Rattle.transport_core.specs.Groups.{AreSizes, rows_view};
-ghost use Rattle.transport_core.specs.Rows.{IsLoads, whole_amount};
+ghost use Rattle.transport_core.specs.Rows.{IsLoads, laden_from, whole_amount};
 
 use crate::rows::{Row, joined, runs};
 use bucket_core::{Rule, point};
@@ -25,8 +26,41 @@ pub(crate) fn groups<'a>(
     joined(alloc, rows.as_slice())
 }
 
-/// The points on which inputs fall, each with their number, in order.
+/// Up to this many points each has a count of its own.
+const MOST_COUNTED: u32 = 1_000_000;
+
+/// The points on which inputs fall, each with their number, in order. Up to a million points are counted, which takes
+/// `O(points + inputs)` steps; of more points those that have an input are sorted.
 fn loads(alloc: Global, total: u32, inputs: &[String]) -> Result<Vec<(u32, u32)>, AllocError>
+    requires total { IsRuleTotal total }
+    requires few { length inputs.now < 2 ^ 32 }
+    ensures { IfOk result (λ v. IsLoads total (map string_bytes inputs.now) v.items) }
+{
+    if total > MOST_COUNTED {
+        return sorted_loads(alloc, total, inputs);
+    }
+    let counts = count_points(alloc, inputs, total)?;
+    laden(alloc, counts.as_slice())
+}
+
+/// The places of these counts that are not 0, each with its count.
+fn laden(alloc: Global, counts: &[u32]) -> Result<Vec<(u32, u32)>, AllocError>
+    requires { length counts.now < 2 ^ 32 }
+    ensures { IfOk result (λ v. v.items ≡ laden_from 0 counts.now) }
+{
+    let mut loads = Vec::new(alloc);
+    let mut point = 0;
+    for count in counts {
+        if *count != 0 {
+            loads.push((point, *count))?;
+        }
+        point += 1;
+    }
+    Ok(loads)
+}
+
+/// The same as [`loads`], by sorting the points.
+fn sorted_loads(alloc: Global, total: u32, inputs: &[String]) -> Result<Vec<(u32, u32)>, AllocError>
     requires total { IsRuleTotal total }
     requires few { length inputs.now < 2 ^ 32 }
     ensures { IfOk result (λ v. IsLoads total (map string_bytes inputs.now) v.items) }
@@ -45,4 +79,16 @@ fn placed(alloc: Global, total: u32, inputs: &[String]) -> Result<Vec<(u32, u32)
         .iter()
         .map(|input| (point(total, input.as_str()), 1))
         .collect(alloc)
+}
+
+fn count_points(alloc: Global, inputs: &[String], total: u32) -> Result<Vec<u32>, AllocError>
+    requires total { IsRuleTotal total }
+    requires few { length inputs.now < 2 ^ 32 }
+    ensures { IfOk result (λ counts. counts.items ≡ counts_of (map string_bytes inputs.now) total) }
+{
+    let mut counts = vec![in alloc; 0u32; total as usize]?;
+    for input in inputs {
+        counts[point(total, input.as_str()) as usize] += 1;
+    }
+    Ok(counts)
 }
