@@ -1,3 +1,4 @@
+pub mod Ends
 pub mod Notes
 pub mod Seats
 pub mod Steps

@@ -1,16 +1,20 @@
 //! The lock of a shared book: one word beside one slot, by a rule of its own.
 #![tactic(auto)]
 
+mod blanks;
 mod call;
 mod lock;
 mod name;
 mod rule;
+mod sealing;
 mod seat;
 mod shared;
 
+pub use blanks::Blanks;
 pub use call::{Call, Sight, View};
 pub use lock::{Board, BookLock, Place};
 pub use name::BookName;
 pub use rule::{Accepted, Orders};
+pub use sealing::{SeatMissing, seal};
 pub use seat::Seat;
 pub use shared::SharedBook;

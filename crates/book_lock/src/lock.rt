@@ -1,13 +1,14 @@
 //! The word and the slot, and the steps of one seat on them.
-ghost use Rattle.std.specs.Prelude.{◌≡◌, ◌<◌, ◌+◌, ◌^◌, [], ◌∷◌, ◌++◌, None, IfSome, IfNone, IfOk, OnErr, false};
+ghost use Rattle.std.specs.Prelude.{◌≡◌, ◌<◌, ◌+◌, ◌^◌, [], ◌∷◌, ◌++◌, None, IfSome, IfNone, IfOk, OnErr, length, false};
 ghost use Rattle.book_core.specs.Book.{inputs_on};
 ghost use Rattle.book_lock.specs.Notes.{Answers, Looks, accepted};
 ghost use Rattle.book_core.specs.Calls.{book_of_calls};
 ghost use Rattle.book_lock.specs.Rule.{holding, idle};
-ghost use Rattle.book_lock.specs.Seen.{IsLegal, Knows, seen_in, sight};
+ghost use Rattle.book_lock.specs.Sealed.{IsSealed};
+ghost use Rattle.book_lock.specs.Seen.{IsLegal, Knows, first_of, rest_of, seen_in, sight, view_of};
 
 use crate::call::View;
-use crate::rule::{Accepted, Give, Orders, Record, Take};
+use crate::rule::{Accepted, Cut, Give, Orders, Record, Take};
 use atomic_table::{Seat as Token, Table};
 use book_core::{Book, BookFault, Exposure, Noted, Page};
 use std::alloc::{AllocError, Global};
@@ -204,5 +205,41 @@ impl BookLock {
             thread::yield_now();
         }
         unreachable!()
+    }
+
+    /// The first seat of a place, split off.
+    pub(crate) fn split(&self, place: &mut Place) -> Place
+        requires table { place.old.table_id ≡ self.now.table.shared.table_id }
+        requires idle { place.old.me ≡ (view_of false place.old.me.0.seats, []) }
+        ensures kept { (place.new.table_id ≡ place.old.table_id) × (result.table_id ≡ place.old.table_id) }
+        ensures first { result.me ≡ (view_of false (first_of place.old.me.0.seats), []) }
+        ensures rest { place.new.me ≡ (view_of false (rest_of place.old.me.0.seats), []) }
+    {
+        self.table.shared.split_seat::<Cut>(place)
+    }
+
+    /// A place takes over the seats of another.
+    pub(crate) fn join(&self, place: &mut Place, other: Place)
+        requires table { (place.old.table_id ≡ self.now.table.shared.table_id) × (other.table_id ≡ self.now.table.shared.table_id) }
+        requires idle { place.old.me ≡ (view_of false place.old.me.0.seats, []) }
+        requires other { other.me ≡ (view_of false other.me.0.seats, []) }
+        ensures kept { place.new.table_id ≡ place.old.table_id }
+        ensures both { place.new.me ≡ (view_of false (other.me.0.seats ++ place.old.me.0.seats), []) }
+    {
+        self.table.shared.join_seat::<Cut>(place, other)
+    }
+
+    /// The book, once one place has all seats.
+    pub(crate) fn close(self, place: Place) -> Book
+        requires table { place.table_id ≡ self.table.shared.table_id }
+        requires idle { place.me ≡ (view_of false place.me.0.seats, []) }
+        requires all { length place.me.0.seats ≡ self.table.shared.key }
+        ensures { IsSealed self.table.shared.key place.me.0.seats result }
+    {
+        let BookLock { table } = self;
+        let mut closed = table.close_with(place);
+        let slot = closed.take(0);
+        closed.free();
+        slot.unwrap()
     }
 }

@@ -1,7 +1,7 @@
 //! A thread's pass to a shared book.
-ghost use Rattle.std.specs.Prelude.{◌≡◌, ◌≤◌, length, Ok};
+ghost use Rattle.std.specs.Prelude.{◌≡◌, ◌≤◌, [], ◌∷◌, length, false, Ok};
 ghost use Rattle.book_core.specs.Calls.{is_new};
-ghost use Rattle.book_lock.specs.Seen.{one_if};
+ghost use Rattle.book_lock.specs.Seen.{one_if, view_of};
 ghost use Rattle.book_lock.specs.Counts.{news_of, own};
 
 use crate::lock::Place;
@@ -47,6 +47,23 @@ impl<L: BookName> Seat<L> {
         ensures { result ≡ news_of (own self.now) }
     {
         self.news
+    }
+}
+
+impl<L: BookName> Seat<L> {
+    /// What the seat steps with.
+    pub(crate) fn into_place(self) -> Place
+        ensures table { result.table_id ≡ L.table }
+        ensures one { result.me ≡ (view_of false (self ∷ []), []) }
+    {
+        let Seat {
+            number: _,
+            calls: _,
+            news: _,
+            place,
+            of: _,
+        } = self;
+        place
     }
 }
 

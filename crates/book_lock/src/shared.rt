@@ -23,7 +23,7 @@ pub struct SharedBook<L: BookName> {
     pub(crate) seats: usize,
     pub(crate) of: PhantomData<L>,
     pub(crate) ghost named: { lock.table.shared.table_id ≡ L.table },
-    pub(crate) ghost counted: { (lock.table.shared.key ≡ L.seats) × (seats ≡ L.seats) },
+    pub(crate) ghost counted: { (lock.table.shared.key ≡ L.seats) × (seats ≡ L.seats) × (0 < seats) },
 }
 
 impl<L: BookName> SharedBook<L> {

@@ -1,0 +1,55 @@
+//! The end of a shared book.
+ghost use Rattle.std.specs.Prelude.{◌≡◌, ◌≢◌, ◌++◌, [], false, vec_len, IfOk, IfErr, MatchResult};
+ghost use Rattle.book_lock.specs.Sealed.{IsSealed};
+ghost use Rattle.book_lock.specs.Seen.{view_of};
+
+use crate::lock::{BookLock, Place};
+use crate::name::BookName;
+use crate::seat::Seat;
+use crate::shared::SharedBook;
+use book_core::Book;
+
+/// A seat of the book was not handed back. The book and the seats are as they were.
+#[derive(Drop)]
+pub struct SeatMissing<L: BookName> {
+    pub book: SharedBook<L>,
+    pub seats: Vec<Seat<L>>,
+}
+
+/// Ends a shared book, with all its seats. There is one legal list of accepted calls, which begins with what each seat has
+/// seen, and whose calls of a seat's number are those that the seat made; the book is what these calls leave. It is
+/// refused where not all seats are handed back. It takes no memory, and compares nothing.
+pub fn seal<L: BookName>(
+    book: SharedBook<L>,
+    seats: Vec<Seat<L>>,
+) -> Result<Book, SeatMissing<L>>
+    ensures sealed { IfOk result (λ told. IsSealed L.seats seats.items told) }
+    ensures missing { MatchResult result (λ _. vec_len seats ≡ L.seats) (λ r. vec_len seats ≢ L.seats) }
+    ensures back { IfErr result (λ r. r.seats ≡ seats) }
+{
+    if seats.len() != book.seats {
+        return Err(SeatMissing { book, seats });
+    }
+    let SharedBook {
+        lock,
+        seats: _count,
+        of: _,
+    } = book;
+    let place = joined(&lock, seats);
+    Ok(lock.close(place))
+}
+
+/// One place that stands for all seats.
+fn joined<L: BookName>(lock: &BookLock, seats: Vec<Seat<L>>) -> Place
+    requires some { vec_len seats ≢ 0 }
+    requires table { lock.now.table.shared.table_id ≡ L.table }
+    ensures table { result.table_id ≡ L.table }
+    ensures all { result.me ≡ (view_of false seats.items, []) }
+{
+    let mut seats = seats;
+    let mut all = seats.pop().unwrap().into_place();
+    while let Some(seat) = seats.pop() {
+        lock.join(&mut all, seat.into_place());
+    }
+    all
+}
