@@ -28,4 +28,4 @@ mod rollouts;
 mod rules;
 
 pub use laws::printed_plans_are_valid;
-pub use program::{complain, run};
+pub use program::{complain, explain, run};

@@ -90,8 +90,14 @@ fn refused(alloc: Global, refused: Refused) -> Result<Outcome, Call>
     }
 }
 
-/// Writes the text of `clap` where it belongs.
-fn explain<O: Outlet, E: Outlet>(alloc: Global, error: &clap::Error, out: &mut O, err: &mut E) -> u8
+/// Writes the text of `clap` where it belongs: help and the version to the output with status 0, a mistake beside it with
+/// status 2.
+pub fn explain<O: Outlet, E: Outlet>(
+    alloc: Global,
+    error: &clap::Error,
+    out: &mut O,
+    err: &mut E,
+) -> u8
     requires out_whole { O.is_broken out.old ≡ false }
     requires err_whole { E.is_broken err.old ≡ false }
     ensures { Tells (O.bytes out.old) (O.bytes out.new) (O.is_broken out.new) (E.bytes err.old) (E.bytes err.new) (E.is_broken err.new) result (kind_of error.now) }
