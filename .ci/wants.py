@@ -17,6 +17,7 @@ import sys
 
 # The file, the line and the reason of each expression that is taken although none of the forms above fits.
 TAKEN = {
+    ("crates/book_lock/src/blanks.rt", "Err(Refused { slots: _ }) => Err(SeatsFault::WantOfMemory),"): "a table is refused only where there is no memory for its words or its slots",
     ("crates/snap_share/src/publisher.rt", "return Err(ShareFault::WantOfMemory);"): "`append` hands an operation back only where there is no memory",
     ("crates/sync_server/src/follow.rt", "return Some(ReadEnd::WantOfMemory);"): "`vec!` answers no vector only where memory ran out",
     ("crates/sync_server/src/read.rt", "None => (collected.snapshots, ReadEnd::WantOfMemory),"): "the sink there is a list, which takes a snapshot unless memory ran out",

@@ -1,4 +1,5 @@
 pub mod Counts
+pub mod Limits
 pub mod Notes
 pub mod Rule
 pub mod Sealed

@@ -1,9 +1,10 @@
 //! What a shared book is made of.
-ghost use Rattle.std.specs.Prelude.{◌≡◌, ◌<◌, ◌≤◌, [], IfOk};
-ghost use Rattle.book_lock.specs.Seen.{sight, unseen, view_of};
+ghost use Rattle.std.specs.Prelude.{◌≡◌, ◌≢◌, ◌↔◌, ◌<◌, ◌≤◌, [], false, None, Some, Err, IfOk, MatchResult};
+ghost use Rattle.book_lock.specs.Limits.{most_seats, seats_fault};
 ghost use Rattle.book_lock.specs.Rule.{idle};
-ghost use Rattle.std.specs.Prelude.{false};
+ghost use Rattle.book_lock.specs.Seen.{sight, unseen, view_of};
 
+use crate::fault::SeatsFault;
 use crate::lock::{BookLock, Place};
 use crate::name::BookName;
 use crate::seat::Seat;
@@ -12,6 +13,9 @@ use atomic_table::{Refused, Table};
 use book_core::Book;
 use std::alloc::{AllocError, Global};
 use std::marker::{Model, PhantomData};
+
+/// The most seats of a book.
+const MOST_SEATS: usize = 64;
 
 /// A book of so many seats, before its name is picked.
 #[derive(Drop)]
@@ -34,11 +38,19 @@ impl Model for Blanks {
 }
 
 impl Blanks {
-    /// Blanks for a book of so many seats, 1 to 64. It fails only where memory runs out.
-    pub fn new(alloc: Global, seats: usize) -> Result<Blanks, AllocError>
-        requires { (0 < seats) × (seats ≤ 64) }
-        ensures { IfOk result (λ blanks. blanks.seats ≡ seats) }
+    /// Blanks for a book of so many seats. Without seats it is refused with NoSeats, with more than 64 with
+    /// TooManySeats, before it takes memory.
+    pub fn new(alloc: Global, seats: usize) -> Result<Blanks, SeatsFault>
+        ensures made { MatchResult result (λ b. (seats_fault seats ≡ None) × (b.seats ≡ seats)) (λ e. e ≢ SeatsFault.WantOfMemory → seats_fault seats ≡ Some e) }
+        ensures none { (result ≡ Err SeatsFault.NoSeats) ↔ (seats ≡ 0) }
+        ensures many { (result ≡ Err SeatsFault.TooManySeats) ↔ (most_seats < seats) }
     {
+        if seats == 0 {
+            return Err(SeatsFault::NoSeats);
+        }
+        if seats > MOST_SEATS {
+            return Err(SeatsFault::TooManySeats);
+        }
         let mut slots = Vec::with_capacity(alloc, 1)?;
         slots.push_reserved(Some(Book::new(alloc)));
         match Table::new(alloc, &[0], slots, &(seats as u64)) {
@@ -47,7 +59,7 @@ impl Blanks {
                 root,
                 seats,
             }),
-            Err(Refused { slots: _ }) => Err(AllocError),
+            Err(Refused { slots: _ }) => Err(SeatsFault::WantOfMemory),
         }
     }
 }

@@ -3,6 +3,7 @@
 
 mod blanks;
 mod call;
+mod fault;
 mod lock;
 mod name;
 mod rule;
@@ -12,6 +13,7 @@ mod shared;
 
 pub use blanks::Blanks;
 pub use call::{Call, Sight, View};
+pub use fault::SeatsFault;
 pub use lock::{Board, BookLock, Place};
 pub use name::BookName;
 pub use rule::{Accepted, Orders};

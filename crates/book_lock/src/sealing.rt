@@ -25,7 +25,7 @@ pub fn seal<L: BookName>(
 ) -> Result<Book, SeatMissing<L>>
     ensures sealed { IfOk result (λ told. IsSealed L.seats seats.items told) }
     ensures missing { MatchResult result (λ _. vec_len seats ≡ L.seats) (λ r. vec_len seats ≢ L.seats) }
-    ensures back { IfErr result (λ r. r.seats ≡ seats) }
+    ensures back { IfErr result (λ r. (r.book ≡ book) × (r.seats ≡ seats)) }
 {
     if seats.len() != book.seats {
         return Err(SeatMissing { book, seats });

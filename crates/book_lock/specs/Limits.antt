@@ -1,0 +1,24 @@
+-- How many seats a book may have, and how a refusal of their number is printed.
+use Rattle.std.specs.Prelude.{ℕ, List, codes, Option, Some, None, ◌==◌, nat_lt, if◌then◌else◌}
+use Rattle.book_lock.specs.declared.fault.SeatsFault.{SeatsFault}
+use Rattle.book_lock.specs.declared.fault.SeatsFault.TheVariants.{WantOfMemory, NoSeats, TooManySeats}
+
+-- the most seats of a book
+abbrev pub most_seats : ℕ
+most_seats = 64
+
+-- why there are no blanks for so many seats
+abbrev pub seats_fault : ℕ → Option SeatsFault
+seats_fault n = if n == 0 then Some NoSeats else (if nat_lt most_seats n then Some TooManySeats else None)
+
+-- the number of a refusal
+abbrev pub number_of : SeatsFault → ℕ
+number_of WantOfMemory = 0
+number_of NoSeats = 1
+number_of TooManySeats = 2
+
+-- its name
+abbrev pub name_of : SeatsFault → List ℕ
+name_of WantOfMemory = codes "WantOfMemory"
+name_of NoSeats = codes "NoSeats"
+name_of TooManySeats = codes "TooManySeats"

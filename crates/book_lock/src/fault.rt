@@ -1,0 +1,60 @@
+ghost use Rattle.std.specs.Prelude.{◌≡◌};
+ghost use Rattle.book_lock.specs.declared.fault.SeatsFault.TheVariants.{WantOfMemory};
+ghost use Rattle.book_lock.specs.Limits.{name_of, number_of};
+
+use std::alloc::{AllocError, AllocFailed};
+use thiserror::Error;
+
+/// Why there are no blanks for so many seats.
+#[derive(Clone, Copy, Debug, PartialEq, Eq, Error)]
+pub enum SeatsFault {
+    /// Memory was wanted and refused; it has no place in an order of refusals.
+    #[error("out of memory")]
+    WantOfMemory,
+    /// A book has a seat at least.
+    #[error("a book has a seat at least")]
+    NoSeats,
+    /// A book has at most 64 seats.
+    #[error("a book has at most 64 seats")]
+    TooManySeats,
+}
+
+impl SeatsFault {
+    /// The number that a refusal is printed with, from 0 for want of memory.
+    pub fn number(&self) -> u32
+        ensures { result ≡ number_of self.now }
+    {
+        match self {
+            SeatsFault::WantOfMemory => 0,
+            SeatsFault::NoSeats => 1,
+            SeatsFault::TooManySeats => 2,
+        }
+    }
+
+    /// The name that a refusal is printed with: the variant's.
+    pub fn name(&self) -> &'static str
+        ensures { result.now ≡ name_of self.now }
+    {
+        match self {
+            SeatsFault::WantOfMemory => "WantOfMemory",
+            SeatsFault::NoSeats => "NoSeats",
+            SeatsFault::TooManySeats => "TooManySeats",
+        }
+    }
+}
+
+impl From<AllocError> for SeatsFault {
+    ghost from_gives = { λ _ e. e ≡ WantOfMemory };
+
+    fn from(_e: AllocError) -> SeatsFault {
+        SeatsFault::WantOfMemory
+    }
+}
+
+impl<T: Drop> From<AllocFailed<T>> for SeatsFault {
+    ghost from_gives = { λ _ e. e ≡ WantOfMemory };
+
+    fn from(_e: AllocFailed<T>) -> SeatsFault {
+        SeatsFault::WantOfMemory
+    }
+}
