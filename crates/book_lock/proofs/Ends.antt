@@ -1,16 +1,15 @@
 -- How the table begins, and what is known once one place has all seats.
-use Rattle.std.proofs.Common.{◌==◌, ◌≡◌, ◌≢◌, ℕ, zero, suc, ◌+◌, ◌-◌, append_assoc, ◌<◌, ◌≤◌, List, [], ◌∷◌, ◌++◌, Option, Some, None, Bool, true, false, true≢false, length, nat_lt, unwrap_or, get_or, refl, sym, ap, ◌∙◌, subst, arith, eq-eqb}
+use Rattle.std.proofs.Common.{◌==◌, ◌≡◌, ◌≢◌, ℕ, zero, suc, ◌+◌, ◌-◌, append_assoc, ◌<◌, ◌≤◌, List, [], ◌∷◌, ◌++◌, Option, Some, Bool, true, false, true≢false, length, nat_lt, get_or, refl, sym, ap, ◌∙◌, subst, arith, eq-eqb}
 use Rattle.std.proofs.lemmas.Bool.Decides.{nat_tests}
 use mathlib.Core.Option.{some, some-injective, some-ne-none}
 use mathlib.Core.Logic.{dite}
 use native.Mathlib.Decide.{ℕ_discrete}
 use lib.ListN.{get_elem?}
-use Rattle.atomic_table.specs.Table.{State, opening, Final, Seen}
+use Rattle.atomic_table.specs.Table.{opening, Final, Seen}
 use Rattle.book_core.specs.Book.{Contents}
-use Rattle.book_core.specs.Calls.{Call, book_of_calls}
 use Rattle.book_lock.specs.declared.call.Sight.{Sight}
 use Rattle.book_lock.specs.declared.call.View.{View}
-use Rattle.book_lock.specs.Seen.{AllKnow, one_if, once_below, sight, rest_of, times, total, unseen, view_of}
+use Rattle.book_lock.specs.Seen.{AllKnow, one_if, once_below, sight, rest_of, times, unseen, view_of}
 use Rattle.book_lock.specs.Rule.{St, Sat, Orderly, holding}
 use Rattle.book_lock.specs.Sealed.{IsSealed}
 use Rattle.book_lock.proofs.Seats.{starts_self, total_one, total_two, once_few}
@@ -145,16 +144,22 @@ closes n id v ws xs seats final is len o here =
   where
     s : St
     s = final.0
+
     ord : Orderly n s
     ord = final.1.0
+
     mine : View
     mine = view_of false seats
+
     at : get_elem? s.views id ≡ some mine
     at = final.1.1 ∙ ap some is
+
     all : (k : ℕ) → times k seats ≡ once_below k n
     all = each_once n seats (λ k. (let one = total_one (λ u. times k u.seats) s.views id mine at in let sum = ord.numbers k in omega (arith, one, sum))) len
+
     apart : (j : ℕ) (u : View) → get_elem? s.views j ≡ some u → u.holds ≡ true → id ≢ j
     apart j u there aye e = off u.holds (ap (λ (y : View). y.holds) (sym (some-injective mine u (sym at ∙ ap (get_elem? s.views) e ∙ there)))) aye
+
     held : get_or s.words 0 0 ≢ 0 → get_or s.words 0 0 ≡ 0
     held ne =
         let t = ord.named ne in
@@ -166,6 +171,7 @@ closes n id v ws xs seats final is len o here =
         let sum = ord.numbers k in
         let each = all k in
         absurd (omega (arith, one, own, two, sum, each))
+
     word : get_or s.words 0 0 ≡ 0
     word = dite (ℕ_discrete (get_or s.words 0 0) 0) (λ e. e) held
 

@@ -4,7 +4,7 @@ use Rattle.std.specs.Prelude.{IfOk, OnOk, OnErr}
 use Rattle.flag_text.specs.Outcome.{GivesUnless}
 use Rattle.book_core.specs.Page.{PageName}
 use Rattle.book_core.specs.Book.{Contents, reply_to, with_input}
-use Rattle.book_core.specs.Calls.{Call, AreCallsAfter, AreCalls, reply_after, book_after, book_of_calls}
+use Rattle.book_core.specs.Calls.{Call, AreCallsAfter, reply_after, book_after, book_of_calls}
 use Rattle.book_core.specs.declared.noted.Noted.{Noted}
 use Rattle.book_core.proofs.Answered.{notes_one_call, shows_its_calls}
 use Rattle.book_core.specs.declared.fault.BookFault.{BookFault}

@@ -8,7 +8,6 @@ use Rattle.atomic_table.specs.Table.{Act, keeps, takes, gives, Valid, carried_af
 use Rattle.atomic_table.proofs.Lists.{at_set, at_snoc, set_here, set_again, set_else, at_longer, exchanged}
 use Rattle.book_core.specs.Book.{Contents}
 use Rattle.book_core.specs.Calls.{Call, book_of_calls}
-use Rattle.book_lock.specs.declared.call.Sight.{Sight}
 use Rattle.book_lock.specs.declared.call.View.{View}
 use Rattle.book_lock.specs.Seen.{StartsWith, calls_by, IsLegal, AllKnow, sight, view_of, times, first_of, rest_of, seen_in}
 use Rattle.book_lock.specs.Rule.{St, Sat, holding, idle, spent, Orderly, Takes, Gives, Records}
@@ -16,10 +15,6 @@ use Rattle.book_lock.proofs.Seats.{starts_self, other_call, know_more, know_appe
 
 off : {X : Type 0} (b : Bool) → b ≡ false → b ≡ true → X
 off b nay aye = absurd (true≢false (sym aye ∙ nay))
-
-number_in : List Sight → ℕ
-number_in [] = 0
-number_in (x ∷ xs) = x.number
 
 -- one holds, the other does not
 apart : (views : List View) (i j : ℕ) (v w : View) → get_elem? views i ≡ some v → get_elem? views j ≡ some w → v.holds ≡ false → w.holds ≡ true → j ≢ i

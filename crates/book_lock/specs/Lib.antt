@@ -4,3 +4,4 @@ pub mod Notes
 pub mod Rule
 pub mod Sealed
 pub mod Seen
+pub mod Told

@@ -4,6 +4,7 @@
 mod blanks;
 mod call;
 mod fault;
+mod laws;
 mod lock;
 mod name;
 mod rule;
@@ -14,6 +15,7 @@ mod shared;
 pub use blanks::Blanks;
 pub use call::{Call, Sight, View};
 pub use fault::SeatsFault;
+pub use laws::a_legal_list_has_first_sightings;
 pub use lock::{Board, BookLock, Place};
 pub use name::BookName;
 pub use rule::{Accepted, Orders};

@@ -2,6 +2,7 @@
 ghost use Rattle.std.specs.Prelude.{◌≡◌, ◌≢◌, ◌++◌, [], false, vec_len, IfOk, IfErr, MatchResult};
 ghost use Rattle.book_lock.specs.Sealed.{IsSealed};
 ghost use Rattle.book_lock.specs.Seen.{view_of};
+ghost use Rattle.book_lock.specs.Told.{IsTold};
 
 use crate::lock::{BookLock, Place};
 use crate::name::BookName;
@@ -17,13 +18,12 @@ pub struct SeatMissing<L: BookName> {
 }
 
 /// Ends a shared book, with all its seats. There is one legal list of accepted calls, which begins with what each seat has
-/// seen, and whose calls of a seat's number are those that the seat made; the book is what these calls leave. It is
-/// refused where not all seats are handed back. It takes no memory, and compares nothing.
-pub fn seal<L: BookName>(
-    book: SharedBook<L>,
-    seats: Vec<Seat<L>>,
-) -> Result<Book, SeatMissing<L>>
-    ensures sealed { IfOk result (λ told. IsSealed L.seats seats.items told) }
+/// seen, and whose calls of a seat's number are those that the seat made; the book is what these calls leave. So it holds
+/// just what the seats were told, each input was New to one seat, once, and there are as many as the seats' news add up
+/// to. It is refused where not all seats are handed back. It takes no memory, and compares nothing.
+pub fn seal<L: BookName>(book: SharedBook<L>, seats: Vec<Seat<L>>) -> Result<Book, SeatMissing<L>>
+    ensures sealed { IfOk result (λ book. IsSealed L.seats seats.items book) }
+    ensures told { IfOk result (λ book. IsTold seats.items book) }
     ensures missing { MatchResult result (λ _. vec_len seats ≡ L.seats) (λ r. vec_len seats ≢ L.seats) }
     ensures back { IfErr result (λ r. (r.book ≡ book) × (r.seats ≡ seats)) }
 {

@@ -1,4 +1,4 @@
-use Rattle.std.specs.Prelude.{◌≡◌, ◌++◌, [], false, length}
+use Rattle.std.specs.Prelude.{◌≡◌, ◌++◌, [], false}
 use Rattle.book_lock.specs.Seen.{view_of}
 use Rattle.book_lock.proofs.sealing.joined.Given as goal
 

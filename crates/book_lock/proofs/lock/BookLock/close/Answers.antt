@@ -1,4 +1,4 @@
-use Rattle.std.proofs.Common.{rules, Some, IsSome, [], unwrap_or, refl, ap, sym, subst, ◌∙◌}
+use Rattle.std.proofs.Common.{IsSome, [], unwrap_or, refl, ap, sym, subst, ◌∙◌}
 use Rattle.book_lock.specs.Rule.{Sat}
 use Rattle.book_lock.specs.Sealed.{IsSealed}
 use Rattle.book_lock.proofs.Ends.{closes}
