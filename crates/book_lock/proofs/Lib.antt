@@ -1,6 +1,7 @@
 pub mod Counted
 pub mod Dealt
 pub mod Ends
+pub mod Frozen
 pub mod Gained
 pub mod Notes
 pub mod Seats

@@ -1,10 +1,11 @@
 -- What the seats of a book were told, and the book that is just that.
-use Rattle.std.specs.Prelude.{◌≡◌, ◌≤◌, ℕ, ◌+◌, List, [], ◌∷◌, ◌++◌, Bool, ◌&&◌, length, sum_by}
+use Rattle.std.specs.Prelude.{◌≡◌, ◌≤◌, ℕ, ◌+◌, List, [], ◌∷◌, ◌++◌, Bool, true, false, ◌&&◌, length, sum_by, Err}
 use Rattle.std.specs.List.{AllByRecursion}
 use Rattle.std.specs.Str.{bytes_eq}
 use Rattle.book_core.specs.Page.{PageName, page_eq}
-use Rattle.book_core.specs.Book.{Contents, most_bytes, most_inputs, is_among, inputs_on, input_count}
-use Rattle.book_core.specs.Calls.{Call, is_new, news_on, stands}
+use Rattle.book_core.specs.Book.{Inputs, Contents, most_bytes, most_inputs, is_among, inputs_on, input_count}
+use Rattle.book_core.specs.Calls.{Call, is_new, news_on, reply_after, stands}
+use Rattle.book_core.specs.declared.fault.BookFault.TheVariants.{PageFull}
 use Rattle.book_lock.specs.Counts.{news_of, own}
 use Rattle.book_lock.specs.Seen.{IsLegal, one_if}
 use Rattle.book_lock.specs.declared.call.Sight.{Sight}
@@ -43,6 +44,15 @@ pub record HasFirstSightings (calls : List Call) : Type 0 where
   pub once : (page : PageName) (input : List ℕ) → times_new page input calls ≡ one_if (stands calls page input)
   pub few : (page : PageName) → length (news_on calls page) ≤ most_inputs
   pub short : AllByRecursion (λ (c : Call). length c.input ≤ most_bytes) calls
+
+-- each of these calls that was on this page has its input among these
+abbrev pub HoldsTold : PageName → Inputs → List Call → Type 0
+HoldsTold page inputs calls = AllByRecursion (λ (c : Call). page_eq page c.page ≡ true → is_among c.input inputs ≡ true) calls
+
+-- a page that refuses an input after a legal list has 1000000 New inputs, and not that one
+abbrev pub PageFullIsFull : Type 0
+PageFullIsFull =
+    (calls : List Call) (page : PageName) (input : List ℕ) → IsLegal calls → reply_after calls page input ≡ Err PageFull → (length (news_on calls page) ≡ most_inputs) × (stands calls page input ≡ false)
 
 -- the New calls of a legal list are first sightings
 abbrev pub LegalHasFirstSightings : Type 0

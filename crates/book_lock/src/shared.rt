@@ -4,6 +4,7 @@ ghost use Rattle.book_core.specs.Book.{most_bytes, inputs_on};
 ghost use Rattle.book_core.specs.Calls.{book_of_calls, reply_after};
 ghost use Rattle.book_lock.specs.Counts.{own};
 ghost use Rattle.book_lock.specs.Notes.{Adds, Answers, Looks, accepted};
+ghost use Rattle.book_lock.specs.Told.{HoldsTold};
 
 use crate::lock::BookLock;
 use crate::name::BookName;
@@ -82,7 +83,7 @@ impl<L: BookName> SharedBook<L> {
     }
 
     /// The inputs on a page, in strictly rising order of their bytes, after all calls that the seat has then seen; the
-    /// book goes on. It fails only where memory runs out.
+    /// book goes on. So each input that the seat was told of on the page is among them. It fails only where memory runs out.
     pub fn freeze<R: Wait>(
         &self,
         rt: &R,
@@ -92,6 +93,7 @@ impl<L: BookName> SharedBook<L> {
     ) -> Result<Exposure, AllocError>
         ensures looks { Looks seat.old seat.new }
         ensures inputs { IfOk result (λ inputs. inputs ≡ inputs_on (book_of_calls [] seat.new.seen) page.now) }
+        ensures holds { IfOk result (λ inputs. HoldsTold page.now inputs (own seat.new)) }
     {
         self.lock
             .exposure(rt, alloc, &mut seat.place, seat.number, page)
