@@ -5,6 +5,7 @@ use Rattle.book_core.specs.Calls.{Call, reply_after}
 use Rattle.book_core.specs.declared.fault.BookFault.{BookFault}
 use Rattle.book_core.specs.declared.fault.BookFault.TheVariants.{WantOfMemory}
 use Rattle.book_core.specs.declared.noted.Noted.{Noted}
+use Rattle.book_core.specs.declared.noted.Noted.TheVariants.{New}
 use Rattle.book_lock.specs.Counts.{own}
 use Rattle.book_lock.specs.Seen.{StartsWith, IsLegal}
 use Rattle.book_lock.specs.declared.call.Sight.{Sight}
@@ -27,8 +28,9 @@ pub record Adds (c : Call) (old new : Sight) : Type 0 where
   pub legal : IsLegal new.seen
   pub mine : own new ≡ own old ++ c ∷ []
 
--- The answer to an input on a page is the one that comes after all calls that the seat has then seen, but for want of memory; where it is
--- accepted, that call is the last which the seat has seen.
+-- The answer to an input on a page is the one that comes after all calls that the seat has then seen, but for want of memory, which comes
+-- in place of New alone; where it is accepted, that call is the last which the seat has seen.
 abbrev pub Answers : ℕ → PageName → List ℕ → Result Noted BookFault → Sight → Sight → Type 0
 Answers number page input (Ok noted) old new = Adds (accepted number page input noted) old new
-Answers number page input (Err e) old new = Looks old new × (e ≢ WantOfMemory → reply_after new.seen page input ≡ Err e)
+Answers number page input (Err e) old new =
+    Looks old new × (e ≢ WantOfMemory → reply_after new.seen page input ≡ Err e) × (e ≡ WantOfMemory → reply_after new.seen page input ≡ Ok New)

@@ -47,6 +47,7 @@ impl<L: BookName> SharedBook<L> {
         ensures added { IfOk result (λ noted. Adds (accepted seat.old.number page.now input.now noted) seat.old seat.new) }
         ensures refused { OnErr result ((seat.new.number ≡ seat.old.number) × (own seat.new ≡ own seat.old)) }
         ensures full { result ≡ Err BookFault.PageFull → Looks seat.old seat.new × (reply_after seat.new.seen page.now input.now ≡ Err BookFault.PageFull) }
+        ensures wanted { result ≡ Err BookFault.WantOfMemory → Looks seat.old seat.new × (reply_after seat.new.seen page.now input.now ≡ Ok Noted.New) }
     {
         if input.len() > MOST_BYTES {
             return Err(BookFault::InputTooLong);

@@ -9,4 +9,4 @@ settle-requires-clause-accepted c =
 pub returns-clause-answer : goal.returns-clause-answer
 returns-clause-answer c =
     let t = c.in_ok-book.ensures.some in
-    answers c.note-reply.result _ _ _ _ _ _ _ _ t.2 t.3 t.1 c.note-reply.ensures.exact c.settle.ensures.accepted c.note-reply.ensures.noted c.settle.ensures.refused
+    answers c.note-reply.result _ _ _ _ _ _ _ _ t.2 t.3 t.1 c.note-reply.ensures.exact c.note-reply.ensures.no_memory c.settle.ensures.accepted c.note-reply.ensures.noted c.settle.ensures.refused
