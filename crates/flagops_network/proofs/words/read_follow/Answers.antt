@@ -1,0 +1,22 @@
+use Rattle.std.proofs.Common.{rules, map, subst, sym}
+use Rattle.clap.specs.declared.error.kind.ErrorKind.{ErrorKind}
+use Rattle.flagops_network.specs.Words.{IsToldBy, follow_by, follow_faults, follow_app, following_in}
+use Rattle.flagops_network.proofs.Matched.{asked_of, missed_in, told_of, follow_plain, follow_free}
+use Rattle.flagops_network.proofs.words.read_follow.Goals as goal
+
+pub returns-in_err-matches-clause-err : goal.returns-in_err-matches-clause-err
+unfolding follow_by follow_faults
+returns-in_err-matches-clause-err g c =
+    let told = told_of follow_app follow_plain follow_free following_in (map g.S.AsStr.text c.args.words.now) _ c.in_ok-follow.ensures _ c.in_err-matches.ensures.kinds in search rules
+
+pub returns-in-Some-clause-ok : goal.returns-in-Some-clause-ok
+unfolding follow_by follow_faults
+returns-in-Some-clause-ok g c =
+    asked_of follow_app follow_plain follow_free following_in (map g.S.AsStr.text c.args.words.now) _ c.in_ok-follow.ensures c.in_ok-matches.matches c.in_ok-matches.ensures.kinds c.in_ok-matches.ensures.matches _ (sym c.in-Some.ensures)
+
+pub returns-clause-err : goal.returns-clause-err
+unfolding follow_by follow_faults
+returns-clause-err g c =
+    let words = map g.S.AsStr.text c.args.words.now in
+    let told = missed_in follow_app follow_plain follow_free following_in words _ c.in_ok-follow.ensures c.in_ok-matches.matches c.in_ok-matches.ensures.kinds c.in_ok-matches.ensures.matches (sym c.in-None.ensures) in
+    subst (λ (k : ErrorKind). IsToldBy (follow_faults words) (follow_by words) k) (sym c.in_ok-missing_value-in-None.ensures) told

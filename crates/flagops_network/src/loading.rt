@@ -1,0 +1,55 @@
+//! The documents that `serve` is asked for.
+ghost use Rattle.std.specs.Prelude.{◌≡◌, ◌+◌, ◌||◌, length, IfOk, OnOk};
+ghost use Rattle.flagops_network.specs.Loading.{is_unread, is_unread_next};
+ghost use Rattle.flagops_streams.specs.Documents.{documents_in};
+
+use flagops_files::{FileSet, LoadFault, TEXT_LIMIT};
+use flagops_streams::{Documents, Refusal};
+use std::alloc::Global;
+
+/// Why the documents were not loaded, and the path of the one where that was seen.
+#[derive(Clone, Copy, Debug)]
+pub(crate) struct Unloaded<'a> {
+    pub(crate) refusal: Refusal,
+    pub(crate) path: &'a str,
+}
+
+/// The documents of the files at the paths, in their order. The source of each is added just before its file is loaded.
+pub(crate) fn loaded<'a, F: FileSet>(
+    alloc: Global,
+    files: &mut F,
+    paths: &[&'a str],
+) -> Result<Documents, Unloaded<'a>>
+    ensures all { IfOk result (λ d. documents_in d ≡ length paths.now) }
+    ensures failed { F.has_failed files.new ≡ (F.has_failed files.old || is_unread result) }
+    ensures kept { F.holding files.new ≡ F.holding files.old }
+{
+    let mut documents = Documents::new(alloc);
+    for path in paths {
+        let path = *path;
+        if let Err(refusal) = load_next(alloc, files, &mut documents, path) {
+            return Err(Unloaded { refusal, path });
+        }
+    }
+    Ok(documents)
+}
+
+/// Loads one more document.
+fn load_next<F: FileSet>(
+    alloc: Global,
+    files: &mut F,
+    documents: &mut Documents,
+    path: &str,
+) -> Result<(), Refusal>
+    ensures more { OnOk result (documents_in documents.new ≡ documents_in documents.old + 1) }
+    ensures failed { F.has_failed files.new ≡ (F.has_failed files.old || is_unread_next result) }
+    ensures kept { F.holding files.new ≡ F.holding files.old }
+{
+    documents.add_source(alloc)?;
+    let document = match files.read(alloc, path, u64::from(TEXT_LIMIT)) {
+        Ok(document) => document,
+        Err(LoadFault::Unreadable) => return Err(Refusal::Unreadable),
+        Err(LoadFault::WantOfMemory) => return Err(Refusal::Unloaded),
+    };
+    documents.push(document)
+}

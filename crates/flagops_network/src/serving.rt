@@ -1,0 +1,75 @@
+//! The command `serve`.
+ghost use Rattle.std.specs.Prelude.{◌≡◌, ◌⊎◌, None, false, length, map, true, IfSome};
+ghost use Rattle.flagops_commands.specs.Telling.{Wants};
+ghost use Rattle.flagops_network.specs.Mistakes.{TellsOne};
+ghost use Rattle.flagops_streams.specs.Report.{RefusesBy, Serves};
+ghost use Rattle.flagops_streams.specs.declared.refusal.Refusal.TheVariants.{Unreadable};
+ghost use Rattle.flagops_network.specs.Words.{serve_by, serve_faults};
+
+use crate::loading::{Unloaded, loaded};
+use crate::words::read_serve;
+use flag_text::Outlet;
+use flagops_commands::explain;
+use flagops_files::FileSet;
+use flagops_remarks::of_unreadable;
+use flagops_streams::{Refusal, refuse, say, say_refused, serve_documents};
+use std::alloc::Global;
+use std::convert::AsStr;
+use std::net::{Net, TcpListener, TcpStream};
+use std::sync::Wait;
+use std::thread::Threads;
+
+/// Does what the words after the program's name ask of `serve`, which is the first of them, and gives the status to end
+/// with. It loads the documents, waits for its subscribers on a port of this host, publishes one document after the other,
+/// and prints how many; or the line of a refusal with status 1. Where a file can't be read it has listened on no port.
+pub fn serve<R, S, F, O, E>(rt: &R, words: &[S], files: &mut F, out: &mut O, err: &mut E) -> u8
+where
+    R: AllocGlobal + Net<Listener = TcpListener, Stream = TcpStream> + Threads + Wait + Sync,
+    S: AsStr,
+    F: FileSet,
+    O: Outlet,
+    E: Outlet,
+    requires out_whole { O.is_broken out.old ≡ false }
+    requires err_whole { E.is_broken err.old ≡ false }
+    ensures serves { IfSome (serve_by (map S.text words.now)) (λ s.
+        Serves (length s.documents) (O.bytes out.old) (O.bytes out.new) (O.is_broken out.new) result
+        ⊎ Wants (O.bytes out.old) (O.bytes out.new) (O.is_broken out.new) (E.bytes err.old) (E.bytes err.new) (E.is_broken err.new) result) }
+    // Whatever the files hold, a read that failed is what is reported.
+    ensures unread { F.has_failed files.old ≡ false → F.has_failed files.new ≡ true
+        → RefusesBy Unreadable (O.bytes out.old) (O.bytes out.new) (O.is_broken out.new) result }
+    ensures tells { serve_by (map S.text words.now) ≡ None
+        → TellsOne (O.bytes out.old) (O.bytes out.new) (O.is_broken out.new) (E.bytes err.old) (E.bytes err.new) (E.is_broken err.new) result (serve_faults (map S.text words.now)) }
+    ensures kept { F.holding files.new ≡ F.holding files.old }
+{
+    let alloc = rt.alloc();
+    let serving = match read_serve(alloc, words) {
+        Ok(serving) => serving,
+        Err(error) => return explain(alloc, &error, out, err),
+    };
+    match loaded(alloc, files, serving.documents.as_slice()) {
+        Ok(documents) => serve_documents(
+            rt,
+            serving.port,
+            serving.subscribers,
+            documents,
+            out,
+            err,
+        ),
+        Err(unloaded) => {
+            tell(alloc, err, &unloaded);
+            refuse(alloc, out, unloaded.refusal)
+        }
+    }
+}
+
+/// Tells a person why documents were not loaded.
+fn tell<E: Outlet>(alloc: Global, err: &mut E, unloaded: &Unloaded<'_>) {
+    match unloaded.refusal {
+        Refusal::Unreadable => {
+            if let Ok(text) = of_unreadable(alloc, unloaded.path) {
+                say(err, text.as_str());
+            }
+        }
+        refusal => say_refused(alloc, err, refusal),
+    }
+}
