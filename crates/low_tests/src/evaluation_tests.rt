@@ -3,11 +3,10 @@ ghost use Rattle.std.specs.Prelude.{◌≡◌, true, IfOk};
 ghost use Rattle.flag_text.specs.Shape.{is_whole};
 ghost use Rattle.flag_text.specs.View.{view};
 
-use crate::rows::{pair, parts};
 use flag_text::{Tree, print_tree, read_tree};
-use logic_ast::{Expr, read_expr};
+use logic_ast::read_expr;
 use logic_eval::{Context, Reached, eval};
-use std::alloc::{AllocError, Global};
+use std::alloc::Global;
 use std::process::Abort;
 use std::test::Fail;
 
@@ -46,16 +45,14 @@ fn given(alloc: Global, expression: &Tree, context: &Tree) -> Result<String, Fai
 {
     let expr = read_expr(alloc, expression)?;
     match context {
-        Tree::Object(_) => evaluated(alloc, &expr, &Context::make(context, "te", 7)),
+        Tree::Object(_) => {
+            let context = Context::make(context, "te", 7);
+            match eval(alloc, &expr, &context) {
+                Ok((value, reached)) => shown(alloc, &value, reached.as_slice()),
+                Err(fault) => Ok(String::from_str(alloc, fault.name())?),
+            }
+        }
         _ => Ok(String::from_str(alloc, "no object")?),
-    }
-}
-
-// The value of an expression and its reached sites, or its fault.
-fn evaluated(alloc: Global, expr: &Expr, context: &Context<'_>) -> Result<String, Fail> {
-    match eval(alloc, expr, context) {
-        Ok((value, reached)) => shown(alloc, &value, reached.as_slice()),
-        Err(fault) => Ok(String::from_str(alloc, fault.name())?),
     }
 }
 
@@ -335,26 +332,18 @@ fn repeated(alloc: Global, text: &str, count: usize) -> Result<String, Fail> {
     Ok(all)
 }
 
-/// A list of so many zeros.
-fn zeros(alloc: Global, count: usize) -> Result<String, Fail> {
-    Ok(format!(in alloc; "[{}]", repeated(alloc, "0", count)?.as_str())?)
-}
-
-/// What the items of a list of so many zeros give, each for itself.
-fn mapped_zeros(alloc: Global, count: usize) -> Result<String, Fail> {
-    let context = format!(in alloc; "{{\"l\":{}}}", zeros(alloc, count)?.as_str())?;
-    outcome(
-        alloc,
-        b"{\"map\":[{\"var\":\"l\"},{\"var\":\"\"}]}",
-        context.as_bytes(),
-    )
-}
-
 #[test]
 fn budget_of_units(rt: HostRuntime) -> Result<(), Fail> {
     let alloc = rt.alloc();
-    let are_given = mapped_zeros(alloc, 24_999)?.as_str() == zeros(alloc, 24_999)?.as_str();
-    assert!(rt; are_given && mapped_zeros(alloc, 25_000)?.as_str() == "TooLong");
+    let expression = b"{\"map\":[{\"var\":\"l\"},{\"var\":\"\"}]}";
+    for (count, fits) in [(24_999, true), (25_000, false)] {
+        let zeros = repeated(alloc, "0", count)?;
+        let context = format!(in alloc; "{{\"l\":[{}]}}", zeros.as_str())?;
+        let all = format!(in alloc; "[{}]", zeros.as_str())?;
+        let want = if fits { all.as_str() } else { "TooLong" };
+        let got = outcome(alloc, expression, context.as_bytes())?;
+        assert!(rt; got.as_str() == want, "at {count}");
+    }
     Ok(())
 }
 
@@ -372,33 +361,34 @@ fn faults_and_the_budget(rt: HostRuntime) -> Result<(), Fail> {
     Ok(())
 }
 
-/// Half as many bytes as a text may have that is made.
-fn half_a_text(alloc: Global) -> Result<String, AllocError> {
+#[test]
+fn long_texts(rt: HostRuntime) -> Result<(), Fail> {
+    let alloc = rt.alloc();
     let mut half = String::new(alloc);
     for _i in 0..2048 {
         half.push_str("0123456789abcdef")?;
     }
-    Ok(half)
-}
-
-/// Whether a row's expression gives in the row's context what the row says.
-fn is_given(alloc: Global, row: &str) -> Result<bool, Fail> {
-    let (given, want) = parts(row)?;
-    let (expression, context) = pair(given)?;
-    Ok(outcome(alloc, expression.as_bytes(), context.as_bytes())?.as_str() == want)
-}
-
-const LONG_TEXTS: &str = r#"{"cat":["HALF","HALF"]} | {"a":1,"l":[1,2,3]} -> "HALFHALF"
-{"cat":["HALF","HALF",1]} | {"a":1,"l":[1,2,3]} -> TextTooLong
-{"fractional":[["x"]]} | {"targetingKey":"HALFHALF"} -> TextTooLong
-{"fractional":[["x",0]]} | {"targetingKey":"HALFHALF"} -> null"#;
-
-#[test]
-fn long_texts(rt: HostRuntime) -> Result<(), Fail> {
-    let alloc = rt.alloc();
-    let rows = LONG_TEXTS.replace(alloc, "HALF", half_a_text(alloc)?.as_str())?;
-    for row in rows.lines() {
-        assert!(rt; is_given(rt.alloc(), row)?);
+    let long = half.as_str();
+    let at_the_limit = format!(in alloc; "{{\"cat\":[\"{}\",\"{}\"]}}", long, long)?;
+    let above = format!(in alloc; "{{\"cat\":[\"{}\",\"{}\",1]}}", long, long)?;
+    let whole = format!(in alloc; "\"{}{}\"", long, long)?;
+    let key = format!(in alloc; "{{\"targetingKey\":\"{}{}\"}}", long, long)?;
+    for (expression, context, want) in [
+        (at_the_limit.as_bytes(), ROW, whole.as_str()),
+        (above.as_bytes(), ROW, "TextTooLong"),
+        (
+            b"{\"fractional\":[[\"x\"]]}".as_slice(),
+            key.as_bytes(),
+            "TextTooLong",
+        ),
+        (
+            b"{\"fractional\":[[\"x\",0]]}".as_slice(),
+            key.as_bytes(),
+            "null",
+        ),
+    ] {
+        let got = outcome(alloc, expression, context)?;
+        assert!(rt; got.as_str() == want);
     }
     Ok(())
 }

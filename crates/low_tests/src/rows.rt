@@ -5,8 +5,3 @@ use std::test::Fail;
 pub(crate) fn parts(row: &str) -> Result<(&str, &str), Fail> {
     Ok(row.split_once(" -> ").ok_or("no row")?)
 }
-
-/// What stands before the first ` | ` and behind it.
-pub(crate) fn pair(given: &str) -> Result<(&str, &str), Fail> {
-    Ok(given.split_once(" | ").ok_or("no pair")?)
-}
