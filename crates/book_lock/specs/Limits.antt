@@ -1,5 +1,7 @@
--- How many seats a book may have, and how a refusal of their number is printed.
+-- How many seats a book may have, and how refusals are printed.
 use Rattle.std.specs.Prelude.{ℕ, List, codes, Option, Some, None, ◌==◌, nat_lt, if◌then◌else◌}
+use Rattle.book_lock.specs.declared.fault.SealFault.{SealFault}
+use Rattle.book_lock.specs.declared.fault.SealFault.TheVariants as seal
 use Rattle.book_lock.specs.declared.fault.SeatsFault.{SeatsFault}
 use Rattle.book_lock.specs.declared.fault.SeatsFault.TheVariants.{WantOfMemory, NoSeats, TooManySeats}
 
@@ -22,3 +24,12 @@ abbrev pub name_of : SeatsFault → List ℕ
 name_of WantOfMemory = codes "WantOfMemory"
 name_of NoSeats = codes "NoSeats"
 name_of TooManySeats = codes "TooManySeats"
+
+-- the same of a refusal to seal or to freeze
+abbrev pub seal_number_of : SealFault → ℕ
+seal_number_of seal.WantOfMemory = 0
+seal_number_of seal.SeatMissing = 1
+
+abbrev pub seal_name_of : SealFault → List ℕ
+seal_name_of seal.WantOfMemory = codes "WantOfMemory"
+seal_name_of seal.SeatMissing = codes "SeatMissing"

@@ -1,6 +1,7 @@
 ghost use Rattle.std.specs.Prelude.{◌≡◌};
+ghost use Rattle.book_lock.specs.declared.fault.SealFault.TheVariants.{WantOfMemory as SealWantOfMemory};
 ghost use Rattle.book_lock.specs.declared.fault.SeatsFault.TheVariants.{WantOfMemory};
-ghost use Rattle.book_lock.specs.Limits.{name_of, number_of};
+ghost use Rattle.book_lock.specs.Limits.{name_of, number_of, seal_name_of, seal_number_of};
 
 use std::alloc::{AllocError, AllocFailed};
 use thiserror::Error;
@@ -17,6 +18,17 @@ pub enum SeatsFault {
     /// A book has at most 64 seats.
     #[error("a book has at most 64 seats")]
     TooManySeats,
+}
+
+/// Why a shared book was not sealed, or a page not frozen.
+#[derive(Clone, Copy, Debug, PartialEq, Eq, Error)]
+pub enum SealFault {
+    /// Memory was wanted and refused, by a freeze; a seal takes none.
+    #[error("out of memory")]
+    WantOfMemory,
+    /// Not all seats of the book were handed back.
+    #[error("a seat of the book is missing")]
+    SeatMissing,
 }
 
 impl SeatsFault {
@@ -56,5 +68,35 @@ impl<T: Drop> From<AllocFailed<T>> for SeatsFault {
 
     fn from(_e: AllocFailed<T>) -> SeatsFault {
         SeatsFault::WantOfMemory
+    }
+}
+
+impl SealFault {
+    /// The number that a refusal is printed with, from 0 for want of memory.
+    pub fn number(&self) -> u32
+        ensures { result ≡ seal_number_of self.now }
+    {
+        match self {
+            SealFault::WantOfMemory => 0,
+            SealFault::SeatMissing => 1,
+        }
+    }
+
+    /// The name that a refusal is printed with: the variant's.
+    pub fn name(&self) -> &'static str
+        ensures { result.now ≡ seal_name_of self.now }
+    {
+        match self {
+            SealFault::WantOfMemory => "WantOfMemory",
+            SealFault::SeatMissing => "SeatMissing",
+        }
+    }
+}
+
+impl From<AllocError> for SealFault {
+    ghost from_gives = { λ _ e. e ≡ SealWantOfMemory };
+
+    fn from(_e: AllocError) -> SealFault {
+        SealFault::WantOfMemory
     }
 }

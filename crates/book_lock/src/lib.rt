@@ -38,11 +38,11 @@ mod shared;
 
 pub use blanks::Blanks;
 pub use call::{Call, Sight, View};
-pub use fault::SeatsFault;
+pub use fault::{SealFault, SeatsFault};
 pub use laws::a_legal_list_has_first_sightings;
 pub use lock::{Board, BookLock, Place};
 pub use name::BookName;
 pub use rule::{Accepted, Orders};
-pub use sealing::{SeatMissing, seal};
+pub use sealing::{SealRefused, seal};
 pub use seat::Seat;
 pub use shared::SharedBook;

@@ -4,15 +4,17 @@ ghost use Rattle.book_lock.specs.Sealed.{IsSealed};
 ghost use Rattle.book_lock.specs.Seen.{view_of};
 ghost use Rattle.book_lock.specs.Told.{IsTold};
 
+use crate::fault::SealFault;
 use crate::lock::{BookLock, Place};
 use crate::name::BookName;
 use crate::seat::Seat;
 use crate::shared::SharedBook;
 use book_core::Book;
 
-/// A seat of the book was not handed back. The book and the seats are as they were.
+/// Why a book was not sealed, with the book and the seats as they were.
 #[derive(Drop)]
-pub struct SeatMissing<L: BookName> {
+pub struct SealRefused<L: BookName> {
+    pub fault: SealFault,
     pub book: SharedBook<L>,
     pub seats: Vec<Seat<L>>,
 }
@@ -20,15 +22,19 @@ pub struct SeatMissing<L: BookName> {
 /// Ends a shared book, with all its seats. There is one legal list of accepted calls, which begins with what each seat has
 /// seen, and whose calls of a seat's number are those that the seat made; the book is what these calls leave. So it holds
 /// just what the seats were told, each input was New to one seat, once, and there are as many as the seats' news add up
-/// to. It is refused where not all seats are handed back. It takes no memory, and compares nothing.
-pub fn seal<L: BookName>(book: SharedBook<L>, seats: Vec<Seat<L>>) -> Result<Book, SeatMissing<L>>
+/// to. It is refused with SeatMissing where not all seats are handed back. It takes no memory, and compares nothing.
+pub fn seal<L: BookName>(book: SharedBook<L>, seats: Vec<Seat<L>>) -> Result<Book, SealRefused<L>>
     ensures sealed { IfOk result (λ book. IsSealed L.seats seats.items book) }
     ensures told { IfOk result (λ book. IsTold seats.items book) }
-    ensures missing { MatchResult result (λ _. vec_len seats ≡ L.seats) (λ r. vec_len seats ≢ L.seats) }
+    ensures missing { MatchResult result (λ _. vec_len seats ≡ L.seats) (λ r. (r.fault ≡ SealFault.SeatMissing) × (vec_len seats ≢ L.seats)) }
     ensures back { IfErr result (λ r. (r.book ≡ book) × (r.seats ≡ seats)) }
 {
     if seats.len() != book.seats {
-        return Err(SeatMissing { book, seats });
+        return Err(SealRefused {
+            fault: SealFault::SeatMissing,
+            book,
+            seats,
+        });
     }
     let SharedBook {
         lock,

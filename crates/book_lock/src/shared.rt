@@ -6,6 +6,7 @@ ghost use Rattle.book_lock.specs.Counts.{own};
 ghost use Rattle.book_lock.specs.Notes.{Adds, Answers, Looks, accepted};
 ghost use Rattle.book_lock.specs.Told.{HoldsTold};
 
+use crate::fault::SealFault;
 use crate::lock::BookLock;
 use crate::name::BookName;
 use crate::seat::{Seat, news_in};
@@ -86,6 +87,22 @@ impl<L: BookName> SharedBook<L> {
     /// The inputs on a page, in strictly rising order of their bytes, after all calls that the seat has then seen; the
     /// book goes on. So each input that the seat was told of on the page is among them. It fails only where memory runs out.
     pub fn freeze<R: Wait>(
+        &self,
+        rt: &R,
+        alloc: Global,
+        seat: &mut Seat<L>,
+        page: &Page,
+    ) -> Result<Exposure, SealFault>
+        ensures looks { Looks seat.old seat.new }
+        ensures inputs { IfOk result (λ inputs. inputs ≡ inputs_on (book_of_calls [] seat.new.seen) page.now) }
+        ensures holds { IfOk result (λ inputs. HoldsTold page.now inputs (own seat.new)) }
+        ensures wanted { IfErr result (λ e. e ≡ SealFault.WantOfMemory) }
+    {
+        Ok(self.frozen(rt, alloc, seat, page)?)
+    }
+
+    /// The same, where want of memory has no name of its own yet.
+    fn frozen<R: Wait>(
         &self,
         rt: &R,
         alloc: Global,

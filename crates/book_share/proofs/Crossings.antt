@@ -5,8 +5,8 @@ use denote.Ref.{NamedLft, ShrRef}
 use denote.Struct.Field.{row_field}
 use denote.Struct.Tuple.{TupleAt, type_at}
 use denote.RattleType.{RattleType}
-use denote.Param.Send.{IsSend, IsSync, shr_sync, view_send, sendable}
-use denote.Param.SendFields.{as_row_sync, declared_send, declared_sync}
+use denote.Param.Send.{IsSend, IsSync, shr_sync, sendable}
+use denote.Param.SendFields.{as_row_sync, declared_sync}
 use Rattle.std.proofs.Crossing.{crosses}
 use Rattle.std.proofs.MapsCrossing.{crosses as maps}
 use Rattle.std.specs.contracts.alloc.Global as Global
@@ -25,14 +25,12 @@ use Rattle.flag_defs.specs.contracts.flag.Flag as Flag
 use Rattle.flag_defs.specs.contracts.flags.Flags as Flags
 use Rattle.flag_resolve.specs.contracts.kind.Kind as Kind
 use Rattle.book_core.specs.contracts.book.Book as Book
-use Rattle.std.specs.declared.sync.ledger.Ledger as Ledger
+use Rattle.atomic_table.proofs.shared.Shared.TheSendSync as shared
+use Rattle.atomic_table.proofs.send_lease.SendLease.TheSendSync as lease
+use Rattle.book_lock.specs.declared.name.BookName as BookName
+use Rattle.book_lock.specs.contracts.lock.BookLock as BookLock
+use Rattle.book_lock.specs.contracts.shared.SharedBook as SharedBook
 use Rattle.book_share.specs.declared.gate.Gate as Gate
-use Rattle.book_share.specs.declared.name.BookName as BookName
-use Rattle.book_share.specs.contracts.desk.Desk as Desk
-use Rattle.book_share.specs.contracts.desk.Desk.TheInside as Inside
-use Rattle.std.proofs.sync.ledger.Book.TheSendSync as ledger
-use Rattle.std.proofs.sync.ledger.Share.TheSendSync as share
-use Rattle.book_share.specs.contracts.shared.SharedBook as SharedBook
 use Rattle.book_share.specs.contracts.worker.Round as Round
 use Rattle.book_share.specs.contracts.ask.Ask as Ask
 
@@ -88,21 +86,24 @@ captured_sync ν A B C a b c = declared_sync (type_at ν (A ∷ B ∷ C ∷ []))
 Global-sync : IsSync Global.the_row
 Global-sync = search (sendable, crosses) depth 20
 
-module _ (T : RattleType) (g : BookName.Ghosts T.Denot) (l : Ledger.Ghosts T.Denot) (send : IsSend T) (sync : IsSync T) where
-  pub Desk-send : IsSend (Desk.the_row T g l)
-  Desk-send = view_send _ _ _ _ _ (declared_send (Inside.the_type T g l) (search (sendable, Book-send) depth 20, (ledger.the_send T l, (share.the_send T l, tt))))
+slot-send : IsSend (Option.the_row Book.the_row)
+slot-send = search (sendable, crosses, Book-send) depth 40
 
-  pub SharedBook-sync : IsSync (SharedBook.the_row T g l)
-  SharedBook-sync = declared_sync (SharedBook.the_type T g l) (search (sendable, crosses, Desk-send) depth 40, (search (sendable, crosses) depth 40, tt))
+BookLock-sync : IsSync BookLock.the_row
+BookLock-sync = declared_sync BookLock.the_type (search (sendable, crosses, slot-send, shared.the_sync, shared.the_send, lease.the_sync, lease.the_send) depth 80, tt)
 
-  module _ (κ : NamedLft) (G : RattleType) (h : Gate.Ghosts G.Denot) (shared : IsSync G) where
-    pub round_sync : IsSync (Round.the_row κ T G g h l)
+module _ (T : RattleType) (g : BookName.Ghosts T.Denot) (send : IsSend T) (sync : IsSync T) where
+  pub SharedBook-sync : IsSync (SharedBook.the_row T g)
+  SharedBook-sync = declared_sync (SharedBook.the_type T g) (BookLock-sync, (search (sendable, crosses) depth 40, (search (sendable, crosses) depth 40, tt)))
+
+  module _ (κ : NamedLft) (G : RattleType) (h : Gate.Ghosts G.Denot) (gate : IsSync G) where
+    pub round_sync : IsSync (Round.the_row κ T G g h)
     round_sync =
-        declared_sync (Round.the_type κ T G g h l)
+        declared_sync (Round.the_type κ T G g h)
         (search (sendable, crosses, SharedBook-sync) depth 40, (search (sendable, crosses, Flags-sync) depth 40, (search (sendable, crosses, Ask-sync) depth 40, (search (sendable, crosses) depth 40, (search (sendable, crosses) depth 40, tt)))))
 
     -- the captures of a worker's closure: the handle, the allocator and the round
-    pub worker_sync : (ν : Sym) (r a w : NamedLft) (R : RattleType) → IsSync R → IsSync (TupleAt ν (ShrRef r.mir r.lft R ∷ ShrRef a.mir a.lft Global.the_row ∷ ShrRef w.mir w.lft (Round.the_row κ T G g h l) ∷ []))
+    pub worker_sync : (ν : Sym) (r a w : NamedLft) (R : RattleType) → IsSync R → IsSync (TupleAt ν (ShrRef r.mir r.lft R ∷ ShrRef a.mir a.lft Global.the_row ∷ ShrRef w.mir w.lft (Round.the_row κ T G g h) ∷ []))
     worker_sync ν r a w R s =
-        captured_sync ν (ShrRef r.mir r.lft R) (ShrRef a.mir a.lft Global.the_row) (ShrRef w.mir w.lft (Round.the_row κ T G g h l))
-        (shr_sync r.mir r.lft R s) (shr_sync a.mir a.lft Global.the_row Global-sync) (shr_sync w.mir w.lft (Round.the_row κ T G g h l) round_sync)
+        captured_sync ν (ShrRef r.mir r.lft R) (ShrRef a.mir a.lft Global.the_row) (ShrRef w.mir w.lft (Round.the_row κ T G g h))
+        (shr_sync r.mir r.lft R s) (shr_sync a.mir a.lft Global.the_row Global-sync) (shr_sync w.mir w.lft (Round.the_row κ T G g h) round_sync)

@@ -1,8 +1,6 @@
-pub mod Counting
+pub mod Bounded
 pub mod Crossings
-pub mod Held
-pub mod Ordering
+pub mod Full
 pub mod Reaching
-pub mod Replaying
+pub mod Turns
 pub mod Whole
-pub mod Telling

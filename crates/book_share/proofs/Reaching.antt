@@ -1,12 +1,12 @@
 -- Mentions that are noted one after another.
-use Rattle.std.proofs.Common.{◌≡◌, ℕ, ◌+◌, ◌<◌, Bool, true, false, cond, List, [], ◌∷◌, ◌++◌, append-nil, map, take, length, length-append, get_or, add-one, nat_lt, Option, Some, option_map, unwrap_or, ⊎_elim, refl, sym, ap, ◌∙◌, subst, arith}
+use Rattle.std.proofs.Common.{◌≡◌, ℕ, ◌+◌, ◌<◌, Bool, true, false, cond, List, [], ◌∷◌, ◌++◌, append-nil, append_assoc, map, take, length, length-append, get_or, add-one, nat_lt, Option, Some, option_map, ⊎_elim, refl, sym, ap, ◌∙◌, subst, arith}
 use Rattle.std.proofs.Math.Seq.{take-suc}
 use Rattle.std.proofs.lemmas.Bool.{cases_Bool}
 use Rattle.std.proofs.lemmas.List.{map-append}
-use Rattle.std.proofs.lemmas.List.Elements.{All-push, All-append}
-use Rattle.std.proofs.lemmas.List.Sums.{sum_by-append, sum_by-cons}
+use Rattle.std.proofs.lemmas.List.Elements.{All-push}
+use Rattle.std.proofs.lemmas.List.Sums.{sum_by-append}
 use Rattle.std.proofs.lemmas.Option.{slice_get-get_or}
-use Rattle.std.specs.Prelude.{string_bytes, All, count_by, sum_by, slice_get, Result, Ok, Err, IfOk}
+use Rattle.std.specs.Prelude.{string_bytes, All, count_by, slice_get, Result, Ok, Err, IfOk}
 use Rattle.flag_defs.specs.Document.{Definitions}
 use Rattle.logic_ast.specs.Expression.{Expression}
 use Rattle.logic_eval.specs.Run.{Reach}
@@ -16,15 +16,14 @@ use Rattle.flag_resolve.specs.Views.{resolution_view}
 use Rattle.flag_resolve.specs.declared.resolution.Resolution.{Resolution}
 use Rattle.book_core.specs.Book.{most_bytes}
 use Rattle.book_core.specs.Page.{PageName}
-use Rattle.book_core.specs.declared.noted.Noted.{Noted}
 use Rattle.book_share.specs.Asked.{Mention, mention, targeting_of, resolved, is_long, page_of, mentions_in, mentions_of}
-use Rattle.book_share.specs.Driven.{told_mention, refused_mention, noted_by, Notes, mentions_at, IsAnswer, IsWork}
-use Rattle.book_share.specs.Sealed.{all_told}
-use Rattle.book_share.specs.Told.{Told, told}
+use Rattle.book_core.specs.Calls.{Call}
+use Rattle.book_lock.specs.Counts.{own}
+use Rattle.book_lock.specs.Told.{all_told}
+use Rattle.book_lock.specs.declared.call.Sight.{Sight}
+use Rattle.book_share.specs.Driven.{called_mention, refused_mention, noted_by, Notes, NotesAsk, IsAnswer}
 use Rattle.book_share.specs.declared.ask.Ask.{Ask}
 use Rattle.book_share.specs.declared.reach.Refusal.{Refusal}
-use Rattle.book_share.specs.declared.worker.Answer.{Answer}
-use Rattle.book_share.proofs.Replaying.{all_told-append, seats_more}
 use borrow.Author.Tests.{ltb-true, lt-ltb}
 
 pub count-append : (p : Mention → Bool) (xs ys : List Mention) → count_by p (xs ++ ys) ≡ count_by p xs + count_by p ys
@@ -65,28 +64,31 @@ notes_more key t rs i r a b c within at before one p =
 
 -- ---- one input
 
--- the seat was told of it
-pub told_one : (page : PageName) (input : List ℕ) (noted : Noted) (old new : List Told) (refused : List Refusal) → (most_bytes < length input → ⊥) → new ≡ old ++ told page input noted ∷ []
+-- the book accepted it
+pub noted_one : (page : PageName) (input : List ℕ) (c : Call) (old new : List Call) (refused : List Refusal) → (most_bytes < length input → ⊥) → c.page ≡ page → c.input ≡ input → new ≡ old ++ c ∷ []
     → Notes (cond (nat_lt most_bytes (length input)) [] (mention page input ∷ [])) (noted_by old refused) (noted_by new refused)
-told_one page input noted old new refused short is p =
+noted_one page input c old new refused short page_is input_is is p =
     let m = mention page input in
-    let views = ap (λ l. map told_mention l ++ map refused_mention refused) is ∙ ap (λ l. l ++ map refused_mention refused) (map-append told_mention old (told page input noted ∷ [])) in
-    let after = ap (count_by p) views ∙ count-append p (map told_mention old ++ m ∷ []) (map refused_mention refused) in
-    let middle = count-append p (map told_mention old) (m ∷ []) in
-    let before = count-append p (map told_mention old) (map refused_mention refused) in
+    let one : called_mention c ≡ m = ap (λ q. mention q c.input) page_is ∙ ap (mention page) input_is in
+    let views = ap (λ l. map called_mention l ++ map refused_mention refused) is ∙ ap (λ l. l ++ map refused_mention refused) (map-append called_mention old (c ∷ []))
+    ∙ ap (λ x. (map called_mention old ++ x ∷ []) ++ map refused_mention refused) one in
+    let after = ap (count_by p) views ∙ count-append p (map called_mention old ++ m ∷ []) (map refused_mention refused) in
+    let middle = count-append p (map called_mention old) (m ∷ []) in
+    let before = count-append p (map called_mention old) (map refused_mention refused) in
     ⊎_elim
     (λ (e : nat_lt most_bytes (length input) ≡ true). absurd (short (ltb-true _ _ e)))
     (λ (e : nat_lt most_bytes (length input) ≡ false). rw e (omega (arith, after, middle, before)))
     (cases_Bool (nat_lt most_bytes (length input)))
 
 -- its page was full
-pub refused_one : (page : PageName) (input : List ℕ) (seat : List Told) (old new : List Refusal) → (most_bytes < length input → ⊥) → map refused_mention new ≡ map refused_mention old ++ mention page input ∷ []
-    → Notes (cond (nat_lt most_bytes (length input)) [] (mention page input ∷ [])) (noted_by seat old) (noted_by seat new)
-refused_one page input seat old new short is p =
+pub refused_one : (page : PageName) (input : List ℕ) (r : Refusal) (calls later : List Call) (old new : List Refusal) → (most_bytes < length input → ⊥) → later ≡ calls → refused_mention r ≡ mention page input → new ≡ old ++ r ∷ []
+    → Notes (cond (nat_lt most_bytes (length input)) [] (mention page input ∷ [])) (noted_by calls old) (noted_by later new)
+refused_one page input r calls later old new short same one is p =
     let m = mention page input in
-    let after = ap (λ l. count_by p (map told_mention seat ++ l)) is ∙ count-append p (map told_mention seat) (map refused_mention old ++ m ∷ []) in
+    let views : map refused_mention new ≡ map refused_mention old ++ m ∷ [] = ap (map refused_mention) is ∙ map-append refused_mention old (r ∷ []) ∙ ap (λ x. map refused_mention old ++ x ∷ []) one in
+    let after = ap (λ l. count_by p (map called_mention l ++ map refused_mention new)) same ∙ ap (λ l. count_by p (map called_mention calls ++ l)) views ∙ count-append p (map called_mention calls) (map refused_mention old ++ m ∷ []) in
     let middle = count-append p (map refused_mention old) (m ∷ []) in
-    let before = count-append p (map told_mention seat) (map refused_mention old) in
+    let before = count-append p (map called_mention calls) (map refused_mention old) in
     ⊎_elim
     (λ (e : nat_lt most_bytes (length input) ≡ true). absurd (short (ltb-true _ _ e)))
     (λ (e : nat_lt most_bytes (length input) ≡ false). rw e (omega (arith, after, middle, before)))
@@ -95,52 +97,6 @@ refused_one page input seat old new short is p =
 -- it was too long
 pub long_one : (page : PageName) (input : List ℕ) (old : List Mention) → most_bytes < length input → Notes (cond (nat_lt most_bytes (length input)) [] (mention page input ∷ [])) old old
 long_one page input old long p = rw (lt-ltb _ _ long) (omega arith)
-
--- ---- a worker's asks
-
-pub work_none : (flags : Definitions) (asks : List Ask) (seat : List Told) → seat ≡ [] → IsWork flags asks seat [] []
-work_none flags asks seat none = rw none (record { answers = λ k d within. absurd (omega (arith, within)); noted = λ p. refl })
-
-pub work_more : (flags : Definitions) (asks : List Ask) (seat later : List Told) (answers new : List Answer) (refused others : List Refusal) (a : Answer) → new ≡ answers ++ a ∷ []
-    → IsWork flags asks seat answers refused → IsAnswer flags asks a → ((p : Mention → Bool) → count_by p (noted_by later others) ≡ count_by p (noted_by seat refused) + mentions_at flags asks p a.ask)
-    → IsWork flags asks later new others
-work_more flags asks seat later answers new refused others a is work one noted =
-    subst (λ l. IsWork flags asks later l others) (sym is) (record {
-      answers = All-push (IsAnswer flags asks) answers a work.answers one;
-      noted = λ p.
-          let last = noted p in
-          let first = work.noted p in
-          let split = sum_by-append (λ x. mentions_at flags asks p x.ask) answers (a ∷ []) in
-          let single = sum_by-cons (λ x. mentions_at flags asks p x.ask) a [] in
-          omega (arith, last, first, split, single);
-    })
-
--- ---- several workers
-
-pub work_both : (flags : Definitions) (asks : List Ask) (seats more_seats : List (List Told)) (seat : List Told) (answers more all : List Answer) (refused others both : List Refusal)
-    → more_seats ≡ seats ++ seat ∷ [] → all ≡ answers ++ more → both ≡ refused ++ others
-    → IsWork flags asks (all_told seats) answers refused → IsWork flags asks seat more others → IsWork flags asks (all_told more_seats) all both
-work_both flags asks seats more_seats seat answers more all refused others both is_seats is_all is_both first last =
-    let told : all_told more_seats ≡ all_told seats ++ seat = ap all_told is_seats ∙ all_told-append seats (seat ∷ []) ∙ ap (λ l. all_told seats ++ l) (append-nil seat) in record {
-      answers = subst (All (IsAnswer flags asks)) (sym is_all) (All-append (IsAnswer flags asks) answers more first.answers last.answers);
-      noted = λ p.
-          let a = first.noted p in
-          let b = last.noted p in
-          let s = ap (sum_by (λ x. mentions_at flags asks p x.ask)) is_all ∙ sum_by-append (λ x. mentions_at flags asks p x.ask) answers more in
-          let whole = ap (λ l. count_by p (noted_by l both)) told ∙ ap (λ l. count_by p (noted_by (all_told seats ++ seat) l)) is_both in
-          let c = count-append p (map told_mention (all_told seats ++ seat)) (map refused_mention (refused ++ others)) in
-          let d = ap (count_by p) (map-append told_mention (all_told seats) seat) ∙ count-append p (map told_mention (all_told seats)) (map told_mention seat) in
-          let e = ap (count_by p) (map-append refused_mention refused others) ∙ count-append p (map refused_mention refused) (map refused_mention others) in
-          let f = count-append p (map told_mention (all_told seats)) (map refused_mention refused) in
-          let g = count-append p (map told_mention seat) (map refused_mention others) in
-          omega (arith, a, b, s, whole, c, d, e, f, g);
-    }
-
--- none yet
-pub work_start : (flags : Definitions) (asks : List Ask) (seats : List (List Told)) (answers : List Answer) (refused : List Refusal) → seats ≡ [] → answers ≡ [] → refused ≡ [] → IsWork flags asks (all_told seats) answers refused
-work_start flags asks seats answers refused a b c =
-    subst (λ (l : List (List Told)). IsWork flags asks (all_told l) answers refused) (sym a)
-    (subst (λ (l : List Answer). IsWork flags asks [] l refused) (sym b) (subst (λ (l : List Refusal). IsWork flags asks [] [] l) (sym c) (work_none flags asks [] refl)))
 
 -- what holds of an answer that came
 pub of_ok : {X E : Type 0} (P : X → Type 0) (r : Result X E) (x : X) → r ≡ Ok x → IfOk r P → P x
@@ -172,27 +128,49 @@ found_at : (asks : List Ask) (n : ℕ) (x : Ask) → n < length asks → x ≡ g
 found_at asks n x within at = slice_get-get_or asks n x within ∙ ap Some (sym at)
 
 -- the answer to the ask at a place
-pub answer_is : (flags : Definitions) (asks : List Ask) (x : Ask) (a : Answer) → a.ask < length asks → x ≡ get_or asks a.ask x → resolution_view a.resolution ≡ resolved flags x → IsAnswer flags asks a
+pub answer_is : (flags : Definitions) (asks : List Ask) (x : Ask) (n : ℕ) (r : Resolution) → n < length asks → x ≡ get_or asks n x → resolution_view r ≡ resolved flags x → IsAnswer flags asks n r
 unfolding IsAnswer
-answer_is flags asks x a within at is = ap (option_map (resolved flags)) (found_at asks a.ask x within at) ∙ ap Some (sym is)
+answer_is flags asks x n r within at is = ap (option_map (resolved flags)) (found_at asks n x within at) ∙ ap Some (sym is)
 
 -- what was noted for it
-pub noted_at : (flags : Definitions) (asks : List Ask) (x : Ask) (n : ℕ) (old new : List Mention) → n < length asks → x ≡ get_or asks n x → Notes (mentions_of flags x) old new
-    → (p : Mention → Bool) → count_by p new ≡ count_by p old + mentions_at flags asks p n
-noted_at flags asks x n old new within at notes p =
-    notes p ∙ ap (λ o. count_by p old + unwrap_or (option_map (λ a. count_by p (mentions_of flags a)) o) 0) (sym (found_at asks n x within at))
+pub noted_at : (flags : Definitions) (asks : List Ask) (x : Ask) (n : ℕ) (old new : List Mention) → n < length asks → x ≡ get_or asks n x → Notes (mentions_of flags x) old new → NotesAsk flags asks n old new
+unfolding NotesAsk
+noted_at flags asks x n old new within at notes a is = subst (λ (y : Ask). Notes (mentions_of flags y) old new) (some_is x a (sym (found_at asks n x within at) ∙ is)) notes
+  where
+    some_is : (x y : Ask) → Some x ≡ Some y → x ≡ y
+    some_is x y e = cc
 
 -- the calls of one more seat
-pub calls_more : (ss : List (List Told)) (i : ℕ) (calls : List Told) → i < length ss → calls ≡ get_or ss i calls → length (all_told (take (i + 1) ss)) ≡ length (all_told (take i ss)) + length calls
-calls_more ss i calls within at = ap length (seats_more ss i calls within at) ∙ length-append (all_told (take i ss)) calls
+all_told-append : (xs ys : List Sight) → all_told (xs ++ ys) ≡ all_told xs ++ all_told ys
+all_told-append [] ys = refl
+all_told-append (x ∷ xs) ys = ap (λ l. own x ++ l) (all_told-append xs ys) ∙ sym (append_assoc (own x) (all_told xs) (all_told ys))
+
+pub told_more : (seats new : List Sight) (seat : Sight) → new ≡ seats ++ seat ∷ [] → all_told new ≡ all_told seats ++ own seat
+told_more seats new seat is = ap all_told is ∙ all_told-append seats (seat ∷ []) ∙ ap (λ l. all_told seats ++ l) (append-nil (own seat))
+
+pub calls_more : (ss : List Sight) (i : ℕ) (seat : Sight) → i < length ss → seat ≡ get_or ss i seat → length (all_told (take (i + 1) ss)) ≡ length (all_told (take i ss)) + length (own seat)
+calls_more ss i seat within at =
+    let more : take (i + 1) ss ≡ take i ss ++ seat ∷ [] = ap (λ n. take n ss) (add-one i) ∙ take-suc ss i seat within ∙ ap (λ x. take i ss ++ x ∷ []) (sym at) in
+    ap length (told_more (take i ss) (take (i + 1) ss) seat more) ∙ length-append (all_told (take i ss)) (own seat)
 
 -- the page of a site
 pub page_named : (key : List ℕ) (t u : Option Expression) (site : ℕ) (page : PageName) → t ≡ u → page ≡ page_of key t site → page ≡ page_of key u site
 page_named key t u site page same is = is ∙ ap (λ v. page_of key v site) same
 
-pub work_empty : (flags : Definitions) (asks : List Ask) (seat : List Told) (answers : List Answer) (refused : List Refusal) → seat ≡ [] → answers ≡ [] → refused ≡ [] → IsWork flags asks seat answers refused
-work_empty flags asks seat answers refused a b c =
-    subst (λ (l : List Answer). IsWork flags asks seat l refused) (sym b) (subst (λ (l : List Refusal). IsWork flags asks seat [] l) (sym c) (work_none flags asks seat a))
+-- ---- several workers
+
+-- what one worker more noted
+pub noted_both : (p : Mention → Bool) (seats new : List Sight) (seat : Sight) (refused others both : List Refusal) → new ≡ seats ++ seat ∷ [] → both ≡ refused ++ others
+    → count_by p (noted_by (all_told new) both) ≡ count_by p (noted_by (all_told seats) refused) + count_by p (noted_by (own seat) others)
+noted_both p seats new seat refused others both is_seats is_both =
+    let told = told_more seats new seat is_seats in
+    let whole = ap (λ l. count_by p (noted_by l both)) told ∙ ap (λ l. count_by p (noted_by (all_told seats ++ own seat) l)) is_both in
+    let c = count-append p (map called_mention (all_told seats ++ own seat)) (map refused_mention (refused ++ others)) in
+    let d = ap (count_by p) (map-append called_mention (all_told seats) (own seat)) ∙ count-append p (map called_mention (all_told seats)) (map called_mention (own seat)) in
+    let e = ap (count_by p) (map-append refused_mention refused others) ∙ count-append p (map refused_mention refused) (map refused_mention others) in
+    let f = count-append p (map called_mention (all_told seats)) (map refused_mention refused) in
+    let g = count-append p (map called_mention (own seat)) (map refused_mention others) in
+    omega (arith, whole, c, d, e, f, g)
 
 -- ---- what a call in several threads gives
 

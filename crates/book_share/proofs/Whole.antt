@@ -1,8 +1,10 @@
 -- What a drive noted, from what its seats were told and what full pages refused.
-use Rattle.std.proofs.Common.{◌≡◌, ℕ, ◌+◌, ◌≤◌, Bool, true, false, ◌||◌, ◌&&◌, cond, List, [], ◌∷◌, map, length, length-append, nat_lt, Option, Some, Result, Ok, Err, refl, sym, ap, ◌∙◌, subst, arith}
+use Rattle.std.proofs.Common.{◌≡◌, ℕ, suc, ◌+◌, ◌-◌, ◌<◌, ◌≤◌, Bool, true, false, ◌||◌, ◌&&◌, ◌==◌, cond, List, [], ◌∷◌, ◌++◌, map, length, length-append, nat_lt, Ordering, Ok, Err, is_ok, refl, sym, ap, ap₂, ◌∙◌, subst, arith}
 use borrow.Author.Tests.{lt-ltb, ltb-false}
-use Rattle.std.specs.Prelude.{All, count_by, sum_by, string_bytes, IfOk, IfSome}
-use Rattle.std.specs.Cmp.{IsEquivalence}
+use Rattle.std.specs.Prelude.{All, count_by, sum_by, string_bytes}
+use Rattle.std.specs.Cmp.{IsEquivalence, IsTotalOrder, alike_right}
+use Rattle.std.specs.declared.cmp.Ordering.TheVariants.{Less, Equal, Greater}
+use Rattle.std.specs.Ordering.{is_eq, match_ordering}
 use Rattle.std.specs.Cmp.Lexicographic.{nat_list_cmp_total}
 use Rattle.std.specs.List.{list_any, IsDistinct, AllByRecursion}
 use Rattle.std.specs.List.Sorted.{IsStrictlySortedBy}
@@ -20,6 +22,7 @@ use Rattle.std.proofs.lemmas.Map.Made.{length-le_from_is_member, length-from_key
 use Rattle.std.proofs.lemmas.Map.Text.{is_eq-slice_cmp}
 use Rattle.flag_defs.specs.Document.{Definitions}
 use Rattle.book_core.specs.Book.{Inputs, Contents, most_bytes, most_inputs, is_among, inputs_on, input_count, reply_to, IsBook}
+use Rattle.book_core.specs.Calls.{Call, stands}
 use Rattle.book_core.specs.Page.{PageName, page_cmp, page_eq, bytes_cmp}
 use Rattle.book_core.specs.PageOrder.{pages_equal}
 use Rattle.book_core.specs.declared.noted.Noted.TheVariants.{New, Again}
@@ -31,14 +34,18 @@ use Rattle.flag_resolve.specs.Views.{resolution_view}
 use Rattle.flag_resolve.specs.Resolved.{Resolved}
 use Rattle.flag_resolve.specs.declared.resolution.Resolution.{Resolution}
 use Rattle.book_share.specs.Asked.{Mention, mentions, mentions_of, is_mention, mentioned_on, long_inputs, long_of, resolved}
-use Rattle.book_share.specs.Driven.{AreNoted, IsFull, IsWork, at_ask, noted_by, told_mention, refused_mention}
-use Rattle.book_share.specs.Sealed.{IsSealed, all_told}
-use Rattle.book_share.specs.Told.{Told, was_told}
+use Rattle.book_share.specs.Driven.{AreNoted, AreWorks, noted_by, called_mention, refused_mention, mentions_to_all}
 use Rattle.book_share.specs.declared.ask.Ask.{Ask}
 use Rattle.book_share.specs.declared.reach.Refusal.{Refusal}
-use Rattle.book_share.specs.declared.worker.Answer.{Answer}
-use Rattle.book_share.proofs.Held.{is_among-insert}
+use Rattle.book_core.proofs.Answered.{shows_its_calls}
+use Rattle.book_lock.specs.Sealed.{IsSealed}
+use Rattle.book_lock.specs.Seen.{AllKnow, all_ok, calls_by}
+use Rattle.book_lock.specs.Counts.{own}
+use Rattle.book_lock.specs.Told.{IsTold, all_told}
+use Rattle.book_lock.specs.declared.call.Sight.{Sight}
+use Rattle.book_share.proofs.Full.{IsFull, sealed_full}
 use Rattle.book_share.proofs.Reaching.{count-append}
+use Rattle.book_share.proofs.Turns.{Line, to_all}
 
 -- ---- counts
 
@@ -57,10 +64,6 @@ any_count p (x ∷ xs) = by (p x) (any_count p xs) (sum_by-cons (λ y. cond (p y
 any_from_count : {X : Type 0} (p : X → Bool) (xs ys : List X) → count_by p xs ≡ count_by p ys → list_any p xs ≡ list_any p ys
 any_from_count p xs ys e = any_count p xs ∙ ap (nat_lt 0) e ∙ sym (any_count p ys)
 
-any_map : {X Y : Type 0} (p : Y → Bool) (f : X → Y) (xs : List X) → list_any p (map f xs) ≡ list_any (λ x. p (f x)) xs
-any_map p f [] = refl
-any_map p f (x ∷ xs) = ap (λ b. p (f x) || b) (any_map p f xs)
-
 length_map : {X Y : Type 0} (f : X → Y) (xs : List X) → length (map f xs) ≡ length xs
 length_map f [] = refl
 length_map f (x ∷ xs) = let later = length_map f xs in omega (arith, later)
@@ -73,12 +76,49 @@ count-mentions flags p (a ∷ rest) =
     let more = sum_by-cons (λ x. count_by p (mentions_of flags x)) a rest in
     omega (arith, later, split, more)
 
--- what is told or refused is mentioned, and nothing else
-any_noted : (page : PageName) (input : List ℕ) (told : List Told) (refused : List Refusal) → list_any (is_mention page input) (noted_by told refused) ≡ (was_told page input told || list_any (is_mention page input) (map refused_mention refused))
-unfolding was_told
-any_noted page input told refused =
-    list_any-append (is_mention page input) (map told_mention told) (map refused_mention refused)
-    ∙ ap (λ b. b || list_any (is_mention page input) (map refused_mention refused)) (any_map (is_mention page input) told_mention told)
+-- each call of a seat was accepted
+ok_both : (b d : Bool) → cond b d false ≡ true → (b ≡ true) × (d ≡ true)
+ok_both true d e = (refl, e)
+ok_both false d e = cc
+
+ok_front : (xs ys : List Call) → all_ok (xs ++ ys) ≡ true → all_ok xs ≡ true
+ok_front [] ys ok = refl
+ok_front (c ∷ cs) ys ok = let both = ok_both (is_ok c.reply) (all_ok (cs ++ ys)) ok in rw (both.0) (ok_front cs ys both.1)
+
+ok_append : (xs ys : List Call) → all_ok xs ≡ true → all_ok ys ≡ true → all_ok (xs ++ ys) ≡ true
+ok_append [] ys a b = b
+ok_append (c ∷ cs) ys a b = let both = ok_both (is_ok c.reply) (all_ok cs) a in rw (both.0) (ok_append cs ys both.1 b)
+
+ok_by : (k : ℕ) (cs : List Call) → all_ok cs ≡ true → all_ok (calls_by k cs) ≡ true
+ok_by k [] ok = refl
+ok_by k (c ∷ cs) ok =
+    let both = ok_both (is_ok c.reply) (all_ok cs) ok in
+    picked (k == c.seat) both.0 (ok_by k cs both.1)
+  where
+    picked : (b : Bool) → is_ok c.reply ≡ true → all_ok (calls_by k cs) ≡ true → all_ok (cond b (c ∷ calls_by k cs) (calls_by k cs)) ≡ true
+    picked true e rest = rw e rest
+    picked false e rest = rest
+
+ok_told : (all : List Call) (seats : List Sight) → all_ok all ≡ true → AllKnow all seats → all_ok (all_told seats) ≡ true
+ok_told all [] ok know = refl
+ok_told all (x ∷ xs) ok know =
+    let front : all_ok x.seen ≡ true = ok_front x.seen know.0.0.0 (sym (ap all_ok know.0.0.1) ∙ ok) in
+    ok_append (own x) (all_told xs) (ok_by x.number x.seen front) (ok_told all xs ok know.1)
+
+any_called : (page : PageName) (input : List ℕ) (calls : List Call) → all_ok calls ≡ true → list_any (is_mention page input) (map called_mention calls) ≡ stands calls page input
+unfolding stands
+any_called page input [] ok = refl
+any_called page input (c ∷ cs) ok =
+    let both = ok_both (is_ok c.reply) (all_ok cs) ok in
+    let later = any_called page input cs both.1 in
+    rw (both.0) (ap (λ b. (page_eq page c.page && bytes_eq input c.input) || b) later)
+
+-- what is accepted or refused is mentioned, and nothing else
+any_noted : (page : PageName) (input : List ℕ) (calls : List Call) (refused : List Refusal) → all_ok calls ≡ true
+    → list_any (is_mention page input) (noted_by calls refused) ≡ (stands calls page input || list_any (is_mention page input) (map refused_mention refused))
+any_noted page input calls refused ok =
+    list_any-append (is_mention page input) (map called_mention calls) (map refused_mention refused)
+    ∙ ap (λ b. b || list_any (is_mention page input) (map refused_mention refused)) (any_called page input calls ok)
 
 -- the inputs that are mentioned for a page
 any_on : (page : PageName) (q : List ℕ) (ms : List Mention) → list_any (is_mention page q) ms ≡ list_any (bytes_eq q) (mentioned_on page ms)
@@ -89,6 +129,32 @@ any_on page q (m ∷ ms) = by (page_eq page m.page) (any_on page q ms)
         → ((b && bytes_eq q m.input) || list_any (is_mention page q) ms) ≡ list_any (bytes_eq q) (cond b (m.input ∷ mentioned_on page ms) (mentioned_on page ms))
     by true l = ap (λ c. bytes_eq q m.input || c) l
     by false l = l
+
+-- ---- one more input
+
+or_swap : (a b c : Bool) → (a || (b || c)) ≡ (b || (a || c))
+or_swap true true c = refl
+or_swap true false c = refl
+or_swap false b c = refl
+
+or_same : (a b : Bool) → (a || b) ≡ (a || (a || b))
+or_same true b = refl
+or_same false b = refl
+
+any-insert_key : {K : Type 0} {R : K → K → Ordering} → IsTotalOrder R → (ks : List K) (k q : K) → list_any (is_at (R q)) (insert_key R ks k) ≡ (is_eq (R q k) || list_any (is_at (R q)) ks)
+any-insert_key o [] k q = refl
+any-insert_key {R = R} o (x ∷ xs) k q =
+    let later = any-insert_key o xs k q in
+    let alike : R k x ≡ Equal → is_eq (R q k) ≡ is_eq (R q x) = λ e. ap is_eq (alike_right o k x q e) in
+    elim (R k x) as (λ r. (r ≡ Equal → is_eq (R q k) ≡ is_eq (R q x)) → list_any (is_at (R q)) (match_ordering r (k ∷ x ∷ xs) (x ∷ xs) (x ∷ insert_key R xs k)) ≡ (is_eq (R q k) || (is_eq (R q x) || list_any (is_at (R q)) xs))) [
+      | Less ↦ λ _. refl
+      | Equal ↦ λ same. rw (same refl) (or_same (is_eq (R q x)) (list_any (is_at (R q)) xs))
+      | Greater ↦ λ _. ap (λ b. is_eq (R q x) || b) later ∙ or_swap (is_eq (R q x)) (is_eq (R q k)) (list_any (is_at (R q)) xs)
+    ] alike
+
+is_among-insert : (inputs : Inputs) (input other : List ℕ) → is_among other (insert_key bytes_cmp inputs input) ≡ (bytes_eq other input || is_among other inputs)
+is_among-insert inputs input other =
+    sym (is_among-by_order other (insert_key bytes_cmp inputs input)) ∙ any-insert_key nat_list_cmp_total inputs input other ∙ ap₂ (λ a b. a || b) (is_eq-slice_cmp other input) (is_among-by_order other inputs)
 
 -- ---- different inputs
 
@@ -144,7 +210,7 @@ full_page book r full =
     let parts = full_parts (nat_lt most_bytes (length input)) (is_among input (inputs_on book r.page)) (nat_lt (length (inputs_on book r.page)) most_inputs) full in
     (parts.0, ltb-false _ _ parts.1)
 
-rising_page : (book : Contents) (page : PageName) → IsBook book → IsStrictlySortedBy bytes_cmp (inputs_on book page)
+pub rising_page : (book : Contents) (page : PageName) → IsBook book → IsStrictlySortedBy bytes_cmp (inputs_on book page)
 unfolding inputs_on
 rising_page book page is_book = (exposure_found (is_at (page_cmp page)) book is_book.filled).rising
 
@@ -174,12 +240,12 @@ refused_here r rest q same =
     or_first (page_eq r.page r.page && bytes_eq q (string_bytes r.input)) (list_any (is_mention r.page q) (map refused_mention rest)) (rw (here, same) refl)
 
 -- where no page has too many inputs mentioned, no page was full
-none_refused : (ms : List Mention) (book : Contents) (told : List Told) (refused : List Refusal) → IsBook book
-    → ((page : PageName) (q : List ℕ) → list_any (is_mention page q) (noted_by told refused) ≡ list_any (is_mention page q) ms)
-    → ((page : PageName) (q : List ℕ) → is_among q (inputs_on book page) ≡ was_told page q told)
+none_refused : (ms : List Mention) (book : Contents) (calls : List Call) (refused : List Refusal) → IsBook book
+    → ((page : PageName) (q : List ℕ) → list_any (is_mention page q) (noted_by calls refused) ≡ list_any (is_mention page q) ms) → all_ok calls ≡ true
+    → ((page : PageName) (q : List ℕ) → is_among q (inputs_on book page) ≡ stands calls page q)
     → All (IsFull book) refused → ((page : PageName) → distinct_count bytes_eq (mentioned_on page ms) ≤ most_inputs) → length refused ≡ 0
-none_refused ms book told [] is_book same union full few = refl
-none_refused ms book told (r ∷ rest) is_book same union full few =
+none_refused ms book calls [] is_book same ok union full few = refl
+none_refused ms book calls (r ∷ rest) is_book same ok union full few =
     let page = r.page in
     let input = string_bytes r.input in
     let inputs = inputs_on book page in
@@ -190,10 +256,10 @@ none_refused ms book told (r ∷ rest) is_book same union full few =
     let longer : length more ≡ length inputs + 1 = length-insert_key bytes_cmp inputs input (is_among-by_order input inputs ∙ absent) in
     let refusals = map refused_mention (r ∷ rest) in
     let within : (q : List ℕ) → is_among q more ≡ true → is_among q (mentioned_on page ms) ≡ true =
-    λ q e. sym (any_on page q ms) ∙ sym (same page q) ∙ any_noted page q told (r ∷ rest)
+    λ q e. sym (any_on page q ms) ∙ sym (same page q) ∙ any_noted page q calls (r ∷ rest) ok
     ∙ either (bytes_eq q input) (is_among q inputs) (sym (is_among-insert inputs input q) ∙ e)
-    (λ s. or_last (was_told page q told) (list_any (is_mention page q) refusals) (refused_here r rest q s))
-    (λ s. or_first (was_told page q told) (list_any (is_mention page q) refusals) (sym (union page q) ∙ s)) in
+    (λ s. or_last (stands calls page q) (list_any (is_mention page q) refusals) (refused_here r rest q s))
+    (λ s. or_first (stands calls page q) (list_any (is_mention page q) refusals) (sym (union page q) ∙ s)) in
     let less = few_among more (mentioned_on page ms) (sorted-insert_key nat_list_cmp_total inputs input (rising_page book page is_book)) within in
     let bound = few page in
     absurd (omega (arith, longer, many, less, bound))
@@ -204,35 +270,39 @@ no_refusals (r ∷ rest) e = absurd (omega (arith, e))
 
 -- ---- the whole
 
-pub noted_whole : (flags : Definitions) (asks : List Ask) (seats : List (List Told)) (given : List Answer) (refused : List Refusal) (locked book : Contents) (accepted new : ℕ)
-    → IsWork flags asks (all_told seats) given refused → ((f : Ask → ℕ) → sum_by (λ (a : Answer). at_ask asks f a.ask) given ≡ sum_by f asks)
-    → IsSealed seats locked → book ≡ locked → IsBook book → All (IsFull book) refused → accepted ≡ length (all_told seats) → new ≡ input_count book
+pub noted_whole : (flags : Definitions) (workers : ℕ) (asks : List Ask) (seats : List Sight) (given : Line) (refused : List Refusal) (n : ℕ) (book : Contents) (accepted new : ℕ)
+    → 0 < workers → length seats ≡ workers → AreWorks flags workers asks seats given refused → IsSealed n seats book → IsTold seats book → accepted ≡ length (all_told seats) → new ≡ input_count book
     → AreNoted (mentions flags asks) book accepted new (length refused)
-noted_whole flags asks seats given refused locked book accepted new work each sealed same is_book full calls news =
+noted_whole flags workers asks seats given refused n book accepted new some len works sealed told accepted_is news =
     let ms = mentions flags asks in
-    let told = all_told seats in
-    let counted : (p : Mention → Bool) → count_by p (noted_by told refused) ≡ count_by p ms = λ p. work.noted p ∙ each (λ a. count_by p (mentions_of flags a)) ∙ sym (count-mentions flags p asks) in
-    let any : (page : PageName) (q : List ℕ) → list_any (is_mention page q) (noted_by told refused) ≡ list_any (is_mention page q) ms = λ page q. any_from_count (is_mention page q) (noted_by told refused) ms (counted (is_mention page q)) in
-    let union : (page : PageName) (q : List ℕ) → is_among q (inputs_on book page) ≡ was_told page q told = λ page q. ap (λ b. is_among q (inputs_on b page)) same ∙ sealed.told.union page q in
+    let calls = all_told seats in
+    let ok : all_ok calls ≡ true = ok_told sealed.all seats sealed.legal.1 sealed.seen in
+    let is_book : IsBook book = subst IsBook (sym sealed.left) (shows_its_calls sealed.all sealed.legal.0).0 in
+    let full : All (IsFull book) refused = sealed_full n seats book refused sealed works.full in
+    let last : length seats ≡ suc (workers - 1) = omega (arith, some, len) in
+    let counted : (p : Mention → Bool) → count_by p (noted_by calls refused) ≡ count_by p ms =
+    λ p. works.noted p ∙ ap (λ k. mentions_to_all flags p (workers - 1) k asks) last ∙ to_all flags p (workers - 1) asks ∙ sym (count-mentions flags p asks) in
+    let any : (page : PageName) (q : List ℕ) → list_any (is_mention page q) (noted_by calls refused) ≡ list_any (is_mention page q) ms = λ page q. any_from_count (is_mention page q) (noted_by calls refused) ms (counted (is_mention page q)) in
+    let union : (page : PageName) (q : List ℕ) → is_among q (inputs_on book page) ≡ stands calls page q = λ page q. told.told.union page q in
     let contents : length refused ≡ 0 → (page : PageName) (q : List ℕ) → is_among q (inputs_on book page) ≡ list_any (is_mention page q) ms =
-    λ none page q. union page q ∙ sym (or_empty (was_told page q told)) ∙ ap (λ l. was_told page q told || list_any (is_mention page q) (map refused_mention l)) (sym (no_refusals refused none))
-    ∙ sym (any_noted page q told refused) ∙ any page q in record {
+    λ none page q. union page q ∙ sym (or_empty (stands calls page q)) ∙ ap (λ l. stands calls page q || list_any (is_mention page q) (map refused_mention l)) (sym (no_refusals refused none))
+    ∙ sym (any_noted page q calls refused ok) ∙ any page q in record {
       calls =
-          let whole = sym (count_all (noted_by told refused)) ∙ counted (λ _. true) ∙ count_all ms in
-          let parts = length-append (map told_mention told) (map refused_mention refused) in
-          let a = length_map told_mention told in
+          let whole = sym (count_all (noted_by calls refused)) ∙ counted (λ _. true) ∙ count_all ms in
+          let parts = length-append (map called_mention calls) (map refused_mention refused) in
+          let a = length_map called_mention calls in
           let b = length_map refused_mention refused in
-          omega (arith, whole, parts, a, b, calls);
+          omega (arith, whole, parts, a, b, accepted_is);
       news = news;
       full = (
         (λ none page.
             let counts = length-from_keys bytes_laws (inputs_on book page) (mentioned_on page ms) (rising_distinct (inputs_on book page) (rising_page book page is_book)) (λ q. contents none page q ∙ any_on page q ms) in
             let few = few_on_page book page is_book in
             omega (arith, counts, few)),
-        none_refused ms book told refused is_book any union full,
+        none_refused ms book calls refused is_book any ok union full,
       );
       contents = contents;
-      held = λ page q e. sym (any page q) ∙ any_noted page q told refused ∙ or_first (was_told page q told) (list_any (is_mention page q) (map refused_mention refused)) (sym (union page q) ∙ e);
+      held = λ page q e. sym (any page q) ∙ any_noted page q calls refused ok ∙ or_first (stands calls page q) (list_any (is_mention page q) (map refused_mention refused)) (sym (union page q) ∙ e);
     }
 
 -- how many long inputs there are in the answers
@@ -244,7 +314,3 @@ long_whole flags asks rs long answers is =
     sum-map : {X Y : Type 0} (w : Y → ℕ) (f : X → Y) (xs : List X) → sum_by w (map f xs) ≡ sum_by (λ x. w (f x)) xs
     sum-map w f [] = refl
     sum-map w f (x ∷ xs) = let later = sum-map w f xs in let a = sum_by-cons w (f x) (map f xs) in let b = sum_by-cons (λ y. w (f y)) x xs in omega (arith, later, a, b)
-
--- what is known of an answer that is there
-pub answers_there : {X E : Type 0} (P : X → Type 0) (r : Result (Option X) E) (o : Option X) (x : X) → r ≡ Ok o → o ≡ Some x → IfOk r (λ p. IfSome p P) → P x
-answers_there P r o x is some holds = subst (λ p. IfSome p P) some (subst (λ q. IfOk q (λ p. IfSome p P)) is holds)

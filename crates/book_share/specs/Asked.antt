@@ -1,5 +1,5 @@
 -- What asks are answered, and what they reach.
-use Rattle.std.specs.Prelude.{ℕ, List, [], ◌∷◌, ◌++◌, length, count_by, sum_by, Bool, ◌&&◌, nat_lt, if◌then◌else◌, Option, Some, None, Result, Ok, Err, option_and_then, string_bytes}
+use Rattle.std.specs.Prelude.{ℕ, zero, suc, ◌-◌, List, [], ◌∷◌, ◌++◌, length, count_by, sum_by, Bool, ◌&&◌, nat_lt, if◌then◌else◌, Option, Some, None, Result, Ok, Err, option_and_then, string_bytes}
 use Rattle.std.specs.Map.{lookup}
 use Rattle.std.specs.Str.{bytes_eq}
 use Rattle.flag_text.specs.View.{view}
@@ -82,3 +82,13 @@ is_mention page input m = page_eq page m.page && bytes_eq input m.input
 abbrev pub mentioned_on : PageName → List Mention → List (List ℕ)
 mentioned_on page [] = []
 mentioned_on page (m ∷ ms) = if page_eq page m.page then m.input ∷ mentioned_on page ms else mentioned_on page ms
+
+-- the asks that are left once the first ones were passed over, and then as many each time between two of them
+abbrev pub every : ℕ → ℕ → List Ask → List Ask
+every between first [] = []
+every between zero (a ∷ rest) = a ∷ every between between rest
+every between (suc first) (a ∷ rest) = every between first rest
+
+-- the asks that a worker takes: the one of its own number, then each that comes as many after as there are workers
+abbrev pub asks_of : ℕ → ℕ → List Ask → List Ask
+asks_of workers worker asks = every (workers - 1) worker asks

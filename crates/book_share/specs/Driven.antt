@@ -1,18 +1,22 @@
 -- What a drive ends with, and what its workers end with.
-use Rattle.std.specs.Prelude.{◌≡◌, ◌↔◌, ◌≤◌, ℕ, ◌+◌, List, ◌++◌, length, map, count_by, sum_by, All, Bool, true, Some, Err, option_map, unwrap_or, slice_get, string_bytes}
+use Rattle.std.specs.Prelude.{◌≡◌, ◌↔◌, ◌≤◌, ℕ, zero, suc, ◌+◌, ◌-◌, List, [], ◌∷◌, ◌++◌, length, map, count_by, sum_by, All, Bool, true, Some, Err, option_map, slice_get, string_bytes}
 use Rattle.std.specs.List.{list_any}
 use Rattle.std.specs.Set.{distinct_count}
 use Rattle.std.specs.Str.{bytes_eq}
 use Rattle.flag_defs.specs.Document.{Definitions}
 use Rattle.flag_resolve.specs.Views.{resolution_view}
-use Rattle.book_core.specs.Book.{Contents, most_inputs, is_among, inputs_on, input_count, reply_to}
+use Rattle.flag_resolve.specs.declared.resolution.Resolution.{Resolution}
+use Rattle.book_core.specs.Book.{Contents, most_inputs, is_among, inputs_on, input_count}
+use Rattle.book_core.specs.Calls.{Call, reply_after}
 use Rattle.book_core.specs.declared.fault.BookFault.TheVariants.{PageFull}
 use Rattle.book_core.specs.Page.{PageName}
-use Rattle.book_share.specs.Asked.{Mention, is_mention, mentioned_on, mentions_of, resolved}
-use Rattle.book_share.specs.Told.{Told}
+use Rattle.book_lock.specs.Counts.{own}
+use Rattle.book_lock.specs.Seen.{AllKnow, IsLegal, StartsWith}
+use Rattle.book_lock.specs.Told.{all_told}
+use Rattle.book_lock.specs.declared.call.Sight.{Sight}
+use Rattle.book_share.specs.Asked.{Mention, every, is_mention, mentioned_on, mentions_of, resolved}
 use Rattle.book_share.specs.declared.ask.Ask.{Ask}
 use Rattle.book_share.specs.declared.reach.Refusal.{Refusal}
-use Rattle.book_share.specs.declared.worker.Answer.{Answer}
 
 -- What was noted of the mentioned inputs. Each mention was accepted or refused by a full page, and there was no full page
 -- exactly where no page has more than 1000000 different inputs mentioned for it. The book then has just the mentioned inputs.
@@ -23,39 +27,64 @@ pub record AreNoted (mentions : List Mention) (book : Contents) (accepted new re
   pub contents : refused ≡ 0 → (page : PageName) (input : List ℕ) → is_among input (inputs_on book page) ≡ list_any (is_mention page input) mentions
   pub held : (page : PageName) (input : List ℕ) → is_among input (inputs_on book page) ≡ true → list_any (is_mention page input) mentions ≡ true
 
--- the book refuses the input for its full page
-abbrev pub IsFull : Contents → Refusal → Type 0
-IsFull book r = reply_to book r.page (string_bytes r.input) ≡ Err PageFull
+-- after these calls the page refuses the input, for it is full
+abbrev pub IsFullAfter : List Call → Refusal → Type 0
+IsFullAfter calls r = reply_after calls r.page (string_bytes r.input) ≡ Err PageFull
 
--- the input that a seat was told of
-abbrev pub told_mention : Told → Mention
-told_mention t = record { page = t.page; input = t.input }
+-- each legal list that begins with these calls ends in a full page for each of these inputs
+abbrev pub AreFull : List Call → List Refusal → Type 0
+AreFull seen refused = (all : List Call) → IsLegal all → StartsWith all seen → All (IsFullAfter all) refused
+
+-- the same of a list that begins with what each of these seats has seen
+abbrev pub AreFullToAll : List Sight → List Refusal → Type 0
+AreFullToAll seats refused = (all : List Call) → IsLegal all → AllKnow all seats → All (IsFullAfter all) refused
+
+-- the input of a call
+abbrev pub called_mention : Call → Mention
+called_mention c = record { page = c.page; input = c.input }
 
 -- the input that a full page refused
 abbrev pub refused_mention : Refusal → Mention
 refused_mention r = record { page = r.page; input = string_bytes r.input }
 
--- what a worker noted: what its seat was told of, and what full pages refused
-abbrev pub noted_by : List Told → List Refusal → List Mention
-noted_by told refused = map told_mention told ++ map refused_mention refused
+-- what a worker noted: the inputs of these calls, and those that full pages refused
+abbrev pub noted_by : List Call → List Refusal → List Mention
+noted_by calls refused = map called_mention calls ++ map refused_mention refused
 
 -- these were noted beside the old ones, in any order
 abbrev pub Notes : List Mention → List Mention → List Mention → Type 0
 Notes more old new = (p : Mention → Bool) → count_by p new ≡ count_by p old + count_by p more
 
--- a number of the ask at a place, 0 where there is none
-abbrev pub at_ask : List Ask → (Ask → ℕ) → ℕ → ℕ
-at_ask asks f n = unwrap_or (option_map f (slice_get asks n)) 0
+-- the resolution is that of the ask of this number
+unfoldable pub IsAnswer : Definitions → List Ask → ℕ → Resolution → Type 0
+IsAnswer flags asks n r = option_map (resolved flags) (slice_get asks n) ≡ Some (resolution_view r)
 
--- the answer is the resolution of the ask whose number it has
-unfoldable pub IsAnswer : Definitions → List Ask → Answer → Type 0
-IsAnswer flags asks a = option_map (resolved flags) (slice_get asks a.ask) ≡ Some (resolution_view a.resolution)
+-- what the ask of this number mentions was noted beside the old ones
+unfoldable pub NotesAsk : Definitions → List Ask → ℕ → List Mention → List Mention → Type 0
+NotesAsk flags asks n old new = (a : Ask) → slice_get asks n ≡ Some a → Notes (mentions_of flags a) old new
 
--- how many of the mentions of the ask of a number pass the test
-abbrev pub mentions_at : Definitions → List Ask → (Mention → Bool) → ℕ → ℕ
-mentions_at flags asks p n = at_ask asks (λ a. count_by p (mentions_of flags a)) n
+-- how many of the mentions of the asks pass the test
+abbrev pub mentions_with : Definitions → (Mention → Bool) → List Ask → ℕ
+mentions_with flags p asks = sum_by (λ a. count_by p (mentions_of flags a)) asks
 
--- what one worker, or several, made of their asks: the answers, and what these asks mention was noted
-pub record IsWork (flags : Definitions) (asks : List Ask) (told : List Told) (given : List Answer) (refused : List Refusal) : Type 0 where
-  pub answers : All (IsAnswer flags asks) given
-  pub noted : (p : Mention → Bool) → count_by p (noted_by told refused) ≡ sum_by (λ a. mentions_at flags asks p a.ask) given
+-- what one worker made of its asks: the answers in their order, what they mention was noted, and what was refused is so for a full page
+pub record IsWork (flags : Definitions) (asks : List Ask) (seat : Sight) (given : List Resolution) (refused : List Refusal) : Type 0 where
+  pub answers : map resolution_view given ≡ map (resolved flags) asks
+  pub noted : (p : Mention → Bool) → count_by p (noted_by (own seat) refused) ≡ mentions_with flags p asks
+  pub full : AreFull seat.seen refused
+
+-- the workers from the first to the one before the last stand in a line, each with the answers to its asks, between two of which so many others come
+abbrev pub AreInTurn : Definitions → ℕ → ℕ → ℕ → List Ask → List (List Resolution) → Type 0
+AreInTurn flags between first last asks [] = first ≡ last
+AreInTurn flags between first last asks (w ∷ ws) = (map resolution_view w ≡ map (resolved flags) (every between first asks)) × AreInTurn flags between (suc first) last asks ws
+
+-- how many of the mentions of the asks of the first workers pass the test
+abbrev pub mentions_to_all : Definitions → (Mention → Bool) → ℕ → ℕ → List Ask → ℕ
+mentions_to_all flags p between zero asks = 0
+mentions_to_all flags p between (suc last) asks = mentions_with flags p (every between last asks) + mentions_to_all flags p between last asks
+
+-- what the first workers of so many made
+pub record AreWorks (flags : Definitions) (workers : ℕ) (asks : List Ask) (seats : List Sight) (given : List (List Resolution)) (refused : List Refusal) : Type 0 where
+  pub answers : AreInTurn flags (workers - 1) 0 (length seats) asks given
+  pub noted : (p : Mention → Bool) → count_by p (noted_by (all_told seats) refused) ≡ mentions_to_all flags p (workers - 1) (length seats) asks
+  pub full : AreFullToAll seats refused

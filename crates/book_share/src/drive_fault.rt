@@ -20,9 +20,6 @@ pub enum DriveFault {
     /// The gate refused an ask 1000000 times.
     #[error("the gate did not let an ask start")]
     Stalled,
-    /// The book and what its seats were told are not the same.
-    #[error("the book and what its seats were told disagree")]
-    Disagrees,
 }
 
 impl DriveFault {
@@ -35,7 +32,6 @@ impl DriveFault {
             DriveFault::NoWorkers => 1,
             DriveFault::TooManyWorkers => 2,
             DriveFault::Stalled => 3,
-            DriveFault::Disagrees => 4,
         }
     }
 
@@ -48,7 +44,6 @@ impl DriveFault {
             DriveFault::NoWorkers => "NoWorkers",
             DriveFault::TooManyWorkers => "TooManyWorkers",
             DriveFault::Stalled => "Stalled",
-            DriveFault::Disagrees => "Disagrees",
         }
     }
 }

@@ -1,33 +1,28 @@
 //! Asks, answered by workers that share a book.
-ghost use Rattle.std.specs.Prelude.{◌≡◌, ◌≢◌, ◌<◌, ◌≤◌, ◌*◌, ◌^◌, ℕ, Some, None, List, length, map, count_by, sum_by, true, false, All, Ok, Err, IfErr, IfOk, MatchResult};
+ghost use Rattle.std.specs.Prelude.{◌≡◌, ◌≢◌, ◌<◌, ◌≤◌, ◌*◌, ◌^◌, ℕ, Some, None, List, length, map, count_by, sum_by, true, false, Ok, Err, IfErr, IfOk};
 ghost use Rattle.logic_eval.specs.Views.{reach_view};
-ghost use Rattle.book_core.specs.Book.{Contents, IsBook, input_count, reply_to};
 ghost use Rattle.flag_defs.specs.Flags.{flags_view};
 ghost use Rattle.flag_resolve.specs.Views.{resolution_view};
+ghost use Rattle.book_lock.specs.Limits.{most_seats};
+ghost use Rattle.book_lock.specs.Told.{all_told};
 ghost use Rattle.book_share.specs.Asked.{is_long, long_inputs, long_of as long_of_asks, mentions, resolved};
-ghost use Rattle.book_share.specs.Driven.{AreNoted, IsFull};
-ghost use Rattle.book_share.specs.Sealed.{all_told};
+ghost use Rattle.book_share.specs.Driven.{AreNoted};
 ghost use Rattle.book_share.specs.declared.drive_fault.DriveFault.{DriveFault as Fault};
 ghost use Rattle.book_share.specs.DriveFault.{is_of_workers, workers_fault};
 
 use crate::ask::Ask;
-use crate::blanks::Blanks;
 use crate::drive_fault::DriveFault;
-use crate::fault::{SealFault, SeatsFault};
 use crate::gate::Gate;
 use crate::gather::{Harvest, gathered, parts_of};
-use crate::name::BookName;
 use crate::order::in_order;
-use crate::reach::Refusal;
-use crate::sealing::seal;
-use crate::seat::Seat;
-use crate::shared::{MOST_BYTES, SharedBook};
+use crate::reach::MOST_BYTES;
 use crate::worker::Round;
-use book_core::{Book, BookFault};
+use book_core::Book;
+use book_lock::{Blanks, BookName, Seat, SeatsFault, SharedBook, seal};
 use flag_defs::Flags;
 use flag_resolve::Resolution;
 use logic_eval::Reached;
-use std::alloc::{AllocError, Global};
+use std::alloc::Global;
 use std::marker::Brand;
 use std::sync::Wait;
 use std::thread::Threads;
@@ -54,8 +49,7 @@ pub struct Driven {
 /// is too long or that a full page refuses is counted, and the ask is answered all the same.
 ///
 /// It is refused with NoWorkers and TooManyWorkers (more than 64), then with Stalled where the gate refuses an ask
-/// 1000000 times, or with Disagrees where the book is not what the workers were told, which no run is known to meet. A
-/// refusal comes after all workers have ended, and drops the book. The condition is fewer than 2^32 asks.
+/// 1000000 times. A refusal comes after all workers have ended, and drops the book. The condition is fewer than 2^32 asks.
 pub fn drive<G: Gate, R: Threads + Wait + Sync>(
     rt: &R,
     alloc: Global,
@@ -72,15 +66,19 @@ pub fn drive<G: Gate, R: Threads + Wait + Sync>(
     ensures refused { IfErr result (λ e. is_of_workers e ≡ true → workers_fault workers ≡ Some e) }
     ensures unstalled { G.always → result ≢ Err DriveFault.Stalled }
 {
-    let blanks = blanks_of(workers)?;
-    driven_by::<Brand, G, R>(rt, alloc, blanks, flags, asks, gate)
+    let blanks = blanks_of(alloc, workers)?;
+    driven_by::<Brand, G, R>(rt, alloc, blanks, workers, flags, asks, gate)
 }
 
 /// Blanks with a seat for each worker.
-fn blanks_of(workers: usize) -> Result<Blanks, DriveFault>
-    ensures { MatchResult result (λ b. (workers_fault workers ≡ None) × (b.seats ≡ workers)) (λ e. (workers_fault workers ≡ Some e) × (e ≢ DriveFault.Stalled)) }
+fn blanks_of(alloc: Global, workers: usize) -> Result<Blanks, DriveFault>
+    ensures made { IfOk result (λ b. (workers_fault workers ≡ None) × (b.seats ≡ workers)) }
+    ensures few { IfOk result (λ _. (0 < workers) × (workers ≤ most_seats)) }
+    ensures workers { (e : Fault) → workers_fault workers ≡ Some e → result ≡ Err e }
+    ensures refused { IfErr result (λ e. is_of_workers e ≡ true → workers_fault workers ≡ Some e) }
+    ensures unstalled { result ≢ Err DriveFault.Stalled }
 {
-    match Blanks::new(workers) {
+    match Blanks::new(alloc, workers) {
         Ok(blanks) => Ok(blanks),
         Err(SeatsFault::NoSeats) => Err(DriveFault::NoWorkers),
         Err(SeatsFault::TooManySeats) => Err(DriveFault::TooManyWorkers),
@@ -93,12 +91,13 @@ fn driven_by<L: BookName + Send + Sync, G: Gate, R: Threads + Wait + Sync>(
     rt: &R,
     alloc: Global,
     blanks: Blanks,
+    workers: usize,
     flags: &Flags,
     asks: &[Ask],
     gate: &G,
 ) -> Result<Driven, DriveFault>
-    requires name { blanks.name ≡ L.name }
-    requires parts { (blanks.seats ≡ L.parts) × (blanks.seats ≡ L.seats) }
+    requires name { (blanks.table ≡ L.table) × (blanks.seats ≡ L.seats) }
+    requires workers { (workers ≡ L.seats) × (0 < workers) × (workers ≤ most_seats) }
     requires asks { length asks.now < 2 ^ 32 }
     ensures answers { IfOk result (λ d. map resolution_view d.answers.items ≡ map (resolved (flags_view flags.now)) asks.now) }
     ensures noted { IfOk result (λ d. AreNoted (mentions (flags_view flags.now) asks.now) d.book d.calls d.news d.full) }
@@ -106,14 +105,13 @@ fn driven_by<L: BookName + Send + Sync, G: Gate, R: Threads + Wait + Sync>(
     ensures unstalled { G.always → result ≢ Err DriveFault.Stalled }
     ensures started { IfErr result (λ e. is_of_workers e ≡ false) }
 {
-    let step = blanks.seats;
     let (book, seats) = SharedBook::<L>::new(alloc, blanks)?;
     let round = Round {
         book: &book,
         flags,
         asks,
         gate,
-        step,
+        step: workers,
     };
     let parts = parts_of(rt, alloc, &round, seats)?;
     let Harvest {
@@ -121,16 +119,13 @@ fn driven_by<L: BookName + Send + Sync, G: Gate, R: Threads + Wait + Sync>(
         answers,
         refused,
     } = gathered(alloc, parts)?;
-    let Some(answers) = in_order(alloc, asks, answers)? else {
-        return Err(DriveFault::Disagrees);
-    };
+    let answers = in_order(alloc, flags, asks, answers)?;
     let calls = calls_of(seats.as_slice());
-    let book = match seal(alloc, book, seats) {
-        Ok(book) => book,
-        Err(refused) => return Err(fault_of(refused.fault)),
-    };
     let long = long_of(answers.as_slice());
-    let (book, news) = checked(alloc, book, refused.as_slice())?;
+    let Ok(book) = seal(book, seats) else {
+        unreachable!()
+    };
+    let news = book.inputs();
     Ok(Driven {
         answers,
         book,
@@ -150,56 +145,6 @@ fn calls_of<L: BookName>(seats: &[Seat<L>]) -> u128
         calls += u128::from(seat.calls());
     }
     calls
-}
-
-fn fault_of(fault: SealFault) -> DriveFault
-    ensures unstalled { result ≢ DriveFault.Stalled }
-    ensures started { is_of_workers result ≡ false }
-{
-    match fault {
-        SealFault::WantOfMemory => DriveFault::WantOfMemory,
-        SealFault::SeatMissing => DriveFault::Disagrees,
-        SealFault::Disagrees => DriveFault::Disagrees,
-    }
-}
-
-/// The book with the number of its inputs, once each input that was refused was found to be none of a full page.
-fn checked(alloc: Global, book: Book, refused: &[Refusal]) -> Result<(Book, u128), DriveFault>
-    ensures same { IfOk result (λ r. r.0 ≡ book) }
-    ensures lawful { IfOk result (λ r. IsBook r.0) }
-    ensures number { IfOk result (λ r. r.1 ≡ input_count r.0) }
-    ensures full { IfOk result (λ r. All (IsFull r.0) refused.now) }
-    ensures unstalled { result ≢ Err DriveFault.Stalled }
-    ensures started { IfErr result (λ e. is_of_workers e ≡ false) }
-{
-    let mut book = book;
-    if !are_refused(alloc, &mut book, refused)? {
-        return Err(DriveFault::Disagrees);
-    }
-    let news = book.inputs();
-    Ok((book, news))
-}
-
-/// Whether the book refuses each of these for its full page. Where it does, it stays as it was.
-fn are_refused(alloc: Global, book: &mut Book, refused: &[Refusal]) -> Result<bool, AllocError>
-    ensures { IfOk result (λ all. all ≡ true → (book.new ≡ book.old) × All (IsFull book.old) refused.now) }
-{
-    for refusal in refused {
-        if !is_refused(alloc, book, refusal)? {
-            return Ok(false);
-        }
-    }
-    Ok(true)
-}
-
-fn is_refused(alloc: Global, book: &mut Book, refusal: &Refusal) -> Result<bool, AllocError>
-    ensures { IfOk result (λ yes. yes ≡ true → (book.new ≡ book.old) × IsFull book.old refusal.now) }
-{
-    match book.note(alloc, &refusal.page, refusal.input.as_str()) {
-        Err(BookFault::PageFull) => Ok(true),
-        Err(BookFault::WantOfMemory) => Err(AllocError),
-        _ => Ok(false),
-    }
 }
 
 /// How many inputs of more than 1024 bytes were reached.

@@ -1,36 +1,48 @@
 //! What the workers made, put together.
-ghost use Rattle.std.specs.Prelude.{◌≡◌, ◌≢◌, [], List, false, vec_len, All, Err, IfErr, IfOk};
+ghost use Rattle.std.specs.Prelude.{◌≡◌, ◌≢◌, ◌<◌, [], ℕ, List, false, length, map, slice_get, All, Err, IfErr, IfOk, IfSome};
+ghost use Rattle.std.specs.VecDeque.{deque_items};
 ghost use Rattle.flag_defs.specs.Document.{Definitions};
 ghost use Rattle.flag_defs.specs.Flags.{flags_view};
+ghost use Rattle.book_lock.specs.Counts.{own};
+ghost use Rattle.book_lock.specs.Seen.{unseen};
+ghost use Rattle.book_share.specs.Asked.{asks_of};
 ghost use Rattle.book_share.specs.DriveFault.{is_of_workers};
-ghost use Rattle.book_share.specs.Driven.{IsWork};
-ghost use Rattle.book_share.specs.Sealed.{all_told};
+ghost use Rattle.book_share.specs.Driven.{AreWorks, IsWork};
 ghost use Rattle.book_share.specs.declared.ask.Ask.{Ask};
 
 use crate::drive_fault::DriveFault;
 use crate::gate::Gate;
-use crate::name::BookName;
 use crate::reach::Refusal;
-use crate::seat::Seat;
-use crate::worker::{Answer, Job, Part, Round, work};
+use crate::worker::{Job, Part, Round, work};
+use book_lock::{BookName, Seat};
+use flag_resolve::Resolution;
 use std::alloc::{AllocError, Global};
+use std::collections::VecDeque;
 use std::sync::Wait;
 use std::thread;
 use std::thread::Threads;
 
-/// What all workers made: their seats, their answers, and what full pages refused.
+/// What all workers made: their seats, the answers of each, and what full pages refused.
 #[derive(Drop)]
 pub(crate) struct Harvest<L: BookName> {
     pub(crate) seats: Vec<Seat<L>>,
-    pub(crate) answers: Vec<Answer>,
+    pub(crate) answers: VecDeque<VecDeque<Resolution>>,
     pub(crate) refused: Vec<Refusal>,
 }
 
-/// A job for each seat.
-fn jobs_of<L: BookName>(alloc: Global, seats: Vec<Seat<L>>) -> Result<Vec<Job<L>>, AllocError>
-    requires { All (λ seat. seat ≡ []) seats.items }
-    ensures { IfOk result (λ jobs. All (λ job. job.seat ≡ []) jobs.items) }
+/// A job for each seat, numbered from 0.
+fn jobs_of<L: BookName>(
+    alloc: Global,
+    seats: Vec<Seat<L>>,
+    workers: usize,
+) -> Result<Vec<Job<L>>, AllocError>
+    requires fresh { All (λ seat. own seat ≡ []) seats.items }
+    requires workers { length seats.items ≡ workers }
+    ensures fresh { IfOk result (λ jobs. All (λ job. (own job.seat ≡ []) × (job.first < workers)) jobs.items) }
+    ensures first { IfOk result (λ jobs. (i : ℕ) → IfSome (slice_get jobs.items i) (λ job. job.first ≡ i)) }
+    ensures len { IfOk result (λ jobs. length jobs.items ≡ workers) }
 {
+    let _ = workers;
     let mut jobs = Vec::with_capacity(alloc, seats.len())?;
     for seat in seats {
         let first = jobs.len();
@@ -47,18 +59,19 @@ pub(crate) fn parts_of<L: BookName + Send + Sync, G: Gate, R: Threads + Wait + S
     round: &Round<'_, L, G>,
     seats: Vec<Seat<L>>,
 ) -> Result<Vec<Result<Part<L>, DriveFault>>, AllocError>
-    requires { All (λ seat. seat ≡ []) seats.items }
-    ensures work { IfOk result (λ parts. All (λ r. IfOk r (λ p. IsWork (flags_view round.now.flags.now) round.now.asks.now p.seat p.answers.items p.refused.items)) parts.items) }
+    requires fresh { seats.items ≡ unseen round.now.step }
+    ensures len { IfOk result (λ parts. length parts.items ≡ round.now.step) }
+    ensures work { IfOk result (λ parts. (w : ℕ) → IfSome (slice_get parts.items w) (λ r. IfOk r (λ p. IsWork (flags_view round.now.flags.now) (asks_of round.now.step w round.now.asks.now) p.seat p.answers.items p.refused.items))) }
     ensures unstalled { G.always → IfOk result (λ parts. All (λ r. r ≢ Err DriveFault.Stalled) parts.items) }
     ensures started { IfOk result (λ parts. All (λ r. IfErr r (λ e. is_of_workers e ≡ false)) parts.items) }
 {
-    let jobs = jobs_of(alloc, seats)?;
+    let jobs = jobs_of(alloc, seats, round.step)?;
     thread::map_vec(
         rt,
         jobs,
         &|job: Job<L>| -> Result<Part<L>, DriveFault>
-            requires { job.seat ≡ [] }
-            ensures { IfOk result (λ p. IsWork (flags_view round.entry.now.flags.now) round.entry.now.asks.now p.seat p.answers.items p.refused.items) × (G.always → result ≢ Err DriveFault.Stalled) × IfErr result (λ e. is_of_workers e ≡ false) }
+            requires { (own job.seat ≡ []) × (job.first < round.now.step) }
+            ensures { IfOk result (λ p. IsWork (flags_view round.entry.now.flags.now) (asks_of round.entry.now.step job.first round.entry.now.asks.now) p.seat p.answers.items p.refused.items) × (G.always → result ≢ Err DriveFault.Stalled) × IfErr result (λ e. is_of_workers e ≡ false) }
         { work(rt, alloc, round, job) },
     )
 }
@@ -68,21 +81,22 @@ pub(crate) fn gathered<L: BookName>(
     alloc: Global,
     parts: Vec<Result<Part<L>, DriveFault>>,
 ) -> Result<Harvest<L>, DriveFault>
-    ensures work { (flags : Definitions) (asks : List Ask) → All (λ r. IfOk r (λ p. IsWork flags asks p.seat p.answers.items p.refused.items)) parts.items → IfOk result (λ h. IsWork flags asks (all_told h.seats.items) h.answers.items h.refused.items) }
+    ensures len { IfOk result (λ h. length h.seats.items ≡ length parts.items) }
+    ensures work { (flags : Definitions) (asks : List Ask) (workers : ℕ) → ((w : ℕ) → IfSome (slice_get parts.items w) (λ r. IfOk r (λ p. IsWork flags (asks_of workers w asks) p.seat p.answers.items p.refused.items))) → IfOk result (λ h. AreWorks flags workers asks h.seats.items (map deque_items h.answers.items) h.refused.items) }
     ensures unstalled { All (λ r. r ≢ Err DriveFault.Stalled) parts.items → result ≢ Err DriveFault.Stalled }
     ensures started { All (λ r. IfErr r (λ e. is_of_workers e ≡ false)) parts.items → IfErr result (λ e. is_of_workers e ≡ false) }
 {
     let mut seats = Vec::with_capacity(alloc, parts.len())?;
-    let mut answers = Vec::new(alloc);
+    let mut answers = VecDeque::with_capacity(alloc, parts.len())?;
     let mut refused = Vec::new(alloc);
     for part in parts {
         let Part {
             seat,
-            answers: mut more,
+            answers: more,
             refused: mut others,
         } = part?;
         seats.push(seat)?;
-        answers.append(&mut more)?;
+        answers.push_back(more)?;
         refused.append(&mut others)?;
     }
     Ok(Harvest {

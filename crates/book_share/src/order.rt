@@ -1,47 +1,37 @@
 //! Answers, put into the order of their asks.
-ghost use Rattle.std.specs.Prelude.{◌≡◌, ℕ, List, map, sum_by, All, IfOk, IfSome};
-ghost use Rattle.std.specs.List.Sorted.{IsPermutation};
-ghost use Rattle.flag_defs.specs.Document.{Definitions};
+ghost use Rattle.std.specs.Prelude.{◌≡◌, ◌<◌, ◌-◌, length, map, IfOk};
+ghost use Rattle.std.specs.VecDeque.{deque_items};
+ghost use Rattle.flag_defs.specs.Flags.{flags_view};
 ghost use Rattle.flag_resolve.specs.Views.{resolution_view};
 ghost use Rattle.book_share.specs.Asked.{resolved};
-ghost use Rattle.book_share.specs.Driven.{IsAnswer, at_ask};
-ghost use Rattle.book_share.specs.declared.ask.Ask.{Ask as Asking};
+ghost use Rattle.book_share.specs.Driven.{AreInTurn};
 
 use crate::ask::Ask;
-use crate::worker::Answer;
+use flag_defs::Flags;
 use flag_resolve::Resolution;
 use std::alloc::{AllocError, Global};
+use std::collections::VecDeque;
 
-/// The resolutions in the order of their asks, none where that of an ask is missing.
+/// The answers in the order of the asks: the workers stand in a line, and the first gives its next answer and goes behind
+/// the last.
 pub(crate) fn in_order(
     alloc: Global,
+    flags: &Flags,
     asks: &[Ask],
-    answers: Vec<Answer>,
-) -> Result<Option<Vec<Resolution>>, AllocError>
-    ensures answers { (flags : Definitions) → All (IsAnswer flags asks.now) answers.items → IfOk result (λ o. IfSome o (λ v. map resolution_view v.items ≡ map (resolved flags) asks.now)) }
-    ensures each { IfOk result (λ o. IfSome o (λ _. (f : Asking → ℕ) → sum_by (λ a. at_ask asks.now f a.ask) answers.items ≡ sum_by f asks.now)) }
+    answers: VecDeque<VecDeque<Resolution>>,
+) -> Result<Vec<Resolution>, AllocError>
+    requires some { 0 < length answers.items }
+    requires turns { AreInTurn (flags_view flags.now) (length answers.items - 1) 0 (length answers.items) asks.now (map deque_items answers.items) }
+    ensures { IfOk result (λ v. map resolution_view v.items ≡ map (resolved (flags_view flags.now)) asks.now) }
 {
-    let answers = by_ask(answers);
-    let mut resolutions = Vec::with_capacity(alloc, answers.len())?;
-    for answer in answers {
-        let Answer { ask, resolution } = answer;
-        if ask != resolutions.len() {
-            return Ok(None);
-        }
-        resolutions.push(resolution)?;
+    let _ = flags;
+    let mut line = answers;
+    let mut resolutions = Vec::with_capacity(alloc, asks.len())?;
+    for _turn in 0..asks.len() {
+        let mut worker = line.pop_front().unwrap();
+        let answer = worker.pop_front().unwrap();
+        resolutions.push(answer)?;
+        line.push_back(worker)?;
     }
-    Ok(if resolutions.len() == asks.len() {
-        Some(resolutions)
-    } else {
-        None
-    })
-}
-
-/// The answers in the order of their asks.
-fn by_ask(answers: Vec<Answer>) -> Vec<Answer>
-    ensures { IsPermutation answers.items result.items }
-{
-    let mut answers = answers;
-    answers.sort_unstable_by(|a: &Answer, b: &Answer| a.ask.cmp(&b.ask));
-    answers
+    Ok(resolutions)
 }

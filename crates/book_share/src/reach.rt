@@ -1,23 +1,24 @@
 //! The inputs that an evaluation reached, noted on their pages.
-ghost use Rattle.std.specs.Prelude.{◌≡◌, ◌≢◌, [], ◌∷◌, ◌++◌, map, nat_lt, length, if◌then◌else◌, false, Some, Err, IfErr, IfOk, IfSome, option_map, string_bytes};
+ghost use Rattle.std.specs.Prelude.{◌≡◌, ◌<◌, ◌≤◌, ◌+◌, ◌-◌, ◌^◌, [], ◌∷◌, ◌++◌, map, nat_lt, length, if◌then◌else◌, Some, IfOk, IfSome, option_map, string_bytes};
 ghost use Rattle.flag_defs.specs.Flags.{flags_view};
 ghost use Rattle.logic_ast.specs.Expr.{view};
 ghost use Rattle.logic_eval.specs.Views.{reach_view};
 ghost use Rattle.book_core.specs.Book.{most_bytes};
+ghost use Rattle.book_lock.specs.Counts.{own};
 ghost use Rattle.book_share.specs.Asked.{by_at, mention, mentions_in, page_of, targeting_of as targeting_named};
-ghost use Rattle.book_share.specs.DriveFault.{is_of_workers};
-ghost use Rattle.book_share.specs.Driven.{Notes, noted_by, refused_mention};
+ghost use Rattle.book_share.specs.Driven.{AreFull, Notes, noted_by, refused_mention};
+ghost use Rattle.book_share.specs.declared.reach.Refusal.{Refusal as Kept};
 
-use crate::drive_fault::DriveFault;
-use crate::name::BookName;
-use crate::seat::Seat;
-use crate::shared::SharedBook;
 use book_core::{BookFault, Page};
+use book_lock::{BookName, Seat, SharedBook};
 use flag_defs::Flags;
 use logic_ast::{Expr, LogicFault, by_text};
 use logic_eval::Reached;
 use std::alloc::{AllocError, Global};
 use std::sync::Wait;
+
+/// The most bytes that an input has.
+pub(crate) const MOST_BYTES: usize = 1024;
 
 /// An input that a full page refused.
 #[derive(Drop)]
@@ -36,10 +37,11 @@ pub(crate) fn note_reached<L: BookName, R: Wait>(
     flags: &Flags,
     key: &str,
     reached: &[Reached],
-) -> Result<(), DriveFault>
-    ensures noted { IfOk result (λ _. Notes (mentions_in key.now (targeting_named (flags_view flags.now) key.now) (map reach_view reached.now)) (noted_by seat.old refused.old.items) (noted_by seat.new refused.new.items)) }
-    ensures unstalled { result ≢ Err DriveFault.Stalled }
-    ensures started { IfErr result (λ e. is_of_workers e ≡ false) }
+) -> Result<(), AllocError>
+    requires room { length (own seat.old) + length reached.now < 2 ^ 64 - 1 }
+    ensures noted { IfOk result (λ _. Notes (mentions_in key.now (targeting_named (flags_view flags.now) key.now) (map reach_view reached.now)) (noted_by (own seat.old) refused.old.items) (noted_by (own seat.new) refused.new.items)) }
+    ensures full { IfOk result (λ _. AreFull seat.old.seen refused.old.items → AreFull seat.new.seen refused.new.items) }
+    ensures grown { IfOk result (λ _. length (own seat.new) ≤ length (own seat.old) + length reached.now) }
 {
     let targeting = targeting_of(flags, key);
     let mut last: Option<Page> = None;
@@ -111,18 +113,22 @@ fn note_one<L: BookName, R: Wait>(
     refused: &mut Vec<Refusal>,
     page: &Page,
     input: &str,
-) -> Result<(), DriveFault>
-    ensures noted { IfOk result (λ _. Notes (if nat_lt most_bytes (length input.now) then [] else mention page.now input.now ∷ []) (noted_by seat.old refused.old.items) (noted_by seat.new refused.new.items)) }
-    ensures unstalled { result ≢ Err DriveFault.Stalled }
-    ensures started { IfErr result (λ e. is_of_workers e ≡ false) }
+) -> Result<(), AllocError>
+    requires room { length (own seat.old) < 2 ^ 64 - 1 }
+    ensures noted { IfOk result (λ _. Notes (if nat_lt most_bytes (length input.now) then [] else mention page.now input.now ∷ []) (noted_by (own seat.old) refused.old.items) (noted_by (own seat.new) refused.new.items)) }
+    ensures full { IfOk result (λ _. AreFull seat.old.seen refused.old.items → AreFull seat.new.seen refused.new.items) }
+    ensures grown { IfOk result (λ _. length (own seat.new) ≤ length (own seat.old) + 1) }
 {
+    if input.len() > MOST_BYTES {
+        return Ok(());
+    }
     match book.note(rt, alloc, seat, page, input) {
         Ok(_) => Ok(()),
-        Err(BookFault::InputTooLong) => Ok(()),
-        Err(BookFault::PageFull) => Ok(keep(alloc, refused, page, input)?),
-        Err(BookFault::WantOfMemory) => Err(DriveFault::WantOfMemory),
-        Err(BookFault::LastCall) => Err(DriveFault::Disagrees),
-        Err(BookFault::Stranger) => Err(DriveFault::Disagrees),
+        Err(BookFault::PageFull) => keep(alloc, refused, page, input),
+        Err(BookFault::WantOfMemory) => Err(AllocError),
+        Err(BookFault::InputTooLong) => unreachable!(),
+        Err(BookFault::LastCall) => unreachable!(),
+        Err(BookFault::Stranger) => unreachable!(),
     }
 }
 
@@ -133,7 +139,7 @@ fn keep(
     page: &Page,
     input: &str,
 ) -> Result<(), AllocError>
-    ensures { IfOk result (λ _. map refused_mention refused.new.items ≡ map refused_mention refused.old.items ++ mention page.now input.now ∷ []) }
+    ensures { IfOk result (λ _. (refusal : Kept) × (refused.new.items ≡ refused.old.items ++ refusal ∷ []) × (refused_mention refusal ≡ mention page.now input.now)) }
 {
     let page = page.copy(alloc)?;
     let input = String::from_str(alloc, input)?;

@@ -1,22 +1,23 @@
 //! What one worker does.
-ghost use Rattle.std.specs.Prelude.{◌≡◌, ◌≢◌, ◌<◌, ◌≤◌, ◌+◌, ◌^◌, [], true, false, length, count_by, Err, IfErr, IfOk, Bool};
+ghost use Rattle.std.specs.Prelude.{◌≡◌, ◌≢◌, ◌<◌, ◌≤◌, ◌+◌, ◌*◌, ◌^◌, [], true, false, length, count_by, Err, IfErr, IfOk, Bool};
 ghost use Rattle.flag_defs.specs.Flags.{flags_view};
 ghost use Rattle.flag_resolve.specs.Views.{resolution_view};
-ghost use Rattle.book_share.specs.Asked.{Mention, mentions_of, resolved as resolution_of_ask};
+ghost use Rattle.logic_eval.specs.Run.{most_units};
+ghost use Rattle.book_lock.specs.Counts.{own};
+ghost use Rattle.book_lock.specs.Limits.{most_seats};
+ghost use Rattle.book_share.specs.Asked.{asks_of, mentions_of, resolved as resolution_of_ask};
 ghost use Rattle.book_share.specs.DriveFault.{is_of_workers};
-ghost use Rattle.book_share.specs.Driven.{IsAnswer, IsWork, Notes, mentions_at, noted_by};
-ghost use Rattle.book_share.specs.Limits.{most_seats};
+ghost use Rattle.book_share.specs.Driven.{AreFull, IsAnswer, IsWork, Notes, NotesAsk, noted_by};
 
 use crate::ask::Ask;
 use crate::drive_fault::DriveFault;
 use crate::gate::Gate;
-use crate::name::BookName;
 use crate::reach::{Refusal, note_reached};
-use crate::seat::Seat;
-use crate::shared::SharedBook;
+use book_lock::{BookName, Seat, SharedBook};
 use flag_defs::Flags;
 use flag_resolve::{Resolution, resolve};
 use std::alloc::{AllocError, Global};
+use std::collections::VecDeque;
 use std::sync::Wait;
 
 /// How often a gate is asked whether an ask may start.
@@ -40,18 +41,11 @@ pub(crate) struct Job<L: BookName> {
     pub(crate) first: usize,
 }
 
-/// The answer to the ask of a number.
-#[derive(Drop)]
-pub(crate) struct Answer {
-    pub(crate) ask: usize,
-    pub(crate) resolution: Resolution,
-}
-
-/// What a worker ends with: its seat, its answers, and the inputs that full pages refused.
+/// What a worker ends with: its seat, its answers in the order of its asks, and the inputs that full pages refused.
 #[derive(Drop)]
 pub(crate) struct Part<L: BookName> {
     pub(crate) seat: Seat<L>,
-    pub(crate) answers: Vec<Answer>,
+    pub(crate) answers: VecDeque<Resolution>,
     pub(crate) refused: Vec<Refusal>,
 }
 
@@ -62,19 +56,19 @@ pub(crate) fn work<L: BookName, G: Gate, R: Wait>(
     round: &Round<'_, L, G>,
     job: Job<L>,
 ) -> Result<Part<L>, DriveFault>
-    requires { job.seat ≡ [] }
-    ensures work { IfOk result (λ p. IsWork (flags_view round.now.flags.now) round.now.asks.now p.seat p.answers.items p.refused.items) }
+    requires fresh { own job.seat ≡ [] }
+    requires first { job.first < round.now.step }
+    ensures work { IfOk result (λ p. IsWork (flags_view round.now.flags.now) (asks_of round.now.step job.first round.now.asks.now) p.seat p.answers.items p.refused.items) }
     ensures unstalled { G.always → result ≢ Err DriveFault.Stalled }
     ensures started { IfErr result (λ e. is_of_workers e ≡ false) }
 {
     let Job { mut seat, first } = job;
-    let mut answers = Vec::new(alloc);
+    let mut answers = VecDeque::new(alloc);
     let mut refused = Vec::new(alloc);
     let mut ask = first;
     while ask < round.asks.len() {
-        answers.reserve(1)?;
         let answer = answered(rt, alloc, round, &mut seat, &mut refused, ask)?;
-        answers.push_reserved(answer);
+        answers.push_back(answer)?;
         ask += round.step;
     }
     Ok(Part {
@@ -92,10 +86,13 @@ fn answered<L: BookName, G: Gate, R: Wait>(
     seat: &mut Seat<L>,
     refused: &mut Vec<Refusal>,
     ask: usize,
-) -> Result<Answer, DriveFault>
-    requires { ask < length round.now.asks.now }
-    ensures answer { IfOk result (λ a. IsAnswer (flags_view round.now.flags.now) round.now.asks.now a) }
-    ensures noted { IfOk result (λ a. (p : Mention → Bool) → count_by p (noted_by seat.new refused.new.items) ≡ count_by p (noted_by seat.old refused.old.items) + mentions_at (flags_view round.now.flags.now) round.now.asks.now p a.ask) }
+) -> Result<Resolution, DriveFault>
+    requires within { ask < length round.now.asks.now }
+    requires room { length (own seat.old) ≤ ask * most_units }
+    ensures answer { IfOk result (λ r. IsAnswer (flags_view round.now.flags.now) round.now.asks.now ask r) }
+    ensures noted { IfOk result (λ _. NotesAsk (flags_view round.now.flags.now) round.now.asks.now ask (noted_by (own seat.old) refused.old.items) (noted_by (own seat.new) refused.new.items)) }
+    ensures full { IfOk result (λ _. AreFull seat.old.seen refused.old.items → AreFull seat.new.seen refused.new.items) }
+    ensures grown { IfOk result (λ _. length (own seat.new) ≤ length (own seat.old) + most_units) }
     ensures unstalled { G.always → result ≢ Err DriveFault.Stalled }
     ensures started { IfErr result (λ e. is_of_workers e ≡ false) }
 {
@@ -105,7 +102,7 @@ fn answered<L: BookName, G: Gate, R: Wait>(
     let asked = &round.asks[ask];
     let resolution = resolved(rt, alloc, round, seat, refused, asked)?;
     round.gate.answered(ask);
-    Ok(Answer { ask, resolution })
+    Ok(resolution)
 }
 
 /// The resolution of an ask, once what it reached was noted.
@@ -116,11 +113,12 @@ fn resolved<L: BookName, G: Gate, R: Wait>(
     seat: &mut Seat<L>,
     refused: &mut Vec<Refusal>,
     ask: &Ask,
-) -> Result<Resolution, DriveFault>
+) -> Result<Resolution, AllocError>
+    requires room { length (own seat.old) ≤ 2 ^ 32 * most_units }
     ensures resolution { IfOk result (λ r. resolution_view r ≡ resolution_of_ask (flags_view round.now.flags.now) ask.now) }
-    ensures noted { IfOk result (λ _. Notes (mentions_of (flags_view round.now.flags.now) ask.now) (noted_by seat.old refused.old.items) (noted_by seat.new refused.new.items)) }
-    ensures unstalled { result ≢ Err DriveFault.Stalled }
-    ensures started { IfErr result (λ e. is_of_workers e ≡ false) }
+    ensures noted { IfOk result (λ _. Notes (mentions_of (flags_view round.now.flags.now) ask.now) (noted_by (own seat.old) refused.old.items) (noted_by (own seat.new) refused.new.items)) }
+    ensures full { IfOk result (λ _. AreFull seat.old.seen refused.old.items → AreFull seat.new.seen refused.new.items) }
+    ensures grown { IfOk result (λ _. length (own seat.new) ≤ length (own seat.old) + most_units) }
 {
     let resolution = resolution(alloc, round.flags, ask)?;
     note_reached(

@@ -145,7 +145,7 @@ fn driven<G: Gate, R: Threads + Wait + Sync>(
     gate: &G,
 ) -> Result<Driven, DriveFault> {
     if asks.len() > 1000 {
-        return Err(DriveFault::Disagrees);
+        return Err(DriveFault::TooManyWorkers);
     }
     drive(rt, alloc, flags, asks, workers, gate)
 }

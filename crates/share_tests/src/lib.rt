@@ -1,4 +1,4 @@
-//! The tests of book_share, in a crate of their own, so that it is proved once.
+//! The tests of book_lock and book_share, in a crate of their own, so that these are proved once.
 #![tactic(auto)]
 
 #[cfg(test)]

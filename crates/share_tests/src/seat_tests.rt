@@ -2,7 +2,7 @@
 ghost use Rattle.std.specs.Prelude.{◌≡◌};
 
 use book_core::{BookFault, Noted, Page};
-use book_share::{Blanks, BookName, SealFault, SealRefused, SeatsFault, SharedBook, seal};
+use book_lock::{Blanks, BookName, SealFault, SealRefused, SeatsFault, SharedBook, seal};
 use std::alloc::{AllocError, Global};
 use std::marker::Brand;
 use std::process::Abort;
@@ -11,8 +11,8 @@ use std::test::Fail;
 use std::thread::Threads;
 
 /// The refusal of blanks, none where there are any.
-fn fault_of(seats: usize) -> Option<SeatsFault> {
-    match Blanks::new(seats) {
+fn fault_of(alloc: Global, seats: usize) -> Option<SeatsFault> {
+    match Blanks::new(alloc, seats) {
         Ok(_) => None,
         Err(fault) => Some(fault),
     }
@@ -20,13 +20,14 @@ fn fault_of(seats: usize) -> Option<SeatsFault> {
 
 #[test]
 fn numbers_of_seats(rt: HostRuntime) {
+    let alloc = rt.alloc();
     for (seats, want) in [
         (0, Some(SeatsFault::NoSeats)),
         (1, None),
         (64, None),
         (65, Some(SeatsFault::TooManySeats)),
     ] {
-        assert_eq!(rt; fault_of(seats), want, "{seats} seats");
+        assert_eq!(rt; fault_of(alloc, seats), want, "{seats} seats");
     }
 }
 
@@ -42,7 +43,7 @@ fn page(alloc: Global, flag: &str) -> Result<Page, AllocError> {
 #[test]
 fn two_seats(rt: HostRuntime) -> Result<(), Fail> {
     let alloc = rt.alloc();
-    told_to_two::<Brand, _>(&rt, alloc, Blanks::new(2)?)
+    told_to_two::<Brand, _>(&rt, alloc, Blanks::new(alloc, 2)?)
 }
 
 fn told_to_two<L: BookName + Send + Sync, R: Threads + Wait + Abort + Sync>(
@@ -50,8 +51,7 @@ fn told_to_two<L: BookName + Send + Sync, R: Threads + Wait + Abort + Sync>(
     alloc: Global,
     blanks: Blanks,
 ) -> Result<(), Fail>
-    requires name { blanks.name ≡ L.name }
-    requires parts { (blanks.seats ≡ L.parts) × (blanks.seats ≡ L.seats) }
+    requires { (blanks.table ≡ L.table) × (blanks.seats ≡ L.seats) }
 {
     let page = page(alloc, "color")?;
     let (book, mut seats) = SharedBook::<L>::new(alloc, blanks)?;
@@ -71,7 +71,7 @@ fn told_to_two<L: BookName + Send + Sync, R: Threads + Wait + Abort + Sync>(
             && second.news() == 0
     );
     seats.push(first)?;
-    let Err(refused) = seal(alloc, book, seats) else {
+    let Err(refused) = seal(book, seats) else {
         return Err("a seat is missing")?;
     };
     let SealRefused {
@@ -79,9 +79,9 @@ fn told_to_two<L: BookName + Send + Sync, R: Threads + Wait + Abort + Sync>(
         book,
         mut seats,
     } = refused;
-    assert!(rt; fault == SealFault::SeatMissing && seats.len() == 1);
+    assert!(rt; fault == SealFault::SeatMissing && fault.number() == 1 && seats.len() == 1);
     seats.push(second)?;
-    let Ok(sealed) = seal(alloc, book, seats) else {
+    let Ok(sealed) = seal(book, seats) else {
         return Err("all seats are here")?;
     };
     assert!(rt; sealed.inputs() == 1);
@@ -91,7 +91,7 @@ fn told_to_two<L: BookName + Send + Sync, R: Threads + Wait + Abort + Sync>(
 #[test]
 fn limits(rt: HostRuntime) -> Result<(), Fail> {
     let alloc = rt.alloc();
-    full_page::<Brand, _>(&rt, alloc, Blanks::new(1)?)
+    full_page::<Brand, _>(&rt, alloc, Blanks::new(alloc, 1)?)
 }
 
 fn full_page<L: BookName + Send + Sync, R: Wait + Abort>(
@@ -99,8 +99,7 @@ fn full_page<L: BookName + Send + Sync, R: Wait + Abort>(
     alloc: Global,
     blanks: Blanks,
 ) -> Result<(), Fail>
-    requires name { blanks.name ≡ L.name }
-    requires parts { (blanks.seats ≡ L.parts) × (blanks.seats ≡ L.seats) }
+    requires { (blanks.table ≡ L.table) × (blanks.seats ≡ L.seats) }
 {
     let page = page(alloc, "color")?;
     let (book, mut seats) = SharedBook::<L>::new(alloc, blanks)?;
@@ -122,7 +121,7 @@ fn full_page<L: BookName + Send + Sync, R: Wait + Abort>(
     assert!(rt; book.note(rt, alloc, &mut seat, &page, "999999")? == Noted::Again);
     assert!(rt; seat.calls() == 1_000_001 && seat.news() == 1_000_000);
     seats.push(seat)?;
-    let Ok(sealed) = seal(alloc, book, seats) else {
+    let Ok(sealed) = seal(book, seats) else {
         return Err("all seats are here")?;
     };
     assert!(rt; sealed.inputs() == 1_000_000);

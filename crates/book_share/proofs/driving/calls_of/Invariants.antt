@@ -1,5 +1,5 @@
 use Rattle.std.proofs.Common.{◌≡◌, ◌≤◌, ◌*◌, length, take}
-use Rattle.book_share.specs.Sealed.{all_told}
+use Rattle.book_lock.specs.Told.{all_told}
 use Rattle.book_share.proofs.driving.calls_of.Given as goal
 
 abbrev pub invariant-loop-seat : goal.invariant-loop-seat

@@ -1,11 +1,14 @@
-use Rattle.std.specs.Prelude.{List, All, IfOk}
+use Rattle.std.specs.Prelude.{◌≡◌, ℕ, ◌+◌, List, IfOk, IfSome, length, map, slice_get}
+use Rattle.std.specs.VecDeque.{deque_items}
 use Rattle.flag_defs.specs.Document.{Definitions}
-use Rattle.book_share.specs.Driven.{IsWork}
-use Rattle.book_share.specs.Sealed.{all_told}
+use Rattle.book_share.specs.Asked.{asks_of}
+use Rattle.book_share.specs.Driven.{AreWorks, IsWork}
 use Rattle.book_share.specs.declared.ask.Ask.{Ask}
 use Rattle.book_share.proofs.gather.gathered.Given as goal
 
 abbrev pub invariant-loop-part : goal.invariant-loop-part
 invariant-loop-part g l =
-    (flags : Definitions) (asks : List Ask) → All (λ r. IfOk r (λ p. IsWork flags asks p.seat p.answers.items p.refused.items)) l.fn.parts.items
-    → All (λ r. IfOk r (λ p. IsWork flags asks p.seat p.answers.items p.refused.items)) l.part-iterator.rest.items × IsWork flags asks (all_told l.seats.items) l.answers.items l.refused.items
+    ((flags : Definitions) (asks : List Ask) (workers : ℕ) → ((w : ℕ) → IfSome (slice_get l.fn.parts.items w) (λ r. IfOk r (λ p. IsWork flags (asks_of workers w asks) p.seat p.answers.items p.refused.items)))
+    → ((w : ℕ) → IfSome (slice_get l.part-iterator.rest.items w) (λ r. IfOk r (λ p. IsWork flags (asks_of workers (length l.seats.items + w) asks) p.seat p.answers.items p.refused.items)))
+    × AreWorks flags workers asks l.seats.items (map deque_items l.answers.items) l.refused.items)
+    × (length l.seats.items + length l.part-iterator.rest.items ≡ length l.fn.parts.items)

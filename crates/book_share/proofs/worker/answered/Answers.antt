@@ -1,6 +1,7 @@
 use Rattle.std.proofs.Common.{◌≡◌, subst, sym}
 use Rattle.flag_defs.specs.Flags.{flags_view}
 use Rattle.flag_resolve.specs.Views.{resolution_view}
+use Rattle.book_lock.specs.Counts.{own}
 use Rattle.book_share.specs.Asked.{mentions_of, resolved}
 use Rattle.book_share.specs.Driven.{Notes, noted_by}
 use Rattle.book_share.specs.declared.ask.Ask.{Ask}
@@ -10,13 +11,13 @@ use Rattle.book_share.proofs.worker.answered.Goals as goal
 pub returns-clause-answer : goal.returns-clause-answer
 returns-clause-answer g c =
     let flags = flags_view c.args.round.now.flags.now in
-    answer_is flags c.args.round.now.asks.now c.index-round-ask.result (record { ask = c.args.ask; resolution = c.in_ok-resolution.resolution }) c.requires c.index-round-ask.is
+    answer_is flags c.args.round.now.asks.now c.index-round-ask.result c.args.ask c.in_ok-resolution.resolution c.requires.within c.index-round-ask.is
     (subst (λ (x : Ask). resolution_view c.in_ok-resolution.resolution ≡ resolved flags x) (sym c.index-round-ask.is) c.in_ok-resolution.ensures.resolution)
 
 pub returns-clause-noted : goal.returns-clause-noted
 returns-clause-noted g c =
     let flags = flags_view c.args.round.now.flags.now in
-    let old = noted_by c.args.seat.now c.args.refused.now.items in
-    let new = noted_by c.resolved.new.seat c.resolved.new.refused.items in
-    noted_at flags c.args.round.now.asks.now c.index-round-ask.result c.args.ask old new c.requires c.index-round-ask.is
+    let old = noted_by (own c.args.seat.now) c.args.refused.now.items in
+    let new = noted_by (own c.resolved.new.seat) c.resolved.new.refused.items in
+    noted_at flags c.args.round.now.asks.now c.index-round-ask.result c.args.ask old new c.requires.within c.index-round-ask.is
     (subst (λ (x : Ask). Notes (mentions_of flags x) old new) (sym c.index-round-ask.is) c.in_ok-resolution.ensures.noted)
