@@ -1,5 +1,5 @@
 #!/bin/sh
-# Asks a second of `flagops drive` at 1, 2 and 4 workers, and each as a ratio to 1 worker, over the largest asks file.
+# Asks a second of `flagops drive` at 1, 2, 4 and 8 workers, and each as a ratio to 1 worker, over the largest asks file.
 #
 # Two kinds of asks: of a flag whose targeting is one `fractional` operation, where a note is a good part of an ask's work,
 # and of one that tests a thousand names before it, where the evaluation is nearly all of it. Reading the files and printing
@@ -63,7 +63,7 @@ for kind, targeting in kinds.items():
     long = compact([{"key": "f", "want": "bool", "default": "d" * (size - 100), "context": {"targetingKey": "user"}, "moment": 0}])
     around, _ = run(document, put("one.json", long), 1)
     first = None
-    for workers in (1, 2, 4):
+    for workers in (1, 2, 4, 8):
         taken, counts = run(document, asks, workers)
         first = first or taken
         print(f"{kind}, {workers} workers: {taken:.2f} s, {len(texts) / taken:.0f} asks/s, {first / taken:.2f} times 1 worker ({counts})")

@@ -1,5 +1,5 @@
 -- What is read of a tree whose numbers are whole has whole numbers.
-use Rattle.std.proofs.Common.{◌≡◌, ℕ, List, Option, Some, None, Bool, true, refl, sym, subst}
+use Rattle.std.proofs.Common.{◌≡◌, ℕ, List, Some, true, sym, subst}
 use Rattle.flag_text.proofs.Bools.{Holds, Holds-and_then}
 use Rattle.flag_text.proofs.Halving.{is_whole-find_member}
 use Rattle.flag_text.specs.Readers.{member_of}

@@ -1,6 +1,6 @@
 -- What was driven and what was refused, as what the command comes to.
-use Rattle.std.proofs.Common.{◌≡◌, ◌≢◌, ℕ, List, Option, Some, None, Bool, true, false, inl, inr, map, refl, sym, ap, ◌∙◌, subst}
-use Rattle.std.specs.Prelude.{Result, Ok, Err}
+use Rattle.std.proofs.Common.{◌≡◌, ◌≢◌, ℕ, List, Option, Some, None, true, map, refl, sym, ap, subst}
+use Rattle.std.specs.Prelude.{Ok, Err}
 use Rattle.flag_defs.specs.Document.{Definitions}
 use Rattle.flag_resolve.specs.Views.{resolution_view}
 use Rattle.book_core.specs.Book.{Contents, input_count}
@@ -12,13 +12,12 @@ use Rattle.book_share.specs.Driven.{AreNoted}
 use Rattle.book_share.specs.DriveFault.{is_of_workers, workers_fault}
 use Rattle.book_share.specs.declared.ask.Ask as program
 use Rattle.book_share.specs.declared.drive_fault.DriveFault.{DriveFault}
-use Rattle.book_share.specs.declared.drive_fault.DriveFault.TheVariants.{WantOfMemory, NoWorkers, TooManyWorkers, Stalled, Disagrees}
+use Rattle.book_share.specs.declared.drive_fault.DriveFault.TheVariants.{WantOfMemory, NoWorkers, TooManyWorkers, Stalled}
 use Rattle.flagops_drive.specs.Asks.{Ask, ask_view, if_asks}
-use Rattle.flagops_drive.specs.Driven.{Drove, IsDrove, IsDriveOf, IsRefused}
+use Rattle.flagops_drive.specs.Driven.{Drove, IsDriveOf, IsRefused}
 use Rattle.flagops_drive.specs.Fault.{want}
 use Rattle.flagops_drive.specs.Lines.{drive_text}
-use Rattle.flagops_drive.specs.declared.fault.DriveRefusal.{DriveRefusal}
-use Rattle.flagops_drive.specs.declared.fault.DriveRefusal.TheVariants.{Drive, BadAsks}
+use Rattle.flagops_drive.specs.declared.fault.DriveRefusal.TheVariants.{Drive}
 
 there : (o : Option (List Ask)) (asks : List Ask) → if_asks o ≡ Ok asks → o ≡ Some asks
 there None asks h = cc
@@ -54,10 +53,9 @@ drove_of flags o given items workers answers book calls news full long d read sa
 -- the refusals of asks that were read
 refused_so : (workers : ℕ) (e : DriveFault) → (is_of_workers e ≡ true → workers_fault workers ≡ Some e) → e ≢ Stalled → Drive e ≢ want → IsRefused workers (Drive e)
 refused_so workers WantOfMemory number stalls wanted = absurd (wanted refl)
-refused_so workers NoWorkers number stalls wanted = inl (number refl)
-refused_so workers TooManyWorkers number stalls wanted = inl (number refl)
+refused_so workers NoWorkers number stalls wanted = number refl
+refused_so workers TooManyWorkers number stalls wanted = number refl
 refused_so workers Stalled number stalls wanted = absurd (stalls refl)
-refused_so workers Disagrees number stalls wanted = inr refl
 
 pub refused_of : (flags : Definitions) (o : Option (List Ask)) (items : List program.Ask) (workers : ℕ) (e : DriveFault) → if_asks o ≡ Ok (map ask_view items)
     → (is_of_workers e ≡ true → workers_fault workers ≡ Some e) → e ≢ Stalled → Drive e ≢ want → IsDriveOf flags o workers (Err (Drive e))

@@ -1,2 +1,5 @@
 pub mod Asked
+pub mod Counted
 pub mod Driving
+pub mod Named
+pub mod Refused

@@ -1,5 +1,5 @@
 -- What the command `drive` comes to.
-use Rattle.std.specs.Prelude.{◌≡◌, ◌≢◌, ◌⊎◌, ℕ, List, map, Option, Some, None, Result, Ok, Err}
+use Rattle.std.specs.Prelude.{◌≡◌, ◌≢◌, ℕ, List, map, Option, Some, None, option_map, Result, Ok, Err}
 use Rattle.flag_defs.specs.Document.{Definitions}
 use Rattle.book_core.specs.Book.{Contents, input_count}
 use Rattle.book_core.specs.Printing.{book_text}
@@ -8,8 +8,6 @@ use Rattle.book_share.specs.Asked.{long_of, mentions, resolved}
 use Rattle.book_share.specs.Driven.{AreNoted}
 use Rattle.book_share.specs.DriveFault.{workers_fault}
 use Rattle.book_share.specs.declared.ask.Ask as program
-use Rattle.book_share.specs.declared.drive_fault.DriveFault.{DriveFault}
-use Rattle.book_share.specs.declared.drive_fault.DriveFault.TheVariants.{Disagrees}
 use Rattle.flagops_drive.specs.Asks.{Ask, ask_view}
 use Rattle.flagops_drive.specs.Fault.{want}
 use Rattle.flagops_drive.specs.Lines.{drive_text}
@@ -39,9 +37,18 @@ pub record IsDrove (flags : Definitions) (asks : List Ask) (d : Drove) : Type 0 
   pub file : d.book ≡ book_text book
   pub reads_back : book_of d.book ≡ Ok book
 
--- why these workers drive nothing: their number; or the book is not what they were told, which no run is known to meet
+-- why so many workers drive nothing
+abbrev pub workers_refusal : ℕ → Option DriveRefusal
+workers_refusal workers = option_map Drive (workers_fault workers)
+
+-- Why these asks are not driven by so many workers, as far as it is known without taking memory: they are no asks, or else the number of the workers.
+abbrev pub refusal_of : Option (List Ask) → ℕ → Option DriveRefusal
+refusal_of None workers = Some BadAsks
+refusal_of (Some asks) workers = workers_refusal workers
+
+-- why these workers drive nothing: their number
 abbrev pub IsRefused : ℕ → DriveRefusal → Type 0
-IsRefused workers (Drive e) = (workers_fault workers ≡ Some e) ⊎ (e ≡ Disagrees)
+IsRefused workers (Drive e) = workers_fault workers ≡ Some e
 IsRefused workers BadAsks = ⊥
 
 -- what comes of these asks, if there are any, by so many workers; want of memory is no part of it

@@ -1,7 +1,6 @@
 //! The asks of a file.
-ghost use Rattle.std.specs.Prelude.{◌≡◌, ◌<◌, ◌^◌, true, None, IfOk, IsErrOf, length, map};
+ghost use Rattle.std.specs.Prelude.{◌≡◌, ◌<◌, ◌^◌, true, None, IfOk, IfSome, IsErrOf, is_some, length, map};
 ghost use Rattle.flag_text.specs.Outcome.{GivesUnless};
-ghost use Rattle.flag_text.specs.Readers.{as_list};
 ghost use Rattle.flag_text.specs.Shape.{is_whole, items_are_whole};
 ghost use Rattle.flag_text.specs.View.{items_view, view};
 ghost use Rattle.flagops_drive.specs.Asks.{ask_in, ask_view, asks_in, asks_of as asks_of_shape, if_asks, parts_view};
@@ -17,27 +16,59 @@ use std::alloc::{AllocError, Global};
 /// The most asks.
 const MOST_ASKS: usize = 4_294_967_295;
 
-/// The asks that the tree of a file is. It is refused with BadAsks where the tree is no list of asks, or has 2^32 or more.
-#[tactic(auto, unfolding(crate::specs::Asks::asks_of))]
+/// The asks that the tree of a file is. It is refused with BadAsks where the tree is no list of asks, or has 2^32 or more,
+/// before anything is copied.
 pub fn asks_of(alloc: Global, tree: &Tree) -> Result<Vec<Ask>, DriveRefusal>
     requires { is_whole (view tree.now) ≡ true }
     ensures exact { GivesUnless want (λ v. map ask_view v.items) result (if_asks (asks_of_shape (view tree.now))) }
     ensures few { IfOk result (λ v. length v.items < 2 ^ 32) }
-    ensures no_list { as_list (view tree.now) ≡ None → IsErrOf result DriveRefusal.BadAsks }
+    ensures bad { asks_of_shape (view tree.now) ≡ None → IsErrOf result DriveRefusal.BadAsks }
 {
-    let Tree::List(items) = tree else {
+    let Some(items) = ask_items(tree) else {
         return Err(DriveRefusal::BadAsks);
     };
-    let asks = asks_in(alloc, items.as_slice())?;
-    if asks.len() > MOST_ASKS {
-        return Err(DriveRefusal::BadAsks);
-    }
-    Ok(asks)
+    asks_in(alloc, items)
 }
 
-fn asks_in(alloc: Global, items: &[Tree]) -> Result<Vec<Ask>, DriveRefusal>
+/// The items of a tree that is a list of asks, and of fewer than 2^32.
+#[tactic(auto, unfolding(crate::specs::Asks::asks_of))]
+pub(crate) fn ask_items<'a>(tree: &'a Tree) -> Option<&'a [Tree]>
+    requires { is_whole (view tree.now) ≡ true }
+    ensures are { is_some result ≡ is_some (asks_of_shape (view tree.now)) }
+    ensures items { IfSome result (λ items. asks_in (items_view items.now) ≡ asks_of_shape (view tree.now)) }
+    ensures whole { IfSome result (λ items. items_are_whole (items_view items.now) ≡ true) }
+    ensures few { IfSome result (λ items. length items.now < 2 ^ 32) }
+{
+    let Tree::List(items) = tree else {
+        return None;
+    };
+    if items.len() > MOST_ASKS {
+        return None;
+    }
+    if !are_asks(items.as_slice()) {
+        return None;
+    }
+    Some(items.as_slice())
+}
+
+/// Whether each item is an ask.
+fn are_asks(items: &[Tree]) -> bool
     requires { items_are_whole (items_view items.now) ≡ true }
-    ensures { GivesUnless want (λ v. map ask_view v.items) result (if_asks (asks_in (items_view items.now))) }
+    ensures { result ≡ is_some (asks_in (items_view items.now)) }
+{
+    for item in items {
+        if parts_in(item).is_none() {
+            return false;
+        }
+    }
+    true
+}
+
+/// The asks of items, in memory of their own.
+pub(crate) fn asks_in(alloc: Global, items: &[Tree]) -> Result<Vec<Ask>, DriveRefusal>
+    requires { items_are_whole (items_view items.now) ≡ true }
+    ensures exact { GivesUnless want (λ v. map ask_view v.items) result (if_asks (asks_in (items_view items.now))) }
+    ensures each { IfOk result (λ v. length v.items ≡ length items.now) }
 {
     let mut asks = Vec::new(alloc);
     for item in items {

@@ -1,5 +1,5 @@
 -- What is planned on a book holds of each list of the inputs that were recorded on the page of the request.
-use Rattle.std.proofs.Common.{◌≡◌, ℕ, ◌*◌, ◌≤◌, List, [], Bool, refl, sym, ap, ◌∙◌, subst, arith}
+use Rattle.std.proofs.Common.{◌≡◌, ℕ, ◌*◌, List, [], refl, sym, ap, ◌∙◌, subst, arith}
 use Rattle.std.specs.Prelude.{Result, Ok, Err}
 use Rattle.std.specs.List.{IsDistinct}
 use Rattle.std.specs.Str.{bytes_eq}
@@ -8,8 +8,7 @@ use Rattle.bucket_core.specs.Rule.{Entries, refinement, total_weight}
 use Rattle.flag_defs.specs.Document.{Definitions}
 use Rattle.book_core.specs.Book.{Contents, IsBook, is_among, inputs_on}
 use Rattle.book_core.specs.Page.{PageName}
-use Rattle.book_share.proofs.Counting.{rising_on}
-use Rattle.book_share.proofs.Whole.{rising_distinct}
+use Rattle.book_share.proofs.Whole.{rising_distinct, rising_page}
 use Rattle.price_core.specs.Cost.{cost_of, input_cost}
 use Rattle.price_core.specs.Limits.{Limits}
 use Rattle.price_core.specs.Pricing.{Pricing}
@@ -21,7 +20,7 @@ use Rattle.rollout.specs.Planned.{IsPlan, IsPlanned}
 use Rattle.rollout.specs.Refined.{problem_refined}
 use Rattle.rollout.specs.Verified.{Shows}
 use Rattle.rollout.specs.declared.fault.RolloutFault.{RolloutFault}
-use Rattle.sealed_plans.specs.Recorded.{AreKeys, HoldsOf, Record, of_keys, page_asked}
+use Rattle.sealed_plans.specs.Recorded.{HoldsOf, Record, of_keys}
 use Rattle.sealed_plans.proofs.Sums.{same_sum}
 
 refused : {X E : Type 0} {e : E} {x : X} → Err e ≡ Ok x → ⊥
@@ -92,7 +91,7 @@ module _ (recorded : Record) (m : ℕ) (flags : Definitions) (request : List ℕ
       let found = at_request m book p flags (by_price (asked_of request)) (is ∙ ok) in
       let page = found.0 in
       let inputs = inputs_on book page in
-      let distinct : IsDistinct bytes_eq inputs = rising_distinct inputs (rising_on book page is_book) in
+      let distinct : IsDistinct bytes_eq inputs = rising_distinct inputs (rising_page book page is_book) in
       record {
         page = page;
         named = found.1;

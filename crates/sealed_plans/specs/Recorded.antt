@@ -4,11 +4,12 @@ use Rattle.std.specs.List.{IsDistinct, list_any}
 use Rattle.std.specs.Str.{bytes_eq}
 use Rattle.flag_defs.specs.Document.{Definitions}
 use Rattle.book_core.specs.Book.{Contents, IsBook, is_among}
+use Rattle.book_core.specs.Calls.{stands}
 use Rattle.book_core.specs.Page.{PageName}
+use Rattle.book_lock.specs.Told.{IsTold, all_told}
+use Rattle.book_lock.specs.declared.call.Sight.{Sight}
 use Rattle.book_share.specs.Asked.{Mention, is_mention}
 use Rattle.book_share.specs.Driven.{AreNoted}
-use Rattle.book_share.specs.Sealed.{IsSealed, all_told}
-use Rattle.book_share.specs.Told.{Told, was_told}
 use Rattle.price_core.specs.Request.{asked_of}
 use Rattle.plan_text.specs.Answer.{Answer, planned_view}
 use Rattle.plan_text.specs.declared.planned.Planned.{Planned}
@@ -49,8 +50,8 @@ pub record HoldsOf (recorded : Record) (m : ℕ) (flags : Definitions) (request 
   pub shows : (keys : List (List ℕ)) → AreKeys (recorded page) keys → Shows (of_keys problem keys) answer
 
 -- what the seats of a book were told
-abbrev pub told_to : List (List Told) → Record
-told_to seats page input = was_told page input (all_told seats)
+abbrev pub told_to : List Sight → Record
+told_to seats page input = stands (all_told seats) page input
 
 -- what a list mentions
 abbrev pub mentioned_in : List Mention → Record
@@ -58,8 +59,8 @@ mentioned_in mentions page input = list_any (is_mention page input) mentions
 
 -- what is planned on a sealed book holds of what its seats were told
 abbrev pub SealedPlansHold : Type 0
-SealedPlansHold = (seats : List (List Told)) (book : Contents) (m : ℕ) (flags : Definitions) (request : List ℕ) (planned : Planned)
-    → IsBook book → IsSealed seats book → IsPlanned (problem_refined m flags request book) (Ok planned) → HoldsOf (told_to seats) m flags request (planned_view planned)
+SealedPlansHold = (seats : List Sight) (book : Contents) (m : ℕ) (flags : Definitions) (request : List ℕ) (planned : Planned)
+    → IsBook book → IsTold seats book → IsPlanned (problem_refined m flags request book) (Ok planned) → HoldsOf (told_to seats) m flags request (planned_view planned)
 
 -- what is planned on a driven book holds of what its asks reached, where no page was full
 abbrev pub DrivenPlansHold : Type 0

@@ -2,12 +2,12 @@
 //!
 //! [`plan_sealed`] ends a shared book and plans on it. Proved, over `Recorded.HoldsOf` of `specs/`: the rule that it gives fits
 //! the request and costs the inputs that the seats were told on the page of the request's site, each counted once, the least
-//! of all rules that fit; or no rule fits. [`plans_hold_of_what_was_recorded`] says the same of `book_share::seal` and
+//! of all rules that fit; or no rule fits. [`plans_hold_of_what_was_recorded`] says the same of `book_lock::seal` and
 //! `rollout::plan` called apart, and of a book that `book_share::drive` gives: its plan is least over the inputs that the asks
 //! reached, where no page was full.
 //!
 //! ```rust
-//! use book_share::{BookName, Seat, SharedBook};
+//! use book_lock::{BookName, Seat, SharedBook};
 //! use flag_defs::Flags;
 //! use plan_text::Planned;
 //! use sealed_plans::plan_sealed;

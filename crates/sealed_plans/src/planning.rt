@@ -1,5 +1,5 @@
 //! The end of a shared book, and a plan on what was recorded.
-ghost use Rattle.std.specs.Prelude.{◌≡◌, IfOk};
+ghost use Rattle.std.specs.Prelude.{IfOk};
 ghost use Rattle.book_core.specs.Book.{IsBook};
 ghost use Rattle.flag_defs.specs.Flags.{flags_view};
 ghost use Rattle.plan_text.specs.Answer.{planned_view};
@@ -8,7 +8,7 @@ ghost use Rattle.rollout.specs.Refined.{problem_refined};
 ghost use Rattle.sealed_plans.specs.Recorded.{HoldsOf, told_to};
 
 use book_core::Book;
-use book_share::{BookName, SealRefused, Seat, SharedBook, seal};
+use book_lock::{BookName, SealRefused, Seat, SharedBook, seal};
 use flag_defs::Flags;
 use plan_text::Planned;
 use rollout::{RolloutFault, plan};
@@ -18,14 +18,14 @@ use std::thread::Threads;
 /// Why nothing was planned on a shared book.
 #[derive(Drop)]
 pub enum PlanRefused<L: BookName> {
-    /// The book was not sealed; it and its seats are handed back.
+    /// A seat was missing: the book was not sealed, and it and its seats are handed back.
     Seal(SealRefused<L>),
     /// The request was refused, or memory ran out; the sealed book is handed back.
     Plan(RolloutFault, Book),
 }
 
 /// Ends a shared book with all its seats, and plans on it: the answer of `rollout::plan` over what the seats were told. It is
-/// refused as `book_share::seal`, and then as `rollout::plan`.
+/// refused as `book_lock::seal`, and then as `rollout::plan`.
 pub fn plan_sealed<L: BookName, R: Threads + Sync>(
     rt: &R,
     alloc: Global,
@@ -34,10 +34,9 @@ pub fn plan_sealed<L: BookName, R: Threads + Sync>(
     book: SharedBook<L>,
     seats: Vec<Seat<L>>,
 ) -> Result<Planned, PlanRefused<L>>
-    requires { L.seats ≡ L.parts }
     ensures { IfOk result (λ planned. HoldsOf (told_to seats.items) 1 (flags_view flags.now) request.now (planned_view planned)) }
 {
-    let book = match seal(alloc, book, seats) {
+    let book = match seal(book, seats) {
         Ok(book) => book,
         Err(refused) => return Err(PlanRefused::Seal(refused)),
     };
@@ -57,7 +56,7 @@ fn plan_over(
     ensures exact { IsPlanned (problem_refined 1 (flags_view flags.now) request.now book.now) result }
     ensures lawful { IsBook book.now }
 {
-    // what a book holds is lawful, which its readers say
+    // Called for what its contract says: what a book holds is lawful.
     let _inputs = book.inputs();
     plan(rt, alloc, flags, request, book)
 }

@@ -1,12 +1,11 @@
-use Rattle.book_share.specs.Sealed.{all_told}
 use Rattle.sealed_plans.specs.Recorded.{mentioned_in, told_to}
 use Rattle.sealed_plans.proofs.Holding.{plan_holds}
 use Rattle.std.proofs.Common.{refl}
 use Rattle.sealed_plans.proofs.laws.plans_hold_of_what_was_recorded.Goals as goal
 
 pub returns-clause-sealed : goal.returns-clause-sealed
-returns-clause-sealed c = λ seats book m flags request planned is_book sealed is_planned.
-    plan_holds (told_to seats) m flags request book planned is_book sealed.told.union is_planned
+returns-clause-sealed c = λ seats book m flags request planned is_book told is_planned.
+    plan_holds (told_to seats) m flags request book planned is_book told.told.union is_planned
 
 pub returns-clause-driven : goal.returns-clause-driven
 returns-clause-driven c = λ mentions book calls news m flags request planned is_book noted is_planned.

@@ -5,4 +5,4 @@ use Rattle.sealed_plans.proofs.planning.plan_sealed.Goals as goal
 
 pub returns-in-Ok-plan_over : goal.returns-in-Ok-plan_over
 returns-in-Ok-plan_over g c =
-    plan_holds (told_to c.args.seats.items) 1 (flags_view c.args.flags.now) c.args.request.now c.in-Ok.book c.in-Ok-plan_over.planned c.in-Ok-plan_over.ensures.lawful c.in-Ok.ensures.sealed.told.union c.in-Ok-plan_over.ensures.exact
+    plan_holds (told_to c.args.seats.items) 1 (flags_view c.args.flags.now) c.args.request.now c.in-Ok.book c.in-Ok-plan_over.planned c.in-Ok-plan_over.ensures.lawful c.in-Ok.ensures.told.told.union c.in-Ok-plan_over.ensures.exact

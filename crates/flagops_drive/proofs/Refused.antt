@@ -1,0 +1,40 @@
+-- The refusals of a drive that take no memory.
+use Rattle.std.proofs.Common.{◌≡◌, ◌∙◌, ℕ, List, Option, Some, None, true, false, is_some, refl, sym, ap, subst}
+use Rattle.std.specs.Prelude.{Result, Err, option_map}
+use Rattle.flag_defs.specs.Document.{Definitions}
+use Rattle.book_share.specs.DriveFault.{workers_fault}
+use Rattle.book_share.specs.declared.drive_fault.DriveFault.{DriveFault}
+use Rattle.flagops_drive.specs.Asks.{Ask}
+use Rattle.flagops_drive.specs.Driven.{Drives, IsDriveOf, refusal_of}
+use Rattle.flagops_drive.specs.declared.command.Drove as program_drove
+use Rattle.flagops_drive.specs.declared.fault.DriveRefusal.{DriveRefusal}
+use Rattle.flagops_drive.specs.declared.fault.DriveRefusal.TheVariants.{Drive, BadAsks}
+
+-- ---- no asks
+
+pub bad_asks : (flags : Definitions) (o : Option (List Ask)) (workers : ℕ) → false ≡ is_some o → IsDriveOf flags o workers (Err BadAsks)
+bad_asks flags None workers h = refl
+bad_asks flags (Some asks) workers h = cc
+
+pub bad_asks_first : (o : Option (List Ask)) (workers : ℕ) (e : DriveRefusal) → false ≡ is_some o → refusal_of o workers ≡ Some e → BadAsks ≡ e
+bad_asks_first None workers e h is = cc
+bad_asks_first (Some asks) workers e h is = cc
+
+-- ---- a wrong number of workers
+
+pub bad_workers : (flags : Definitions) (o : Option (List Ask)) (workers : ℕ) (fault : DriveFault) → true ≡ is_some o → Some fault ≡ workers_fault workers → IsDriveOf flags o workers (Err (Drive fault))
+bad_workers flags None workers fault h is = cc
+bad_workers flags (Some asks) workers fault h is = sym is
+
+pub bad_workers_first : (o : Option (List Ask)) (workers : ℕ) (fault : DriveFault) (e : DriveRefusal) → true ≡ is_some o → Some fault ≡ workers_fault workers → refusal_of o workers ≡ Some e → Drive fault ≡ e
+bad_workers_first None workers fault e h is first = cc
+bad_workers_first (Some asks) workers fault e h is first = let same : Some (Drive fault) ≡ Some e = ap (option_map Drive) is ∙ first in cc
+
+-- ---- neither
+
+pub none_first : {X : Type 0} (o : Option (List Ask)) (workers : ℕ) (e : DriveRefusal) → true ≡ is_some o → None ≡ workers_fault workers → refusal_of o workers ≡ Some e → X
+none_first None workers e h is first = cc
+none_first (Some asks) workers e h is first = let same : None ≡ Some e = ap (option_map Drive) is ∙ first in cc
+
+pub same_asks : (flags : Definitions) (items o : Option (List Ask)) (workers : ℕ) (r : Result program_drove.Drove DriveRefusal) → items ≡ o → Drives flags items workers r → Drives flags o workers r
+same_asks flags items o workers r is h = subst (λ (asks : Option (List Ask)). Drives flags asks workers r) is h
