@@ -1,5 +1,18 @@
 //! The rule of an assignment: of each group's points each name is given to as many as the assignment says.
 //!
+//! ```rust
+//! use assignment_rule::spread;
+//! use transport_plan::{Solved, solve_uncounted};
+//!
+//! /// A rule that fits at the least cost, nothing where none fits.
+//! fn least(alloc: Global, old: &Rule, exposure: &Exposure, instance: &Instance<'_>) -> Result<Option<Rule>, Fail> {
+//!     match solve_uncounted(alloc, instance)? {
+//!         Solved::Plan(assignment, _) => Ok(Some(spread(alloc, old, exposure, instance, assignment)?)),
+//!         Solved::None(_) => Ok(None),
+//!     }
+//! }
+//! ```
+//!
 //! Proved: [`spread`] gives a canonical rule that has the assignment (`HasAssignment` of `transport_core`): of each group's
 //! points each name has just its number. So what is proved of each rule with the assignment is proved of this one.
 #![tactic(auto)]

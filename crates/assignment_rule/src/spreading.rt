@@ -66,7 +66,7 @@ fn spread_over(
     ensures canonical { IfOk result IsCanonical }
     ensures assigned { IfOk result (λ rule. HasAssignment old.now rule exposure.now (arc_flows (keys_of (rows_view groups.now)) (names_view names.now) numbers.items)) }
 {
-    // what is dealt out rests on what this says of the rule
+    // Called for what its contract says, on which what is dealt out rests: a rule's total is from 1 to 2^31-1.
     let _total = old.total();
     let stays = places_of(alloc, groups, names)?;
     let stays = stays.as_slice();

@@ -43,6 +43,11 @@ pub record IsPath (p : FlowProblem) (f : Flow) (price : ℕ → ℤ) (first last
 abbrev pub AreTraced : ℕ → (ℕ → ℕ → Option Arc) → (ℕ → ℤ) → (ℕ → ℕ) → (ℕ → ℕ) → ℕ → ℕ → Type 0
 AreTraced names arc price parent rank source last = (v : ℕ) → v < names + 1 → (rank v < names + 1) ⊎ (v ≡ last) → (v ≡ source) ⊎ IsTight (names + 1) arc price parent rank v
 
+-- a path may begin at the name: it is the source, or an arc leads there from the limits, which were settled
+abbrev pub MayBegin : FlowProblem → Flow → (ℕ → ℕ) → ℕ → ℕ → Type 0
+MayBegin p f rank source v =
+    (v ≡ source) ⊎ ((rank (names_of p) < names_of p + 1) × ((a : Arc) × (arc_at f.arcs.items (names_of p + 1) (names_of p) v ≡ Some a)))
+
 -- the path begins at the source, or next to the limits, where these were settled, with an arc of reduced cost 0 from there
 pub record IsTraced (p : FlowProblem) (f : Flow) (price : ℕ → ℤ) (rank : ℕ → ℕ) (source last : ℕ) (path : Path) : Type 0 where
   pub steps : IsPath p f price path.first last path.steps.items

@@ -1,17 +1,17 @@
 //! Augmentation along a path that was found.
-ghost use Rattle.std.specs.Prelude.{◌≡◌, ◌<◌, ◌≤◌, ◌+◌, ◌-◌, ◌⊎◌, ℕ, Some, OnOk, length, min, slice_index};
+ghost use Rattle.std.specs.Prelude.{◌≡◌, ◌<◌, ◌≤◌, ◌+◌, ◌-◌, ℕ, OnOk, length, min, slice_index};
 ghost use Rattle.flow_laws.specs.Optimal.{AreLeast};
 ghost use Rattle.residual_arcs.specs.Problem.{IsFlowProblem, names_of};
 ghost use Rattle.residual_flow.specs.Flow.{IsFlow, flows_of, total_at};
 ghost use Rattle.shortest_path.specs.Found.{HasSize, parent_of, potential_of, rank_of};
 ghost use Rattle.shortest_path.specs.Network.{arc_at};
-ghost use Rattle.augmenting_paths.specs.Paths.{AreTraced, IsAugmented};
+ghost use Rattle.augmenting_paths.specs.Paths.{AreTraced, IsAugmented, MayBegin};
 
 use crate::following::trace;
 use crate::moving::{narrowest, shift_along};
 use residual_arcs::FlowProblem;
 use residual_flow::Flow;
-use shortest_path::{Arc, Search};
+use shortest_path::Search;
 use std::alloc::{AllocError, Global};
 
 /// Moves points along the path that was found to a name: as many as its narrowest step takes, as its first name has over its
@@ -32,7 +32,7 @@ pub fn augment(
     requires limits { length limits.now ≡ names_of problem.now }
     requires last { last < names_of problem.now }
     requires traced { AreTraced (names_of problem.now) (arc_at flow.old.arcs.items (names_of problem.now + 1)) (potential_of search.now) (parent_of search.now) (rank_of search.now) source last }
-    requires above { (v : ℕ) → v < names_of problem.now → (v ≡ source) ⊎ ((rank_of search.now (names_of problem.now) < names_of problem.now + 1) × ((a : Arc) × (arc_at flow.old.arcs.items (names_of problem.now + 1) (names_of problem.now) v ≡ Some a))) → slice_index limits.now v < total_at flow.old v }
+    requires above { (v : ℕ) → v < names_of problem.now → MayBegin problem.now flow.old (rank_of search.now) source v → slice_index limits.now v < total_at flow.old v }
     requires below { total_at flow.old last < slice_index limits.now last }
     ensures flow { OnOk result (IsFlow problem.now flow.new) }
     ensures least { OnOk result (AreLeast (flows_of problem.now flow.new) (potential_of search.now)) }

@@ -1,5 +1,21 @@
 //! What a flow of numbered groups and names says of the planning problem that it was made of: the dual prices by its potentials,
 //! that an optimal flow is optimal for the problem, and the certificate that proves it.
+//!
+//! ```rust
+//! use flow_answers::certificate;
+//! use flow_passes::{Outcome, cheapest_flow};
+//!
+//! /// The certificate of the least cost, nothing where no flow is within the limits.
+//! fn certified<L: Ledger>(
+//!     alloc: Global, instance: &Instance<'_>, problem: &FlowProblem, effort: &mut Effort<L>,
+//! ) -> Result<Option<Certificate>, AllocError> {
+//!     let passed = cheapest_flow(alloc, problem, effort)?;
+//!     match passed.outcome {
+//!         Outcome::Cheapest => Ok(Some(certificate(alloc, instance, problem, &passed.flow, &passed.search)?)),
+//!         Outcome::Over | Outcome::Under => Ok(None),
+//!     }
+//! }
+//! ```
 #![tactic(auto)]
 
 mod certifying;

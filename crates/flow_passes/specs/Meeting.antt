@@ -1,16 +1,16 @@
 -- A flow within the high limits that is brought to meet the low ones.
-use Rattle.std.specs.Prelude.{◌≡◌, ℕ, ◌*◌, ◌+◌, ◌-◌, ◌<◌, ◌≤◌, pos, ◌≤ℤ◌, true, false, Bool, List, length, nat_lt, slice_index, slice_index_or}
+use Rattle.std.specs.Prelude.{◌≡◌, ℕ, ◌*◌, ◌+◌, ◌-◌, ◌<◌, ◌≤◌, pos, ◌≤ℤ◌, false, Bool, List, length, nat_lt, slice_index, slice_index_or}
 use Rattle.std.proofs.Common.{neg_ℤ}
 use Rattle.augmenting_paths.specs.Paths.{AreTraced}
 use Rattle.flow_laws.specs.Optimal.{IsOptimal}
-use Rattle.residual_arcs.specs.Problem.{may_take, names_of, sum_to}
+use Rattle.residual_arcs.specs.Problem.{names_of, sum_to}
 use Rattle.residual_arcs.specs.declared.problem.FlowProblem.{FlowProblem}
-use Rattle.residual_flow.specs.Flow.{IsFlow, flows_of, groups_of, placed_at, total_at}
+use Rattle.residual_flow.specs.Flow.{IsFlow, flows_of, total_at}
 use Rattle.residual_flow.specs.declared.flow.Flow.{Flow}
 use Rattle.shortest_path.specs.Found.{HasSize, parent_of, potential_of, rank_of}
 use Rattle.shortest_path.specs.Network.{arc_at}
 use Rattle.shortest_path.specs.declared.search.Search.{Search}
-use Rattle.flow_passes.specs.Placing.{reach}
+use Rattle.flow_passes.specs.Placing.{IsClosed, reach}
 
 -- The flow is within the high limits and optimal by the potentials; those of names below their low limits are as near 0 as the
 -- first pass left them, and all others near these.
@@ -52,4 +52,4 @@ pub record IsStuckBelow (p : FlowProblem) (f : Flow) (s : Search) : Type 0 where
   pub unsettled : names_of p + 1 ≤ rank_of s below
   pub under : total_at f below < slice_index p.low.items below
   pub bare : (v : ℕ) → v < names_of p → names_of p + 1 ≤ rank_of s v → total_at f v ≤ slice_index p.low.items v
-  pub closed : (g v w : ℕ) → g < groups_of p → v < names_of p → w < names_of p → 0 < placed_at p f g v → rank_of s v < names_of p + 1 → may_take p.groups.items p.prices.items (names_of p) g w ≡ true → rank_of s w < names_of p + 1
+  pub closed : IsClosed p f s

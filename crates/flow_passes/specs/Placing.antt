@@ -3,7 +3,7 @@ use Rattle.std.specs.Prelude.{◌≡◌, ℕ, ◌*◌, ◌+◌, ◌-◌, ◌<◌
 use Rattle.std.proofs.Common.{neg_ℤ}
 use Rattle.augmenting_paths.specs.Paths.{AreTraced}
 use Rattle.flow_laws.specs.Optimal.{IsOptimal}
-use Rattle.residual_arcs.specs.Problem.{may_take, names_of, sum_to}
+use Rattle.residual_arcs.specs.Problem.{may_take_in, names_of, sum_to}
 use Rattle.residual_arcs.specs.declared.problem.FlowProblem.{FlowProblem}
 use Rattle.residual_flow.specs.Flow.{IsFlow, flows_of, groups_of, placed_at, total_at}
 use Rattle.residual_flow.specs.declared.flow.Flow.{Flow}
@@ -47,6 +47,12 @@ pub record IsWay (p : FlowProblem) (f : Flow) (s : Search) (from last : ℕ) : T
   pub unsettled : rank_of s (names_of p) < names_of p + 1 → ⊥
   pub traced : AreTraced (names_of p) (arc_at f.arcs.items (names_of p + 1)) (potential_of s) (parent_of s) (rank_of s) from last
 
+-- no point at a settled name may take one that is not settled
+abbrev pub IsClosed : FlowProblem → Flow → Search → Type 0
+IsClosed p f s =
+    (g v w : ℕ) → g < groups_of p → v < names_of p → w < names_of p → 0 < placed_at p f g v → rank_of s v < names_of p + 1
+    → may_take_in p g w ≡ true → rank_of s w < names_of p + 1
+
 -- the names that the last search settled are full, one of them is above its high limit, and no point leaves them
 pub record IsStuckAbove (p : FlowProblem) (f : Flow) (s : Search) : Type 0 where
   pub size : HasSize (names_of p + 1) s
@@ -55,4 +61,4 @@ pub record IsStuckAbove (p : FlowProblem) (f : Flow) (s : Search) : Type 0 where
   pub settled : rank_of s above < names_of p + 1
   pub over : slice_index p.high.items above < total_at f above
   pub full : (v : ℕ) → v < names_of p → rank_of s v < names_of p + 1 → slice_index p.high.items v ≤ total_at f v
-  pub closed : (g v w : ℕ) → g < groups_of p → v < names_of p → w < names_of p → 0 < placed_at p f g v → rank_of s v < names_of p + 1 → may_take p.groups.items p.prices.items (names_of p) g w ≡ true → rank_of s w < names_of p + 1
+  pub closed : IsClosed p f s

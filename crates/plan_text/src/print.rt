@@ -48,6 +48,7 @@ fn emit_tree(alloc: Global, rule: &Rule, certificate: &Certificate) -> Result<Tr
     ensures value { IfOk result (λ t. view t ≡ planned_written (emit rule.now (certificate_view certificate.now))) }
     ensures fits { OnOk result (FitsFile (emit rule.now (certificate_view certificate.now))) }
 {
+    // Called for what its contract says: a rule's total, so that a file can hold each weight.
     let _total = rule.total();
     let alpha = alpha_trees(alloc, certificate.alpha.as_slice())?;
     let beta = beta_trees(alloc, certificate.beta.as_slice())?;

@@ -52,6 +52,13 @@ pub record ArePrices (names : ℕ) (prices : List (Option ℤ)) : Type 0 where
 abbrev pub names_of : FlowProblem → ℕ
 names_of p = length p.high.items
 
+-- the same of the tables of a problem
+abbrev pub may_take_in : FlowProblem → ℕ → ℕ → Bool
+may_take_in p g w = may_take p.groups.items p.prices.items (names_of p) g w
+
+abbrev pub cost_in : FlowProblem → ℕ → ℕ → ℤ
+cost_in p g w = cost_at p.groups.items p.prices.items (names_of p) g w
+
 pub record IsFlowProblem (p : FlowProblem) : Type 0 where
   pub names : names_of p ≤ 64
   pub lows : length p.low.items ≡ names_of p

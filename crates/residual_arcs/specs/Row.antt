@@ -1,5 +1,7 @@
 -- The residual arcs from one name to the others.
-use Rattle.std.specs.Prelude.{◌≡◌, ℕ, ◌<◌, ◌≤◌, ℤ, ◌⊎◌, ◌+ℤ◌, ◌≤ℤ◌, Bool, true, Option, Some}
+use Rattle.std.specs.Prelude.{◌≡◌, ℕ, ◌<◌, ◌≤◌, ◌+◌, ◌*◌, ℤ, ◌⊎◌, ◌+ℤ◌, ◌≤ℤ◌, Bool, true, List, length, Option, Some, None, slice_index, slice_index_or}
+use Rattle.residual_arcs.specs.Problem.{cost_at, group_at, may_take}
+use Rattle.residual_arcs.specs.declared.problem.Group.{Group}
 use Rattle.shortest_path.specs.declared.arc.Arc.{Arc}
 
 -- The arcs from the name `v` are those along which the points `here` may move, each the cheapest: groups and names are numbered,
@@ -40,7 +42,38 @@ IsLower names old new = (w : ℕ) (known : Arc) → w < names → old w ≡ Some
 -- each group with points at the name has one of its old variant with no more inputs, or no fewer, whose ways cost no less than
 -- the arcs
 abbrev pub HaveFirst : (groups names : ℕ) (variant count : ℕ → ℕ) (may : ℕ → ℕ → Bool) (charge : ℕ → ℕ → ℤ) (here : ℕ → ℕ) (v : ℕ) (arc : ℕ → Option Arc) → Type 0
-HaveFirst groups names variant count may charge here v arc = (g : ℕ) → g < groups → 0 < here g → (h : ℕ) × (h < groups) × (variant h ≡ variant g) × (count h ≤ count g) × IsCovered names may charge v arc h
+HaveFirst groups names variant count may charge here v arc =
+    (g : ℕ) → g < groups → 0 < here g → (h : ℕ) × (h < groups) × (variant h ≡ variant g) × (count h ≤ count g) × IsCovered names may charge v arc h
 
 abbrev pub HaveLast : (groups names : ℕ) (variant count : ℕ → ℕ) (may : ℕ → ℕ → Bool) (charge : ℕ → ℕ → ℤ) (here : ℕ → ℕ) (v : ℕ) (arc : ℕ → Option Arc) → Type 0
-HaveLast groups names variant count may charge here v arc = (g : ℕ) → g < groups → 0 < here g → (h : ℕ) × (h < groups) × (variant h ≡ variant g) × (count g ≤ count h) × IsCovered names may charge v arc h
+HaveLast groups names variant count may charge here v arc =
+    (g : ℕ) → g < groups → 0 < here g → (h : ℕ) × (h < groups) × (variant h ≡ variant g) × (count g ≤ count h) × IsCovered names may charge v arc h
+
+-- The same of tables: the groups, the prices by old name and then by new name, the points placed by group and then by name, and
+-- the row of arcs from a name.
+abbrev pub points_at : List ℕ → ℕ → ℕ → ℕ → ℕ
+points_at placed names v g = slice_index placed (g * names + v)
+
+abbrev pub arc_to : List (Option Arc) → ℕ → Option Arc
+arc_to row w = slice_index_or row w None
+
+abbrev pub IsRowOf : List Group → List (Option ℤ) → List ℕ → ℕ → ℕ → List (Option Arc) → Type 0
+IsRowOf groups prices placed names v row =
+    IsRow (length groups) names (may_take groups prices names) (cost_at groups prices names) (points_at placed names v) v (arc_to row)
+
+abbrev pub AreWaysOf : List Group → List (Option ℤ) → List ℕ → ℕ → ℕ → List (Option Arc) → Type 0
+AreWaysOf groups prices placed names v row =
+    AreWays (length groups) names (may_take groups prices names) (cost_at groups prices names) (points_at placed names v) v (arc_to row)
+
+abbrev pub IsWidenedOf : List Group → List (Option ℤ) → ℕ → ℕ → ℕ → List (Option Arc) → List (Option Arc) → Type 0
+IsWidenedOf groups prices names g v old new = IsWidened names (may_take groups prices names) (cost_at groups prices names) g v (arc_to old) (arc_to new)
+
+abbrev pub HaveFirstOf : List Group → List (Option ℤ) → List ℕ → ℕ → ℕ → List (Option Arc) → Type 0
+HaveFirstOf groups prices placed names v row =
+    HaveFirst (length groups) names (λ g. (group_at groups g).variant) (λ g. (group_at groups g).count)
+    (may_take groups prices names) (cost_at groups prices names) (points_at placed names v) v (arc_to row)
+
+abbrev pub HaveLastOf : List Group → List (Option ℤ) → List ℕ → ℕ → ℕ → List (Option Arc) → Type 0
+HaveLastOf groups prices placed names v row =
+    HaveLast (length groups) names (λ g. (group_at groups g).variant) (λ g. (group_at groups g).count)
+    (may_take groups prices names) (cost_at groups prices names) (points_at placed names v) v (arc_to row)

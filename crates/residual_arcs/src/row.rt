@@ -1,6 +1,6 @@
 ghost use Rattle.std.specs.Prelude.{◌≡◌, ◌<◌, ◌*◌, ◌+◌, ℕ, MatchBool, Some, true, None, length, slice_index, slice_index_or};
-ghost use Rattle.residual_arcs.specs.Problem.{AreGroups, ArePrices, cost_at, group_at, may_take};
-ghost use Rattle.residual_arcs.specs.Row.{AreWays, HaveFirst, HaveLast, IsLower, IsRow, IsWidened};
+ghost use Rattle.residual_arcs.specs.Problem.{AreGroups, ArePrices, may_take};
+ghost use Rattle.residual_arcs.specs.Row.{AreWaysOf, HaveFirstOf, HaveLastOf, IsLower, IsRowOf, IsWidenedOf};
 
 use crate::cheaper::offer;
 use crate::problem::Group;
@@ -20,7 +20,7 @@ pub fn renew(
     requires prices { ArePrices (length row.old) prices.now }
     requires placed { length placed.now ≡ length groups.now * length row.old }
     requires free { (g : ℕ) → g < length groups.now → 0 < slice_index placed.now (g * length row.old + name) → may_take groups.now prices.now (length row.old) g name ≡ true }
-    ensures { IsRow (length groups.now) (length row.old) (may_take groups.now prices.now (length row.old)) (cost_at groups.now prices.now (length row.old)) (λ g. slice_index placed.now (g * length row.old + name)) name (λ w. slice_index_or row.new w None) }
+    ensures { IsRowOf groups.now prices.now placed.now (length row.old) name row.new }
 {
     clear(row);
     enter_firsts(row, groups, prices, placed, name);
@@ -49,9 +49,9 @@ fn enter_firsts(
     requires prices { ArePrices (length row.old) prices.now }
     requires placed { length placed.now ≡ length groups.now * length row.old }
     requires free { (g : ℕ) → g < length groups.now → 0 < slice_index placed.now (g * length row.old + name) → may_take groups.now prices.now (length row.old) g name ≡ true }
-    requires ways { AreWays (length groups.now) (length row.old) (may_take groups.now prices.now (length row.old)) (cost_at groups.now prices.now (length row.old)) (λ g. slice_index placed.now (g * length row.old + name)) name (λ w. slice_index_or row.old w None) }
-    ensures ways { AreWays (length groups.now) (length row.old) (may_take groups.now prices.now (length row.old)) (cost_at groups.now prices.now (length row.old)) (λ g. slice_index placed.now (g * length row.old + name)) name (λ w. slice_index_or row.new w None) }
-    ensures firsts { HaveFirst (length groups.now) (length row.old) (λ g. (group_at groups.now g).variant) (λ g. (group_at groups.now g).count) (may_take groups.now prices.now (length row.old)) (cost_at groups.now prices.now (length row.old)) (λ g. slice_index placed.now (g * length row.old + name)) name (λ w. slice_index_or row.new w None) }
+    requires ways { AreWaysOf groups.now prices.now placed.now (length row.old) name row.old }
+    ensures ways { AreWaysOf groups.now prices.now placed.now (length row.old) name row.new }
+    ensures firsts { HaveFirstOf groups.now prices.now placed.now (length row.old) name row.new }
 {
     let mut before = None;
     for g in 0..groups.len() {
@@ -75,9 +75,9 @@ fn enter_lasts(
     requires prices { ArePrices (length row.old) prices.now }
     requires placed { length placed.now ≡ length groups.now * length row.old }
     requires free { (g : ℕ) → g < length groups.now → 0 < slice_index placed.now (g * length row.old + name) → may_take groups.now prices.now (length row.old) g name ≡ true }
-    requires ways { AreWays (length groups.now) (length row.old) (may_take groups.now prices.now (length row.old)) (cost_at groups.now prices.now (length row.old)) (λ g. slice_index placed.now (g * length row.old + name)) name (λ w. slice_index_or row.old w None) }
-    ensures ways { AreWays (length groups.now) (length row.old) (may_take groups.now prices.now (length row.old)) (cost_at groups.now prices.now (length row.old)) (λ g. slice_index placed.now (g * length row.old + name)) name (λ w. slice_index_or row.new w None) }
-    ensures lasts { HaveLast (length groups.now) (length row.old) (λ g. (group_at groups.now g).variant) (λ g. (group_at groups.now g).count) (may_take groups.now prices.now (length row.old)) (cost_at groups.now prices.now (length row.old)) (λ g. slice_index placed.now (g * length row.old + name)) name (λ w. slice_index_or row.new w None) }
+    requires ways { AreWaysOf groups.now prices.now placed.now (length row.old) name row.old }
+    ensures ways { AreWaysOf groups.now prices.now placed.now (length row.old) name row.new }
+    ensures lasts { HaveLastOf groups.now prices.now placed.now (length row.old) name row.new }
     ensures lower { IsLower (length row.old) (λ w. slice_index_or row.old w None) (λ w. slice_index_or row.new w None) }
 {
     let mut before = None;
@@ -109,7 +109,7 @@ pub fn enter(
     requires groups { AreGroups (length row.old) prices.now groups.now }
     requires prices { ArePrices (length row.old) prices.now }
     requires free { may_take groups.now prices.now (length row.old) group name ≡ true }
-    ensures { IsWidened (length row.old) (may_take groups.now prices.now (length row.old)) (cost_at groups.now prices.now (length row.old)) group name (λ w. slice_index_or row.old w None) (λ w. slice_index_or row.new w None) }
+    ensures { IsWidenedOf groups.now prices.now (length row.old) group name row.old row.new }
 {
     let Group { variant, count, .. } = groups[group];
     let names = row.len();

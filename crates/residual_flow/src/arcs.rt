@@ -1,5 +1,5 @@
 ghost use Rattle.std.specs.Prelude.{◌≡◌, ◌<◌, ◌*◌, ◌+◌, ℕ, length, slice_index, true};
-ghost use Rattle.residual_arcs.specs.Problem.{IsFlowProblem, cost_at, may_take, names_of};
+ghost use Rattle.residual_arcs.specs.Problem.{IsFlowProblem, cost_in, may_take_in, names_of};
 ghost use Rattle.residual_arcs.specs.Row.{IsWidened};
 ghost use Rattle.residual_flow.specs.Flow.{cell_at, groups_of};
 ghost use Rattle.residual_flow.specs.Rows.{ChangesGroup, ChangesLimits, ChangesRow, HasArcs, HasLimits, HasRow, IsLimitArc, MayBe};
@@ -40,8 +40,8 @@ fn enter_from(arcs: &mut [Option<Arc>], problem: &FlowProblem, group: usize, nam
     requires arcs { HasArcs (names_of problem.now) arcs.old }
     requires name { name < names_of problem.now }
     requires group { group < groups_of problem.now }
-    requires free { may_take problem.now.groups.items problem.now.prices.items (names_of problem.now) group name ≡ true }
-    ensures row { IsWidened (names_of problem.now) (may_take problem.now.groups.items problem.now.prices.items (names_of problem.now)) (cost_at problem.now.groups.items problem.now.prices.items (names_of problem.now)) group name
+    requires free { may_take_in problem.now group name ≡ true }
+    ensures row { IsWidened (names_of problem.now) (may_take_in problem.now) (cost_in problem.now) group name
         (arc_at arcs.old (names_of problem.now + 1) name) (arc_at arcs.new (names_of problem.now + 1) name) }
     ensures others { ChangesRow (names_of problem.now) name arcs.old arcs.new }
 {
@@ -92,7 +92,7 @@ pub(crate) fn arrive(
     requires arcs { HasArcs (names_of problem.now) arcs.old }
     requires name { name < names_of problem.now }
     requires group { group < groups_of problem.now }
-    requires free { may_take problem.now.groups.items problem.now.prices.items (names_of problem.now) group name ≡ true }
+    requires free { may_take_in problem.now group name ≡ true }
     ensures row { (old now : ℕ → ℕ) → old group ≡ before → 0 < now group → ChangesGroup group old now → HasRow problem.now old name arcs.old → HasRow problem.now now name arcs.new }
     ensures others { ChangesRow (names_of problem.now) name arcs.old arcs.new }
 {

@@ -15,7 +15,8 @@ abbrev pub by_document : {A : Type 0} → Result A DefFault → Result A Rollout
 by_document (Ok x) = Ok x
 by_document (Err e) = Err (of_document e)
 
--- The flags in which the flag of this key has the rule's entries at the site. Its refusals in their order: no such flag, no such site, a computed bucket, a name that the flag lacks, a document that is too large.
+-- The flags in which the flag of this key has the rule's entries at the site. Its refusals in their order: no such flag, no such
+-- site, a computed bucket, a name that the flag lacks, a document that is too large.
 abbrev pub applied : Definitions → List ℕ → ℕ → Entries → Result Definitions RolloutFault
 applied flags key site rule =
     and_then (or_refuse UnknownFlag (lookup (bytes_eq key) flags)) (λ flag.

@@ -79,7 +79,7 @@ fn plan_by(
     ensures ordered { IfOk result (λ a. IsOrdered (planned_view a)) }
     ensures whole { IfOk result (λ a. IsWhole (planned_view a)) }
 {
-    // Flags have at most 64 variants.
+    // Called for what its contract says: flags have at most 64 variants.
     let _count = flags.len();
     let problem = problem_of(alloc, refining, flags, request, book)?;
     plan_on(alloc, &problem)
@@ -133,12 +133,13 @@ fn answer(
         exposure,
         ..
     } = problem;
-    // what is answered rests on what these say of the rule and of the limits
+    // Called for what their contracts say: a rule's total is from 1 to 2^31-1, and limits are lawful.
     let _weight = old.total();
     let _limits = totals.entries();
     match solved {
         Solved::Plan(assignment, certificate) => {
             let rule = spread(alloc, old, exposure, instance, assignment)?;
+            // Called for the same of the new rule, which a plan file is to hold.
             let _total = rule.total();
             Ok(Planned::Emit(rule, certificate))
         }

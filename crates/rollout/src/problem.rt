@@ -59,7 +59,7 @@ fn problem_at(
     }
     let totals = limits_for(alloc, &place, &request)?;
     let factor = refining.factor(total);
-    check_size(totals.entries(), total, factor)?;
+    check_size(&totals, total, factor)?;
     let Place { entries, page, .. } = place;
     let old = refined(alloc, entries, factor)?;
     let exposure = book.exposure(alloc, &page)?;

@@ -97,7 +97,7 @@ fn check(
     ensures shown { OnOk result (Shows (problem_view problem.now) (planned_view planned.now)) }
     ensures lawful { IsLawful (problem_view problem.now) }
 {
-    // what is shown rests on what these say of the rule and of the limits
+    // Called for what their contracts say: a rule's total is from 1 to 2^31-1, and limits are lawful.
     let _weight = problem.old.total();
     let _limits = problem.totals.entries();
     let prices = problem.request.prices();

@@ -1,8 +1,15 @@
 -- What a search of a residual network knows while it settles nodes: the length of the shortest path found to each node, the
 -- node before it on that path, and its rank among the settled nodes; unsettled ones have the number of nodes or more.
-use Rattle.std.specs.Prelude.{◌≡◌, ℕ, ◌<◌, ◌≤◌, ◌*◌, ◌⊎◌, ℤ, pos, ◌+ℤ◌, ◌-ℤ◌, ◌≤ℤ◌, Option, Some}
+use Rattle.std.specs.Prelude.{◌≡◌, ℕ, ◌<◌, ◌≤◌, ◌*◌, ◌⊎◌, ℤ, pos, ◌+ℤ◌, ◌-ℤ◌, ◌≤ℤ◌, List, Option, Some, None, slice_index_or}
 use Rattle.std.proofs.Common.{neg_ℤ}
 use Rattle.shortest_path.specs.declared.arc.Arc.{Arc}
+
+-- what tables by node say of one
+abbrev pub potential_in : List ℤ → ℕ → ℤ
+potential_in potentials v = slice_index_or potentials v (pos 0)
+
+abbrev pub length_in : List (Option ℤ) → ℕ → Option ℤ
+length_in lengths v = slice_index_or lengths v None
 
 -- nothing changes for a node
 pub record Stays (len len' : Option ℤ) (parent parent' : ℕ) : Type 0 where

@@ -1,6 +1,19 @@
 //! Shortest paths in a residual network, by reduced costs, and the potentials that they leave (Dijkstra's algorithm with
 //! potentials; Ahuja, Magnanti, Orlin, Network Flows, section 9.7).
 //!
+//! ```rust
+//! use search_effort::Effort;
+//! use shortest_path::{Arc, Search};
+//!
+//! fn nearest<L: Ledger>(alloc: Global, effort: &mut Effort<L>) -> Result<Option<usize>, AllocError> {
+//!     // Of two nodes, by rows of the nodes that they leave: one arc, from node 0 to node 1.
+//!     let arcs = [None, Some(Arc { cost: 3, group: 0 }), None, None];
+//!     let mut search = Search::new(alloc, 2)?;
+//!     let found = search.find(arcs.as_slice(), [false, true].as_slice(), 0, effort);
+//!     Ok(found)    // node 1, whose parent is node 0; the potential of node 0 is then -3
+//! }
+//! ```
+//!
 //! The nodes are numbered, and an arc from one to another has a cost, a whole number. Each node has a potential, and no arc
 //! has a negative reduced cost: `cost + potential(from) - potential(to) >= 0`. A search settles nodes in the order of their
 //! distance by reduced costs, up to the first that is wanted, and lowers the potential of each settled node by as much as it

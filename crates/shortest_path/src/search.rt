@@ -1,7 +1,7 @@
 ghost use Rattle.std.specs.Prelude.{IfOk, MatchBool, MatchOption, ◌≡◌, ◌≤◌, ◌<◌, ◌+◌, ◌*◌, ℕ, ℤ, pos, Some, None, ◌≤ℤ◌, ◌+ℤ◌, ◌-ℤ◌, length, slice_index, slice_index_or, slice_get, true, ◌≢◌};
 ghost use Rattle.shortest_path.specs.Network.{IsShort, IsReduced, IsWithin, arc_at, max_cost, max_nodes};
 ghost use Rattle.shortest_path.specs.Found.{HasSize, HasFound, IsStuck, potential_of, parent_of, rank_of};
-ghost use Rattle.shortest_path.specs.Searched.{Relaxes, IsSearched, IsNearest, HasNone, Lowers};
+ghost use Rattle.shortest_path.specs.Searched.{Relaxes, IsSearched, IsNearest, HasNone, Lowers, length_in, potential_in};
 ghost use Rattle.search_effort.specs.Spent.{Settles};
 
 use crate::arc::Arc;
@@ -90,10 +90,11 @@ fn search_from<L: Ledger>(
     requires source { source < length ranks.old }
     requires short { (v : ℕ) → v < length ranks.old → IsShort (slice_index_or potentials.old v (pos 0)) }
     requires costs { IsWithin (length ranks.old) (arc_at arcs.now (length ranks.old)) max_cost }
-    requires reduced { IsReduced (length ranks.old) (arc_at arcs.now (length ranks.old)) (λ v. slice_index_or potentials.old v (pos 0)) }
+    requires reduced { IsReduced (length ranks.old) (arc_at arcs.now (length ranks.old)) (potential_in potentials.old) }
     ensures found { MatchOption result
-        (IsStuck (length ranks.old) (arc_at arcs.now (length ranks.old)) wanted.now source (λ v. slice_index_or potentials.old v (pos 0)) (λ v. slice_index_or potentials.new v (pos 0)) (λ v. slice_index ranks.new v))
-        (HasFound (length ranks.old) (arc_at arcs.now (length ranks.old)) wanted.now source (λ v. slice_index_or potentials.old v (pos 0)) (λ v. slice_index_or potentials.new v (pos 0)) (λ v. slice_index parents.new v) (λ v. slice_index ranks.new v)) }
+        (IsStuck (length ranks.old) (arc_at arcs.now (length ranks.old)) wanted.now source (potential_in potentials.old) (potential_in potentials.new) (slice_index ranks.new))
+        (HasFound (length ranks.old) (arc_at arcs.now (length ranks.old)) wanted.now source (potential_in potentials.old) (potential_in potentials.new)
+        (slice_index parents.new) (slice_index ranks.new)) }
     ensures effort { Settles (length ranks.old) effort.old effort.new }
 {
     begin(lengths, ranks, source);
@@ -129,19 +130,19 @@ fn settle<L: Ledger>(
     requires source { source < length ranks.old }
     requires short { (v : ℕ) → v < length ranks.old → IsShort (slice_index_or potentials.now v (pos 0)) }
     requires costs { IsWithin (length ranks.old) (arc_at arcs.now (length ranks.old)) max_cost }
-    requires reduced { IsReduced (length ranks.old) (arc_at arcs.now (length ranks.old)) (λ v. slice_index_or potentials.now v (pos 0)) }
+    requires reduced { IsReduced (length ranks.old) (arc_at arcs.now (length ranks.old)) (potential_in potentials.now) }
     requires unsettled { (v : ℕ) → v < length ranks.old → length ranks.old ≤ slice_index ranks.old v }
-    requires start { IsSearched (length ranks.old) (arc_at arcs.now (length ranks.old)) (λ v. slice_index_or potentials.now v (pos 0)) source max_cost 0
-        (λ v. slice_index_or lengths.old v None) (λ v. slice_index parents.old v) (λ v. slice_index ranks.old v) }
+    requires start { IsSearched (length ranks.old) (arc_at arcs.now (length ranks.old)) (potential_in potentials.now) source max_cost 0
+        (length_in lengths.old) (slice_index parents.old) (slice_index ranks.old) }
     ensures lengths { length lengths.new ≡ length ranks.old }
     ensures parents { length parents.new ≡ length ranks.old }
     ensures ranks { length ranks.new ≡ length ranks.old }
-    ensures searched { IsSearched (length ranks.old) (arc_at arcs.now (length ranks.old)) (λ v. slice_index_or potentials.now v (pos 0)) source max_cost (length ranks.old)
-        (λ v. slice_index_or lengths.new v None) (λ v. slice_index parents.new v) (λ v. slice_index ranks.new v) }
+    ensures searched { IsSearched (length ranks.old) (arc_at arcs.now (length ranks.old)) (potential_in potentials.now) source max_cost (length ranks.old)
+        (length_in lengths.new) (slice_index parents.new) (slice_index ranks.new) }
     ensures unwanted { (v : ℕ) → v < length ranks.old → slice_index ranks.new v < length ranks.old → slice_get wanted.now v ≡ Some true → ⊥ }
     ensures found { MatchOption result
-        (HasNone (length ranks.old) (λ v. slice_index_or lengths.new v None) (λ v. slice_index ranks.new v))
-        (λ r. IsNearest (length ranks.old) (λ v. slice_index_or potentials.now v (pos 0)) (λ v. slice_index_or lengths.new v None) (λ v. slice_index ranks.new v) r.0 r.1 × (slice_get wanted.now r.0 ≡ Some true)) }
+        (HasNone (length ranks.old) (length_in lengths.new) (slice_index ranks.new))
+        (λ r. IsNearest (length ranks.old) (potential_in potentials.now) (length_in lengths.new) (slice_index ranks.new) r.0 r.1 × (slice_get wanted.now r.0 ≡ Some true)) }
     ensures effort { Settles (length ranks.old) effort.old effort.new }
 {
     let nodes = ranks.len();
@@ -193,7 +194,7 @@ fn lower(potentials: &mut [i64], lengths: &[Option<i64>], ranks: &[usize], node:
     requires short_lengths { (v : ℕ) (a : ℤ) → v < length ranks.now → slice_index_or lengths.now v None ≡ Some a → IsShort a }
     requires short { (v : ℕ) → v < length ranks.now → IsShort (slice_index_or potentials.old v (pos 0)) }
     ensures size { length potentials.new ≡ length ranks.now }
-    ensures lowers { Lowers (length ranks.now) (λ v. slice_index_or potentials.old v (pos 0)) (λ v. slice_index_or potentials.new v (pos 0)) (λ v. slice_index_or lengths.now v None) (λ v. slice_index ranks.now v) node so_far }
+    ensures lowers { Lowers (length ranks.now) (potential_in potentials.old) (potential_in potentials.new) (length_in lengths.now) (slice_index ranks.now) node so_far }
 {
     let base = potentials[node];
     for v in 0..ranks.len() {
@@ -223,8 +224,8 @@ fn nearest(lengths: &[Option<i64>], potentials: &[i64], ranks: &[usize]) -> Opti
     requires short_lengths { (v : ℕ) (a : ℤ) → v < length ranks.now → slice_index_or lengths.now v None ≡ Some a → IsShort a }
     requires short { (v : ℕ) → v < length ranks.now → IsShort (slice_index_or potentials.now v (pos 0)) }
     ensures { MatchOption result
-        (HasNone (length ranks.now) (λ v. slice_index_or lengths.now v None) (λ v. slice_index ranks.now v))
-        (λ r. IsNearest (length ranks.now) (λ v. slice_index_or potentials.now v (pos 0)) (λ v. slice_index_or lengths.now v None) (λ v. slice_index ranks.now v) r.0 r.1) }
+        (HasNone (length ranks.now) (length_in lengths.now) (slice_index ranks.now))
+        (λ r. IsNearest (length ranks.now) (potential_in potentials.now) (length_in lengths.now) (slice_index ranks.now) r.0 r.1) }
 {
     let mut least = None;
     let mut node = 0;

@@ -65,3 +65,7 @@ losses limits beta = weighted (map (λ l. l.1.1) limits) (map (λ b. int_min b.1
 -- the sum of alpha over the points, by groups
 abbrev pub group_sum : List (GroupKey × ℕ) → List (GroupKey × ℤ) → ℤ
 group_sum groups alpha = weighted (map (λ g. g.1) groups) (map (λ a. a.1) alpha)
+
+-- The dual sum over the lists: the numbers of the groups at their points, and those of the names at their limits.
+abbrev pub listed_sum : List (GroupKey × ℕ) → Limits → List (GroupKey × ℤ) → List (List ℕ × ℤ) → ℤ
+listed_sum groups limits alpha beta = (group_sum groups alpha +ℤ gains limits beta) +ℤ losses limits beta

@@ -81,8 +81,10 @@ RefusesRule old new limits pricing fault = ⊥
 abbrev pub RefusesDuals : Entries → Limits → Pricing → List (List ℕ) → DualPrices → CheckFault → Type 0
 RefusesDuals old limits pricing inputs c WantOfMemory = Unit {0}
 RefusesDuals old limits pricing inputs c Groups = ¬ (AreGroups old inputs (keys_of c.alpha) × (keys_of c.beta ≡ keys_of limits))
-RefusesDuals old limits pricing inputs c (Slack name count variant) = AreGroups old inputs (keys_of c.alpha) × (keys_of c.beta ≡ keys_of limits) × ReportsBroken (first_broken pricing c) (Slack name count variant)
-RefusesDuals old limits pricing inputs c Sum = AreGroups old inputs (keys_of c.alpha) × (keys_of c.beta ≡ keys_of limits) × (first_broken pricing c ≡ None) × (dual_sum old inputs limits c ≢ pos c.cost)
+RefusesDuals old limits pricing inputs c (Slack name count variant) =
+    AreGroups old inputs (keys_of c.alpha) × (keys_of c.beta ≡ keys_of limits) × ReportsBroken (first_broken pricing c) (Slack name count variant)
+RefusesDuals old limits pricing inputs c Sum =
+    AreGroups old inputs (keys_of c.alpha) × (keys_of c.beta ≡ keys_of limits) × (first_broken pricing c ≡ None) × (dual_sum old inputs limits c ≢ pos c.cost)
 RefusesDuals old limits pricing inputs c fault = ⊥
 
 -- the numbers are those of the groups and names, no pair is broken, and they sum to the cost

@@ -4,7 +4,7 @@ ghost use Rattle.std.specs.Cmp.Lexicographic.{pointwise};
 ghost use Rattle.std.specs.Map.{keys_of};
 ghost use Rattle.std.specs.Str.{bytes_eq};
 ghost use Rattle.price_core.specs.Limits.{limits_view};
-ghost use Rattle.transport_core.specs.Certificate.{alpha_view, beta_view, group_sum, gains, losses};
+ghost use Rattle.transport_core.specs.Certificate.{alpha_view, beta_view, group_sum, gains, listed_sum, losses};
 ghost use Rattle.transport_core.specs.Groups.{is_same_group, rows_view};
 ghost use Rattle.transport_core.specs.Rows.{whole_amount};
 
@@ -54,7 +54,7 @@ pub(crate) fn sums_to(
     requires names { length beta.now ≡ length limits.now }
     requires points { whole_amount groups.now < 2 ^ 32 }
     requires lows { sum_by (λ l. l.low) limits.now < 2 ^ 32 }
-    ensures { IsTrue result ↔ (((group_sum (rows_view groups.now) (alpha_view alpha.now) +ℤ gains (limits_view limits.now) (beta_view beta.now)) +ℤ losses (limits_view limits.now) (beta_view beta.now)) ≡ pos cost) }
+    ensures { IsTrue result ↔ (listed_sum (rows_view groups.now) (limits_view limits.now) (alpha_view alpha.now) (beta_view beta.now) ≡ pos cost) }
 {
     let sum = sum_of_points(groups, alpha) + sum_of_gains(limits, beta);
     falls_to(sum, limits, beta, cost)

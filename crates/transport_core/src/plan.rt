@@ -40,6 +40,7 @@ pub fn check_plan(
     ensures refused { IfErr result (Refuses old.now new.now totals.now prices.now exposure.now (certificate_view certificate.now)) }
     ensures exact { IfErr result (λ fault. fault ≢ CheckFault.WantOfMemory → ¬ (IsCertified old.now new.now totals.now prices.now exposure.now (certificate_view certificate.now))) }
 {
+    // Called for what their contracts say: a rule's total is from 1 to 2^31-1, and limits are lawful.
     let _total = old.total();
     let _limits = totals.entries();
     check_rule(alloc, old, new, totals, prices)?;

@@ -31,6 +31,7 @@ pub(crate) fn keeps_limits(alloc: Global, rule: &Rule, limits: &Totals) -> Resul
 pub(crate) fn totals<'a>(alloc: Global, rule: &'a Rule) -> Result<Vec<(&'a str, u32)>, AllocError>
     ensures { IfOk result (λ v. AreTotals rule.now (totals_view v.items)) }
 {
+    // Called for what its contract says: no sum of a rule's weights is above 2^31-1.
     let _total = rule.total();
     let mut weights = weights(alloc, rule.entries())?;
     weights.sort_unstable();

@@ -121,7 +121,7 @@ fn find_flow<L: Ledger>(
     ensures augmentations { effort.new.augmentations ≤ effort.old.augmentations + 2 * whole_amount instance.now.groups }
     ensures settlings { effort.new.settlings ≤ effort.old.settlings + (2 * whole_amount instance.now.groups + 2) * (length instance.now.groups + length instance.now.limits) }
 {
-    // there is a group, as these say
+    // Called for what its contract says: there is a group.
     let _groups = instance.groups();
     cheapest_flow(alloc, problem, effort)
 }
@@ -143,7 +143,7 @@ fn planned(
     ensures whole { IfOk result (λ s. IfPlan s (λ _ certificate. has_whole_numbers (certificate_view certificate) ≡ true)) }
     ensures plan { IfOk result (λ s. IfNone s (λ _. ⊥)) }
 {
-    // what is proved of each rule rests on what these say of the points and of the limits
+    // Called for what its contract says of the points and of the limits, on which what is proved of each rule rests.
     let _groups = instance.groups();
     let certificate = certificate(alloc, instance, problem, &flow, search)?;
     let numbers = flow.placed;
