@@ -11,3 +11,5 @@ mod read_tests;
 mod seat_tests;
 #[cfg(test)]
 mod serve_tests;
+#[cfg(test)]
+mod thread_tests;
