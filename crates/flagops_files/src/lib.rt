@@ -12,8 +12,8 @@
 //!
 //! let mut files = SystemFiles::new(&rt);
 //! match load_rule(alloc, &mut files, "rule.json") {
-//!     Ok(rule) => println!(rt; "{}", rule.total()),
-//!     Err(refused) => println!(rt; "{}", refused.refusal.line(alloc)?),    // as `refused load 1 Unreadable`
+//!     Ok(rule) => println!(rt; "{}", rule.total())?,
+//!     Err(refused) => print!(rt; "{}", refused.refusal.line(alloc)?)?,    // as `refused load 1 Unreadable`
 //! }
 //! ```
 //!

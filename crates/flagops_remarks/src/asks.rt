@@ -6,6 +6,9 @@ use std::alloc::{AllocError, Global};
 /// The latest moment, 2^53-1.
 const LATEST_MOMENT: i64 = 9_007_199_254_740_991;
 
+/// The most threads that answer asks.
+const MOST_WORKERS: usize = 64;
+
 /// Of a tree that is no list of asks.
 pub fn of_asks(alloc: Global, path: &str, tree: &Tree) -> Result<String, AllocError> {
     let source = quoted(alloc, path)?;
@@ -78,10 +81,15 @@ fn is_moment(moment: Option<&Tree>) -> bool {
     }
 }
 
-/// Of asks that were read and not driven.
+/// Of asks that were read and not driven, by the name of the fault.
 pub fn of_workers(alloc: Global, workers: usize, fault: &str) -> Result<String, AllocError> {
+    if workers == 0 || workers > MOST_WORKERS {
+        return format!(in alloc;
+            "error: WORKERS is {workers}, and 1 to 64 threads can answer the asks\n  as many as there are processors serve best\n"
+        );
+    }
     format!(in alloc;
-        "error: {fault}\n  WORKERS is {workers}; 1 to 64 are taken, as many as there are processors serve best\n"
+        "error: the asks were not driven: {fault}\n  docs/REFUSALS.md, part Asks, tells what to do\n"
     )
 }
 

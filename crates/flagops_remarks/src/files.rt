@@ -81,10 +81,18 @@ pub fn of_keys(
     )
 }
 
-/// Of a key that is not noted.
-pub fn of_noted(alloc: Global, key: &str, fault: BookFault) -> Result<String, AllocError> {
+/// Of a key that is not noted, in the file of keys at a path.
+pub fn of_noted(
+    alloc: Global,
+    path: &str,
+    key: &str,
+    fault: BookFault,
+) -> Result<String, AllocError> {
+    let source = quoted(alloc, path)?;
     let key = quoted(alloc, key)?;
-    format!(in alloc; "error: the key {key} is not taken: {fault}\n")
+    format!(in alloc;
+        "error: {source}: the key {key} is not taken: {fault}\n  leave it out: keys have at most 1,024 bytes, and at most 1,000,000 of them differ\n"
+    )
 }
 
 /// Of two rules that differ in their totals.

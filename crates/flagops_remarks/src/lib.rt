@@ -1,6 +1,17 @@
 //! What a person is told of a refusal, a broken flag, or a book that has no input for a request: lines in words, for the
 //! error outlet, beside the answer that is for programs.
 //!
+//! ```rust
+//! use flag_text::read_tree;
+//! use flagops_remarks::of_text;
+//!
+//! let bytes = b"[\"ann\",]";
+//! if let Err(fault) = read_tree(alloc, bytes, 1000) {
+//!     let lines = of_text(alloc, "keys.json", bytes, 1000, fault)?;
+//!     assert!(rt; lines.as_str().starts_with("error: \"keys.json\" is no JSON: "));
+//! }
+//! ```
+//!
 //! Each function makes the lines of one kind of fault from what is known of it: the path, the bytes, the tree, the names.
 //! Their wording is no one's contract; that something is told, and when, is said by the contracts of `flagops_commands`.
 //! Want of memory is the one fault of all: the caller then tells a fixed sentence.

@@ -1,4 +1,5 @@
 //! What a person is told of plan files.
+use crate::requests::pairs;
 use crate::texts::of_text;
 use crate::words::{quoted, shown};
 use flag_text::{Tree, read_tree};
@@ -48,7 +49,45 @@ fn misshaped(alloc: Global, tree: &Tree) -> Result<String, AllocError> {
             None => return format!(in alloc; "\"{name}\" is missing"),
         }
     }
+    wrong_list(alloc, tree)
+}
+
+/// The first item of a list that is not of its form; else the order is wrong.
+fn wrong_list(alloc: Global, tree: &Tree) -> Result<String, AllocError> {
+    for (name, takes) in [
+        ("none", "name of a variant"),
+        ("alpha", "[VARIANT,USERS,n]"),
+        ("beta", "[VARIANT,n]"),
+        ("rule", "bucket [VARIANT,WEIGHT]"),
+    ] {
+        if let Some(i) = wrong_item(pairs(tree, name), name) {
+            return format!(in alloc; "{name}[{i}] is no {takes}");
+        }
+    }
     String::from_str(alloc, "a list is out of order, or an item misshaped")
+}
+
+/// The place of the first item that is not of the form of its list.
+fn wrong_item(items: &[Tree], name: &str) -> Option<usize> {
+    for i in 0..items.len() {
+        if !is_item(&items[i], name) {
+            return Some(i);
+        }
+    }
+    None
+}
+
+fn is_item(item: &Tree, name: &str) -> bool {
+    match item {
+        Tree::Text(_) => name == "none",
+        Tree::List(parts) => match parts.as_slice() {
+            [Tree::Text(_), Tree::Whole(_), Tree::Whole(_)] => name == "alpha",
+            [Tree::Text(_), Tree::Whole(_)] => name == "beta" || name == "rule",
+            [Tree::Text(_)] => name == "rule",
+            _ => false,
+        },
+        _ => false,
+    }
 }
 
 /// Of an answer that no plan file takes.

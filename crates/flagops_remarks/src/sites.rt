@@ -228,6 +228,12 @@ fn totals_sum(
     };
     let name = quoted(alloc, asked.flag())?;
     let number = asked.site();
+    if low <= total && total <= high {
+        // `verify` without a factor takes the one of the plan's rule
+        return format!(in alloc;
+            "error: the request {source}: {sums},\n  and the rule of the plan has a multiple of the {total} points at site {number} of {name}\n  it was planned with --refine, for a request with totals as many times as large\n"
+        );
+    }
     format!(in alloc;
         "error: the request {source}: {sums},\n  and the rule at site {number} of {name} has {total} points (a variant that is not named gets none)\n"
     )

@@ -1,5 +1,17 @@
 //! What the commands of streams do: `serve` publishes documents to its subscribers, `follow` prints what it is sent.
 //!
+//! ```rust
+//! use flag_text::WriteOutlet;
+//! use flagops_streams::follow_lines;
+//! use sync_server::ReadInlet;
+//!
+//! let frame = b"\x00\x00\x00\x14\x00\x00\x00\x00\x00\x00\x00\x01{\"flags\":{}}";
+//! let mut inlet = ReadInlet::new(frame.as_slice());
+//! let out = WriteOutlet::new(rt.stdout());
+//! let (out, status) = follow_lines(alloc, &mut inlet, out, 1000);
+//! assert!(rt; status == 0);    // it printed `snapshot 1 flags 0` and `ended`
+//! ```
+//!
 //! [`serve_documents`] and [`follow_port`] alone are handed the network and threads. What they do is
 //! - [`follow_lines`], over any inlet and outlet: the line of each snapshot when it has come, and at the end why;
 //! - a thread for each subscriber that runs `serve_stream` over its seat, and the numbers that the publisher puts on a board.

@@ -24,9 +24,9 @@ pub fn flagops<'a>(alloc: Global) -> Result<Command<'a>, AllocError>
     with_book_commands(alloc, program)
 }
 
-/// What the help of the program ends with.
+/// What the help of the program ends with: the two commands that read their words by themselves, and the statuses.
 const STATUSES: &str =
-    "Status: 0 done, 1 refused or the output failed, 2 words that are no command, 3 no rule fits.\nWhat was refused, where, and what to change is told on the error outlet; docs/REFUSALS.md has each line\nthat begins with 'refused', docs/FORMATS.md the files with examples, demo/README.md a first rollout.";
+    "On the network: 'flagops serve' publishes flag documents to subscribers, 'flagops follow' prints what comes;\n'flagops serve --help' and 'flagops follow --help' tell their words.\n\nStatus: 0 done, 1 refused or the output failed, 2 words that are no command, 3 no rule fits.\nWhat was refused, where, and what to change is told on the error outlet; docs/REFUSALS.md has each line\nthat begins with 'refused', docs/FORMATS.md the files with examples, demo/README.md a first rollout.";
 
 /// The mistake of a kind of value that is none of the four.
 pub fn unknown_kind(alloc: Global) -> Result<Error, AllocError>
@@ -281,7 +281,7 @@ fn with_refine<'a>(alloc: Global, command: Command<'a>) -> Result<Command<'a>, A
     ensures local { IfOk result (λ c. (out-Command c).has_globals ≡ false) }
 {
     let help =
-        "Plan in finer points: multiply each weight of the rule by M first, as 10 for half percents";
+        "Plan in finer points: multiply each weight of the rule by M first, as 10 for tenths of a percent";
     command.arg(option_number(alloc, "M", "refine", help, 1, LARGEST_32))
 }
 

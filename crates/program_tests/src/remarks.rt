@@ -64,6 +64,8 @@ plan [] -> error: "f" is no plan: it is a list
 plan {"plan":1,"alpha":[],"beta":[],"cost":0} -> error: "f" is no plan: "rule" is missing
 plan {"plan":1,"none":"on"} -> error: "f" is no plan: "none" is "on"
 plan {"plan":1,"none":["b","a"]} -> error: "f" is no plan: a list is out of order, or an item misshaped
+plan {"plan":1,"none":["a",1]} -> error: "f" is no plan: none[1] is no name of a variant
+plan {"plan":1,"alpha":[["a",0,0],["a",1]],"beta":[],"cost":0,"rule":[]} -> error: "f" is no plan: alpha[1] is no [VARIANT,USERS,n]
 document {"flags":[]} -> error: "f" is no flag document: "flags" is a list, no object
 document {"flag":{}} -> error: "f" is no flag document: it has no "flags"
 rule {"on":5} -> error: "f" is no rule: it is an object

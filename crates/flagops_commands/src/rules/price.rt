@@ -42,8 +42,9 @@ pub fn price<R: Threads + Sync, F: FileSet>(
     let old = load_rule(alloc, files, old)?;
     let new = load_rule(alloc, files, new)?;
     let request = load_request(alloc, files, request)?;
-    let keys = load_keys(alloc, files, keys)?;
-    let exposure = exposed(alloc, keys.as_slice())?;
+    let path = keys;
+    let keys = load_keys(alloc, files, path)?;
+    let exposure = exposed(alloc, path, keys.as_slice())?;
     priced(rt, alloc, &old, &new, request.prices(), &exposure)
 }
 
@@ -119,8 +120,8 @@ fn no_keys(alloc: Global, path: &str, place: Option<usize>, value: &Tree) -> Ref
     }
 }
 
-/// The keys as the inputs of a page of their own.
-fn exposed(alloc: Global, keys: &[String]) -> Result<Exposure, Refused>
+/// The keys of the file at a path as the inputs of a page of their own.
+fn exposed(alloc: Global, path: &str, keys: &[String]) -> Result<Exposure, Refused>
     ensures exact { GivesUnlessWant (λ e. e) result (exposed (map string_bytes keys.now)) }
     ensures calls { ComesFrom notes_keys result }
     ensures read { is_file_fault result ≡ false }
@@ -133,7 +134,7 @@ fn exposed(alloc: Global, keys: &[String]) -> Result<Exposure, Refused>
     let mut book = Book::new(alloc);
     for key in keys {
         if let Err(fault) = book.note(alloc, &page, key.as_str()) {
-            let lines = of_noted(alloc, key.as_str(), fault);
+            let lines = of_noted(alloc, path, key.as_str(), fault);
             return Err(Refused {
                 refusal: Refusal::Note(fault),
                 remark: Remark::of(lines),
