@@ -20,6 +20,9 @@ FAULTS = {
     "StoreFault": set(),
     "DriveFault": set(),
     "DriveRefusal": {"Drive"},
+    "SourceFault": set(),
+    "ShareFault": set(),
+    "ReadEnd": {"Ended"},
 }
 
 

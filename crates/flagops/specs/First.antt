@@ -1,0 +1,21 @@
+-- The first of the words, which names the command, and what holds of the words of some commands.
+use Rattle.std.specs.Prelude.{◌≡◌, Bool, true, false, List, [], ◌∷◌, codes}
+use Rattle.std.specs.Str.{bytes_eq}
+use Rattle.clap.specs.Walk.{Text}
+
+-- the words begin with this one
+abbrev pub begins_with : List Text → Text → Bool
+begins_with [] word = false
+begins_with (first ∷ words) word = bytes_eq first word
+
+-- where the words are those of `serve`, this holds
+abbrev pub WhereServe : List Text → Type 0 → Type 0
+WhereServe words P = begins_with words (codes "serve") ≡ true → P
+
+-- where they are those of `follow`, this holds
+abbrev pub WhereFollow : List Text → Type 0 → Type 0
+WhereFollow words P = begins_with words (codes "follow") ≡ true → P
+
+-- where they are of neither, which are the words of a command over files, this holds
+abbrev pub WhereFiles : List Text → Type 0 → Type 0
+WhereFiles words P = begins_with words (codes "serve") ≡ false → begins_with words (codes "follow") ≡ false → P
