@@ -7,7 +7,7 @@ set -e
 root=$(cd "$(dirname "$0")/.." && pwd)
 work=$(mktemp -d)
 trap 'rm -rf "$work"' EXIT
-mkdir -p "$work/crates/plan_bench/src"
+mkdir -p "$work/crates/plan_bench/src" "$work/crates/plan_bench/proofs/run"
 printf 'plan_bench: bucket_core book_core price_core transport_core transport_plan anyhow\n' > "$work/crates.txt"
 for crate in murmur_core flag_text bucket_core logic_ast book_core price_core transport_core transport_network plan_text \
     search_effort shortest_path flow_laws residual_arcs residual_flow augmenting_paths flow_passes flow_certificates \
@@ -17,6 +17,7 @@ for crate in murmur_core flag_text bucket_core logic_ast book_core price_core tr
 done
 cp "$root/HANDLES" "$work/HANDLES"
 cp "$root/bench/plan/plan.rattle" "$work/crates/plan_bench/src/main.rt"
+cp "$root/bench/plan/answers.proof" "$work/crates/plan_bench/proofs/run/Answers.antt"
 git init -q "$work"
 g++ -O2 -o "$work/lemon" "$root/bench/plan/plan_lemon.cpp"
 (cd "$work/crates/plan_bench" && "${RT:-rt}" run > "$work/log" 2>&1) || { tail "$work/log"; exit 1; }
