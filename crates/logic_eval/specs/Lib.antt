@@ -1,6 +1,7 @@
 pub mod Arithmetic
 pub mod Budget
 pub mod Comparison
+pub mod Evaluated
 pub mod Evaluation
 pub mod Fault
 pub mod Fractional

@@ -1,11 +1,11 @@
 //! Evaluation, expression by expression.
 ghost use Rattle.std.specs.Prelude.{◌≡◌, map, drop};
 ghost use Rattle.flag_text.specs.View.{view};
-ghost use Rattle.logic_ast.specs.View.{node_view, nodes_view, boxed_view, buckets_view};
-ghost use Rattle.logic_eval.specs.Budget.{Follows};
-ghost use Rattle.logic_eval.specs.Evaluation.{meaning, meanings, by_meaning, bucket_meanings, input, pairs, part_of};
+ghost use Rattle.logic_ast.specs.View.{node_view};
+ghost use Rattle.logic_eval.specs.Evaluated.{Evaluates, by_meaning_of, bucket_meanings_of, meaning_of, meanings_of};
+ghost use Rattle.logic_eval.specs.Evaluation.{input, pairs, part_of};
 ghost use Rattle.logic_eval.specs.Operators.{values, operated, conditional, first_of_truth, strict, over, over_items, over_from_start, start, mapped, kept, occurs, reduced};
-ghost use Rattle.logic_eval.specs.Views.{progress, value_view, scope_view, default_view, input_view, share_view};
+ghost use Rattle.logic_eval.specs.Views.{value_view, scope_view, default_view, input_view, share_view};
 
 use crate::apply::apply;
 use crate::choice::decide;
@@ -28,7 +28,7 @@ pub(crate) fn evaluate<'a>(
     scope: Scope<'a>,
     subject: Subject<'a>,
 ) -> Result<Value<'a>, EvalFault>
-    ensures exact { Follows value_view (progress meter.old) (progress meter.new) result (meaning (default_view subject.entry) (node_view node.now) (scope_view scope.entry)) }
+    ensures exact { Evaluates value_view meter.old meter.new result (meaning_of subject.entry node.now (scope_view scope.entry)) }
 {
     match node {
         Node::Literal(tree) => {
@@ -62,7 +62,7 @@ fn evaluate_all<'a>(
     scope: Scope<'a>,
     subject: Subject<'a>,
 ) -> Result<SmallVec<Value<'a>, 3>, EvalFault>
-    ensures exact { Follows (λ vs. map value_view vs.items) (progress meter.old) (progress meter.new) result (values (meanings (default_view subject.entry) (nodes_view nodes.now.items)) (scope_view scope.entry)) }
+    ensures exact { Evaluates (λ vs. map value_view vs.items) meter.old meter.new result (values (meanings_of subject.entry nodes.now.items) (scope_view scope.entry)) }
 {
     let mut values = SmallVec::new(meter.alloc);
     for node in nodes {
@@ -81,7 +81,7 @@ fn operate<'a>(
     scope: Scope<'a>,
     subject: Subject<'a>,
 ) -> Result<Value<'a>, EvalFault>
-    ensures exact { Follows value_view (progress meter.old) (progress meter.new) result (operated operator (meanings (default_view subject.entry) (nodes_view arguments.now.items)) (scope_view scope.entry)) }
+    ensures exact { Evaluates value_view meter.old meter.new result (operated operator (meanings_of subject.entry arguments.now.items) (scope_view scope.entry)) }
 {
     match operator {
         Operator::If => conditional(meter, arguments, scope, subject),
@@ -112,7 +112,7 @@ fn conditional<'a>(
     scope: Scope<'a>,
     subject: Subject<'a>,
 ) -> Result<Value<'a>, EvalFault>
-    ensures exact { Follows value_view (progress meter.old) (progress meter.new) result (conditional (meanings (default_view subject.entry) (nodes_view nodes.now.items)) (scope_view scope.entry)) }
+    ensures exact { Evaluates value_view meter.old meter.new result (conditional (meanings_of subject.entry nodes.now.items) (scope_view scope.entry)) }
 {
     let pairs = nodes.len() / 2;
     for pair in 0..pairs {
@@ -136,7 +136,7 @@ fn first_of_truth<'a>(
     scope: Scope<'a>,
     subject: Subject<'a>,
 ) -> Result<Value<'a>, EvalFault>
-    ensures exact { Follows value_view (progress meter.old) (progress meter.new) result (first_of_truth wanted (meanings (default_view subject.entry) (nodes_view nodes.now.items)) (scope_view scope.entry)) }
+    ensures exact { Evaluates value_view meter.old meter.new result (first_of_truth wanted (meanings_of subject.entry nodes.now.items) (scope_view scope.entry)) }
 {
     if nodes.is_empty() {
         return Ok(Value::Made(Tree::Null));
@@ -160,7 +160,7 @@ fn over<'a>(
     scope: Scope<'a>,
     subject: Subject<'a>,
 ) -> Result<Value<'a>, EvalFault>
-    ensures exact { Follows value_view (progress meter.old) (progress meter.new) result (over operator (meanings (default_view subject.entry) (nodes_view arguments.now.items)) (scope_view scope.entry)) }
+    ensures exact { Evaluates value_view meter.old meter.new result (over operator (meanings_of subject.entry arguments.now.items) (scope_view scope.entry)) }
 {
     if arguments.len() < 2 {
         return Ok(Value::Made(Tree::Null));
@@ -184,7 +184,7 @@ fn over_items<'a>(
     items: &'a [Tree],
     subject: Subject<'a>,
 ) -> Result<Tree, EvalFault>
-    ensures exact { Follows view (progress meter.old) (progress meter.new) result (over_items operator (meaning (default_view subject.entry) (node_view body.now)) (map view items.now)) }
+    ensures exact { Evaluates view meter.old meter.new result (over_items operator (meaning_of subject.entry body.now) (map view items.now)) }
 {
     match operator {
         Operator::Map => Ok(Tree::List(mapped(meter, body, items, subject)?)),
@@ -209,7 +209,7 @@ fn mapped<'a>(
     items: &'a [Tree],
     subject: Subject<'a>,
 ) -> Result<Vec<Tree>, EvalFault>
-    ensures exact { Follows (λ v. map view v.items) (progress meter.old) (progress meter.new) result (mapped (meaning (default_view subject.entry) (node_view body.now)) (map view items.now)) }
+    ensures exact { Evaluates (λ v. map view v.items) meter.old meter.new result (mapped (meaning_of subject.entry body.now) (map view items.now)) }
 {
     let mut trees = Vec::new(meter.alloc);
     for item in items {
@@ -227,7 +227,7 @@ fn kept<'a>(
     items: &'a [Tree],
     subject: Subject<'a>,
 ) -> Result<Vec<Tree>, EvalFault>
-    ensures exact { Follows (λ v. map view v.items) (progress meter.old) (progress meter.new) result (kept (meaning (default_view subject.entry) (node_view body.now)) (map view items.now)) }
+    ensures exact { Evaluates (λ v. map view v.items) meter.old meter.new result (kept (meaning_of subject.entry body.now) (map view items.now)) }
 {
     let mut trees = Vec::new(meter.alloc);
     for item in items {
@@ -248,7 +248,7 @@ fn occurs<'a>(
     items: &'a [Tree],
     subject: Subject<'a>,
 ) -> Result<bool, EvalFault>
-    ensures exact { Follows (λ b. b) (progress meter.old) (progress meter.new) result (occurs wanted (meaning (default_view subject.entry) (node_view body.now)) (map view items.now)) }
+    ensures exact { Evaluates (λ b. b) meter.old meter.new result (occurs wanted (meaning_of subject.entry body.now) (map view items.now)) }
 {
     for item in items {
         let value = evaluate(meter, body, Scope::Item(item), subject)?;
@@ -267,7 +267,7 @@ fn reduce<'a>(
     scope: Scope<'a>,
     subject: Subject<'a>,
 ) -> Result<Value<'a>, EvalFault>
-    ensures exact { Follows value_view (progress meter.old) (progress meter.new) result (over_from_start (meanings (default_view subject.entry) (nodes_view arguments.now.items)) (scope_view scope.entry)) }
+    ensures exact { Evaluates value_view meter.old meter.new result (over_from_start (meanings_of subject.entry arguments.now.items) (scope_view scope.entry)) }
 {
     if arguments.len() < 2 {
         return Ok(Value::Made(Tree::Null));
@@ -286,7 +286,7 @@ fn start<'a>(
     scope: Scope<'a>,
     subject: Subject<'a>,
 ) -> Result<Tree, EvalFault>
-    ensures exact { Follows view (progress meter.old) (progress meter.new) result (start (meanings (default_view subject.entry) (nodes_view (drop 2 arguments.now.items))) (scope_view scope.entry)) }
+    ensures exact { Evaluates view meter.old meter.new result (start (meanings_of subject.entry (drop 2 arguments.now.items)) (scope_view scope.entry)) }
 {
     if arguments.len() < 3 {
         return Ok(Tree::Null);
@@ -303,7 +303,7 @@ fn reduced<'a>(
     items: &'a [Tree],
     subject: Subject<'a>,
 ) -> Result<Tree, EvalFault>
-    ensures exact { Follows view (progress meter.old) (progress meter.new) result (reduced (meaning (default_view subject.entry) (node_view body.now)) (view start) (map view items.now)) }
+    ensures exact { Evaluates view meter.old meter.new result (reduced (meaning_of subject.entry body.now) (view start) (map view items.now)) }
 {
     let mut so_far = start;
     for item in items {
@@ -322,7 +322,7 @@ fn input<'a>(
     scope: Scope<'a>,
     subject: Subject<'a>,
 ) -> Result<Input<'a>, EvalFault>
-    ensures exact { Follows (input_view (default_view subject.entry)) (progress meter.old) (progress meter.new) result (input (default_view subject.entry) (by_meaning (default_view subject.entry) (boxed_view by.now)) (scope_view scope.entry)) }
+    ensures exact { Evaluates (input_view (default_view subject.entry)) meter.old meter.new result (input (default_view subject.entry) (by_meaning_of subject.entry by.now) (scope_view scope.entry)) }
 {
     match by {
         None => Ok(Input::Default),
@@ -338,7 +338,7 @@ fn shares<'a>(
     scope: Scope<'a>,
     subject: Subject<'a>,
 ) -> Result<Vec<Share<'a>>, EvalFault>
-    ensures exact { Follows (λ ss. map share_view ss.items) (progress meter.old) (progress meter.new) result (pairs (bucket_meanings (default_view subject.entry) (buckets_view buckets.now.items)) (scope_view scope.entry)) }
+    ensures exact { Evaluates (λ ss. map share_view ss.items) meter.old meter.new result (pairs (bucket_meanings_of subject.entry buckets.now.items) (scope_view scope.entry)) }
 {
     let mut shares = Vec::with_capacity(meter.alloc, buckets.len())?;
     for bucket in buckets {
@@ -364,7 +364,7 @@ fn part<'a>(
     scope: Scope<'a>,
     subject: Subject<'a>,
 ) -> Result<Value<'a>, EvalFault>
-    ensures exact { Follows value_view (progress meter.old) (progress meter.new) result (part_of (node_view node.now) (meaning (default_view subject.entry) (node_view node.now)) (scope_view scope.entry)) }
+    ensures exact { Evaluates value_view meter.old meter.new result (part_of (node_view node.now) (meaning_of subject.entry node.now) (scope_view scope.entry)) }
 {
     match node {
         Node::Literal(tree) => Ok(Value::Lent(tree)),

@@ -154,7 +154,8 @@ fn part_of_length(
     start: Option<i64>,
     count: Option<i64>,
 ) -> Result<String, EvalFault>
-    ensures exact { GivesUnless WantOfMemory (λ s. text (string_bytes s)) result (part_result (option_and_then (λ from. option_map (part_of_length (chars (piece (view value.now))) from) count) start)) }
+    ensures exact { GivesUnless WantOfMemory (λ s. text (string_bytes s)) result
+        (part_result (option_and_then (λ from. option_map (part_of_length (chars (piece (view value.now))) from) count) start)) }
 {
     let (Some(start), Some(count)) = (start, count) else {
         return Err(EvalFault::Arithmetic);

@@ -13,7 +13,8 @@ BeginsFrameOf s part = (d : List ℕ) × (rest : List ℕ) × IsDocumentOf s d �
 
 -- whole frames of these snapshots, whose numbers rise; where the writer failed, a part of the frame of one more may follow
 abbrev pub Written : List Numbered → List Numbered → List ℕ → StreamEnd → Type 0
-Written known ss out WriteFault = (whole : List ℕ) × (part : List ℕ) × (s : Numbered) × (out ≡ whole ++ part) × Frames 0 ss whole × Contains known s × (last_number 0 ss < s.number) × BeginsFrameOf s part
+Written known ss out WriteFault =
+    (whole : List ℕ) × (part : List ℕ) × (s : Numbered) × (out ≡ whole ++ part) × Frames 0 ss whole × Contains known s × (last_number 0 ss < s.number) × BeginsFrameOf s part
 Written known ss out end = Frames 0 ss out
 
 -- So far known bytes have grown by the frames of `count` of the known snapshots, the last with the number `last`.

@@ -80,7 +80,9 @@ fn take_piece<S: Sink>(alloc: Global, sink: &mut S, feed: &mut Feed, piece: &[u8
     requires works { has_failed feed.old ≡ false }
     requires takes { S.is_full sink.old ≡ false }
     ensures full { S.is_full sink.new ≡ is_full result }
-    ensures leads { (more : List Numbered) × Handed S.took S.refused sink.old more (is_full result) sink.new × ((stream : List ℕ) (ss : List Numbered) (left : Option (List ℕ)) → Stands feed.old stream ss → LeadsTo feed.new (stream ++ piece.now) (ss ++ more) left false result) }
+    ensures leads { (more : List Numbered)
+        × Handed S.took S.refused sink.old more (is_full result) sink.new
+        × ((stream : List ℕ) (ss : List Numbered) (left : Option (List ℕ)) → Stands feed.old stream ss → LeadsTo feed.new (stream ++ piece.now) (ss ++ more) left false result) }
 {
     match feed.feed(alloc, piece) {
         Ok(snapshots) => {
@@ -100,7 +102,8 @@ fn take_piece<S: Sink>(alloc: Global, sink: &mut S, feed: &mut Feed, piece: &[u8
 fn hand_on<S: Sink>(sink: &mut S, snapshots: Vec<Snapshot>) -> bool
     requires { S.is_full sink.old ≡ false }
     ensures full { S.is_full sink.new ≡ not result }
-    ensures handed { (taken : List Numbered) × (left : List Numbered) × (snapshots_view snapshots.items ≡ taken ++ left) × Handed S.took S.refused sink.old taken (not result) sink.new × MatchBool result (left ≡ []) (Unit {0}) }
+    ensures handed { (taken : List Numbered) × (left : List Numbered) × (snapshots_view snapshots.items ≡ taken ++ left)
+        × Handed S.took S.refused sink.old taken (not result) sink.new × MatchBool result (left ≡ []) (Unit {0}) }
 {
     for snapshot in snapshots {
         if !sink.take(snapshot) {

@@ -60,10 +60,12 @@ fn take_turn<C: Current, O: Outlet>(
 ) -> Option<StreamEnd>
     requires whole { O.is_broken out.old ≡ false }
     requires room { progress.old.count + 1 < 2 ^ 64 }
-    ensures goes_on { IfNone result ((before : Option (List ℕ)) → Sent (C.known current.old) before (O.bytes out.old) progress.old.last progress.old.count → Sent (C.known current.new) before (O.bytes out.new) progress.new.last progress.new.count) }
+    ensures goes_on { IfNone result ((before : Option (List ℕ)) → Sent (C.known current.old) before (O.bytes out.old) progress.old.last progress.old.count
+        → Sent (C.known current.new) before (O.bytes out.new) progress.new.last progress.new.count) }
     ensures counts { IfNone result (progress.new.count ≤ progress.old.count + 1) }
     ensures works { IfNone result (O.is_broken out.new ≡ false) }
-    ensures ends { IfSome result (λ end. (before : Option (List ℕ)) → Sent (C.known current.old) before (O.bytes out.old) progress.old.last progress.old.count → Serves (C.known current.new) before (O.bytes out.new) progress.new.count end) }
+    ensures ends { IfSome result (λ end. (before : Option (List ℕ)) → Sent (C.known current.old) before (O.bytes out.old) progress.old.last progress.old.count
+        → Serves (C.known current.new) before (O.bytes out.new) progress.new.count end) }
     ensures closed { IfSome result (λ end. is_closed_end end ≡ false) }
     ensures broken { IfSome result (λ end. O.is_broken out.new ≡ is_write_fault end) }
 {
