@@ -30,3 +30,4 @@ pub use fault::RuleFault;
 pub use placing::{point, scale};
 pub use read::{literal_bucket, read_rule, weight_of};
 pub use rule::{MAX_TOTAL, Rule};
+pub use weights::total_weight;

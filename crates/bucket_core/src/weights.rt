@@ -6,18 +6,26 @@ ghost use Rattle.bucket_core.specs.Rule.{total_weight, total_of, ends_from, refi
 use crate::rule::MAX_TOTAL;
 use std::alloc::{AllocError, Global};
 
+/// The sum of the weights, which is exact.
+pub fn total_weight(entries: &[(String, u64)]) -> u128
+    ensures value { result ≡ total_weight (entries_view entries.now) }
+{
+    let mut sum = 0u128;
+    for (_, weight) in entries {
+        sum += u128::from(*weight);
+    }
+    sum
+}
+
 /// The sum of the weights, where it is 0 or one that a rule may have.
 pub(crate) fn weigh(entries: &[(String, u64)]) -> Option<u32>
     ensures { SomeIff result (total_weight (entries_view entries.now) < 2 ^ 31) (total_weight (entries_view entries.now)) }
 {
-    let mut total = 0;
-    for (_, weight) in entries {
-        if *weight > u64::from(MAX_TOTAL - total) {
-            return None;
-        }
-        total += *weight as u32;
+    let total = total_weight(entries);
+    if total > u128::from(MAX_TOTAL) {
+        return None;
     }
-    Some(total)
+    Some(total as u32)
 }
 
 /// The cumulative weights, and their last, which is the sum.
