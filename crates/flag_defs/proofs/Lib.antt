@@ -5,7 +5,6 @@ pub mod Deep
 pub mod Expanded
 pub mod Faults
 pub mod Followed
-pub mod Halving
 pub mod Heads
 pub mod Inlined
 pub mod Known

@@ -6,8 +6,8 @@ ghost use Rattle.flag_defs.specs.Inlining.{IsInlined};
 ghost use Rattle.flag_defs.specs.Measure.{measure};
 ghost use Rattle.flag_defs.specs.Table.{IsTable};
 
+use crate::inlined_measure::measured;
 use crate::measure::Measure;
-use crate::measuring::measured;
 use crate::table::Known;
 use flag_text::Tree;
 

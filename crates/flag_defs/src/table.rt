@@ -6,8 +6,8 @@ ghost use Rattle.flag_text.specs.View.{view, members_view};
 ghost use Rattle.flag_defs.specs.Measure.{known, measured};
 ghost use Rattle.flag_defs.specs.Table.{AreHeads, IsHead, IsStuck, Knows, KnowsAll, unknown_count};
 
+use crate::inlined_measure::measured;
 use crate::measure::Measure;
-use crate::measuring::measured;
 use crate::references::reference_in;
 use crate::walk::walk;
 use flag_text::{Tree, position_of};

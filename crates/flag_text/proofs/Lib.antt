@@ -1,4 +1,5 @@
 pub mod Bools
+pub mod Entries
 pub mod Halving
 pub mod Printed
 pub mod Pushed

@@ -46,6 +46,7 @@ fn member_values(
     ensures { IfOk result (λ m. members_json m.entries ≡ members_data (members_view members.now.items)) }
 {
     let mut values = Map::new(alloc);
+    // From the back, as the definition puts them: it folds from the right.
     for i in (0..members.len()).rev() {
         let (name, member) = &members[i];
         let value = tree_value(alloc, member)?;

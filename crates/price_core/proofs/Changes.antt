@@ -5,7 +5,6 @@ use Rattle.std.specs.Cmp.{IsTotalOrder}
 use Rattle.std.specs.Cmp.Lexicographic.{slice_cmp}
 use Rattle.std.specs.Map.{lookup}
 use Rattle.std.specs.Ordering.{nat_cmp, is_eq, ordering_then}
-use Rattle.std.specs.Str.{bytes_eq}
 use Rattle.std.specs.declared.cmp.Ordering.TheVariants.{Less, Equal, Greater}
 use Rattle.std.proofs.lemmas.Cmp.{nat_list_cmp_total, on_total, then_total}
 use Rattle.std.proofs.lemmas.Map.Lookups.{exact_bytes, exact_pairs}
@@ -28,7 +27,3 @@ is_same-cmp p q = both_equal (slice_cmp nat_cmp p.0 q.0) (slice_cmp nat_cmp p.1 
 
 pub lookup-cmp : {X : Type 0} (p : Pair) (es : List (Pair × X)) → lookup (is_at (pair_cmp p)) es ≡ lookup (is_same_pair p) es
 lookup-cmp p es = λ i. lookup (λ q. is_same-cmp p q i) es
-
--- the same of one name
-pub lookup_name-cmp : {X : Type 0} (name : List ℕ) (es : List (List ℕ × X)) → lookup (is_at (slice_cmp nat_cmp name)) es ≡ lookup (bytes_eq name) es
-lookup_name-cmp name es = λ i. lookup (λ q. is_eq-slice_cmp name q i) es

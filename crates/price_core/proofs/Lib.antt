@@ -1,5 +1,4 @@
 pub mod Changes
-pub mod Halving
 pub mod Inserts
 pub mod Lawful
 pub mod Limited

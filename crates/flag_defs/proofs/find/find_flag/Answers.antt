@@ -5,9 +5,9 @@ use Rattle.std.specs.declared.alloc.Global.{Global}
 use Rattle.std.proofs.lemmas.Cmp.{nat_list_cmp_total}
 use Rattle.std.proofs.lemmas.Fn.{always_returns_same}
 use Rattle.std.proofs.lemmas.Map.Lookups.{exact_bytes}
+use Rattle.flag_text.proofs.Entries.{lookup_name-cmp, hit, miss}
 use Rattle.flag_defs.specs.Flag.{entry_view, entries_view, flag_view}
 use Rattle.flag_defs.specs.declared.flag.Flag.{Flag}
-use Rattle.flag_defs.proofs.Halving.{lookup_name-cmp, hit, miss}
 use Rattle.flag_defs.proofs.find.find_flag.Goals as goal
 
 pub returns-in-Ok : goal.returns-in-Ok

@@ -1,9 +1,9 @@
 use Rattle.std.proofs.Common.{Some, sym, ap, ◌∙◌, rules}
 use Rattle.std.proofs.lemmas.Fn.{always_returns_same}
+use Rattle.flag_text.proofs.Entries.{hit, miss}
 use Rattle.price_core.specs.Pricing.{Pair, pair_cmp, change_view, entry_view, entries_view}
 use Rattle.price_core.specs.declared.change.Change.{Change}
 use Rattle.price_core.proofs.Changes.{pair_cmp_total, pair_exact, lookup-cmp}
-use Rattle.price_core.proofs.Halving.{hit, miss}
 use Rattle.price_core.proofs.change.find.Goals as goal
 
 pub returns-in-Ok : goal.returns-in-Ok

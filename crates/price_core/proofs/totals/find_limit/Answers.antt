@@ -4,9 +4,8 @@ use Rattle.std.specs.Ordering.{nat_cmp}
 use Rattle.std.proofs.lemmas.Cmp.{nat_list_cmp_total}
 use Rattle.std.proofs.lemmas.Fn.{always_returns_same}
 use Rattle.std.proofs.lemmas.Map.Lookups.{exact_bytes}
+use Rattle.flag_text.proofs.Entries.{lookup_name-cmp, hit, miss}
 use Rattle.price_core.specs.Limits.{limit_view, limits_view}
-use Rattle.price_core.proofs.Changes.{lookup_name-cmp}
-use Rattle.price_core.proofs.Halving.{hit, miss}
 use Rattle.price_core.proofs.totals.find_limit.Goals as goal
 
 pub returns-in-Ok : goal.returns-in-Ok

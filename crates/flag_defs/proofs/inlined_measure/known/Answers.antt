@@ -3,7 +3,7 @@ use Rattle.flag_text.specs.View.{members_view}
 use Rattle.flag_defs.specs.Measure.{known}
 use Rattle.flag_defs.proofs.Known.{known_at, known-absent}
 use Rattle.flag_defs.proofs.Objects.{some_member}
-use Rattle.flag_defs.proofs.measuring.known.Goals as goal
+use Rattle.flag_defs.proofs.inlined_measure.known.Goals as goal
 
 pub returns-in-Some : goal.returns-in-Some
 returns-in-Some c =

@@ -4,7 +4,7 @@ use Rattle.flag_text.specs.View.{view, items_view, members_view}
 use Rattle.logic_ast.specs.FirstFault.{item_count}
 use Rattle.flag_defs.specs.Measure.{known, parts_measured, members_measured, measured, list_measure, literal_measure, operation_measure}
 use Rattle.flag_defs.proofs.Objects.{item_count-items, object_measured-one, object_measured-many}
-use Rattle.flag_defs.proofs.measuring.+measured.Goals as goal
+use Rattle.flag_defs.proofs.inlined_measure.+measured.Goals as goal
 
 pub list_measured-returns : goal.list_measured-returns
 list_measured-returns t c =

@@ -1,7 +1,7 @@
 use Rattle.std.proofs.Common.{◌≡◌, drop}
 use Rattle.flag_text.specs.View.{items_view, members_view}
 use Rattle.flag_defs.specs.Measure.{known, parts_measured, members_measured}
-use Rattle.flag_defs.proofs.measuring.+measured.Given as goal
+use Rattle.flag_defs.proofs.inlined_measure.+measured.Given as goal
 
 abbrev pub invariant-list_measured-loop-i : goal.invariant-list_measured-loop-i
 invariant-list_measured-loop-i l = parts_measured (known (members_view l.evaluators) l.measures) (items_view (drop l.i l.items.items)) ≡ l.parts

@@ -61,6 +61,7 @@ fn list_measured(
     ensures { result ≡ measured (known (members_view evaluators.now) measures.now) (list (items_view items.now.items)) }
 {
     let mut parts = Some(Parts::NONE);
+    // From the back, as the definition adds them up: it folds from the right.
     for i in (0..items.len()).rev() {
         let item = measured(&items[i], evaluators, measures);
         parts = item_in_front(item, parts);
@@ -84,6 +85,7 @@ fn object_measured(
         return operation_measure(name.as_str(), measure);
     }
     let mut all = Some((Reading::NOTHING, 0));
+    // From the back, as above.
     for i in (0..members.len()).rev() {
         let (name, member) = &members[i];
         let measure = measured(member, evaluators, measures);
