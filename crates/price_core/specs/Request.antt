@@ -229,9 +229,14 @@ is_known names name = list_any (bytes_eq name) names
 abbrev pub pair_is_known : List (List ℕ) → Pair → Bool
 pair_is_known names p = is_known names p.0 && is_known names p.1
 
+-- each name with limits, and of each pair with a price or a prohibition, is one of these
+abbrev pub are_known : List (List ℕ) → Limits → Pricing → Bool
+are_known names limits pricing =
+    list_all (is_known names) (keys_of limits) && (list_all (pair_is_known names) (keys_of pricing.named) && list_all (pair_is_known names) pricing.barred)
+
 -- each name that the request speaks of is one of these
 abbrev pub all_known : List (List ℕ) → Asked → Bool
-all_known names a = list_all (is_known names) (keys_of a.totals) && (list_all (pair_is_known names) (keys_of a.prices.named) && list_all (pair_is_known names) a.prices.barred)
+all_known names a = are_known names a.totals a.prices
 
 -- each of the names once, in the order of their bytes, with its limits
 abbrev pub limits_on : Limits → List (List ℕ) → Limits

@@ -10,7 +10,7 @@ ghost use Rattle.flag_text.specs.Shape.{is_whole};
 ghost use Rattle.flag_text.specs.View.{view};
 ghost use Rattle.price_core.specs.Limits.{limits_view};
 ghost use Rattle.price_core.specs.Pricing.{IsPricing, max_price, entries_view};
-ghost use Rattle.price_core.specs.Request.{IsWritten, draft_view, is_self_pair, as_price, as_prices, if_in_range, is_range, judged, max_request, request_of, asked_of, is_known, pair_is_known, all_known, totals_of};
+ghost use Rattle.price_core.specs.Request.{IsWritten, draft_view, is_self_pair, as_price, as_prices, if_in_range, is_range, judged, max_request, request_of, asked_of, is_known, pair_is_known, are_known, all_known, totals_of};
 
 use crate::change::Change;
 use crate::draft::{Draft, written};
@@ -109,7 +109,7 @@ fn requested(alloc: Global, tree: &Tree) -> Result<Request, PriceFault>
 
 /// Whether each name that is asked for is one of these.
 fn all_known(names: &[String], asked: &[Limit], prices: &Prices) -> bool
-    ensures { result ≡ (list_all (is_known (map string_bytes names.now)) (keys_of (limits_view asked.now)) && (list_all (pair_is_known (map string_bytes names.now)) (keys_of prices.now.named) && list_all (pair_is_known (map string_bytes names.now)) prices.now.barred)) }
+    ensures { result ≡ are_known (map string_bytes names.now) (limits_view asked.now) prices.now }
 {
     names_are_known(names, asked)
         && changes_are_known(names, prices.named())

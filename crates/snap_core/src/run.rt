@@ -48,7 +48,8 @@ fn run_next(
     answers: &mut Vec<Answer>,
 ) -> Result<(), AllocError>
     requires { vec_len answers.old < vec_capacity answers.old }
-    ensures steps { OnOk result ((a : Reply) × (answers_view answers.new.items ≡ answers_view answers.old.items ++ a ∷ []) × Steps (world_view world.old) (event_view event.now) a (world_view world.new)) }
+    ensures steps { OnOk result ((a : Reply) × (answers_view answers.new.items ≡ answers_view answers.old.items ++ a ∷ [])
+        × Steps (world_view world.old) (event_view event.now) a (world_view world.new)) }
     ensures len { OnOk result (vec_len answers.new ≡ vec_len answers.old + 1) }
     ensures room { vec_capacity answers.old ≤ vec_capacity answers.new }
     ensures kept { OnErr result (world_view world.new ≡ world_view world.old) }
