@@ -10,6 +10,7 @@ use Rattle.flag_text.specs.Outcome.{GivesUnless}
 use Rattle.flag_text.proofs.Bools.{both, left, right, Holds, Holds-map, Holds-and_then}
 use Rattle.flag_text.specs.Readers.{as_whole, as_text, as_list, find_member, member_of}
 use Rattle.flag_text.specs.Shape.{Shape, null, boolean, whole, other, text, list, object, Items, no_items, item, Members, no_members, member, is_in_range, comes_first, is_whole, items_are_whole, members_are_whole}
+use Rattle.bucket_core.specs.Reading.{in_weights, weight_of}
 use Rattle.bucket_core.specs.Rule.{Entries, total_weight}
 use Rattle.bucket_core.specs.declared.fault.RuleFault.TheVariants.{NoWeight, TooHeavy}
 use Rattle.price_core.specs.Request.{number_below}
@@ -92,6 +93,13 @@ below_holds n small (text s) = tt
 below_holds n small (list ts) = tt
 below_holds n small (object ms) = tt
 
+in_weights_holds : (z : ℤ) → Holds (λ k. is_in_range (pos k)) (in_weights z)
+in_weights_holds (pos k) = below_by (ltb k (2 ^ 31)) k (2 ^ 31) refl (omega arith)
+in_weights_holds (negsuc k) = tt
+
+weight_holds : (t : Shape) → Holds (λ k. is_in_range (pos k)) (weight_of t)
+weight_holds t = Holds-and_then (λ _. true) (λ k. is_in_range (pos k)) in_weights (λ z _. in_weights_holds z) (as_whole t) (any_holds (as_whole t))
+
 -- ---- rows
 
 abbrev pub are_whole : {X : Type 0} → (X → Shape) → List X → Bool
@@ -126,8 +134,8 @@ entry_whole no_items h = tt
 entry_whole (item a no_items) h = tt
 entry_whole (item a (item b no_items)) h =
     let fine : List ℕ × ℕ → Bool = λ e. is_whole (entry_written e) in
-    Holds-and_then (λ _. true) fine (λ s. option_map (λ k. (s, k)) (number_below (2 ^ 31) b))
-    (λ s _. Holds-map (λ k. is_in_range (pos k)) fine (λ k. (s, k)) (λ k h. both _ _ h refl) (number_below (2 ^ 31) b) (below_holds (2 ^ 31) (omega arith) b))
+    Holds-and_then (λ _. true) fine (λ s. option_map (λ k. (s, k)) (weight_of b))
+    (λ s _. Holds-map (λ k. is_in_range (pos k)) fine (λ k. (s, k)) (λ k h. both _ _ h refl) (weight_of b) (weight_holds b))
     (as_text a) (any_holds (as_text a))
 entry_whole (item a (item b (item d ts))) h = tt
 

@@ -11,7 +11,7 @@ use Rattle.flag_text.specs.Readers.{as_whole, as_text, as_list, member_of}
 use Rattle.flag_text.specs.Reading.{tree_of}
 use Rattle.flag_text.specs.Shape.{Shape, whole, text, list, object, Items, no_items, item, no_members, member, is_in_range, is_whole, items_are_whole}
 use Rattle.flag_text.specs.declared.fault.TextFault.{TextFault}
-use Rattle.bucket_core.specs.Reading.{rule_of_entries}
+use Rattle.bucket_core.specs.Reading.{weight_of, bucket_with, rule_of_entries}
 use Rattle.bucket_core.specs.Rule.{Entries}
 use Rattle.price_core.specs.Request.{number_below}
 use Rattle.transport_core.specs.Certificate.{DualPrices}
@@ -126,7 +126,7 @@ abbrev pub beta_of : Shape → Option (List ℕ × ℤ)
 beta_of t = option_and_then beta_parts (as_list t)
 
 abbrev pub entry_parts : Items → Option (List ℕ × ℕ)
-entry_parts (item name (item n no_items)) = option_and_then (λ s. option_map (λ k. (s, k)) (number_below (2 ^ 31) n)) (as_text name)
+entry_parts (item name (item weight no_items)) = bucket_with (weight_of weight) name
 entry_parts ts = None
 
 -- `[name, weight]`: here a weight is never left out

@@ -9,12 +9,11 @@ ghost use Rattle.transport_core.specs.Certificate.{alpha_row, alpha_view, beta_r
 ghost use Rattle.plan_text.specs.PlanFile.{each, alpha_of, alpha_parts, beta_of, beta_parts, entry_of, entry_parts, if_plan};
 
 use crate::fault::PlanFileFault;
+use bucket_core::weight_of;
 use flag_text::Tree;
 use std::alloc::Global;
 
 const COUNTS: i64 = 1 << 32;
-
-const WEIGHTS: i64 = 1 << 31;
 
 /// The number of each group, `[name, count, n]`.
 pub(crate) fn read_alpha(
@@ -135,15 +134,6 @@ fn entry_parts(parts: &[Tree]) -> Result<(String, u64), PlanFileFault>
             Ok((name, weight))
         }
         [_, _, _, ..] => Err(PlanFileFault::BadPlan),
-    }
-}
-
-fn weight_of(tree: &Tree) -> Option<u64>
-    ensures { result ≡ number_below (2 ^ 31) (view tree.now) }
-{
-    match tree {
-        Tree::Whole(weight) if 0 <= *weight && *weight < WEIGHTS => Some(*weight as u64),
-        _ => None,
     }
 }
 
