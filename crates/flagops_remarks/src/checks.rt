@@ -1,7 +1,7 @@
 //! What a person is told of an answer that does not prove what it says.
-use crate::sites::{entries, weight_of};
+use crate::sites::entries;
 use crate::words::{listed, quoted};
-use bucket_core::Rule;
+use bucket_core::{Rule, total_weight};
 use flag_defs::Flags;
 use plan_text::Planned;
 use price_core::{PriceFault, Request};
@@ -51,7 +51,7 @@ fn rule_fault(
     match fault {
         CheckFault::Weight => {
             let entries = entries(alloc, flags, asked.flag(), asked.site())?;
-            let (new, old) = (rule.total(), weight_of(entries.as_slice()));
+            let (new, old) = (rule.total(), total_weight(entries.as_slice()));
             format!(in alloc;
                 "its rule has {new} points and the rule of the site {old} (with --refine M: M times as many)"
             )
@@ -109,11 +109,11 @@ fn forbidden(
     rule: &Rule,
     point: u32,
 ) -> Result<String, AllocError> {
-    let total = weight_of(entries);
+    let total = total_weight(entries);
     let factor = if total == 0 {
         1
     } else {
-        u64::from(rule.total()) / total
+        u128::from(rule.total()) / total
     };
     let old = quoted(alloc, name_at(entries, factor, point))?;
     let new = quoted(alloc, name_at(rule.entries(), 1, point))?;
@@ -121,11 +121,11 @@ fn forbidden(
 }
 
 /// The name at a point of entries whose weights are taken so many times.
-fn name_at(entries: &[(String, u64)], factor: u64, point: u32) -> &str {
-    let mut end: u64 = 0;
+fn name_at(entries: &[(String, u64)], factor: u128, point: u32) -> &str {
+    let mut end: u128 = 0;
     for (name, weight) in entries {
-        end = end.saturating_add(weight.saturating_mul(factor));
-        if u64::from(point) < end {
+        end = end.saturating_add(u128::from(*weight).saturating_mul(factor));
+        if u128::from(point) < end {
             return name.as_str();
         }
     }

@@ -1,7 +1,7 @@
 //! What a person is told where a rollout is refused: the flag, the site, the names or the sums.
 use crate::requests::{of_request, pairs, range, totals};
 use crate::words::{listed, names_of, quoted};
-use bucket_core::Rule;
+use bucket_core::{Rule, total_weight};
 use flag_defs::{Flag, Flags};
 use flag_text::{Tree, read_tree};
 use logic_ast::{Expr, LogicFault, site, sites};
@@ -220,7 +220,7 @@ fn totals_sum(
         Err(_) => (0, 0),
     };
     let entries = entries(alloc, flags, asked.flag(), asked.site())?;
-    let total = weight_of(entries.as_slice()).saturating_mul(u64::from(factor));
+    let total = total_weight(entries.as_slice()).saturating_mul(u128::from(factor));
     let sums = if low == high {
         format!(in alloc; "the totals sum to {low}")?
     } else {
@@ -228,7 +228,7 @@ fn totals_sum(
     };
     let name = quoted(alloc, asked.flag())?;
     let number = asked.site();
-    if low <= total && total <= high {
+    if u128::from(low) <= total && total <= u128::from(high) {
         // `verify` without a factor takes the one of the plan's rule
         return format!(in alloc;
             "error: the request {source}: {sums},\n  and the rule of the plan has a multiple of the {total} points at site {number} of {name}\n  it was planned with --refine, for a request with totals as many times as large\n"
@@ -270,13 +270,4 @@ pub(crate) fn entries(
 
 fn targeting_of<'a>(flags: &'a Flags, key: &str) -> Option<&'a Expr> {
     flags.get(key)?.targeting()
-}
-
-/// The sum of the weights.
-pub(crate) fn weight_of(entries: &[(String, u64)]) -> u64 {
-    let mut sum: u64 = 0;
-    for (_, weight) in entries {
-        sum = sum.saturating_add(*weight);
-    }
-    sum
 }

@@ -41,7 +41,6 @@ mod place;
 mod planner;
 mod problem;
 mod refining;
-mod sums;
 mod verification;
 mod verify_fault;
 

@@ -4,17 +4,19 @@ ghost use Rattle.flag_text.specs.Outcome.{GivesUnless};
 ghost use Rattle.bucket_core.specs.Rule.{total_weight, refinement, entries_view};
 ghost use Rattle.flag_defs.specs.Flag.{flag_view, is_broken};
 ghost use Rattle.flag_defs.specs.Flags.{flags_view};
-ghost use Rattle.rollout.specs.Lawful.{IsRefining, max_planned, problem_of, problem_at, place_view, problem_view};
+ghost use Rattle.rollout.specs.Lawful.{IsRefining, max_planned, problem_of, problem_at, sized, place_view, problem_view};
 
 use crate::fault::RolloutFault;
 use crate::place::{Place, limits_for, place_of};
 use crate::refining::Refining;
-use crate::sums::{check_size, weight_of};
 use book_core::{Book, Exposure};
-use bucket_core::Rule;
+use bucket_core::{Rule, total_weight};
 use flag_defs::Flags;
 use price_core::{Request, Totals};
 use std::alloc::Global;
+
+/// The largest total that is planned on.
+const MAX_PLANNED: u128 = 1_000_000;
 
 /// The rule that is planned on, the limits on the totals of the flag's variants, the request with its prices, and the
 /// inputs that count.
@@ -53,7 +55,7 @@ fn problem_at(
     requires good { is_broken (flag_view place.flag.now) ≡ false }
     ensures { GivesUnless RolloutFault.WantOfMemory problem_view result (problem_at refining book.now request (place_view place.entry)) }
 {
-    let total = weight_of(place.entries.as_slice());
+    let total = total_weight(place.entries.as_slice());
     if total == 0 {
         return Err(RolloutFault::NoWeight);
     }
@@ -69,6 +71,21 @@ fn problem_at(
         request,
         exposure,
     })
+}
+
+/// Whether the limits can be met by this many times the total, which is not too large to plan on.
+fn check_size(totals: &Totals, total: u128, factor: u32) -> Result<(), RolloutFault>
+    ensures { result ≡ sized totals.now (total * factor) }
+{
+    // What saturates is above each sum of limits and above the largest total, as the product is.
+    let total = total.saturating_mul(u128::from(factor));
+    if total < totals.low_sum() || totals.high_sum() < total {
+        return Err(RolloutFault::TotalsSum);
+    }
+    if total > MAX_PLANNED {
+        return Err(RolloutFault::TotalTooLarge);
+    }
+    Ok(())
 }
 
 /// The rule of the entries, each weight times the factor.
