@@ -2,25 +2,27 @@
 use Rattle.std.proofs.Common.{◌≡◌, ◌≢◌, ℕ, ◌+◌, ◌*◌, ◌<◌, ◌≤◌, ⊎_elim, List, [], ◌∷◌, map, length, take, get_or, set, count_by, sum_by, eqb, true, false, if◌then◌else◌, String, string_bytes, refl, sym, ap, ◌∙◌, arith}
 use Rattle.std.specs.List.{AllByRecursion}
 use Rattle.std.specs.Map.{values_of}
-use Rattle.std.specs.BTreeSet.{BTreeSet, btree_set_len}
 use Rattle.std.specs.declared.alloc.Global.{Global}
 use Rattle.std.proofs.lemmas.Bool.{cases_eq, eq-eqb, ne_eqb}
-use Rattle.std.proofs.lemmas.List.{get_or-set_same, get_or-set_other, get_or_read, length-map}
+use Rattle.std.proofs.lemmas.List.{get_or-set_same, get_or-set_other, get_or_read}
 use Rattle.std.proofs.lemmas.List.Sums.{sum_by-cons, count_by_more_yes, count_by_more_no}
 use Rattle.bucket_core.specs.Point.{point_of}
 use Rattle.book_core.specs.Counts.{inputs_at}
+use Rattle.book_core.specs.declared.inputs.PageInputs.{PageInputs}
 use Rattle.book_core.specs.Page.{PageName}
 use Rattle.book_core.specs.Book.{Inputs, Contents, most_inputs, input_count, inputs_view, contents_view, IsFilled}
 
--- the sizes of the sets sum to the number of inputs
-pub sizes_sum : (es : List (PageName × BTreeSet (String Global))) → sum_by btree_set_len (values_of es) ≡ input_count (contents_view es)
+abbrev pub size_of : PageInputs → ℕ
+size_of inputs = length (inputs_view inputs)
+
+-- the sizes of the pages sum to the number of inputs
+pub sizes_sum : (es : List (PageName × PageInputs)) → sum_by size_of (values_of es) ≡ input_count (contents_view es)
 sizes_sum [] = refl
 sizes_sum (e ∷ es) =
     let f : PageName × Inputs → ℕ = λ x. length x.1 in
-    sum_by-cons btree_set_len e.1 (values_of es)
-    ∙ (ap (λ n. btree_set_len e.1 + n) (sizes_sum es)
-    ∙ (ap (λ n. n + input_count (contents_view es)) (sym (length-map e.1.keys string_bytes))
-    ∙ sym (sum_by-cons f (e.0, inputs_view e.1) (contents_view es))))
+    sum_by-cons size_of e.1 (values_of es)
+    ∙ (ap (λ n. size_of e.1 + n) (sizes_sum es)
+    ∙ sym (sum_by-cons f (e.0, inputs_view e.1) (contents_view es)))
 
 -- no more inputs than pages full of them
 pub few_in_all : (book : Contents) → AllByRecursion (λ (e : PageName × Inputs). IsFilled e.1) book → input_count book ≤ most_inputs * length book

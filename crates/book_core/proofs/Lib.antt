@@ -3,6 +3,7 @@ pub mod Counted
 pub mod Cut
 pub mod Fed
 pub mod Lawful
+pub mod Listed
 pub mod Noting
 pub mod Ordered
 pub mod Paged

@@ -4,7 +4,6 @@ use borrow.Author.Tests.{ltb-true, ltb-false, lt-ltb, le-ltb}
 use Rattle.std.specs.Cmp.Lexicographic.{slice_cmp, nat_list_cmp_total}
 use Rattle.std.specs.Ordering.{nat_cmp, match_ordering}
 use Rattle.std.specs.declared.cmp.Ordering.TheVariants.{Less, Equal, Greater}
-use Rattle.std.specs.String.{string_cmp}
 use Rattle.std.specs.declared.alloc.Global.{Global}
 use Rattle.std.specs.List.{list_any, AllByRecursion}
 use Rattle.std.specs.List.Sorted.{IsStrictlySortedBy}
@@ -115,21 +114,9 @@ full_reply inputs input short among full = rw (le-ltb _ _ short, among, le-ltb _
 pub new_reply : (inputs : Inputs) (input : List ℕ) → length input ≤ most_bytes → is_among input inputs ≡ false → length inputs < most_inputs → page_reply inputs input ≡ Ok New
 new_reply inputs input short among room = rw (le-ltb _ _ short, among, lt-ltb _ _ room) refl
 
-All-texts : (k : String Global) (ks : List (String Global)) → AllByRecursion (λ y. string_cmp k y ≡ Less) ks → AllByRecursion (λ y. bytes_cmp (string_bytes k) y ≡ Less) (map string_bytes ks)
-All-texts k [] above = tt
-All-texts k (x ∷ xs) above = (above.0, All-texts k xs above.1)
-
--- the keys of a set of texts rise as their bytes
-pub sorted_texts : (keys : List (String Global)) → IsStrictlySortedBy string_cmp keys → IsStrictlySortedBy bytes_cmp (map string_bytes keys)
-unfolding IsStrictlySortedBy
-sorted_texts [] sorted = tt
-sorted_texts (k ∷ ks) sorted = (All-texts k ks sorted.0, sorted_texts ks sorted.1)
-
 -- an input that is there is not inserted again
-pub again_inserted : (keys : List (String Global)) (input : List ℕ) → IsStrictlySortedBy string_cmp keys → is_among input (map string_bytes keys) ≡ true → insert_key bytes_cmp (map string_bytes keys) input ≡ map string_bytes keys
-again_inserted keys input sorted among =
-    let inputs = map string_bytes keys in
-    insert_key-found nat_list_cmp_total inputs input (sorted_texts keys sorted) (is_among-by_order input inputs ∙ among)
+pub again_inserted : (inputs : Inputs) (input : List ℕ) → IsStrictlySortedBy bytes_cmp inputs → is_among input inputs ≡ true → insert_key bytes_cmp inputs input ≡ inputs
+again_inserted inputs input sorted among = insert_key-found nat_list_cmp_total inputs input sorted (is_among-by_order input inputs ∙ among)
 
 -- what a definition gives may be written in another way
 pub gives_along : (r wanted other : Result Noted BookFault) → other ≡ wanted → GivesUnless WantOfMemory (λ reply. reply) r wanted → GivesUnless WantOfMemory (λ reply. reply) r other

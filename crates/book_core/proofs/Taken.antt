@@ -1,23 +1,21 @@
 -- How a reader of a book goes from line to line.
-use Rattle.std.proofs.Common.{◌≡◌, ℕ, zero, suc, ◌+◌, ◌-◌, ⊎_elim, Bool, true, false, ◌&&◌, if◌then◌else◌, append_assoc, length-append, List, [], ◌∷◌, ◌++◌, map, length, Option, Some, None, Ordering, Result, Err, String, string_bytes, slice_get, MatchOption, refl, sym, ap, ap₂, ◌∙◌, arith}
+use Rattle.std.proofs.Common.{◌≡◌, ℕ, zero, suc, ◌+◌, ◌-◌, ⊎_elim, Bool, true, false, ◌&&◌, if◌then◌else◌, append_assoc, length-append, List, [], ◌∷◌, ◌++◌, map, length, Option, Some, None, Ordering, Result, Err, slice_get, MatchOption, refl, sym, ap, ap₂, ◌∙◌, arith}
 use Rattle.std.specs.Prelude.{option_map}
 use Rattle.std.specs.declared.cmp.Ordering.TheVariants.{Less, Equal, Greater}
-use Rattle.std.specs.declared.alloc.Global.{Global}
 use Rattle.std.specs.Option.{option_or}
 use Rattle.std.specs.Ordering.{is_lt, ordering_reverse}
 use Rattle.std.specs.Cmp.{IsTotalOrder}
-use Rattle.std.specs.Cmp.Lexicographic.{nat_list_cmp_total}
 use Rattle.std.specs.List.{list_all, AllByRecursion}
 use Rattle.std.specs.Map.{keys_of}
-use Rattle.std.specs.String.{string_cmp}
 use Rattle.std.specs.BTreeMap.{insert_entry}
-use Rattle.std.specs.BTreeSet.{BTreeSet, insert_key}
+use Rattle.std.specs.BTreeSet.{insert_key}
 use Rattle.std.proofs.lemmas.Bool.{cases_Bool, and_from, and_parts}
 use Rattle.std.proofs.lemmas.List.{length-map}
-use Rattle.book_core.specs.Page.{PageName, bytes_cmp}
+use Rattle.book_core.specs.Page.{PageName}
 use Rattle.book_core.specs.Book.{Inputs, Contents, inputs_view, contents_view}
 use Rattle.book_core.specs.Lines.{line_view, with_line, with_page, last_of, TakesInputs}
-use Rattle.book_core.specs.Reading.{FileLine, begins, Standing, comes_after, is_above, first_fault, ends_page, leading, pages_in, unless, lines_book}
+use Rattle.book_core.specs.Reading.{FileLine, begins, Standing, comes_after, first_fault, ends_page, leading, pages_in, unless, lines_book}
+use Rattle.book_core.specs.declared.inputs.PageInputs.{PageInputs}
 use Rattle.book_core.specs.declared.line.Line.{Line}
 use Rattle.book_core.specs.declared.fault.BookFileFault.{BookFileFault}
 use Rattle.book_core.specs.declared.fault.BookFileFault.TheVariants.{Line as LineFault, Order}
@@ -63,22 +61,10 @@ slice_get-map f [] i = refl
 slice_get-map f (x ∷ xs) zero = refl
 slice_get-map f (x ∷ xs) (suc i) = slice_get-map f xs i
 
--- the same of the texts of a set
-texts_up_to : (k : String Global) (keys : List (String Global)) → AllByRecursion (λ q. is_lt (string_cmp k q) ≡ false) keys → AllByRecursion (λ q. is_lt (bytes_cmp (string_bytes k) q) ≡ false) (map string_bytes keys)
-texts_up_to k [] up = tt
-texts_up_to k (q ∷ qs) up = (up.0, texts_up_to k qs up.1)
-
-pub above_last_text : (keys : List (String Global)) (k : String Global) (input : List ℕ) → AllByRecursion (λ q. is_lt (string_cmp k q) ≡ false) keys → slice_get keys (length keys - 1) ≡ Some k → is_lt (bytes_cmp (string_bytes k) input) ≡ is_above (map string_bytes keys) input
-above_last_text keys k input up at =
-    let texts = map string_bytes keys in
-    let there : slice_get texts (length texts - 1) ≡ Some (string_bytes k) =
-    ap (λ n. slice_get texts (n - 1)) (length-map keys string_bytes) ∙ slice_get-map string_bytes keys (length keys - 1) ∙ ap (option_map string_bytes) at in
-    above_by_last nat_list_cmp_total texts (string_bytes k) input (texts_up_to k keys up) there
-
 -- the last page of a map
-pub last_of-view : (es : List (PageName × BTreeSet (String Global))) (e : PageName × BTreeSet (String Global)) → slice_get es (length es - 1) ≡ Some e → last_of (contents_view es) ≡ Some (e.0, inputs_view e.1)
+pub last_of-view : (es : List (PageName × PageInputs)) (e : PageName × PageInputs) → slice_get es (length es - 1) ≡ Some e → last_of (contents_view es) ≡ Some (e.0, inputs_view e.1)
 last_of-view es e at =
-    let f : PageName × BTreeSet (String Global) → PageName × Inputs = λ x. (x.0, inputs_view x.1) in
+    let f : PageName × PageInputs → PageName × Inputs = λ x. (x.0, inputs_view x.1) in
     ap (λ n. slice_get (map f es) (n - 1)) (length-map es f) ∙ slice_get-map f es (length es - 1) ∙ ap (option_map f) at
 
 last_one : (book : Contents) (e : PageName × Inputs) → slice_get (book ++ e ∷ []) (length book) ≡ Some e
@@ -92,7 +78,7 @@ last_of-append book e =
 
 -- ---- what is above all goes to the end
 
-above_greater : {K : Type 0} {R : K → K → Ordering} → IsTotalOrder R → (q k : K) → is_lt (R q k) ≡ true → R k q ≡ Greater
+pub above_greater : {K : Type 0} {R : K → K → Ordering} → IsTotalOrder R → (q k : K) → is_lt (R q k) ≡ true → R k q ≡ Greater
 above_greater {R = R} o q k below = o.antisymm k q ∙ ap ordering_reverse (is_less (R q k) below)
 
 pub insert_key-above : {K : Type 0} {R : K → K → Ordering} → IsTotalOrder R → (ks : List K) (k : K) → list_all (λ q. is_lt (R q k)) ks ≡ true → insert_key R ks k ≡ ks ++ k ∷ []
@@ -155,7 +141,7 @@ page_read book new page xs n k m ls mid after wanted before goes above same numb
     ap₂ unless faults contents ∙ before
 
 -- a new entry at the end, seen
-pub contents_view-append : (es : List (PageName × BTreeSet (String Global))) (page : PageName) (s : BTreeSet (String Global)) → contents_view (es ++ (page, s) ∷ []) ≡ contents_view es ++ (page, inputs_view s) ∷ []
+pub contents_view-append : (es : List (PageName × PageInputs)) (page : PageName) (s : PageInputs) → contents_view (es ++ (page, s) ∷ []) ≡ contents_view es ++ (page, inputs_view s) ∷ []
 contents_view-append [] page s = refl
 contents_view-append (e ∷ es) page s = ap (λ (b : Contents). (e.0, inputs_view e.1) ∷ b) (contents_view-append es page s)
 

@@ -1,13 +1,14 @@
 -- What a book holds, and what it answers to an input.
-use Rattle.std.specs.Prelude.{ℕ, ◌<◌, ◌≤◌, List, [], length, map, sum_by, Bool, if◌then◌else◌, nat_lt, unwrap_or, Result, Ok, Err, String, string_bytes}
+use Rattle.std.specs.Prelude.{ℕ, ◌<◌, ◌≤◌, List, [], length, map, sum_by, Bool, if◌then◌else◌, nat_lt, unwrap_or, Result, Ok, Err, string_bytes}
 use Rattle.std.specs.List.{list_any, AllByRecursion}
 use Rattle.std.specs.List.Sorted.{IsStrictlySortedBy}
 use Rattle.std.specs.Map.{lookup, keys_of}
 use Rattle.std.specs.Str.{bytes_eq}
 use Rattle.std.specs.BTreeMap.{is_at, insert_entry}
-use Rattle.std.specs.BTreeSet.{BTreeSet, insert_key}
-use Rattle.std.specs.declared.alloc.Global.{Global}
+use Rattle.std.specs.BTreeSet.{insert_key}
 use Rattle.book_core.specs.Page.{PageName, bytes_cmp, page_cmp}
+use Rattle.book_core.specs.declared.inputs.PageInputs.{PageInputs}
+use Rattle.book_core.specs.declared.inputs.PageInputs.TheVariants.{Listed, Gathered}
 use Rattle.book_core.specs.declared.noted.Noted.{Noted}
 use Rattle.book_core.specs.declared.noted.Noted.TheVariants.{New, Again}
 use Rattle.book_core.specs.declared.fault.BookFault.{BookFault}
@@ -72,10 +73,11 @@ pub record IsBook (book : Contents) : Type 0 where
   pub rising : IsStrictlySortedBy page_cmp (keys_of book)
   pub filled : AllByRecursion (λ (e : PageName × Inputs). IsFilled e.1) book
 
--- the inputs of the program's set, without where they lie in memory
-abbrev pub inputs_view : BTreeSet (String Global) → Inputs
-inputs_view s = map string_bytes s.keys
+-- the inputs that the program holds of a page, without where they lie in memory
+abbrev pub inputs_view : PageInputs → Inputs
+inputs_view (Listed list) = map string_bytes list.items
+inputs_view (Gathered set) = map string_bytes set.keys
 
 -- the pages of the program's map
-abbrev pub contents_view : List (PageName × BTreeSet (String Global)) → Contents
+abbrev pub contents_view : List (PageName × PageInputs) → Contents
 contents_view es = map (λ e. (e.0, inputs_view e.1)) es

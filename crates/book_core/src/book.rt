@@ -4,17 +4,18 @@ ghost use Rattle.book_core.specs.Book.{IsBook, contents_view, inputs_on, input_c
 
 use crate::exposure::Exposure;
 use crate::fault::BookFault;
+use crate::inputs::PageInputs;
 use crate::noted::Noted;
 use crate::page::Page;
 use crate::pages::{count_inputs, has_input, inputs_of, note_in};
 use std::alloc::{AllocError, Global};
-use std::collections::{BTreeMap, BTreeSet};
+use std::collections::BTreeMap;
 use std::marker::Model;
 
 /// The inputs that reached each `fractional` operation, each once on its page.
 #[derive(Drop)]
 pub struct Book {
-    pages: BTreeMap<Page, BTreeSet<String>>,
+    pages: BTreeMap<Page, PageInputs>,
 }
 
 impl Model for Book {
@@ -39,8 +40,9 @@ impl Book {
 
     /// Notes an input on a page: New where it did not stand there, else Again. A new input is refused
     /// with InputTooLong where it has more than 1024 bytes, and with PageFull where the page has
-    /// 1000000 inputs. A refusal leaves the book as it was. Cost: O(log pages + log inputs)
-    /// comparisons; memory is taken for a new input alone, so that every other answer is given whatever is left of it.
+    /// 1000000 inputs. A refusal leaves the book as it was. Cost: O(log pages + log inputs) comparisons, and once for
+    /// each page, at its first new input that does not come after those before it, a pass over them; memory is taken
+    /// for a new input alone, so that every other answer is given whatever is left of it.
     pub fn note(&mut self, alloc: Global, page: &Page, input: &str) -> Result<Noted, BookFault>
         ensures exact { GivesUnless BookFault.WantOfMemory (λ reply. reply) result (reply_to self.old page.now input.now) }
         ensures noted { OnOk result (self.new ≡ with_input self.old page.now input.now) }
@@ -74,7 +76,7 @@ impl Book {
     }
 
     /// The book of these pages.
-    pub(crate) fn of_pages(pages: BTreeMap<Page, BTreeSet<String>>) -> Book
+    pub(crate) fn of_pages(pages: BTreeMap<Page, PageInputs>) -> Book
         requires { IsBook (contents_view pages.entries) }
         ensures { result ≡ contents_view pages.entries }
     {
@@ -82,7 +84,7 @@ impl Book {
     }
 
     /// The pages with their inputs.
-    pub(crate) fn pages(&self) -> &BTreeMap<Page, BTreeSet<String>>
+    pub(crate) fn pages(&self) -> &BTreeMap<Page, PageInputs>
         ensures contents { contents_view result.now.entries ≡ self.now }
         ensures lawful { IsBook self.now }
     {

@@ -26,6 +26,7 @@ mod book;
 mod counting;
 mod exposure;
 mod fault;
+mod inputs;
 mod laws;
 mod line;
 mod listing;

@@ -4,9 +4,10 @@ ghost use Rattle.book_core.specs.Book.{contents_view, inputs_on};
 ghost use Rattle.book_core.specs.Listing.{has_none, pages_of};
 
 use crate::book::Book;
+use crate::inputs::PageInputs;
 use crate::page::Page;
 use std::alloc::{AllocError, Global};
-use std::collections::{BTreeMap, BTreeSet};
+use std::collections::BTreeMap;
 
 impl Book {
     /// Whether no input stands on a page. It takes no memory. Cost: O(log pages) comparisons.
@@ -24,18 +25,18 @@ impl Book {
     }
 }
 
-fn has_no_input(pages: &BTreeMap<Page, BTreeSet<String>>, page: &Page) -> bool
+fn has_no_input(pages: &BTreeMap<Page, PageInputs>, page: &Page) -> bool
     ensures { result ≡ has_none (inputs_on (contents_view pages.now.entries) page.now) }
 {
     match pages.get(page) {
-        Some(inputs) => inputs.is_empty(),
+        Some(inputs) => inputs.len() == 0,
         None => true,
     }
 }
 
 fn pages_named<'a>(
     alloc: Global,
-    pages: &'a BTreeMap<Page, BTreeSet<String>>,
+    pages: &'a BTreeMap<Page, PageInputs>,
     flag: &str,
 ) -> Result<Vec<&'a Page>, AllocError>
     ensures { IfOk result (λ v. map (λ p. p.now) v.items ≡ pages_of flag.now (contents_view pages.now.entries)) }

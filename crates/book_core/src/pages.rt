@@ -2,16 +2,18 @@
 ghost use Rattle.std.specs.Prelude.{◌≡◌, ◌≢◌, Ok, IfOk, OnOk, OnErr, None};
 ghost use Rattle.std.specs.BTreeMap.{get};
 ghost use Rattle.std.specs.BTreeSet.{insert_key};
+ghost use Rattle.std.specs.List.Sorted.{IsStrictlySortedBy};
 ghost use Rattle.flag_text.specs.Outcome.{GivesUnless};
 ghost use Rattle.book_core.specs.Page.{bytes_cmp, page_cmp};
-ghost use Rattle.book_core.specs.Book.{IsBook, IsExposure, input_count, inputs_on, is_among, page_reply, reply_to, with_input, inputs_view, contents_view};
+ghost use Rattle.book_core.specs.Book.{IsBook, input_count, inputs_on, is_among, page_reply, reply_to, with_input, inputs_view, contents_view};
 
 use crate::exposure::Exposure;
 use crate::fault::BookFault;
+use crate::inputs::PageInputs;
 use crate::noted::Noted;
 use crate::page::Page;
 use std::alloc::{AllocError, Global};
-use std::collections::{BTreeMap, BTreeSet};
+use std::collections::BTreeMap;
 
 /// The most inputs that a page takes.
 pub(crate) const MOST_INPUTS: usize = 1_000_000;
@@ -22,9 +24,10 @@ pub(crate) const MOST_BYTES: usize = 1024;
 /// Notes an input on a page that has these inputs.
 pub(crate) fn note_on(
     alloc: Global,
-    inputs: &mut BTreeSet<String>,
+    inputs: &mut PageInputs,
     input: &str,
 ) -> Result<Noted, BookFault>
+    requires { IsStrictlySortedBy bytes_cmp (inputs_view inputs.old) }
     ensures exact { GivesUnless BookFault.WantOfMemory (λ reply. reply) result (page_reply (inputs_view inputs.old) input.now) }
     ensures noted { OnOk result (inputs_view inputs.new ≡ insert_key bytes_cmp (inputs_view inputs.old) input.now) }
     ensures refused { OnErr result (inputs_view inputs.new ≡ inputs_view inputs.old) }
@@ -40,17 +43,18 @@ pub(crate) fn note_on(
     if full {
         return Err(BookFault::PageFull);
     }
-    inputs.insert(String::from_str(alloc, input)?)?;
+    inputs.insert(alloc, String::from_str(alloc, input)?)?;
     Ok(Noted::New)
 }
 
 /// Notes an input on its page.
 pub(crate) fn note_in(
     alloc: Global,
-    pages: &mut BTreeMap<Page, BTreeSet<String>>,
+    pages: &mut BTreeMap<Page, PageInputs>,
     page: &Page,
     input: &str,
 ) -> Result<Noted, BookFault>
+    requires { IsBook (contents_view pages.old.entries) }
     ensures exact { GivesUnless BookFault.WantOfMemory (λ reply. reply) result (reply_to (contents_view pages.old.entries) page.now input.now) }
     ensures noted { OnOk result (contents_view pages.new.entries ≡ with_input (contents_view pages.old.entries) page.now input.now) }
     ensures refused { OnErr result (contents_view pages.new.entries ≡ contents_view pages.old.entries) }
@@ -65,7 +69,7 @@ pub(crate) fn note_in(
 /// Notes the first input of a page that is not there yet.
 fn note_first(
     alloc: Global,
-    pages: &mut BTreeMap<Page, BTreeSet<String>>,
+    pages: &mut BTreeMap<Page, PageInputs>,
     page: &Page,
     input: &str,
 ) -> Result<Noted, BookFault>
@@ -78,14 +82,14 @@ fn note_first(
     if input.len() > MOST_BYTES {
         return Err(BookFault::InputTooLong);
     }
-    let mut inputs = BTreeSet::new(alloc);
-    inputs.insert(String::from_str(alloc, input)?)?;
+    let inputs = PageInputs::of_one(alloc, String::from_str(alloc, input)?)?;
     pages.insert(page.copy(alloc)?, inputs)?;
     Ok(Noted::New)
 }
 
 /// Whether an input stands on a page.
-pub(crate) fn has_input(pages: &BTreeMap<Page, BTreeSet<String>>, page: &Page, input: &str) -> bool
+pub(crate) fn has_input(pages: &BTreeMap<Page, PageInputs>, page: &Page, input: &str) -> bool
+    requires { IsBook (contents_view pages.now.entries) }
     ensures { result ≡ is_among input.now (inputs_on (contents_view pages.now.entries) page.now) }
 {
     match pages.get(page) {
@@ -97,7 +101,7 @@ pub(crate) fn has_input(pages: &BTreeMap<Page, BTreeSet<String>>, page: &Page, i
 /// The inputs on a page.
 pub(crate) fn inputs_of(
     alloc: Global,
-    pages: &BTreeMap<Page, BTreeSet<String>>,
+    pages: &BTreeMap<Page, PageInputs>,
     page: &Page,
 ) -> Result<Exposure, AllocError>
     requires { IsBook (contents_view pages.now.entries) }
@@ -105,24 +109,12 @@ pub(crate) fn inputs_of(
 {
     match pages.get(page) {
         None => Ok(Exposure::of_rising(Vec::new(alloc))),
-        Some(inputs) => copied(alloc, inputs),
+        Some(inputs) => inputs.exposure(alloc),
     }
-}
-
-/// The inputs of a set.
-fn copied(alloc: Global, inputs: &BTreeSet<String>) -> Result<Exposure, AllocError>
-    requires { IsExposure (inputs_view inputs.now) }
-    ensures { IfOk result (λ copies. copies ≡ inputs_view inputs.now) }
-{
-    let mut copies = Vec::with_capacity(alloc, inputs.len())?;
-    for input in inputs {
-        copies.push(String::from_str(alloc, input.as_str())?)?;
-    }
-    Ok(Exposure::of_rising(copies))
 }
 
 /// The number of inputs on all pages.
-pub(crate) fn count_inputs(pages: &BTreeMap<Page, BTreeSet<String>>) -> u128
+pub(crate) fn count_inputs(pages: &BTreeMap<Page, PageInputs>) -> u128
     requires { IsBook (contents_view pages.now.entries) }
     ensures { result ≡ input_count (contents_view pages.now.entries) }
 {

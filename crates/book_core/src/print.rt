@@ -1,5 +1,5 @@
 //! From a book to its file.
-ghost use Rattle.std.specs.Prelude.{◌≡◌, ◌≤◌, ◌<◌, ◌^◌, ◌++◌, true, Ok, IfOk, OnOk, flat_map, string_bytes};
+ghost use Rattle.std.specs.Prelude.{◌≡◌, ◌≤◌, ◌<◌, ◌^◌, ◌++◌, true, Ok, IfOk, OnOk, flat_map, map, string_bytes};
 ghost use Rattle.std.specs.List.{AllByRecursion};
 ghost use Rattle.flag_text.specs.Reading.{max_levels};
 ghost use Rattle.flag_text.specs.Shape.{is_whole, levels, text};
@@ -9,6 +9,7 @@ ghost use Rattle.book_core.specs.Printing.{Reads, ReadsPage, by_shape, line_text
 ghost use Rattle.book_core.specs.Reading.{book_of};
 
 use crate::book::Book;
+use crate::inputs::PageInputs;
 use crate::page::Page;
 use flag_text::{Tree, print_tree, push_text};
 use std::alloc::{AllocError, Global};
@@ -30,7 +31,7 @@ pub fn print_book(alloc: Global, book: &Book) -> Result<Vec<u8>, AllocError>
 fn push_pages(
     alloc: Global,
     out: &mut Vec<u8>,
-    pages: &BTreeMap<Page, BTreeSet<String>>,
+    pages: &BTreeMap<Page, PageInputs>,
 ) -> Result<(), AllocError>
     ensures text { OnOk result (out.new.items ≡ out.old.items ++ flat_map page_text (contents_view pages.now.entries)) }
     ensures reads { OnOk result (AllByRecursion ReadsPage (contents_view pages.now.entries)) }
@@ -46,7 +47,7 @@ fn push_page(
     alloc: Global,
     out: &mut Vec<u8>,
     page: &Page,
-    inputs: &BTreeSet<String>,
+    inputs: &PageInputs,
 ) -> Result<(), AllocError>
     ensures text { OnOk result (out.new.items ≡ out.old.items ++ page_text (page.now, inputs_view inputs.now)) }
     ensures reads { OnOk result (ReadsPage (page.now, inputs_view inputs.now)) }
@@ -56,15 +57,31 @@ fn push_page(
 }
 
 /// Adds a line for each input.
-fn push_inputs(
-    alloc: Global,
-    out: &mut Vec<u8>,
-    inputs: &BTreeSet<String>,
-) -> Result<(), AllocError>
+fn push_inputs(alloc: Global, out: &mut Vec<u8>, inputs: &PageInputs) -> Result<(), AllocError>
     ensures text { OnOk result (out.new.items ≡ out.old.items ++ inputs_text (inputs_view inputs.now)) }
     ensures reads { OnOk result (AllByRecursion (λ input. Reads (text input)) (inputs_view inputs.now)) }
 {
-    for input in inputs {
+    match inputs {
+        PageInputs::Listed(list) => push_list(alloc, out, list.as_slice()),
+        PageInputs::Gathered(set) => push_set(alloc, out, set),
+    }
+}
+
+fn push_list(alloc: Global, out: &mut Vec<u8>, list: &[String]) -> Result<(), AllocError>
+    ensures text { OnOk result (out.new.items ≡ out.old.items ++ inputs_text (map string_bytes list.now)) }
+    ensures reads { OnOk result (AllByRecursion (λ input. Reads (text input)) (map string_bytes list.now)) }
+{
+    for input in list {
+        push_input(alloc, out, input.as_str())?;
+    }
+    Ok(())
+}
+
+fn push_set(alloc: Global, out: &mut Vec<u8>, set: &BTreeSet<String>) -> Result<(), AllocError>
+    ensures text { OnOk result (out.new.items ≡ out.old.items ++ inputs_text (map string_bytes set.now.keys)) }
+    ensures reads { OnOk result (AllByRecursion (λ input. Reads (text input)) (map string_bytes set.now.keys)) }
+{
+    for input in set {
         push_input(alloc, out, input.as_str())?;
     }
     Ok(())

@@ -1,21 +1,23 @@
 //! From the bytes of a file to a book.
-ghost use Rattle.std.specs.Prelude.{◌≡◌, ◌≢◌, ◌≤◌, ◌++◌, List, [], ◌∷◌, length, true, None, Some, IfErr, IfOk, OnOk, MatchOption, ◌+◌, string_bytes};
+ghost use Rattle.std.specs.Prelude.{◌≡◌, ◌≢◌, ◌≤◌, ◌++◌, List, [], ◌∷◌, length, true, None, Some, IfErr, IfOk, OnOk, MatchOption, ◌+◌, map, string_bytes};
 ghost use Rattle.std.specs.List.{list_all};
+ghost use Rattle.std.specs.List.Sorted.{IsStrictlySortedBy};
 ghost use Rattle.std.specs.Map.{keys_of};
 ghost use Rattle.std.specs.Ordering.{is_lt};
 ghost use Rattle.flag_text.specs.Outcome.{GivesUnless};
 ghost use Rattle.book_core.specs.Book.{inputs_view, contents_view};
 ghost use Rattle.book_core.specs.Lines.{TakesInputs, last_of, with_line, with_page};
-ghost use Rattle.book_core.specs.Page.{PageName, page_cmp};
-ghost use Rattle.book_core.specs.Reading.{FileLine, book_of, comes_after, ends_page, first_fault, unended_fault, input_fault, is_above, lines_book, lines_of};
+ghost use Rattle.book_core.specs.Page.{PageName, bytes_cmp, page_cmp};
+ghost use Rattle.book_core.specs.Reading.{FileLine, book_of, comes_after, ends_page, first_fault, unended_fault, input_fault, lines_book, lines_of};
 
 use crate::book::Book;
 use crate::fault::BookFileFault;
+use crate::inputs::{PageInputs, is_above};
 use crate::line::{Line, Lines, cut, is_header};
 use crate::page::Page;
 use crate::pages::{MOST_BYTES, MOST_INPUTS};
 use std::alloc::Global;
-use std::collections::{BTreeMap, BTreeSet};
+use std::collections::BTreeMap;
 
 /// The book of a file: a line for each page and for each of its inputs, after a first line. Lines are numbered from 1,
 /// and the first line at fault answers: Header where the first line is not the JSON value `{"book":1}`; Line where a
@@ -54,7 +56,7 @@ fn unended(header: bool) -> BookFileFault
 fn read_pages(
     alloc: Global,
     lines: &mut Lines<'_>,
-) -> Result<BTreeMap<Page, BTreeSet<String>>, BookFileFault>
+) -> Result<BTreeMap<Page, PageInputs>, BookFileFault>
     requires { lines.old.taken ≡ 1 }
     ensures { GivesUnless BookFileFault.WantOfMemory (λ pages. contents_view pages.entries) result (lines_book (lines_of lines.old.rest.now)) }
 {
@@ -104,7 +106,7 @@ fn ends_page(line: &Option<Line>) -> bool
 }
 
 /// Whether the page comes after the last one.
-fn comes_after(pages: &BTreeMap<Page, BTreeSet<String>>, page: &Page) -> bool
+fn comes_after(pages: &BTreeMap<Page, PageInputs>, page: &Page) -> bool
     ensures last { result ≡ comes_after (last_of (contents_view pages.now.entries)) page.now }
     ensures all { result ≡ true → list_all (λ other. is_lt (page_cmp other page.now)) (keys_of pages.now.entries) ≡ true }
 {
@@ -119,19 +121,19 @@ fn read_inputs(
     alloc: Global,
     lines: &mut Lines<'_>,
     first: Option<Line>,
-) -> Result<(BTreeSet<String>, Option<Page>), BookFileFault>
+) -> Result<(PageInputs, Option<Page>), BookFileFault>
     ensures taken { IfOk result (λ r. TakesInputs lines.old.taken (with_line first (lines_of lines.old.rest.now))
         (inputs_view r.0) lines.new.taken (with_page r.1 (lines_of lines.new.rest.now))) }
     ensures shorter { OnOk result (length lines.new.rest.now ≤ length lines.old.rest.now) }
     ensures fault { IfErr result (λ e. e ≢ BookFileFault.WantOfMemory → (page : PageName) →
         first_fault lines.old.taken (Some (page, [])) (with_line first (lines_of lines.old.rest.now)) ≡ Some e) }
 {
-    let mut inputs = BTreeSet::new(alloc);
+    let mut inputs = Vec::new(alloc);
     let mut line = first;
     'lines: loop {
         match line {
-            None => return Ok((inputs, None)),
-            Some(Line::Page(page)) => return Ok((inputs, Some(page))),
+            None => return Ok((PageInputs::Listed(inputs), None)),
+            Some(Line::Page(page)) => return Ok((PageInputs::Listed(inputs), Some(page))),
             Some(Line::Other) => return Err(BookFileFault::Line(lines.taken)),
             Some(Line::Input(input)) => {
                 add_input(&mut inputs, input, lines.taken)?;
@@ -142,30 +144,22 @@ fn read_inputs(
 }
 
 /// Adds an input, from the line of this number, to those of its page.
-fn add_input(inputs: &mut BTreeSet<String>, input: String, number: u64) -> Result<(), BookFileFault>
-    ensures added { OnOk result (inputs_view inputs.new ≡ inputs_view inputs.old ++ string_bytes input ∷ []) }
-    ensures faultless { OnOk result (input_fault number (inputs_view inputs.old) (string_bytes input) ≡ None) }
-    ensures fault { IfErr result (λ e. e ≢ BookFileFault.WantOfMemory → input_fault number (inputs_view inputs.old) (string_bytes input) ≡ Some e) }
+fn add_input(inputs: &mut Vec<String>, input: String, number: u64) -> Result<(), BookFileFault>
+    requires { IsStrictlySortedBy bytes_cmp (map string_bytes inputs.old.items) }
+    ensures added { OnOk result (map string_bytes inputs.new.items ≡ map string_bytes inputs.old.items ++ string_bytes input ∷ []) }
+    ensures rising { OnOk result (IsStrictlySortedBy bytes_cmp (map string_bytes inputs.new.items)) }
+    ensures faultless { OnOk result (input_fault number (map string_bytes inputs.old.items) (string_bytes input) ≡ None) }
+    ensures fault { IfErr result (λ e. e ≢ BookFileFault.WantOfMemory → input_fault number (map string_bytes inputs.old.items) (string_bytes input) ≡ Some e) }
 {
     if input.len() > MOST_BYTES {
         return Err(BookFileFault::InputTooLong(number));
     }
-    if !is_above(inputs, input.as_str()) {
+    if !is_above(inputs.as_slice(), input.as_str()) {
         return Err(BookFileFault::Order(number));
     }
     if inputs.len() >= MOST_INPUTS {
         return Err(BookFileFault::PageFull(number));
     }
-    inputs.insert(input)?;
+    inputs.push(input)?;
     Ok(())
-}
-
-/// Whether the input is above each of these.
-fn is_above(inputs: &BTreeSet<String>, input: &str) -> bool
-    ensures { result ≡ is_above (inputs_view inputs.now) input.now }
-{
-    match inputs.last() {
-        None => true,
-        Some(last) => last.as_str() < input,
-    }
 }

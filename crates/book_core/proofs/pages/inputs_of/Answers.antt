@@ -1,20 +1,15 @@
-use Rattle.std.proofs.Common.{◌≡◌, [], map, string_bytes, unwrap_or, sym, ap, ◌∙◌, subst}
-use Rattle.std.specs.BTreeMap.{is_at}
+use Rattle.std.proofs.Common.{◌≡◌, map, string_bytes, sym, ap, ◌∙◌, subst}
 use Rattle.std.proofs.lemmas.Result.{IfOk-weaker}
-use Rattle.book_core.specs.Page.{page_cmp}
 use Rattle.book_core.specs.Book.{Inputs, IsExposure, inputs_on, inputs_view, contents_view}
-use Rattle.book_core.proofs.Noting.{exposure_none, exposure_found}
-use Rattle.book_core.proofs.Paged.{found_view, inputs_on-found, inputs_on-none}
+use Rattle.book_core.proofs.Noting.{exposure_none}
+use Rattle.book_core.proofs.Paged.{held_lawful, inputs_on-found, inputs_on-none}
 use Rattle.book_core.proofs.pages.inputs_of.Goals as goal
 
 pub of_rising-requires : goal.of_rising-requires
 of_rising-requires c = subst (λ xs. IsExposure (map string_bytes xs)) (sym c.new.ensures.items) exposure_none
 
-pub copied-requires : goal.copied-requires
-copied-requires c =
-    let es = c.args.pages.now.entries in
-    let found = found_view es c.args.page.now c.in-Some.inputs.now (sym c.in-Some.ensures.value) in
-    subst (λ o. IsExposure (unwrap_or o [])) found (exposure_found (is_at (page_cmp c.args.page.now)) (contents_view es) c.requires.filled)
+pub exposure-requires : goal.exposure-requires
+exposure-requires c = held_lawful c.args.pages.now.entries c.args.page.now c.in-Some.inputs.now c.requires (sym c.in-Some.ensures.value)
 
 pub returns-in-None : goal.returns-in-None
 returns-in-None c =
@@ -26,4 +21,4 @@ returns-in-Some c =
     let same = inputs_on-found es c.args.page.now c.in-Some.inputs.now (sym c.in-Some.ensures.value) in
     let seen : Inputs → Type 0 = λ xs. xs ≡ inputs_view c.in-Some.inputs.now in
     let wanted : Inputs → Type 0 = λ xs. xs ≡ inputs_on (contents_view es) c.args.page.now in
-    IfOk-weaker c.copied.result seen wanted (λ xs e. e ∙ sym same) c.copied.ensures
+    IfOk-weaker c.exposure.result seen wanted (λ xs e. e ∙ sym same) c.exposure.ensures

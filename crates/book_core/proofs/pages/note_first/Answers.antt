@@ -1,10 +1,9 @@
-use Rattle.std.proofs.Common.{◌≡◌, [], map, string_bytes, refl, sym, ap, ◌∙◌, arith}
+use Rattle.std.proofs.Common.{◌≡◌, [], refl, sym, ap, ◌∙◌, arith}
 use Rattle.std.specs.BTreeMap.{insert_entry}
 use Rattle.std.specs.BTreeSet.{insert_key}
 use Rattle.book_core.specs.Page.{bytes_cmp, page_cmp}
 use Rattle.book_core.specs.Book.{inputs_view, contents_view}
 use Rattle.book_core.proofs.Noting.{long_reply, new_reply}
-use Rattle.book_core.proofs.Ordered.{insert_key-map}
 use Rattle.book_core.proofs.Paged.{inputs_on-none, reply_to-on, page_added}
 use Rattle.book_core.proofs.pages.note_first.Goals as goal
 
@@ -22,14 +21,10 @@ pub returns-clause-noted : goal.returns-clause-noted
 returns-clause-noted c =
     let es = c.args.pages.now.entries in
     let input = c.args.input.now in
-    let key = c.in_ok-from_str.field-0 in
-    let set = c.insert.new.self in
-    let one : inputs_view set ≡ insert_key bytes_cmp [] input =
-    ap (map string_bytes) c.in_ok-insert.ensures.keys ∙ insert_key-map string_bytes bytes_cmp c.new-inputs.result.keys key
-    ∙ ap (λ ks. insert_key bytes_cmp (map string_bytes ks) (string_bytes key)) c.new-inputs.ensures.empty
-    ∙ ap (insert_key bytes_cmp []) c.in_ok-from_str.ensures.ok in
-    ap contents_view (c.in_ok-insert-2.ensures.entries ∙ ap (λ k. insert_entry page_cmp es k set) c.in_ok-copy.ensures)
-    ∙ page_added es c.args.page.now set input c.requires one
+    let inputs = c.in_ok-inputs.inputs in
+    let one : inputs_view inputs ≡ insert_key bytes_cmp [] input = c.in_ok-inputs.ensures ∙ ap (insert_key bytes_cmp []) c.in_ok-from_str.ensures.ok in
+    ap contents_view (c.in_ok-insert.ensures.entries ∙ ap (λ k. insert_entry page_cmp es k inputs) c.in_ok-copy.ensures)
+    ∙ page_added es c.args.page.now inputs input c.requires one
 
 pub returns-then-input-gt-MOST_BYTES-clause-no_memory : goal.returns-then-input-gt-MOST_BYTES-clause-no_memory
 returns-then-input-gt-MOST_BYTES-clause-no_memory c = λ _.
@@ -41,8 +36,8 @@ returns-in_err-from_str-clause-no_memory c = λ other.
     let none = inputs_on-none c.args.pages.now.entries c.args.page.now c.requires in
     absurd (other (reply_to-on (contents_view c.args.pages.now.entries) c.args.page.now c.args.input.now [] none ∙ new_reply [] c.args.input.now c.if-input-gt-MOST_BYTES.false refl (omega arith)))
 
-pub returns-in_err-insert-clause-no_memory : goal.returns-in_err-insert-clause-no_memory
-returns-in_err-insert-clause-no_memory c = λ other.
+pub returns-in_err-inputs-clause-no_memory : goal.returns-in_err-inputs-clause-no_memory
+returns-in_err-inputs-clause-no_memory c = λ other.
     let none = inputs_on-none c.args.pages.now.entries c.args.page.now c.requires in
     absurd (other (reply_to-on (contents_view c.args.pages.now.entries) c.args.page.now c.args.input.now [] none ∙ new_reply [] c.args.input.now c.if-input-gt-MOST_BYTES.false refl (omega arith)))
 
@@ -51,8 +46,8 @@ returns-in_err-copy-clause-no_memory c = λ other.
     let none = inputs_on-none c.args.pages.now.entries c.args.page.now c.requires in
     absurd (other (reply_to-on (contents_view c.args.pages.now.entries) c.args.page.now c.args.input.now [] none ∙ new_reply [] c.args.input.now c.if-input-gt-MOST_BYTES.false refl (omega arith)))
 
-pub returns-in_err-insert-2-clause-no_memory : goal.returns-in_err-insert-2-clause-no_memory
-returns-in_err-insert-2-clause-no_memory c = λ other.
+pub returns-in_err-insert-clause-no_memory : goal.returns-in_err-insert-clause-no_memory
+returns-in_err-insert-clause-no_memory c = λ other.
     let none = inputs_on-none c.args.pages.now.entries c.args.page.now c.requires in
     absurd (other (reply_to-on (contents_view c.args.pages.now.entries) c.args.page.now c.args.input.now [] none ∙ new_reply [] c.args.input.now c.if-input-gt-MOST_BYTES.false refl (omega arith)))
 

@@ -3,9 +3,12 @@ use Rattle.std.specs.Map.{lookup}
 use Rattle.std.specs.BTreeMap.{is_at}
 use Rattle.book_core.specs.Page.{page_cmp}
 use Rattle.book_core.specs.Book.{inputs_view, contents_view}
-use Rattle.book_core.proofs.Paged.{inputs_on-found, reply_to-on, noted_page, kept_page}
+use Rattle.book_core.proofs.Paged.{held_lawful, inputs_on-found, reply_to-on, noted_page, kept_page}
 use Rattle.book_core.proofs.Noting.{gives_along, other_along}
 use Rattle.book_core.proofs.pages.note_in.Goals as goal
+
+pub note_on-requires : goal.note_on-requires
+note_on-requires c = (held_lawful c.args.pages.now.entries c.args.page.now c.in-Some.inputs.now c.requires (sym c.in-Some.ensures.value)).rising
 
 pub returns-in-Some-clause-exact : goal.returns-in-Some-clause-exact
 returns-in-Some-clause-exact c =
