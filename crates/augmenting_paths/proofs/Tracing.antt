@@ -63,7 +63,7 @@ module _ (p : FlowProblem) (f : Flow) (price : ℕ → ℤ) (parent rank : ℕ �
       let to_in : s.to < names_of p = omega (arith, to_is, so_far.within) in
       let there : arc_at f.arcs.items (names_of p + 1) s.from s.to ≡ Some t.along = ap (λ v. arc_at f.arcs.items (names_of p + 1) v s.to) from_is ∙ (ap (arc_at f.arcs.items (names_of p + 1) (parent to)) to_is ∙ t.there) in
       let group : s.group ≡ t.along.group = group_is t.along there in
-      let r = flow.residual in
+      let r = flow.tables.residual in
       let zero : price s.to ≡ (price s.from +ℤ t.along.cost) = ap price to_is ∙ (t.zero ∙ ap (λ v. price v +ℤ t.along.cost) (sym from_is)) in
       let falls : rank s.from < rank to = omega (arith, ap rank from_is, t.before) in
       let F = flows_of p f in

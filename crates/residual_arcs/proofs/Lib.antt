@@ -1,7 +1,9 @@
 pub mod Cells
 pub mod Cheapest
+pub mod Ends
 pub mod Entering
 pub mod Offering
 pub mod Parts
-pub mod Passes
 pub mod Products
+pub mod Spans
+pub mod Turns

@@ -1,3 +1,4 @@
 pub mod Offered
 pub mod Problem
 pub mod Row
+pub mod Spans

@@ -1,6 +1,6 @@
 -- The residual arcs from one name to the others.
 use Rattle.std.specs.Prelude.{◌≡◌, ℕ, ◌<◌, ◌≤◌, ◌+◌, ◌*◌, ℤ, ◌⊎◌, ◌+ℤ◌, ◌≤ℤ◌, Bool, true, List, length, Option, Some, None, slice_index, slice_index_or}
-use Rattle.residual_arcs.specs.Problem.{cost_at, group_at, may_take}
+use Rattle.residual_arcs.specs.Problem.{cost_at, may_take}
 use Rattle.residual_arcs.specs.declared.problem.Group.{Group}
 use Rattle.shortest_path.specs.declared.arc.Arc.{Arc}
 
@@ -24,6 +24,10 @@ pub record IsWidened (names : ℕ) (may : ℕ → ℕ → Bool) (charge : ℕ �
   pub change : (w : ℕ) (a : Arc) → w < names → new w ≡ Some a → (old w ≡ Some a) ⊎ IsWay may charge g v w a
   pub covers : (w : ℕ) → w < names → may g w ≡ true → (a : Arc) × (new w ≡ Some a) × ((charge g v +ℤ a.cost) ≤ℤ charge g w)
   pub less : (w : ℕ) (known : Arc) → w < names → old w ≡ Some known → (a : Arc) × (new w ≡ Some a) × (a.cost ≤ℤ known.cost)
+
+-- the same of two groups, one after the other
+abbrev pub AreWidened : (names : ℕ) (may : ℕ → ℕ → Bool) (charge : ℕ → ℕ → ℤ) (g h v : ℕ) (old new : ℕ → Option Arc) → Type 0
+AreWidened names may charge g h v old new = (mid : ℕ → Option Arc) × IsWidened names may charge g v old mid × IsWidened names may charge h v mid new
 
 -- each arc is a way of a group with points at the name
 pub record AreWays (groups names : ℕ) (may : ℕ → ℕ → Bool) (charge : ℕ → ℕ → ℤ) (here : ℕ → ℕ) (v : ℕ) (arc : ℕ → Option Arc) : Type 0 where
@@ -61,19 +65,8 @@ abbrev pub IsRowOf : List Group → List (Option ℤ) → List ℕ → ℕ → �
 IsRowOf groups prices placed names v row =
     IsRow (length groups) names (may_take groups prices names) (cost_at groups prices names) (points_at placed names v) v (arc_to row)
 
-abbrev pub AreWaysOf : List Group → List (Option ℤ) → List ℕ → ℕ → ℕ → List (Option Arc) → Type 0
-AreWaysOf groups prices placed names v row =
-    AreWays (length groups) names (may_take groups prices names) (cost_at groups prices names) (points_at placed names v) v (arc_to row)
-
 abbrev pub IsWidenedOf : List Group → List (Option ℤ) → ℕ → ℕ → ℕ → List (Option Arc) → List (Option Arc) → Type 0
 IsWidenedOf groups prices names g v old new = IsWidened names (may_take groups prices names) (cost_at groups prices names) g v (arc_to old) (arc_to new)
 
-abbrev pub HaveFirstOf : List Group → List (Option ℤ) → List ℕ → ℕ → ℕ → List (Option Arc) → Type 0
-HaveFirstOf groups prices placed names v row =
-    HaveFirst (length groups) names (λ g. (group_at groups g).variant) (λ g. (group_at groups g).count)
-    (may_take groups prices names) (cost_at groups prices names) (points_at placed names v) v (arc_to row)
-
-abbrev pub HaveLastOf : List Group → List (Option ℤ) → List ℕ → ℕ → ℕ → List (Option Arc) → Type 0
-HaveLastOf groups prices placed names v row =
-    HaveLast (length groups) names (λ g. (group_at groups g).variant) (λ g. (group_at groups g).count)
-    (may_take groups prices names) (cost_at groups prices names) (points_at placed names v) v (arc_to row)
+abbrev pub AreWidenedOf : List Group → List (Option ℤ) → ℕ → ℕ → ℕ → ℕ → List (Option Arc) → List (Option Arc) → Type 0
+AreWidenedOf groups prices names g h v old new = AreWidened names (may_take groups prices names) (cost_at groups prices names) g h v (arc_to old) (arc_to new)

@@ -1,15 +1,19 @@
-ghost use Rattle.std.specs.Prelude.{◌≡◌, ◌<◌, ◌*◌, ◌+◌, ℕ, MatchBool, Some, true, None, length, slice_index, slice_index_or};
+ghost use Rattle.std.specs.Prelude.{◌≡◌, ◌<◌, ◌≤◌, ◌-◌, ◌*◌, ◌+◌, ℕ, true, None, length, slice_index, slice_index_or};
 ghost use Rattle.residual_arcs.specs.Problem.{AreGroups, ArePrices, may_take};
-ghost use Rattle.residual_arcs.specs.Row.{AreWaysOf, HaveFirstOf, HaveLastOf, IsLower, IsRowOf, IsWidenedOf};
+ghost use Rattle.residual_arcs.specs.Row.{AreWidenedOf, IsRowOf, IsWidenedOf};
+ghost use Rattle.residual_arcs.specs.Spans.{AreSpans};
 
 use crate::cheaper::offer;
 use crate::problem::Group;
+use crate::span::{Span, narrowed};
 use shortest_path::Arc;
 
 /// The arcs from a name by the points that are there, by rows of the groups. A way costs `count * (price(to) - price(name))`, so
-/// of the groups of an old variant the first or the last with points there has the cheapest. `O(groups + k^2)` at k names.
+/// of the groups of an old variant the first or the last with points there has the cheapest. These two are looked for in the span
+/// of the variant, which is narrowed to them: `O(k^2)` at k names, and as many steps as spans get narrower.
 pub fn renew(
     row: &mut [Option<Arc>],
+    spans: &mut [Span],
     groups: &[Group],
     prices: &[Option<i64>],
     placed: &[u32],
@@ -20,11 +24,12 @@ pub fn renew(
     requires prices { ArePrices (length row.old) prices.now }
     requires placed { length placed.now ≡ length groups.now * length row.old }
     requires free { (g : ℕ) → g < length groups.now → 0 < slice_index placed.now (g * length row.old + name) → may_take groups.now prices.now (length row.old) g name ≡ true }
-    ensures { IsRowOf groups.now prices.now placed.now (length row.old) name row.new }
+    requires spans { AreSpans groups.now (length row.old) placed.now spans.old }
+    ensures row { IsRowOf groups.now prices.now placed.now (length row.old) name row.new }
+    ensures spans { AreSpans groups.now (length row.old) placed.now spans.new }
 {
     clear(row);
-    enter_firsts(row, groups, prices, placed, name);
-    enter_lasts(row, groups, prices, placed, name);
+    enter_groups(row, spans, groups, prices, placed, name);
 }
 
 /// No arc is known.
@@ -36,9 +41,10 @@ fn clear(row: &mut [Option<Arc>])
     }
 }
 
-/// The first group of each old variant with points at the name enters its arcs.
-fn enter_firsts(
+/// The first and the last group of each old variant with points at the name enter its arcs, and spans are narrowed to these.
+fn enter_groups(
     row: &mut [Option<Arc>],
+    spans: &mut [Span],
     groups: &[Group],
     prices: &[Option<i64>],
     placed: &[u32],
@@ -49,51 +55,40 @@ fn enter_firsts(
     requires prices { ArePrices (length row.old) prices.now }
     requires placed { length placed.now ≡ length groups.now * length row.old }
     requires free { (g : ℕ) → g < length groups.now → 0 < slice_index placed.now (g * length row.old + name) → may_take groups.now prices.now (length row.old) g name ≡ true }
-    requires ways { AreWaysOf groups.now prices.now placed.now (length row.old) name row.old }
-    ensures ways { AreWaysOf groups.now prices.now placed.now (length row.old) name row.new }
-    ensures firsts { HaveFirstOf groups.now prices.now placed.now (length row.old) name row.new }
+    requires spans { AreSpans groups.now (length row.old) placed.now spans.old }
+    requires none { (w : ℕ) → slice_index_or row.old w None ≡ None }
+    ensures row { IsRowOf groups.now prices.now placed.now (length row.old) name row.new }
+    ensures spans { AreSpans groups.now (length row.old) placed.now spans.new }
 {
-    let mut before = None;
-    for g in 0..groups.len() {
-        if placed[g * row.len() + name] > 0 && is_other(before, groups[g].variant) {
-            enter(row, groups, prices, g, name);
-            before = Some(groups[g].variant);
-        }
+    for variant in 0..row.len() {
+        let at = name * row.len() + variant;
+        let span = narrowed(groups, placed, row.len(), name, variant, spans[at]);
+        spans[at] = span;
+        enter_ends(row, groups, prices, span, name);
     }
 }
 
-/// The last group of each old variant with points at the name enters its arcs.
-fn enter_lasts(
+/// The first and the last group of a span enter the arcs from the name, if it has any.
+fn enter_ends(
     row: &mut [Option<Arc>],
     groups: &[Group],
     prices: &[Option<i64>],
-    placed: &[u32],
+    span: Span,
     name: usize,
 )
     requires name { name < length row.old }
     requires groups { AreGroups (length row.old) prices.now groups.now }
     requires prices { ArePrices (length row.old) prices.now }
-    requires placed { length placed.now ≡ length groups.now * length row.old }
-    requires free { (g : ℕ) → g < length groups.now → 0 < slice_index placed.now (g * length row.old + name) → may_take groups.now prices.now (length row.old) g name ≡ true }
-    requires ways { AreWaysOf groups.now prices.now placed.now (length row.old) name row.old }
-    ensures ways { AreWaysOf groups.now prices.now placed.now (length row.old) name row.new }
-    ensures lasts { HaveLastOf groups.now prices.now placed.now (length row.old) name row.new }
-    ensures lower { IsLower (length row.old) (λ w. slice_index_or row.old w None) (λ w. slice_index_or row.new w None) }
+    requires end { span.end ≤ length groups.now }
+    requires first { span.first < span.end → may_take groups.now prices.now (length row.old) span.first name ≡ true }
+    requires last { span.first < span.end → may_take groups.now prices.now (length row.old) (span.end - 1) name ≡ true }
+    ensures some { span.first < span.end → AreWidenedOf groups.now prices.now (length row.old) span.first (span.end - 1) name row.old row.new }
+    ensures none { span.end ≤ span.first → row.new ≡ row.old }
 {
-    let mut before = None;
-    for g in (0..groups.len()).rev() {
-        if placed[g * row.len() + name] > 0 && is_other(before, groups[g].variant) {
-            enter(row, groups, prices, g, name);
-            before = Some(groups[g].variant);
-        }
+    if span.first < span.end {
+        enter(row, groups, prices, span.first, name);
+        enter(row, groups, prices, span.end - 1, name);
     }
-}
-
-/// Whether a variant is another than the one before.
-fn is_other(before: Option<usize>, variant: usize) -> bool
-    ensures { MatchBool result (before ≡ Some variant → ⊥) (before ≡ Some variant) }
-{
-    before != Some(variant)
 }
 
 /// The arcs from a name take the ways of a group that has points there, where these cost less. `O(k)` at k names.

@@ -2,6 +2,7 @@ pub mod After
 pub mod Begun
 pub mod Cheap
 pub mod Homes
+pub mod Joined
 pub mod Moved
 pub mod Parts
 pub mod Places

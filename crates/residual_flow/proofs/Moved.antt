@@ -1,5 +1,5 @@
 -- Points that moved from one name to another: rows sum to what they did, and totals are still the sums of columns.
-use Rattle.std.proofs.Common.{◌≡◌, ◌≢◌, ℕ, ◌+◌, ◌*◌, ◌<◌, ◌≤◌, ◌^◌, ⊎_elim, true, List, get_or, Option, refl, sym, ap, ◌∙◌, arith}
+use Rattle.std.proofs.Common.{◌≡◌, ◌≢◌, ℕ, ◌+◌, ◌*◌, ◌<◌, ◌≤◌, ◌^◌, ◌⊎◌, inl, inr, ⊎_elim, true, List, get_or, Option, refl, sym, ap, ◌∙◌, arith}
 use Rattle.std.proofs.lemmas.Bool.{cases_eq}
 use Rattle.std.proofs.lemmas.Nat.{same_from_place}
 use Rattle.residual_arcs.specs.Problem.{IsFlowProblem, sum_to, group_at, may_take, names_of}
@@ -96,4 +96,21 @@ module _ (p : FlowProblem) (ok : IsFlowProblem p) (numbers sums : List ℕ) (cel
           (cases_eq v from))
           (cases_eq v to))
           (λ (not : g ≡ group → ⊥). flow.free g v g_in v_in (omega (arith, some, cell_stays g v v_in (λ s i. not s) (λ s i. not s))))
+          (cases_eq g group)
+
+      -- the group alone has points where it had none, at the name that they came to
+      pub arrived : (g v : ℕ) → v < names_of p → 0 < cell_at numbers' (names_of p) g v → (0 < cell_at numbers (names_of p) g v) ⊎ ((g ≡ group) × (v ≡ to))
+      arrived g v v_in some =
+          ⊎_elim
+          (λ (is : g ≡ group).
+          ⊎_elim
+          (λ (at_to : v ≡ to). inr (is, at_to))
+          (λ (not_to : v ≡ to → ⊥).
+          ⊎_elim
+          (λ (at_from : v ≡ from).
+          inl (omega (arith, some, left, ap (λ h. cell_at numbers' (names_of p) h v) is, ap (cell_at numbers' (names_of p) group) at_from, ap (λ h. cell_at numbers (names_of p) h v) is, ap (cell_at numbers (names_of p) group) at_from)))
+          (λ (not_from : v ≡ from → ⊥). inl (omega (arith, some, cell_stays g v v_in (λ _. not_from) (λ _. not_to))))
+          (cases_eq v from))
+          (cases_eq v to))
+          (λ (not : g ≡ group → ⊥). inl (omega (arith, some, cell_stays g v v_in (λ is _. not is) (λ is _. not is))))
           (cases_eq g group)

@@ -1,5 +1,5 @@
 -- The flow in which each point keeps its variant is one, and optimal by prices of 0.
-use Rattle.std.proofs.Common.{◌≡◌, ℕ, zero, suc, ◌+◌, ◌*◌, ◌<◌, ⊎_elim, ℤ, pos, negsuc, ◌*ℤ◌, ◌≤ℤ◌, true, List, length, get_or, Option, Some, None, refl, sym, ap, ◌∙◌, arith}
+use Rattle.std.proofs.Common.{◌≡◌, ℕ, zero, suc, ◌+◌, ◌*◌, ◌<◌, ◌≤◌, ⊎_elim, ℤ, pos, negsuc, ◌*ℤ◌, ◌≤ℤ◌, true, List, length, get_or, Option, Some, None, refl, sym, ap, ◌∙◌, subst, arith}
 use Rattle.std.proofs.lemmas.Bool.{cases_eq}
 use Rattle.std.proofs.lemmas.Int.{ints}
 use Rattle.flow_laws.specs.Optimal.{IsOptimal}
@@ -8,6 +8,8 @@ use Rattle.residual_arcs.specs.Problem.{IsFlowProblem, group_at, is_there, may_t
 use Rattle.residual_arcs.specs.declared.problem.FlowProblem.{FlowProblem}
 use Rattle.residual_arcs.proofs.Cells.{cell_in}
 use Rattle.residual_arcs.proofs.Entering.{there_is}
+use Rattle.residual_arcs.specs.Spans.{AreSpans, IsIn, span_at}
+use Rattle.residual_arcs.specs.declared.span.Span.{Span}
 use Rattle.residual_flow.specs.Flow.{IsFlowAt, cell_at, flows_at, groups_of}
 use Rattle.residual_flow.specs.Rows.{HasArcs, HasLimits, HasRow}
 use Rattle.residual_flow.specs.Staying.{at_home}
@@ -76,4 +78,12 @@ module _ (p : FlowProblem) (ok : IsFlowProblem p) (numbers sums : List ℕ) (hom
     columns = λ v v_in. sum_is v v_in ∙ sum_same (groups_of p) (λ g. at_home p.groups.items g v) (λ g. cell_at numbers (names_of p) g v) (λ g g_in. sym (homes g v g_in v_in));
     free = stays_may;
     residual = residual_of p numbers sums cells rows limits none;
+  }
+
+  pub stays_spans : (spans : List Span) → length spans ≡ names_of p * names_of p → ((v a : ℕ) → v < names_of p → a < names_of p → (span_at spans (names_of p) v a).end ≤ groups_of p)
+      → ((g : ℕ) → g < groups_of p → IsIn (span_at spans (names_of p) (group_at p.groups.items g).variant (group_at p.groups.items g).variant) g) → AreSpans p.groups.items (names_of p) numbers spans
+  stays_spans spans size end home = record {
+    size = size;
+    end = end;
+    has = λ g v g_in v_in some. subst (λ x. IsIn (span_at spans (names_of p) x (group_at p.groups.items g).variant) g) (sym (at_variant g v g_in v_in some)) (home g g_in);
   }

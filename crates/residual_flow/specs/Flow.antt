@@ -3,6 +3,7 @@
 use Rattle.std.specs.Prelude.{◌≡◌, ◌≢◌, ℕ, ◌<◌, ◌+◌, ◌*◌, true, List, length, Option, slice_index}
 use Rattle.flow_laws.specs.Optimal.{Flows, AreResidual, Shifts}
 use Rattle.residual_arcs.specs.Problem.{sum_to, group_at, may_take, cost_at, names_of}
+use Rattle.residual_arcs.specs.Spans.{AreSpans}
 use Rattle.residual_arcs.specs.declared.problem.FlowProblem.{FlowProblem}
 use Rattle.residual_flow.specs.declared.flow.Flow.{Flow}
 use Rattle.shortest_path.specs.Network.{arc_at}
@@ -56,8 +57,10 @@ total_at f v = slice_index f.totals.items v
 abbrev pub flows_of : FlowProblem → Flow → Flows
 flows_of p f = flows_at p f.placed.items f.totals.items
 
-abbrev pub IsFlow : FlowProblem → Flow → Type 0
-IsFlow p f = IsFlowAt p f.placed.items f.totals.items f.arcs.items
+-- each group with points at a name is in the span of its old variant there
+pub record IsFlow (p : FlowProblem) (f : Flow) : Type 0 where
+  pub tables : IsFlowAt p f.placed.items f.totals.items f.arcs.items
+  pub spans : AreSpans p.groups.items (names_of p) f.placed.items f.spans.items
 
 abbrev pub IsShifted : FlowProblem → Flow → Flow → ℕ → ℕ → ℕ → ℕ → Type 0
 IsShifted p old new group from to points = IsShiftedAt p old.placed.items old.totals.items new.placed.items new.totals.items group from to points

@@ -1,16 +1,18 @@
 ghost use Rattle.std.specs.Prelude.{◌≡◌, ◌<◌, ◌*◌, ◌+◌, ℕ, length, slice_index, true};
 ghost use Rattle.residual_arcs.specs.Problem.{IsFlowProblem, cost_in, may_take_in, names_of};
 ghost use Rattle.residual_arcs.specs.Row.{IsWidened};
+ghost use Rattle.residual_arcs.specs.Spans.{AreSpans};
 ghost use Rattle.residual_flow.specs.Flow.{cell_at, groups_of};
 ghost use Rattle.residual_flow.specs.Rows.{ChangesGroup, ChangesLimits, ChangesRow, HasArcs, HasLimits, HasRow, IsLimitArc, MayBe};
 ghost use Rattle.shortest_path.specs.Network.{arc_at};
 
-use residual_arcs::{FlowProblem, enter, renew};
+use residual_arcs::{FlowProblem, Span, enter, renew};
 use shortest_path::Arc;
 
 /// The arcs from a name to the others, by the points that are there.
 pub(crate) fn renew_from(
     arcs: &mut [Option<Arc>],
+    spans: &mut [Span],
     problem: &FlowProblem,
     placed: &[u32],
     name: usize,
@@ -20,13 +22,16 @@ pub(crate) fn renew_from(
     requires name { name < names_of problem.now }
     requires placed { length placed.now ≡ groups_of problem.now * names_of problem.now }
     requires free { MayBe problem.now placed.now name }
+    requires spans { AreSpans problem.now.groups.items (names_of problem.now) placed.now spans.old }
     ensures row { HasRow problem.now (λ g. cell_at placed.now (names_of problem.now) g name) name arcs.new }
     ensures others { ChangesRow (names_of problem.now) name arcs.old arcs.new }
+    ensures spans { AreSpans problem.now.groups.items (names_of problem.now) placed.now spans.new }
 {
     let names = problem.high.len();
     let first = name * (names + 1);
     renew(
         &mut arcs[first..first + names],
+        spans,
         &problem.groups,
         &problem.prices,
         placed,
@@ -59,6 +64,7 @@ fn enter_from(arcs: &mut [Option<Arc>], problem: &FlowProblem, group: usize, nam
 /// Points of a group have left a name: where they were its last, the arcs from there that were its own cost more.
 pub(crate) fn leave(
     arcs: &mut [Option<Arc>],
+    spans: &mut [Span],
     problem: &FlowProblem,
     placed: &[u32],
     group: usize,
@@ -70,13 +76,15 @@ pub(crate) fn leave(
     requires group { group < groups_of problem.now }
     requires placed { length placed.now ≡ groups_of problem.now * names_of problem.now }
     requires free { MayBe problem.now placed.now name }
+    requires spans { AreSpans problem.now.groups.items (names_of problem.now) placed.now spans.old }
     ensures row { (old : ℕ → ℕ) → 0 < old group → ChangesGroup group old (λ g. cell_at placed.now (names_of problem.now) g name) → HasRow problem.now old name arcs.old
         → HasRow problem.now (λ g. cell_at placed.now (names_of problem.now) g name) name arcs.new }
     ensures others { ChangesRow (names_of problem.now) name arcs.old arcs.new }
+    ensures spans { AreSpans problem.now.groups.items (names_of problem.now) placed.now spans.new }
 {
     let names = problem.high.len();
     if placed[group * names + name] == 0 {
-        renew_from(arcs, problem, placed, name);
+        renew_from(arcs, spans, problem, placed, name);
     }
 }
 

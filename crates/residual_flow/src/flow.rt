@@ -5,7 +5,7 @@ ghost use Rattle.residual_flow.specs.Flow.{IsFlow, IsShifted, flows_of, groups_o
 
 use crate::moving::shift_points;
 use crate::staying::begin;
-use residual_arcs::FlowProblem;
+use residual_arcs::{FlowProblem, Span};
 use shortest_path::Arc;
 use std::alloc::{AllocError, Global};
 
@@ -20,6 +20,8 @@ pub struct Flow {
     /// The cheapest arc from each node to each other one, by rows of the nodes that they leave; none where no point can move so.
     /// A name with room has an arc of cost 0 to the limits, and one with points to spare has one from there.
     pub arcs: Vec<Option<Arc>>,
+    /// The groups of each old variant among which are all that have points at a name, by rows of the names.
+    pub spans: Vec<Span>,
 }
 
 impl Flow {
@@ -33,16 +35,22 @@ impl Flow {
         let mut placed = vec![in alloc; 0; problem.groups.len() * names]?;
         let mut totals = vec![in alloc; 0; names]?;
         let mut arcs = vec![in alloc; None; (names + 1) * (names + 1)]?;
-        begin(&mut placed, &mut totals, &mut arcs, problem);
+        let none = Span {
+            first: problem.groups.len(),
+            end: 0,
+        };
+        let mut spans = vec![in alloc; none; names * names]?;
+        begin(&mut placed, &mut totals, &mut arcs, &mut spans, problem);
         Ok(Flow {
             placed,
             totals,
             arcs,
+            spans,
         })
     }
 
     /// Moves so many points of a group from one name to another, and brings the arcs up to date. It takes `O(k)` steps at k names
-    /// where the group has points left at the name, and `O(groups + k^2)` where it has none.
+    /// where the group has points left at the name, and where it has none `O(k^2)` and as many as spans get narrower.
     pub fn shift(
         &mut self,
         problem: &FlowProblem,
@@ -67,6 +75,7 @@ impl Flow {
             &mut self.placed,
             &mut self.totals,
             &mut self.arcs,
+            &mut self.spans,
             problem,
             group,
             from,

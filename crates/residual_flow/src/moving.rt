@@ -1,9 +1,10 @@
 ghost use Rattle.std.specs.Prelude.{◌≡◌, ◌≢◌, ◌<◌, ◌≤◌, ◌+◌, ◌^◌, ℕ, true, length, slice_index};
 ghost use Rattle.residual_arcs.specs.Problem.{IsFlowProblem, may_take, names_of};
+ghost use Rattle.residual_arcs.specs.Spans.{AreSpans};
 ghost use Rattle.residual_flow.specs.Flow.{IsFlowAt, IsShiftedAt, cell_at, groups_of};
 
 use crate::arcs::{arrive, leave, renew_limits};
-use residual_arcs::FlowProblem;
+use residual_arcs::{FlowProblem, Span, widen};
 use shortest_path::Arc;
 
 /// Moves so many points of a group from one name to another, and brings the arcs up to date.
@@ -11,6 +12,7 @@ pub(crate) fn shift_points(
     placed: &mut [u32],
     totals: &mut [u32],
     arcs: &mut [Option<Arc>],
+    spans: &mut [Span],
     problem: &FlowProblem,
     group: usize,
     from: usize,
@@ -19,6 +21,7 @@ pub(crate) fn shift_points(
 )
     requires problem { IsFlowProblem problem.now }
     requires flow { IsFlowAt problem.now placed.old totals.old arcs.old }
+    requires spans { AreSpans problem.now.groups.items (names_of problem.now) placed.old spans.old }
     requires group { group < groups_of problem.now }
     requires from { from < names_of problem.now }
     requires to { to < names_of problem.now }
@@ -27,6 +30,7 @@ pub(crate) fn shift_points(
     requires some { 0 < points }
     requires points { points ≤ cell_at placed.old (names_of problem.now) group from }
     ensures flow { IsFlowAt problem.now placed.new totals.new arcs.new }
+    ensures spans { AreSpans problem.now.groups.items (names_of problem.now) placed.new spans.new }
     ensures shifted { IsShiftedAt problem.now placed.old totals.old placed.new totals.new group from to points }
 {
     let names = problem.high.len();
@@ -35,7 +39,8 @@ pub(crate) fn shift_points(
     let before = placed[entered];
     move_points(placed, left, entered, points);
     move_points(totals, from, to, points);
-    leave(arcs, problem, placed, group, from);
+    widen(spans, &problem.groups, names, group, to);
+    leave(arcs, spans, problem, placed, group, from);
     arrive(arcs, problem, group, to, before);
     renew_limits(arcs, problem, totals, from);
     renew_limits(arcs, problem, totals, to);

@@ -14,7 +14,7 @@ group_between-group-requires c =
     c.in-Some.ensures.1 (λ is. c.in-Some.ensures.2 (from ∙ (is ∙ sym names))) in
     record {
       few = omega (arith, names, c.requires.problem.names);
-      arcs = ap (λ xs. length xs) c.as_slice-in-Some.ensures.value ∙ (c.requires.flow.arcs ∙ ap (λ n. (n + 1) * (n + 1)) (sym names));
+      arcs = ap (λ xs. length xs) c.as_slice-in-Some.ensures.value ∙ (c.requires.flow.tables.arcs ∙ ap (λ n. (n + 1) * (n + 1)) (sym names));
       from = omega (arith, names, from, before);
       to = omega (arith, names, c.loop-from.invariant.within);
     }

@@ -1,10 +1,12 @@
 -- The points moved, and the arcs of both names are brought up to date.
 use Rattle.std.proofs.Common.{◌≡◌, ◌≢◌, ℕ, ◌+◌, ◌*◌, ◌<◌, get_or, sym, ap, ◌∙◌, subst, arith}
 use Rattle.residual_arcs.specs.Problem.{names_of}
+use Rattle.residual_arcs.specs.Spans.{Joins}
+use Rattle.residual_arcs.proofs.Spans.{came}
 use Rattle.residual_flow.specs.Flow.{cell_at}
 use Rattle.residual_flow.specs.Rows.{HasRow, ChangesGroup}
 use Rattle.residual_flow.proofs.After.{residual_after}
-use Rattle.residual_flow.proofs.Moved.{cell_small, cell_stays, columns_after, free_after, shifted as all_shifted, spent_after, sum_enough, sum_small}
+use Rattle.residual_flow.proofs.Moved.{arrived, cell_small, cell_stays, columns_after, free_after, shifted as all_shifted, spent_after, sum_enough, sum_small}
 use Rattle.residual_flow.proofs.moving.shift_points.Goals as goal
 
 pub move_points-requires-clause-small : goal.move_points-requires-clause-small
@@ -42,6 +44,29 @@ leave-requires-clause-free c =
     (subst (λ n. get_or new (group * n + to) 0 ≡ get_or old (group * n + to) 0 + points) k_is m.entered)
     (subst (λ n. (i : ℕ) → i ≢ group * n + from → i ≢ group * n + to → get_or new i 0 ≡ get_or old i 0) k_is m.others)
     c.move_points-2.ensures.left c.move_points-2.ensures.entered c.move_points-2.ensures.others r.allowed g from g_in r.from some
+
+pub leave-requires-clause-spans : goal.leave-requires-clause-spans
+leave-requires-clause-spans c =
+    let p = c.args.problem.now in
+    let r = c.requires in
+    let group = c.args.group in
+    let from = c.args.from in
+    let to = c.args.to in
+    let points = c.args.points in
+    let old = c.args.placed.now in
+    let new = c.move_points.new.cells in
+    let spans = c.args.spans.now in
+    let spans' = c.widen.new.spans in
+    let k_is : c.len-names.result ≡ names_of p = c.len-names.ensures ∙ p.high.ok.0 in
+    let m = c.move_points.ensures in
+    let joins : Joins p.groups.items (names_of p) group to spans spans' = subst (λ n. Joins p.groups.items n group to spans spans') k_is (subst (λ x. Joins x c.len-names.result group to spans spans') c.deref.ensures.value c.widen.ensures) in
+    came p.groups.items (names_of p) old new spans spans' group to r.spans joins r.problem.groups.variant
+    (λ g w g_in w_in some.
+    arrived p r.problem old c.args.totals.now c.args.arcs.now r.flow group from to points r.group r.from r.to r.apart r.points new c.move_points-2.new.cells
+    (subst (λ n. get_or new (group * n + from) 0 + points ≡ get_or old (group * n + from) 0) k_is m.left)
+    (subst (λ n. get_or new (group * n + to) 0 ≡ get_or old (group * n + to) 0 + points) k_is m.entered)
+    (subst (λ n. (i : ℕ) → i ≢ group * n + from → i ≢ group * n + to → get_or new i 0 ≡ get_or old i 0) k_is m.others)
+    c.move_points-2.ensures.left c.move_points-2.ensures.entered c.move_points-2.ensures.others g w w_in some)
 
 pub returns-clause-shifted : goal.returns-clause-shifted
 returns-clause-shifted c =
