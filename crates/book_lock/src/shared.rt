@@ -30,10 +30,10 @@ pub struct SharedBook<L: BookName> {
 
 impl<L: BookName> SharedBook<L> {
     /// Notes an input on a page, in any thread: New where it did not stand there, else Again. It is refused with
-    /// InputTooLong above 1024 bytes, then with LastCall where the seat has made as many calls as it can count, and then
-    /// with PageFull where the page has 1000000 others. The seat has then seen all calls that were accepted before its
-    /// own, and the answer is the one that comes after them. Where another seat is at the book it tries again, and lets
-    /// other threads run between two tries.
+    /// InputTooLong above 1024 bytes, then with LastCall where the seat has made as many calls as it can count; both leave
+    /// the seat as it was. Then it is refused with PageFull where the page has 1000000 others. The seat has then seen all
+    /// calls that were accepted before its own, and the answer is the one that comes after them. Where another seat is at
+    /// the book it tries again, and lets other threads run between two tries.
     pub fn note<R: Wait>(
         &self,
         rt: &R,
@@ -47,6 +47,7 @@ impl<L: BookName> SharedBook<L> {
         ensures seated { result ≢ Err BookFault.Stranger }
         ensures added { IfOk result (λ noted. Adds (accepted seat.old.number page.now input.now noted) seat.old seat.new) }
         ensures refused { OnErr result ((seat.new.number ≡ seat.old.number) × (own seat.new ≡ own seat.old)) }
+        ensures kept { (result ≡ Err BookFault.InputTooLong) ⊎ (result ≡ Err BookFault.LastCall) → seat.new ≡ seat.old }
         ensures full { result ≡ Err BookFault.PageFull → Looks seat.old seat.new × (reply_after seat.new.seen page.now input.now ≡ Err BookFault.PageFull) }
         ensures wanted { result ≡ Err BookFault.WantOfMemory → Looks seat.old seat.new × (reply_after seat.new.seen page.now input.now ≡ Ok Noted.New) }
     {
