@@ -5,8 +5,9 @@
 # and of one that tests a thousand names before it, where the evaluation is nearly all of it. Reading the files and printing
 # are part of each time; a run with one ask in a file as long, which is one ask with a long default, tells how much.
 #
-# The time under the lock is measured without threads: an ask's evaluation, and its note in a plain book, which is what lies
-# under the lock of a shared one. The program `drive/lock.rattle` is no crate of the repository, so the gate does not read it.
+# The time under the lock is measured without threads, over the same files: an ask's evaluation, and its note in a plain book,
+# which is what lies under the lock of a shared one. The program `drive/lock.rattle` is no crate of the repository, so the gate
+# does not read it.
 #
 # Needs python3, which makes the files, and git.
 
@@ -18,8 +19,9 @@ program, folder = sys.argv[1:]
 LIMIT = 4_194_304
 
 
-def put(name, text):
-    path = os.path.join(folder, name)
+def put(place, name, text):
+    os.makedirs(os.path.join(folder, place), exist_ok=True)
+    path = os.path.join(folder, place, name)
     with open(path, "w") as file:
         file.write(text)
     return path
@@ -45,13 +47,13 @@ def run(document, asks, workers):
 names = [f"customer-{i:04}" for i in range(1000)]
 share = {"fractional": [["on", 5], ["off", 95]]}
 kinds = {
-    "one operation": share,
-    "a thousand tests before it": {"if": [{"in": [{"var": "targetingKey"}, names]}, "on", share]},
+    "one operation": ("operation", share),
+    "a thousand tests before it": ("tests", {"if": [{"in": [{"var": "targetingKey"}, names]}, "on", share]}),
 }
 print(f"{len(os.sched_getaffinity(0))} processors; best of 3 runs")
-for kind, targeting in kinds.items():
+for kind, (place, targeting) in kinds.items():
     flag = {"state": "ENABLED", "variants": {"on": True, "off": False}, "defaultVariant": "off", "targeting": targeting}
-    document = put("document.json", compact({"flags": {"f": flag}}))
+    document = put(place, "document.json", compact({"flags": {"f": flag}}))
     texts, size = [], 2
     while True:
         text = compact({"key": "f", "want": "bool", "default": False, "context": {"targetingKey": f"user-{len(texts):07}"}, "moment": 0})
@@ -59,9 +61,9 @@ for kind, targeting in kinds.items():
             break
         texts.append(text)
         size += len(text) + 1
-    asks = put("asks.json", "[" + ",".join(texts) + "]")
+    asks = put(place, "asks.json", "[" + ",".join(texts) + "]")
     long = compact([{"key": "f", "want": "bool", "default": "d" * (size - 100), "context": {"targetingKey": "user"}, "moment": 0}])
-    around, _ = run(document, put("one.json", long), 1)
+    around, _ = run(document, put(place, "one.json", long), 1)
     first = None
     for workers in (1, 2, 4, 8):
         taken, counts = run(document, asks, workers)
@@ -71,20 +73,25 @@ for kind, targeting in kinds.items():
 PYTHON
 
 mkdir -p "$folder/lock/crates/drive_bench/src"
-for crate in murmur_core flag_text bucket_core logic_ast logic_eval flag_defs flag_resolve book_core; do
+cp "$here/HANDLES" "$folder/lock/HANDLES"
+for crate in murmur_core flag_text bucket_core logic_ast logic_eval flag_defs flag_resolve book_core book_lock book_share flagops_drive; do
     cp -r "$here/crates/$crate" "$folder/lock/crates/$crate"
-    grep "^$crate:" "$here/crates.txt" >> "$folder/lock/crates.txt"
+    grep "^$crate[ :]" "$here/crates.txt" >> "$folder/lock/crates.txt"
 done
 cp "$here/bench/drive/lock.rattle" "$folder/lock/crates/drive_bench/src/main.rt"
-echo 'drive_bench: flag_text flag_defs flag_resolve book_core anyhow' >> "$folder/lock/crates.txt"
+echo 'drive_bench: flag_text flag_defs flag_resolve book_core book_share flagops_drive anyhow' >> "$folder/lock/crates.txt"
 git init -q "$folder/lock"
+cp "$folder/operation/document.json" "$folder/operation/asks.json" "$folder/lock/crates/drive_bench"
 (cd "$folder/lock/crates/drive_bench" && "${RT:-rt}" run > "$folder/log" 2>&1) || { cat "$folder/log"; exit 1; }
-# The best of five runs.
-for turn in 1 2 3 4 5; do
-    "$folder/lock/crates/drive_bench/out/drive_bench"
+# The best of five runs over each kind's files.
+for place in operation tests; do
+    for turn in 1 2 3 4 5; do
+        (cd "$folder/$place" && "$folder/lock/crates/drive_bench/out/drive_bench") | sed "s/^/$place /"
+    done
 done | awk '
-    { if (!($1 in best) || $2 < best[$1]) best[$1] = $2; asks = $3 }
+    { key = $1 " " $2; if (!(key in best) || $3 < best[key]) best[key] = $3; seen[key] = $4 }
     END {
+        for (key in best) cost[key] = best[key] / seen[key]
         printf "under the lock %.2f microseconds an ask; the evaluation of one operation %.2f, of a thousand tests before it %.2f\n",
-            best["note"] / asks, best["operation"] / asks, best["tests"] / asks
+            cost["operation note"], cost["operation evaluation"], cost["tests evaluation"]
     }'
