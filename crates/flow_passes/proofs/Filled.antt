@@ -72,14 +72,14 @@ module _ (p : FlowProblem) (f : Flow) (flow : IsFlow p f) (wanted : List Bool) (
   stuck_full v v_in settled =
       ⊎_elim
       (λ (room : total_at f v < get_or p.high.items v 0).
-      let a = flow.residual.has_room v v_in room in
+      let a = flow.tables.residual.has_room v v_in room in
       absurd (stuck.unwanted (names_of p) (omega arith) (stuck.closed v (names_of p) a.0 (omega (arith, v_in)) (omega arith) settled a.1) wants))
       (λ (full : get_or p.high.items v 0 ≤ total_at f v). full)
       (cases_lt (total_at f v) (get_or p.high.items v 0))
 
   pub stuck_closed : (g v w : ℕ) → g < groups_of p → v < names_of p → w < names_of p → 0 < placed_at p f g v → rank v < names_of p + 1 → may_take p.groups.items p.prices.items (names_of p) g w ≡ true → rank w < names_of p + 1
   stuck_closed g v w g_in v_in w_in some settled may =
-      let a = flow.residual.least g v w g_in v_in w_in some may in
+      let a = flow.tables.residual.least g v w g_in v_in w_in some may in
       stuck.closed v w a.0 (omega (arith, v_in)) (omega (arith, w_in)) settled a.1
 
 -- what is known when the limits are found
@@ -105,7 +105,7 @@ module _ (p : FlowProblem) (f : Flow) (flow : IsFlow p f) (wanted : List Bool) (
   last_settled = tight_limits.settled
 
   last_room : (total_at f (parent (names_of p)) < get_or p.high.items (parent (names_of p)) 0) × (tight_limits.along.cost ≡ pos 0)
-  last_room = flow.residual.room (parent (names_of p)) tight_limits.along last_in tight_limits.there
+  last_room = flow.tables.residual.room (parent (names_of p)) tight_limits.along last_in tight_limits.there
 
   pub last_below : total_at f (parent (names_of p)) < get_or p.high.items (parent (names_of p)) 0
   last_below = last_room.0
@@ -126,7 +126,7 @@ way_of p ok f s s' wanted source last midway source_in size found last_is =
     record {
       midway = record {
         flow = midway.flow;
-        optimal = optimal_from_reduced (flows_of p f) (arc_at f.arcs.items n) (potential_of s') midway.flow.residual found.reduced;
+        optimal = optimal_from_reduced (flows_of p f) (arc_at f.arcs.items n) (potential_of s') midway.flow.tables.residual found.reduced;
         size = size;
         limits = found.kept (names_of p) (omega arith) found.unsettled ∙ midway.limits;
         low = λ v v_in. (near v v_in).0;

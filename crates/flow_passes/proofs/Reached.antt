@@ -59,7 +59,7 @@ way_below p ok f s s' wanted node meeting wants size found =
     record {
       meeting = record {
         flow = meeting.flow;
-        optimal = optimal_from_reduced (flows_of p f) (arc_at f.arcs.items n) (potential_of s') meeting.flow.residual found.reduced;
+        optimal = optimal_from_reduced (flows_of p f) (arc_at f.arcs.items n) (potential_of s') meeting.flow.tables.residual found.reduced;
         size = size;
         placed = meeting.placed;
         low = λ v v_in. (near v v_in).0;
@@ -88,12 +88,12 @@ stuck_below p f s s' wanted meeting wants size stuck below within under =
       bare = λ v v_in not.
           ⊎_elim
           (λ (spare : get_or p.low.items v 0 < total_at f v).
-          let a = meeting.flow.residual.has_spare v v_in spare in
+          let a = meeting.flow.tables.residual.has_spare v v_in spare in
           absurd (omega (arith, not, stuck.closed (names_of p) v a.0 (omega arith) (omega (arith, v_in)) stuck.source_in a.1)))
           (λ (bare : total_at f v ≤ get_or p.low.items v 0). bare)
           (cases_lt (get_or p.low.items v 0) (total_at f v));
       closed = λ g v w g_in v_in w_in some settled may.
-          let a = meeting.flow.residual.least g v w g_in v_in w_in some may in
+          let a = meeting.flow.tables.residual.least g v w g_in v_in w_in some may in
           stuck.closed v w a.0 (omega (arith, v_in)) (omega (arith, w_in)) settled a.1;
     }
 
@@ -120,7 +120,7 @@ module _ (p : FlowProblem) (ok : IsFlowProblem p) (old new : Flow) (s : Search) 
       ⊎_elim
       (λ (is : aug.first ≡ names_of p). absurd (omega (arith, is, aug.begins)))
       (λ (next : (a : Arc) × (arc_at old.arcs.items (names_of p + 1) (names_of p) aug.first ≡ Some a) × (potential_of s aug.first ≡ (potential_of s (names_of p) +ℤ a.cost))).
-      omega (arith, ints, next.2, (way.meeting.flow.residual.spare aug.first next.0 aug.begins next.1).1))
+      omega (arith, ints, next.2, (way.meeting.flow.tables.residual.spare aug.first next.0 aug.begins next.1).1))
       aug.start
 
   optimal_met : IsOptimal (flows_of p new) (potential_of s)

@@ -80,9 +80,9 @@ module _ (p : FlowProblem) (f : Flow) (flow : IsFlow p f) where
   all_points =
       omega (
         arith,
-        sum_same (names_of p) (total_at f) (λ v. sum_to (length p.groups.items) (λ g. placed_at p f g v)) flow.columns,
+        sum_same (names_of p) (total_at f) (λ v. sum_to (length p.groups.items) (λ g. placed_at p f g v)) flow.tables.columns,
         sum_turned (names_of p) (length p.groups.items) (placed_at p f),
-        sum_same (length p.groups.items) (λ g. sum_to (names_of p) (placed_at p f g)) (λ g. (group_at p.groups.items g).points) flow.spent,
+        sum_same (length p.groups.items) (λ g. sum_to (names_of p) (placed_at p f g)) (λ g. (group_at p.groups.items g).points) flow.tables.spent,
       )
 
   pub excess_few : excess p f ≤ points_of p

@@ -11,7 +11,7 @@ use Rattle.flow_passes.proofs.Reached.{found_below, short_meeting}
 use Rattle.flow_passes.proofs.meeting.find_below.Goals as goal
 
 pub find-requires-clause-arcs : goal.find-requires-clause-arcs
-find-requires-clause-arcs g c = ap (λ (xs : List (Option Arc)). length xs) c.as_slice.ensures.value ∙ (c.requires.meeting.flow.arcs ∙ ap (λ n. n * n) (sym c.requires.wanted.size))
+find-requires-clause-arcs g c = ap (λ (xs : List (Option Arc)). length xs) c.as_slice.ensures.value ∙ (c.requires.meeting.flow.tables.arcs ∙ ap (λ n. n * n) (sym c.requires.wanted.size))
 
 pub find-requires-clause-short : goal.find-requires-clause-short
 find-requires-clause-short g c =
@@ -22,7 +22,7 @@ find-requires-clause-costs g c =
     let p = c.args.problem.now in
     let f = c.args.flow.now in
     subst (λ n. IsWithin n (arc_at c.as_slice.result.now n) max_cost) (sym c.requires.wanted.size)
-    (subst (λ xs. IsWithin (names_of p + 1) (arc_at xs (names_of p + 1)) max_cost) (sym c.as_slice.ensures.value) (cheap_arcs p c.requires.problem f.placed.items f.totals.items f.arcs.items c.requires.meeting.flow))
+    (subst (λ xs. IsWithin (names_of p + 1) (arc_at xs (names_of p + 1)) max_cost) (sym c.as_slice.ensures.value) (cheap_arcs p c.requires.problem f.placed.items f.totals.items f.arcs.items c.requires.meeting.flow.tables))
 
 pub find-requires-clause-reduced : goal.find-requires-clause-reduced
 find-requires-clause-reduced g c =
@@ -30,7 +30,7 @@ find-requires-clause-reduced g c =
     let f = c.args.flow.now in
     let price = potential_of c.args.search.now in
     subst (λ n. IsReduced n (arc_at c.as_slice.result.now n) price) (sym c.requires.wanted.size)
-    (subst (λ xs. IsReduced (names_of p + 1) (arc_at xs (names_of p + 1)) price) (sym c.as_slice.ensures.value) (reduced_from_optimal (flows_of p f) (arc_at f.arcs.items (names_of p + 1)) price c.requires.meeting.flow.residual c.requires.meeting.optimal))
+    (subst (λ xs. IsReduced (names_of p + 1) (arc_at xs (names_of p + 1)) price) (sym c.as_slice.ensures.value) (reduced_from_optimal (flows_of p f) (arc_at f.arcs.items (names_of p + 1)) price c.requires.meeting.flow.tables.residual c.requires.meeting.optimal))
 
 pub returns-clause-way : goal.returns-clause-way
 returns-clause-way g c =

@@ -12,7 +12,7 @@ use Rattle.flow_passes.proofs.Filled.{short_potential, stuck_of, way_of}
 use Rattle.flow_passes.proofs.placing.find_room.Goals as goal
 
 pub find-requires-clause-arcs : goal.find-requires-clause-arcs
-find-requires-clause-arcs g c = ap (λ (xs : List (Option Arc)). length xs) c.as_slice.ensures.value ∙ (c.requires.midway.flow.arcs ∙ ap (λ n. n * n) (sym c.requires.wanted.size))
+find-requires-clause-arcs g c = ap (λ (xs : List (Option Arc)). length xs) c.as_slice.ensures.value ∙ (c.requires.midway.flow.tables.arcs ∙ ap (λ n. n * n) (sym c.requires.wanted.size))
 
 pub find-requires-clause-short : goal.find-requires-clause-short
 find-requires-clause-short g c =
@@ -23,7 +23,7 @@ find-requires-clause-costs g c =
     let p = c.args.problem.now in
     let f = c.args.flow.now in
     subst (λ n. IsWithin n (arc_at c.as_slice.result.now n) max_cost) (sym c.requires.wanted.size)
-    (subst (λ xs. IsWithin (names_of p + 1) (arc_at xs (names_of p + 1)) max_cost) (sym c.as_slice.ensures.value) (cheap_arcs p c.requires.problem f.placed.items f.totals.items f.arcs.items c.requires.midway.flow))
+    (subst (λ xs. IsWithin (names_of p + 1) (arc_at xs (names_of p + 1)) max_cost) (sym c.as_slice.ensures.value) (cheap_arcs p c.requires.problem f.placed.items f.totals.items f.arcs.items c.requires.midway.flow.tables))
 
 pub find-requires-clause-reduced : goal.find-requires-clause-reduced
 find-requires-clause-reduced g c =
@@ -31,7 +31,7 @@ find-requires-clause-reduced g c =
     let f = c.args.flow.now in
     let price = potential_of c.args.search.now in
     subst (λ n. IsReduced n (arc_at c.as_slice.result.now n) price) (sym c.requires.wanted.size)
-    (subst (λ xs. IsReduced (names_of p + 1) (arc_at xs (names_of p + 1)) price) (sym c.as_slice.ensures.value) (reduced_from_optimal (flows_of p f) (arc_at f.arcs.items (names_of p + 1)) price c.requires.midway.flow.residual c.requires.midway.optimal))
+    (subst (λ xs. IsReduced (names_of p + 1) (arc_at xs (names_of p + 1)) price) (sym c.as_slice.ensures.value) (reduced_from_optimal (flows_of p f) (arc_at f.arcs.items (names_of p + 1)) price c.requires.midway.flow.tables.residual c.requires.midway.optimal))
 
 pub returns-in-Some-clause-way : goal.returns-in-Some-clause-way
 returns-in-Some-clause-way g c =
