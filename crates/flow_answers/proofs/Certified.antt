@@ -95,9 +95,9 @@ module _ (p : TransportProblem) (q : FlowProblem) (f : Flow) (s : Search) (alpha
 
   pub is_proved : IsProved p f.placed.items (certificate_of p alpha beta cost)
   is_proved =
-      let spent = spent_is p q f.placed.items f.totals.items f.arcs.items (potential_of s) beta are flow cheapest.optimal low_kept high_kept wide over_limits in
-      proved p f.placed.items alpha beta cost problem.limits (optimal_is p q f.placed.items f.totals.items f.arcs.items (potential_of s) beta are flow cheapest.optimal low_kept high_kept wide over_limits) long
-      (least_offers p q alpha beta are long least) (cost_listed p q f.placed.items f.totals.items f.arcs.items are flow spent ∙ sym cost_is)
+      let spent = spent_is p q f.placed.items f.totals.items f.arcs.items (potential_of s) beta are flow.tables cheapest.optimal low_kept high_kept wide over_limits in
+      proved p f.placed.items alpha beta cost problem.limits (optimal_is p q f.placed.items f.totals.items f.arcs.items (potential_of s) beta are flow.tables cheapest.optimal low_kept high_kept wide over_limits) long
+      (least_offers p q alpha beta are long least) (cost_listed p q f.placed.items f.totals.items f.arcs.items are flow.tables spent ∙ sym cost_is)
 
   -- a price of a name is at most the distance of two potentials
   name_held : (v : ℕ) → v < length beta → IsHeld (get_or beta v (pos 0))
@@ -129,7 +129,7 @@ module _ (p : TransportProblem) (q : FlowProblem) (f : Flow) (s : Search) (alpha
   -- the cost is at most the largest price for each input
   cost_held : is_in_range (pos cost) ≡ true
   cost_held =
-      let paid = all_paid q.groups.items q.prices.items f.placed.items (names_of q) lawful.groups lawful.prices flow.spent in
+      let paid = all_paid q.groups.items q.prices.items f.placed.items (names_of q) lawful.groups lawful.prices flow.tables.spent in
       lt-ltb cost (2 ^ 53) (omega (arith, paid, cost_is, inputs_numbered p q are, problem.inputs))
 
   pub is_whole : has_whole_numbers (certificate_of p alpha beta cost) ≡ true

@@ -112,7 +112,7 @@ module _ (p : TransportProblem) (q : FlowProblem) (lawful : AreLimits p.limits) 
   free_at : (g v : ℕ) → g < length p.groups → v < length p.limits → 0 < get_or f.placed.items (g * length p.limits + v) 0 → is_forbidden p.pricing (row_at p g).0.0 (name_at p v) ≡ false
   free_at g v g_in v_in some =
       not-true (is_forbidden p.pricing (row_at p g).0.0 (name_at p v))
-      (sym (may p q are g v g_in v_in) ∙ stuck.flow.free g v (group_in p q are g g_in) (name_in p q are v v_in) (omega (arith, some, cell_is p q are lawful f stuck.flow g v)))
+      (sym (may p q are g v g_in v_in) ∙ stuck.flow.tables.free g v (group_in p q are g g_in) (name_in p q are v v_in) (omega (arith, some, cell_is p q are lawful f stuck.flow g v)))
 
   placed_is : IsPlaced p f.placed.items
   placed_is = record {

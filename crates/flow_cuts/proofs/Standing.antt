@@ -50,7 +50,7 @@ module _ (p : TransportProblem) (q : FlowProblem) (are : IsNumbered p q) where
     k = length p.limits
 
     size : length f.placed.items ≡ length p.groups * length p.limits
-    size = flow.placed ∙ (ap (λ n. n * names_of q) are.groups ∙ ap (λ n. length p.groups * n) are.names)
+    size = flow.tables.placed ∙ (ap (λ n. n * names_of q) are.groups ∙ ap (λ n. length p.groups * n) are.names)
 
     pub cell_is : (g v : ℕ) → get_or f.placed.items (g * length p.limits + v) 0 ≡ cell_at f.placed.items (names_of q) g v
     cell_is g v = ap (λ n. get_or f.placed.items (g * n + v) 0) (sym are.names)
@@ -59,7 +59,7 @@ module _ (p : TransportProblem) (q : FlowProblem) (are : IsNumbered p q) where
     pub spent : spends_all p.groups (length p.limits) f.placed.items ≡ true
     spent =
         spent_all p.groups (([], 0), 0) (length p.limits) f.placed.items size
-        (λ g g_in. subst (λ n. sum_to n (λ v. get_or f.placed.items (g * n + v) 0) ≡ (row_at p g).1) are.names (flow.spent g (group_in g g_in) ∙ are.points g g_in))
+        (λ g g_in. subst (λ n. sum_to n (λ v. get_or f.placed.items (g * n + v) 0) ≡ (row_at p g).1) are.names (flow.tables.spent g (group_in g g_in) ∙ are.points g g_in))
 
     -- what flows to a name is its total
     pub total_is : (v : ℕ) → v < length p.limits → inflow (flows_of p f.placed.items) (name_at p v) ≡ total_at f v
@@ -68,4 +68,4 @@ module _ (p : TransportProblem) (q : FlowProblem) (are : IsNumbered p q) where
         let row : (n : ℕ) → ℕ = λ n. sum_to many (λ g. get_or f.placed.items (g * n + v) 0) in
         inflow_is p.groups (keys_of p.limits) f.placed.items v lawful.rise (omega (arith, v_in, wide p)) (size ∙ ap (λ n. length p.groups * n) (sym (wide p)))
         ∙ (ap row (wide p)
-        ∙ sym (flow.columns v (name_in v v_in) ∙ (ap (λ n. sum_to n (λ g. cell_at f.placed.items (names_of q) g v)) are.groups ∙ ap row are.names)))
+        ∙ sym (flow.tables.columns v (name_in v v_in) ∙ (ap (λ n. sum_to n (λ g. cell_at f.placed.items (names_of q) g v)) are.groups ∙ ap row are.names)))
