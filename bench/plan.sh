@@ -1,7 +1,7 @@
 #!/bin/sh
 # The speed of the planner beside LEMON's network simplex, on the same grouped instances.
-# It needs the kit's `rt`, `git`, `g++` and LEMON (`liblemon-dev`). It works in a folder of its own, over the repository's libraries
-# where they stand: those that are built are taken as they are, and others are proved there. Run it from anywhere:
+# It needs the kit's `rt`, `git`, `g++` and LEMON (`liblemon-dev`), and works in a folder of its own, over copies of the
+# repository's libraries: those that are built are taken as they are, the others are proved there. Run it from anywhere:
 #     bench/plan.sh
 # The program `plan/plan.rattle` is no crate of the repository, so the merge gate does not read it.
 set -e
@@ -14,7 +14,7 @@ for crate in murmur_core flag_text bucket_core logic_ast book_core price_core tr
     search_effort shortest_path flow_laws residual_arcs residual_flow augmenting_paths flow_passes flow_certificates \
     flow_answers flow_cuts transport_plan; do
     grep -E "^$crate:" "$root/crates.txt" >> "$work/crates.txt"
-    ln -s "$root/crates/$crate" "$work/crates/$crate"
+    cp -r "$root/crates/$crate" "$work/crates/$crate"
 done
 cp "$root/HANDLES" "$work/HANDLES"
 cp "$root/bench/plan/plan.rattle" "$work/crates/plan_bench/src/main.rt"
