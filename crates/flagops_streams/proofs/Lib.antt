@@ -1,4 +1,5 @@
 pub mod Crossings
+pub mod Gives
 pub mod Learned
 pub mod Lines
 pub mod Writes

@@ -1,5 +1,5 @@
 -- The line that a refusal of a command of streams is written as.
-use Rattle.std.specs.Prelude.{ℕ, Bool, true, false, List, [], ◌++◌, codes, decimal}
+use Rattle.std.specs.Prelude.{◌≡◌, ℕ, Bool, true, false, List, [], ◌++◌, codes, decimal, nat_eq, Result, Ok, Err}
 use Rattle.flag_defs.specs.Fault as documents
 use Rattle.snap_share.specs.Fault as shares
 use Rattle.source_merge.specs.Fault as sources
@@ -62,6 +62,15 @@ line_of r = codes "refused " ++ (call_of r ++ (codes " " ++ (decimal (number_of 
 abbrev pub is_unreadable : Refusal → Bool
 is_unreadable Unreadable = true
 is_unreadable r = false
+
+-- memory ran out: each fault has this as its number 0
+abbrev pub is_want : Refusal → Bool
+is_want r = nat_eq (number_of r) 0
+
+-- What was returned, seen by `seen`, is what the definition gives, unless memory ran out.
+abbrev pub GivesUnlessWant : {X Y : Type 0} → (X → Y) → Result X Refusal → Result Y Refusal → Type 0
+GivesUnlessWant seen (Ok x) wanted = wanted ≡ Ok (seen x)
+GivesUnlessWant seen (Err r) wanted = is_want r ≡ false → wanted ≡ Err r
 
 -- the line of a call that ran out of memory
 unfoldable pub want_line : List ℕ → List ℕ

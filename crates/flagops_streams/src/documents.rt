@@ -1,28 +1,38 @@
 //! The documents that are published one after the other.
-ghost use Rattle.std.specs.Prelude.{◌≡◌, ◌+◌, false, IfErr, OnOk};
-ghost use Rattle.flagops_streams.specs.Documents.{documents_in};
-ghost use Rattle.flagops_streams.specs.Refusal.{is_unreadable};
+ghost use Rattle.std.specs.Prelude.{◌≡◌, ◌≤◌, ◌+◌, ◌++◌, ◌∷◌, [], decimal, length, string_bytes, false, Ok, Err, IfErr, IfOk, OnOk};
+ghost use Rattle.flag_defs.specs.Flags.{flags_view};
+ghost use Rattle.source_merge.specs.Merge.{merged_of};
+ghost use Rattle.source_merge.specs.Sources.{Sets, most_sources};
+ghost use Rattle.source_merge.specs.View.{sources_view};
+ghost use Rattle.flagops_streams.specs.Documents.{MayRefuse, documents_in, source_added, texts_of};
+ghost use Rattle.flagops_streams.specs.Refusal.{GivesUnlessWant, is_unreadable};
 
 use crate::refusal::Refusal;
 use flag_defs::Flags;
-use source_merge::Sources;
+use source_merge::{SourceFault, Sources};
 use std::alloc::{AllocError, Global};
 
-/// The documents to be published, and the sources that they are merged from.
+/// The most documents, each of which has a source of its own.
+const MOST_DOCUMENTS: usize = 16;
+
+/// The documents to be published, by their bytes, and the sources that they are merged from: one for each, and one more
+/// where a document is still to be put.
 #[derive(Drop)]
 pub struct Documents {
-    sources: Sources,
-    documents: Vec<Vec<u8>>,
+    pub sources: Sources,
+    pub texts: Vec<Vec<u8>>,
 }
 
 impl Documents {
     /// No documents.
     pub fn new(alloc: Global) -> Documents
-        ensures { documents_in result ≡ 0 }
+        ensures none { documents_in result ≡ 0 }
+        ensures texts { texts_of result.texts.items ≡ [] }
+        ensures sources { sources_view result.sources ≡ [] }
     {
         Documents {
             sources: Sources::new(alloc),
-            documents: Vec::new(alloc),
+            texts: Vec::new(alloc),
         }
     }
 
@@ -30,44 +40,65 @@ impl Documents {
     pub fn len(&self) -> usize
         ensures { result ≡ documents_in self.now }
     {
-        self.documents.len()
+        self.texts.len()
     }
 
-    /// Adds the source of one more document, whose name is its place from 1.
+    /// Adds the source of one more document, whose name is its place from 1. It is refused with `TooMany` where there are 16
+    /// documents, which takes no memory. A refusal leaves all as it was.
     pub fn add_source(&mut self, alloc: Global) -> Result<(), Refusal>
+        ensures exact { GivesUnlessWant (λ _. sources_view self.new.sources) result (source_added (sources_view self.old.sources) (documents_in self.old + 1)) }
+        ensures full { most_sources ≤ documents_in self.old → result ≡ Err (Refusal.Add SourceFault.TooMany) }
         ensures same { documents_in self.new ≡ documents_in self.old }
+        ensures texts { self.new.texts ≡ self.old.texts }
         ensures loads { IfErr result (λ refusal. is_unreadable refusal ≡ false) }
     {
-        let place = self.documents.len();
-        let name = name_of(alloc, place)?;
-        self.sources.add(alloc, name.as_str()).map_err(Refusal::Add)
-    }
-
-    /// Puts the document of the source that was added last.
-    pub fn push(&mut self, document: Vec<u8>) -> Result<(), Refusal>
-        ensures more { OnOk result (documents_in self.new ≡ documents_in self.old + 1) }
-        ensures loads { IfErr result (λ refusal. is_unreadable refusal ≡ false) }
-    {
-        self.documents.push(document)?;
-        Ok(())
-    }
-
-    /// Sets the document at a place, and merges all that were set.
-    pub(crate) fn merge(&mut self, alloc: Global, place: usize) -> Result<Flags, Refusal>
-        ensures { documents_in self.new ≡ documents_in self.old }
-    {
-        let name = name_of(alloc, place)?;
-        if let Some(document) = self.documents.get(place) {
-            self.sources
-                .set(alloc, name.as_str(), document.as_slice())
-                .map_err(|fault| -> Refusal { Refusal::Set(fault, place.saturating_add(1)) })?;
+        let place = self.texts.len();
+        if place >= MOST_DOCUMENTS {
+            return Err(Refusal::Add(SourceFault::TooMany));
         }
-        self.sources.merged(alloc).map_err(Refusal::Merged)
+        let name = name_of(alloc, place as u64 + 1)?;
+        match self.sources.add(alloc, name.as_str()) {
+            Ok(()) => Ok(()),
+            Err(fault) => Err(Refusal::Add(fault)),
+        }
+    }
+
+    /// Puts the document of the source that was added last. It is refused for want of memory alone.
+    pub fn push(&mut self, text: Vec<u8>) -> Result<(), Refusal>
+        ensures more { OnOk result (documents_in self.new ≡ documents_in self.old + 1) }
+        ensures text { OnOk result (texts_of self.new.texts.items ≡ texts_of self.old.texts.items ++ text.items ∷ []) }
+        ensures sources { self.new.sources ≡ self.old.sources }
+        ensures want { IfErr result (λ refusal. refusal ≡ Refusal.WantOfMemory) }
+        ensures loads { IfErr result (λ refusal. is_unreadable refusal ≡ false) }
+    {
+        self.texts.push(text)?;
+        Ok(())
     }
 }
 
-/// The name of the source at a place.
-fn name_of(alloc: Global, place: usize) -> Result<String, AllocError> {
-    let number = place.saturating_add(1);
+/// Sets the document of the source of a number, and merges all that were set.
+pub(crate) fn merge_next(
+    alloc: Global,
+    sources: &mut Sources,
+    number: u64,
+    text: &[u8],
+) -> Result<Flags, Refusal>
+    ensures merged { IfOk result (λ flags. Sets (sources_view sources.old) (decimal number) text.now (Ok (sources_view sources.new)) × (merged_of (sources_view sources.new) ≡ Ok (flags_view flags))) }
+    ensures refused { IfErr result (λ refusal. MayRefuse number (sources_view sources.old) text.now refusal) }
+{
+    let name = name_of(alloc, number)?;
+    if let Err(fault) = sources.set(alloc, name.as_str(), text) {
+        return Err(Refusal::Set(fault, number));
+    }
+    match sources.merged(alloc) {
+        Ok(flags) => Ok(flags),
+        Err(fault) => Err(Refusal::Merged(fault)),
+    }
+}
+
+/// The name of the source of a number.
+fn name_of(alloc: Global, number: u64) -> Result<String, AllocError>
+    ensures { IfOk result (λ s. string_bytes s ≡ decimal number) }
+{
     format!(in alloc; "{number}")
 }

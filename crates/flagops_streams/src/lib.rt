@@ -18,7 +18,8 @@
 //!
 //! Proved of [`follow_lines`]: what is on the output are the lines of all snapshots that are whole in the bytes read, and a
 //! last line that says how these ended, with its status; or a front of that with status 1 where the output failed
-//! (`Printed`). Of serving: the output is one line, the number of documents or that of a refusal (`Report`).
+//! (`Printed`). Of [`serve_documents`]: its answer is one that the documents make, their number or the refusal of the first that
+//! is not accepted, or a refusal of the network, the threads or memory (`Documents`); it is written as one line (`Report`).
 //!
 //! What is told a person on the error outlet changes nothing of this.
 #![tactic(auto)]

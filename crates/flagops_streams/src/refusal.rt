@@ -17,7 +17,7 @@ pub enum Refusal {
     /// Memory ran out while a file was read.
     Unloaded,
     /// The document at this place, from 1, is refused.
-    Set(SourceFault, usize),
+    Set(SourceFault, u64),
     /// The documents are too large together.
     Merged(SourceFault),
     /// The first documents were not shared.

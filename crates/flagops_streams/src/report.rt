@@ -4,7 +4,7 @@ ghost use Rattle.std.specs.Bool.{OnTrue};
 ghost use Rattle.std.specs.Io.KnownBytes.{Appends};
 ghost use Rattle.flag_text.specs.Outlet.{AppendsPart};
 ghost use Rattle.flagops_streams.specs.Refusal.{want_line};
-ghost use Rattle.flagops_streams.specs.Report.{RefusesBy, Serves, Writes, published_line};
+ghost use Rattle.flagops_streams.specs.Report.{Reports, RefusesBy, Writes, published_line};
 
 use crate::refusal::Refusal;
 use flag_text::{Outlet, write_whole};
@@ -48,14 +48,21 @@ fn want<O: Outlet>(out: &mut O, call: &str) -> u8
     }
 }
 
-/// Writes how many documents were published, and gives the status 0.
-pub(crate) fn report_published<O: Outlet>(alloc: Global, out: &mut O, count: u64) -> u8
+/// Writes what `serve` answered: how many documents were published, with status 0, or the line of a refusal with status 1.
+pub(crate) fn report_answer<O: Outlet>(
+    alloc: Global,
+    out: &mut O,
+    answer: Result<u64, Refusal>,
+) -> u8
     requires { O.is_broken out.old ≡ false }
-    ensures { Serves count (O.bytes out.old) (O.bytes out.new) (O.is_broken out.new) result }
+    ensures { Reports answer (O.bytes out.old) (O.bytes out.new) (O.is_broken out.new) result }
 {
-    match line_of(alloc, count) {
-        Ok(line) => write_line(out, line.as_str(), 0),
-        Err(AllocError) => refuse(alloc, out, Refusal::WantOfMemory),
+    match answer {
+        Ok(count) => match line_of(alloc, count) {
+            Ok(line) => write_line(out, line.as_str(), 0),
+            Err(AllocError) => refuse(alloc, out, Refusal::WantOfMemory),
+        },
+        Err(refusal) => refuse(alloc, out, refusal),
     }
 }
 

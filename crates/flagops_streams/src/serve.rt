@@ -1,18 +1,20 @@
 //! The command `serve`: documents published to subscribers.
-ghost use Rattle.std.specs.Prelude.{◌≡◌, ◌<◌, ℕ, false, length, vec_len, IfOk};
+ghost use Rattle.std.specs.Prelude.{◌≡◌, ◌⊎◌, ◌<◌, ℕ, Err, Result, false, length, vec_len, IfErr, IfOk};
 ghost use denote.Param.Send.{IsSend, IsSync};
-ghost use Rattle.flagops_streams.specs.Documents.{documents_in};
-ghost use Rattle.flagops_streams.specs.Report.{Serves};
+ghost use Rattle.source_merge.specs.View.{sources_view};
+ghost use Rattle.flagops_streams.specs.Documents.{Gives, MayFail, ServesTo, documents_in, texts_of};
+ghost use Rattle.flagops_streams.specs.Report.{Reports, Serves};
 
 use crate::board::Board;
-use crate::documents::Documents;
+use crate::documents::{Documents, merge_next};
 use crate::refusal::Refusal;
 use crate::remark::{say_came, say_gone, say_listening, say_refused};
-use crate::report::{refuse, report_published};
+use crate::report::report_answer;
 use crate::subscriber::attend;
 use flag_defs::Flags;
 use flag_text::Outlet;
 use snap_share::{History, Publisher, ReadSeat, ShareName, share};
+use source_merge::Sources;
 use std::alloc::Global;
 use std::marker::Brand;
 use std::net::{Net, SocketAddr, TcpListener, TcpStream};
@@ -20,7 +22,8 @@ use std::sync::Wait;
 use std::thread;
 use std::thread::Threads;
 
-/// Publishes documents to so many subscribers, which it first waits for on a port of this host.
+/// Publishes documents to so many subscribers, which it first waits for on a port of this host, and writes what came of it.
+/// The conditions are an output that is not broken and one document at least.
 pub fn serve_documents<R, O, E>(
     rt: &R,
     port: u16,
@@ -35,37 +38,47 @@ where
     E: Outlet,
     requires whole { O.is_broken out.old ≡ false }
     requires some { 0 < documents_in documents }
-    ensures { Serves (documents_in documents) (O.bytes out.old) (O.bytes out.new) (O.is_broken out.new) result }
+    ensures serves { Serves (documents_in documents) (O.bytes out.old) (O.bytes out.new) (O.is_broken out.new) result }
+    ensures documents { (answer : Result ℕ Refusal) × ServesTo subscribers 1 (sources_view documents.sources) (texts_of documents.texts.items) answer × Reports answer (O.bytes out.old) (O.bytes out.new) (O.is_broken out.new) result }
 {
     let alloc = rt.alloc();
-    match published(rt, alloc, port, subscribers, documents, err) {
-        Ok(count) => report_published(alloc, out, count),
-        Err(refusal) => {
-            say_refused(alloc, err, refusal);
-            refuse(alloc, out, refusal)
-        }
+    let Documents { sources, texts } = documents;
+    let answer = publish_documents(rt, port, subscribers, sources, texts.as_slice(), err);
+    if let Err(refusal) = &answer {
+        say_refused(alloc, err, *refusal);
     }
+    report_answer(alloc, out, answer)
 }
 
-/// How many documents were published.
-fn published<R, E>(
+/// Publishes documents, of which there is one at least, one after the other, to so many subscribers, which it first waits for
+/// on a port of this host. It answers how many were published. `sources` has a source without a document for each of them,
+/// named by its place from 1. The refusals are those of the network (`Unbound`, `NoConnection`), then of the first document
+/// that is not accepted (`Set`, with its place) or whose merge with those before it is too large (`Merged`), of the seats
+/// (`Share`: no subscribers, or more than 64), and of the threads (`NoThread`). What was published before a document that is
+/// refused stays with the subscribers.
+fn publish_documents<R, E>(
     rt: &R,
-    alloc: Global,
     port: u16,
     subscribers: usize,
-    documents: Documents,
+    sources: Sources,
+    texts: &[Vec<u8>],
     err: &mut E,
 ) -> Result<u64, Refusal>
 where
-    R: Net<Listener = TcpListener, Stream = TcpStream> + Threads + Wait + Sync,
+    R: AllocGlobal + Net<Listener = TcpListener, Stream = TcpStream> + Threads + Wait + Sync,
     E: Outlet,
-    requires { 0 < documents_in documents }
-    ensures { IfOk result (λ n. n ≡ documents_in documents) }
+    requires { 0 < length texts.now }
+    ensures { ServesTo subscribers 1 (sources_view sources) (texts_of texts.now) result }
 {
+    let alloc = rt.alloc();
     let streams = connections(rt, alloc, port, subscribers, err)?;
-    let mut documents = documents;
-    let flags = documents.merge(alloc, 0)?;
-    publish_to::<Brand, R, E>(rt, alloc, History::new(), flags, documents, streams, err)
+    let [first, others @ ..] = texts else {
+        unreachable!()
+    };
+    let mut sources = sources;
+    let flags = merge_next(alloc, &mut sources, 1, first.as_slice())?;
+    let history = History::new();
+    publish_to::<Brand, R, E>(rt, alloc, history, flags, sources, others, streams, err)
 }
 
 /// The connections of so many subscribers, in the order in which they came.
@@ -79,6 +92,8 @@ fn connections<R, E>(
 where
     R: Net<Listener = TcpListener, Stream = TcpStream>,
     E: Outlet,
+    ensures came { IfOk result (λ streams. vec_len streams ≡ subscribers) }
+    ensures refused { IfErr result (λ refusal. MayFail subscribers refusal) }
 {
     let address = SocketAddr::from(([127, 0, 0, 1], port));
     let Ok(listener) = TcpListener::bind(rt, address) else {
@@ -102,43 +117,69 @@ fn publish_to<J: ShareName + Send + Sync, R: Threads + Wait + Sync, E: Outlet>(
     alloc: Global,
     history: History,
     flags: Flags,
-    documents: Documents,
+    sources: Sources,
+    texts: &[Vec<u8>],
     streams: Vec<TcpStream>,
     err: &mut E,
 ) -> Result<u64, Refusal>
-    requires book { history.seen.book ≡ J.book }
-    requires some { 0 < documents_in documents }
-    ensures { IfOk result (λ n. n ≡ documents_in documents) }
+    requires { history.seen.book ≡ J.book }
+    ensures { ServesTo (vec_len streams) 2 (sources_view sources) (texts_of texts.now) result }
 {
-    let (mut publisher, seats) = share::<J, R>(rt, alloc, history, flags, streams.len()).map_err(
-        Refusal::Share,
-    )?;
-    let told = publisher.tell();
-    let outcome = match Board::new(alloc, told, streams.len()) {
-        Ok(board) => {
-            let others = Others {
-                rt,
-                alloc,
-                board: &board,
-                publisher: &mut publisher,
-                documents,
-            };
-            serve_beside(rt, alloc, &board, seats, streams, others, err)
-        }
-        Err(want) => Err(Refusal::from(want)),
+    let (mut publisher, seats) = match share::<J, R>(rt, alloc, history, flags, streams.len()) {
+        Ok(shared) => shared,
+        Err(fault) => return Err(Refusal::Share(fault)),
     };
+    let outcome = publish_shared(
+        rt,
+        alloc,
+        &mut publisher,
+        seats,
+        sources,
+        texts,
+        streams,
+        err,
+    );
     publisher.close(rt);
     outcome
 }
 
+/// Publishes the documents behind the first, which was shared, to a thread for each connection.
+fn publish_shared<J: ShareName + Send + Sync, R: Threads + Wait + Sync, E: Outlet>(
+    rt: &R,
+    alloc: Global,
+    publisher: &mut Publisher<J>,
+    seats: Vec<ReadSeat<J>>,
+    sources: Sources,
+    texts: &[Vec<u8>],
+    streams: Vec<TcpStream>,
+    err: &mut E,
+) -> Result<u64, Refusal>
+    requires { length publisher.old ≡ 1 }
+    ensures { ServesTo (vec_len streams) 2 (sources_view sources) (texts_of texts.now) result }
+{
+    let told = publisher.tell();
+    let board = Board::new(alloc, told, streams.len())?;
+    let others = Others {
+        rt,
+        alloc,
+        board: &board,
+        publisher,
+        sources,
+        texts,
+    };
+    serve_beside(rt, alloc, &board, seats, streams, others, err)
+}
+
 /// What is done beside the threads of the subscribers.
 trait Publishing {
-    // How many documents there are.
-    ghost count: { Self → ℕ };
+    ghost use Rattle.flagops_streams.specs.declared.refusal.Refusal.{Refusal};
 
-    /// Publishes, and answers how many documents there are.
+    // What it may answer.
+    ghost gives: { Self → Result ℕ Refusal → Type 0 };
+
+    /// Publishes, and answers the last number.
     fn publish(self) -> Result<u64, Refusal>
-        ensures { IfOk result (λ n. n ≡ count self) };
+        ensures { gives self result };
 }
 
 /// The documents but the first, which was shared, with all that it takes to publish them.
@@ -148,15 +189,16 @@ struct Others<'a, J: ShareName, R: Wait> {
     alloc: Global,
     board: &'a Board<J>,
     publisher: &'a mut Publisher<J>,
-    documents: Documents,
+    sources: Sources,
+    texts: &'a [Vec<u8>],
     ghost shared: { length publisher.now ≡ 1 },
-    ghost some: { 0 < documents_in documents },
 }
 
 impl<J: ShareName, R: Wait> Publishing for Others<'_, J, R> {
-    ghost use Rattle.flagops_streams.specs.Documents.{documents_in};
+    ghost use Rattle.source_merge.specs.View.{sources_view};
+    ghost use Rattle.flagops_streams.specs.Documents.{Gives, texts_of};
 
-    ghost count = { λ o. documents_in o.documents };
+    ghost gives = { λ o answer. Gives 2 (sources_view o.sources) (texts_of o.texts.now) answer };
 
     fn publish(self) -> Result<u64, Refusal> {
         let Others {
@@ -164,31 +206,35 @@ impl<J: ShareName, R: Wait> Publishing for Others<'_, J, R> {
             alloc,
             board,
             publisher,
-            documents,
+            sources,
+            texts,
         } = self;
-        publish_others(rt, alloc, board, publisher, documents)
+        publish_others(rt, alloc, board, publisher, sources, texts)
     }
 }
 
-/// Publishes all documents but the first, which was shared, and answers how many there are.
+/// Publishes the documents behind the first, which was shared, each merged over those before it, and answers the last
+/// number.
 fn publish_others<J: ShareName, R: Wait>(
     rt: &R,
     alloc: Global,
     board: &Board<J>,
     publisher: &mut Publisher<J>,
-    documents: Documents,
+    sources: Sources,
+    texts: &[Vec<u8>],
 ) -> Result<u64, Refusal>
-    requires shared { length publisher.old ≡ 1 }
-    requires some { 0 < documents_in documents }
-    ensures { IfOk result (λ n. n ≡ documents_in documents) }
+    requires { length publisher.old ≡ 1 }
+    ensures gives { Gives 2 (sources_view sources) (texts_of texts.now) result }
+    ensures published { IfOk result (λ n. n ≡ length publisher.new) }
 {
-    let mut documents = documents;
+    let mut sources = sources;
     let mut number = 1;
-    for place in 1..documents.len() {
-        let flags = documents.merge(alloc, place)?;
-        number = publisher
-            .publish(rt, alloc, flags)
-            .map_err(Refusal::Publish)?;
+    for text in texts {
+        let flags = merge_next(alloc, &mut sources, number + 1, text.as_slice())?;
+        number = match publisher.publish(rt, alloc, flags) {
+            Ok(number) => number,
+            Err(fault) => return Err(Refusal::Publish(fault)),
+        };
         board.tell(rt, publisher.tell());
     }
     Ok(number)
@@ -209,7 +255,7 @@ fn serve_beside<
     publishing: P,
     err: &mut E,
 ) -> Result<u64, Refusal>
-    ensures { IfOk result (λ n. n ≡ P.count publishing) }
+    ensures { (result ≡ Err Refusal.NoThread) ⊎ P.gives publishing result }
 {
     let count = streams.len();
     thread::scope(
@@ -217,7 +263,7 @@ fn serve_beside<
         rt,
         move |scope| -> Result<u64, Refusal>
             requires { IsSend J.row × IsSync J.row × IsSync R.row }
-            ensures { IfOk result (λ n. n ≡ P.count publishing) }
+            ensures { (result ≡ Err Refusal.NoThread) ⊎ P.gives publishing result }
         {
             let mut all = true;
             for (place, (seat, stream)) in seats.into_iter().zip(streams).enumerate() {
