@@ -1,26 +1,22 @@
 -- What was loaded in turn, driven and then stored, as the report of `drive`.
-use Rattle.std.proofs.Common.{◌≡◌, ℕ, List, Option, Some, None, Bool, false, IfSome, inl, inr, refl, sym, ◌∙◌, subst}
-use Rattle.std.specs.Prelude.{Result, Ok, Err}
+use Rattle.std.proofs.Common.{◌≡◌, ℕ, List, Option, Some, None, true, false, IfSome, is_some, inl, inr, refl, ap, ◌∙◌, subst}
+use Rattle.std.specs.Prelude.{Result, Ok, Err, option_map}
 use Rattle.flag_defs.specs.Document.{Definitions}
 use Rattle.flag_text.specs.Shape.{Shape}
-use Rattle.flagops_drive.specs.Driven.{Drove}
+use Rattle.flagops_drive.specs.Asks.{Ask, asks_of}
+use Rattle.flagops_drive.specs.Driven.{Drove, IsDriveOf, workers_refusal}
+use Rattle.flagops_drive.specs.declared.fault.DriveRefusal.{DriveRefusal}
+use Rattle.flagops_drive.specs.declared.fault.DriveRefusal.TheVariants as reason
 use Rattle.flagops_files.specs.Documents.{IsDocumentAt}
 use Rattle.flagops_files.specs.Files.{Holding, KeepsOthers, Stores}
-use Rattle.flagops_files.specs.Loading.{max_text, tree_at}
+use Rattle.flagops_files.specs.Loading.{max_text, refused_by, tree_at}
 use Rattle.flagops_files.specs.Refusal.{GivesOne, is_want, unwritable}
 use Rattle.flagops_files.specs.Report.{Report, done, outcome_view}
 use Rattle.flagops_files.specs.declared.outcome.Outcome.{Outcome}
 use Rattle.flagops_files.specs.declared.refused.Refused.{Refused}
 use Rattle.flagops_files.specs.declared.refusal.Refusal.{Refusal}
-use Rattle.flagops_commands.specs.Drive.{IsDriveReport, IsDroveOf, IsWritten}
-
--- files that stay keep all others
-pub keeps : (h : Option Holding) (path : List ℕ) → KeepsOthers h h path
-keeps None path = tt
-keeps (Some at) path = λ other differs. refl
-
-pub kept_others : (old new : Option Holding) (path : List ℕ) → new ≡ old → KeepsOthers old new path
-kept_others old new path same = subst (λ (h : Option Holding). KeepsOthers old h path) (sym same) (keeps old path)
+use Rattle.flagops_files.specs.declared.refusal.Refusal.TheVariants.{Drive}
+use Rattle.flagops_commands.specs.Drive.{AreRead, IsDriveReport, IsDroveOf, IsWritten, LeavesBook}
 
 pub others_after : (old mid new : Option Holding) (path : List ℕ) → mid ≡ old → KeepsOthers mid new path → KeepsOthers old new path
 others_after old mid new path same kept = subst (λ (h : Option Holding). KeepsOthers h new path) same kept
@@ -83,3 +79,26 @@ module _ (path asks : List ℕ) (workers : ℕ) (book : List ℕ) where
           go : (h : Option Holding) → IfSome h (λ at. IsDocumentAt at path (Ok flags)) → IfSome h (λ at. tree_at at asks max_text ≡ Ok t) → IfSome h (λ at. GivesOne outcome_view r (IsWritten at after book (Ok d))) → Is h after r
           go None document tree written = tt
           go (Some at) document tree written = ends at r document tree written
+
+-- ---- what is left
+
+made : (flags : Definitions) (o : Option (List Ask)) (workers : ℕ) (d : Drove) → IsDriveOf flags o workers (Ok d) → (workers_refusal workers ≡ None) × (is_some o ≡ true)
+made flags None workers d is = cc
+made flags (Some asks) workers d is = (ap (option_map reason.Drive) is.0, refl)
+
+drove_by : (flags : Definitions) (t : Shape) (workers : ℕ) (d : Drove) → IsDroveOf (Ok flags) (Ok t) workers (Ok d) → (workers_refusal workers ≡ None) × (is_some (asks_of t) ≡ true)
+drove_by flags t workers d drove = go drove.0 drove.1 drove.2
+  where
+    go : (r : Result Drove DriveRefusal) → IsDriveOf flags (asks_of t) workers r → Ok d ≡ refused_by Drive r → (workers_refusal workers ≡ None) × (is_some (asks_of t) ≡ true)
+    go (Ok x) is same = made flags (asks_of t) workers x is
+    go (Err e) is same = cc
+
+pub left_by_storing : (path asks : List ℕ) (workers : ℕ) (book : List ℕ) (flags : Definitions) (t : Shape) (old mid last after : Option Holding) (d : Drove) → mid ≡ old → last ≡ mid
+    → IfSome old (λ at. IsDocumentAt at path (Ok flags)) → IfSome mid (λ at. tree_at at asks max_text ≡ Ok t) → IsDroveOf (Ok flags) (Ok t) workers (Ok d) → KeepsOthers last after book → LeavesBook old after path asks workers book
+left_by_storing path asks workers book flags t old mid last after d first second document tree drove kept =
+    let fit : (workers_refusal workers ≡ None) × (is_some (asks_of t) ≡ true) = drove_by flags t workers d drove in
+    inr (fit.0, read old document (subst (λ (h : Option Holding). IfSome h (λ at. tree_at at asks max_text ≡ Ok t)) first tree) fit.1, others_after old last after book (second ∙ first) kept)
+  where
+    read : (h : Option Holding) → IfSome h (λ at. IsDocumentAt at path (Ok flags)) → IfSome h (λ at. tree_at at asks max_text ≡ Ok t) → is_some (asks_of t) ≡ true → IfSome h (λ at. AreRead at path asks)
+    read None document tree some = tt
+    read (Some at) document tree some = (flags, document, t, tree, some)

@@ -1,16 +1,19 @@
--- What the commands leave of the files, and which refusals a failed file is told by.
-use Rattle.std.proofs.Common.{◌≡◌, List, Option, Some, None, Bool, true, inl, inr, refl, sym, subst}
-use Rattle.std.specs.Prelude.{Err}
+-- What the commands leave of the files, and which refusals a file that failed or changed is told by.
+use Rattle.std.proofs.Common.{◌≡◌, ◌≢◌, ◌⊎◌, ◌∙◌, ◌||◌, Option, Some, None, Bool, true, false, IfSome, IfOk, IfErr, inl, inr, refl, sym, ap, subst}
+use Rattle.std.specs.Prelude.{Result, Ok, Err}
 use Rattle.flagops_words.specs.Asked.{Asked, bucket, price, check, resolve, verify, apply, plan, drive}
-use Rattle.flagops_commands.specs.Commands.{Leaves, LeavesAsked}
-use Rattle.flagops_commands.proofs.Driving.{keeps}
+use Rattle.flagops_commands.specs.Commands.{calls_of, HasStored, IsOutcome, IsRunOutcome, Leaves, LeavesAsked}
 use Rattle.flagops_files.specs.Files.{Holding}
-use Rattle.flagops_files.specs.Refusal.{is_unread}
-use Rattle.flagops_files.specs.Report.{IsFileRefusal}
+use Rattle.flagops_files.specs.Refusal.{call_of, is_unread, is_want, stores_file, unreadable, unwritable}
+use Rattle.flagops_files.specs.Report.{AnswersOrWants, IsFileRefusal, Report, outcome_view, report_of}
 use Rattle.flagops_files.specs.declared.files.LoadFault.TheVariants as load
 use Rattle.flagops_files.specs.declared.files.StoreFault.TheVariants as store
+use Rattle.flagops_files.specs.declared.outcome.Outcome.{Outcome}
+use Rattle.flagops_files.specs.declared.refusal.Call.{Call}
+use Rattle.flagops_files.specs.declared.refusal.Call.TheVariants as call
 use Rattle.flagops_files.specs.declared.refusal.Refusal.{Refusal}
 use Rattle.flagops_files.specs.declared.refusal.Refusal.TheVariants as refusal
+use Rattle.flagops_files.specs.declared.refused.Refused.{Refused}
 
 -- files that stay are left by each command
 leaves_same : (asked : Asked) (h : Option Holding) → Leaves asked h h
@@ -21,7 +24,7 @@ leaves_same (resolve document key kind default context moment) h = refl
 leaves_same (verify document request book file refine) h = refl
 leaves_same (apply document file key site) h = refl
 leaves_same (plan document request book refine) h = refl
-leaves_same (drive document file workers book) h = keeps h book
+leaves_same (drive document file workers book) h = inl refl
 
 pub left_alone : (o : Option Asked) (h : Option Holding) → LeavesAsked o h h
 left_alone None h = refl
@@ -51,3 +54,81 @@ file_refusal (refusal.Apply f) e = cc
 file_refusal (refusal.Plan f) e = cc
 file_refusal (refusal.PrintPlanned f) e = cc
 file_refusal (refusal.Drive f) e = cc
+
+-- ---- a file that failed is told, and no other
+
+of_file : (r : Refusal) → IsFileRefusal (Err r) → is_unread r ≡ true
+of_file r (inl e) = let same : r ≡ unreadable = cc in ap is_unread same
+of_file r (inr e) = let same : r ≡ unwritable = cc in ap is_unread same
+
+or_true : (b : Bool) → (b || true) ≡ true
+or_true true = refl
+or_true false = refl
+
+has_failed : (was failed : Bool) (r : Refusal) → failed ≡ (was || is_unread r) → IsFileRefusal (Err r) → failed ≡ true
+has_failed was failed r fails file = fails ∙ (ap (λ (b : Bool). was || b) (of_file r file) ∙ or_true was)
+
+not_of_file : {X : Type 0} (r : Report) → IsFileRefusal (Ok r) → X
+not_of_file r (inl e) = cc
+not_of_file r (inr e) = cc
+
+module _ (files after : Option Holding) (failed : Bool) (asked : Asked) where
+  pub done : (o : Outcome) → IfSome files (λ at. IsOutcome at after asked (Ok (outcome_view o))) → IfSome files (λ at. AnswersOrWants (calls_of asked) (Ok o) (IsRunOutcome at after failed asked))
+  done o is = go files is
+    where
+      go : (h : Option Holding) → IfSome h (λ at. IsOutcome at after asked (Ok (outcome_view o))) → IfSome h (λ at. AnswersOrWants (calls_of asked) (Ok o) (IsRunOutcome at after failed asked))
+      go None is = tt
+      go (Some at) is = (Ok (outcome_view o), (is, not_of_file (outcome_view o)), refl)
+
+  pub refused : (was : Bool) (e : Refused) (r : Result Outcome Call) → IfSome files (λ at. is_want e.refusal ≡ false → IsOutcome at after asked (Err e.refusal)) → calls_of asked (call_of e.refusal) ≡ true
+      → failed ≡ (was || is_unread e.refusal) → IfOk r (λ o. (is_want e.refusal ≡ false) × (outcome_view o ≡ report_of (Err e.refusal))) → IfErr r (λ c. c ≡ call_of e.refusal)
+      → IfSome files (λ at. AnswersOrWants (calls_of asked) r (IsRunOutcome at after failed asked))
+  refused was e r is calls fails line named = go files r is line named
+    where
+      go : (h : Option Holding) (r : Result Outcome Call) → IfSome h (λ at. is_want e.refusal ≡ false → IsOutcome at after asked (Err e.refusal))
+          → IfOk r (λ o. (is_want e.refusal ≡ false) × (outcome_view o ≡ report_of (Err e.refusal))) → IfErr r (λ c. c ≡ call_of e.refusal)
+          → IfSome h (λ at. AnswersOrWants (calls_of asked) r (IsRunOutcome at after failed asked))
+      go None r is line named = tt
+      go (Some at) (Ok o) is line named = (Err e.refusal, (is line.0, has_failed was failed e.refusal fails), line.1)
+      go (Some at) (Err c) is line named = ap (calls_of asked) named ∙ calls
+
+-- ---- a file that changed is told
+
+differs : {X : Type 0} → true ≡ false → X
+differs h = cc
+
+of_storing : (r : Refusal) → stores_file (call_of r) ≡ true → is_want r ≡ false → r ≡ unwritable
+of_storing (refusal.Store store.Unwritable) is e = refl
+of_storing (refusal.Store store.WantOfMemory) is e = cc
+of_storing (refusal.WantOfMemory c) is e = cc
+of_storing (refusal.Load f) is e = cc
+of_storing refusal.LongBook is e = cc
+of_storing (refusal.ReadTree f) is e = cc
+of_storing (refusal.ReadRule f) is e = cc
+of_storing (refusal.ReadRequest f) is e = cc
+of_storing (refusal.Note f) is e = cc
+of_storing (refusal.Price f) is e = cc
+of_storing (refusal.ReadFlags f) is e = cc
+of_storing (refusal.ReadBook f) is e = cc
+of_storing (refusal.ReadPlanned f) is e = cc
+of_storing (refusal.Verify f) is e = cc
+of_storing (refusal.Apply f) is e = cc
+of_storing (refusal.Plan f) is e = cc
+of_storing (refusal.PrintPlanned f) is e = cc
+of_storing (refusal.Drive f) is e = cc
+
+pub stored_done : (old new : Option Holding) (o : Outcome) → (new ≡ old) ⊎ AnswersOrWants stores_file (Ok o) HasStored
+stored_done old new o = inr (Ok (outcome_view o), tt, refl)
+
+pub stored_refused : (old new : Option Holding) (e : Refused) (r : Result Outcome Call) → (call_of e.refusal ≢ call.Store → new ≡ old)
+    → IfOk r (λ o. (is_want e.refusal ≡ false) × (outcome_view o ≡ report_of (Err e.refusal))) → IfErr r (λ c. c ≡ call_of e.refusal) → (new ≡ old) ⊎ AnswersOrWants stores_file r HasStored
+stored_refused old new e r kept line named = by (stores_file (call_of e.refusal)) refl
+  where
+    told : (s : Result Outcome Call) → stores_file (call_of e.refusal) ≡ true → IfOk s (λ o. (is_want e.refusal ≡ false) × (outcome_view o ≡ report_of (Err e.refusal))) → IfErr s (λ c. c ≡ call_of e.refusal)
+        → AnswersOrWants stores_file s HasStored
+    told (Ok o) stores line named = (Err e.refusal, of_storing e.refusal stores line.0, line.1)
+    told (Err c) stores line named = ap stores_file named ∙ stores
+
+    by : (b : Bool) → stores_file (call_of e.refusal) ≡ b → (new ≡ old) ⊎ AnswersOrWants stores_file r HasStored
+    by true stores = inr (told r stores line named)
+    by false other = inl (kept (λ is. differs (sym (ap stores_file is) ∙ other)))

@@ -3,6 +3,7 @@ pub mod Checked
 pub mod Driving
 pub mod Hexadecimal
 pub mod Leaving
+pub mod Refusing
 pub mod Valid
 pub mod Verdicts
 pub mod Wants

@@ -1,7 +1,6 @@
 -- What was planned and printed is told as valid.
-use Rattle.std.proofs.Common.{◌≡◌, ◌≢◌, ◌<◌, ◌*◌, ◌/◌, ◌%◌, ◌==◌, ℕ, zero, suc, Bool, true, false, cond, List, Option, Some, None, unwrap_or, refl, sym, ap, subst, ◌∙◌, arith, eq-eqb}
+use Rattle.std.proofs.Common.{◌≡◌, ◌*◌, ◌%◌, ◌==◌, ℕ, zero, suc, Bool, true, false, cond, Option, Some, None, unwrap_or, refl, sym, ap, subst, ◌∙◌, arith, eq-eqb}
 use Rattle.std.specs.Prelude.{Result, Ok, Err}
-use Rattle.std.proofs.lemmas.Bool.{eqb-true}
 use Rattle.std.proofs.Math.Nat.{mul-div_cancel_left, mul-mod_right}
 use Rattle.bucket_core.proofs.Refined.{total_weight-refinement}
 use Rattle.bucket_core.specs.Rule.{Entries, refinement, total_weight}
@@ -12,23 +11,21 @@ use Rattle.price_core.specs.Request.{Asked, asked_of}
 use Rattle.plan_text.specs.Answer.{Answer, emit, none_exists, planned_view}
 use Rattle.transport_core.specs.Certificate.{DualPrices}
 use Rattle.plan_text.specs.declared.planned.Planned.{Planned}
-use Rattle.rollout.specs.Lawful.{Place, Problem, and_then, by_price, factor, limits_for, place_of, problem_at, problem_of, sized, weighed}
-use Rattle.rollout.specs.Planned.{IsPlan, IsPlanned}
+use Rattle.rollout.specs.Lawful.{Place, Problem, and_then, by_price, factor, limits_for, place_of, problem_at, sized, weighed}
+use Rattle.rollout.specs.Planned.{IsPlanned}
 use Rattle.rollout.specs.Refined.{problem_checked, problem_refined}
-use Rattle.rollout.specs.Verified.{Denies, IsOutcome, Proves, refining_for}
+use Rattle.rollout.specs.Verified.{IsOutcome, Proves, refining_for}
 use Rattle.rollout.specs.declared.fault.RolloutFault.{RolloutFault}
 use Rattle.rollout.specs.declared.fault.RolloutFault.TheVariants.{NoWeight}
 use Rattle.rollout.specs.declared.verify_fault.VerifyFault.{VerifyFault}
 use Rattle.rollout.specs.declared.verify_fault.VerifyFault.TheVariants.{Request, Check}
-use Rattle.transport_core.specs.declared.fault.CheckFault.{CheckFault}
 use Rattle.transport_core.specs.declared.fault.CheckFault.TheVariants as check
 use Rattle.flagops_commands.specs.Plan.{Holds, IsPlanOf, MayBePlanned, ReadsBack, report_planned}
 use Rattle.flagops_commands.specs.Valid.{IsValid, IsValidPlan}
-use Rattle.flagops_commands.specs.Verify.{IsVerdict, MayBeTold, told, valid_text}
+use Rattle.flagops_commands.specs.Verify.{told}
 use Rattle.flagops_files.specs.Question.{Question}
 use Rattle.flagops_files.specs.Report.{Report, beside}
 use Rattle.flagops_commands.specs.Unrecorded.{is_unrecorded}
-use Rattle.flagops_files.specs.declared.refusal.Refusal.{Refusal}
 
 -- ---- a rule of the refined total tells its factor
 

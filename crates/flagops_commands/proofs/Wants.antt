@@ -1,9 +1,12 @@
--- A call of a command that ran out of memory, as an answer of the program.
-use Rattle.std.proofs.Common.{◌≡◌, inr, ℕ, Bool, true, refl, sym, subst, List, Option, Some, None, IfSome}
+-- What a command came to, and a call of it that ran out of memory, as an answer of the program.
+use Rattle.std.proofs.Common.{◌≡◌, ◌⊎◌, inl, inr, ℕ, Bool, true, refl, sym, subst, List, Option, Some, None, IfSome}
+use Rattle.std.specs.Prelude.{Ok}
 use Rattle.flagops_words.specs.Asked.{Asked}
-use Rattle.flagops_commands.specs.Commands.{IsOutcome, calls_of, can_want}
+use Rattle.flagops_commands.specs.Commands.{HasStored, IsRunOutcome, calls_of, can_want}
 use Rattle.flagops_files.specs.Files.{Holding}
-use Rattle.flagops_files.specs.Report.{Answers, ReportsAll, want_report}
+use Rattle.flagops_files.specs.Refusal.{stores_file}
+use Rattle.flagops_files.specs.Report.{Answers, AnswersOrWants, Report, ReportsAll, outcome_view, want_report}
+use Rattle.flagops_files.specs.declared.outcome.Outcome.{Outcome}
 use Rattle.flagops_files.specs.declared.refusal.Call.{Call}
 use Rattle.flagops_files.specs.declared.refusal.Call.TheVariants as call
 
@@ -29,12 +32,40 @@ may_want asked call.Drive e = e
 may_want asked call.Store e = e
 
 -- the words ask for a command that makes the call, whose want of memory is reported
-pub wanted : (words : Option Asked) (asked : Asked) (files after : Option Holding) (c : Call) (out out_after : Option (List ℕ)) (is_broken : Bool) (err err_after : Option (List ℕ)) (is_err_broken : Bool) (status : ℕ) → words ≡ Some asked
+pub wanted : (words : Option Asked) (asked : Asked) (files after : Option Holding) (failed : Bool) (c : Call) (out out_after : Option (List ℕ)) (is_broken : Bool) (err err_after : Option (List ℕ)) (is_err_broken : Bool) (status : ℕ) → words ≡ Some asked
     → IfSome files (λ at. calls_of asked c ≡ true) → ReportsAll out out_after is_broken err err_after is_err_broken status (want_report c)
-    → IfSome words (λ a. IfSome files (λ at. Answers (can_want a) out out_after is_broken err err_after is_err_broken status (IsOutcome at after a)))
-wanted words asked files after c out out_after is_broken err err_after is_err_broken status is calls reports =
-    subst (λ (o : Option Asked). IfSome o (λ a. IfSome files (λ at. Answers (can_want a) out out_after is_broken err err_after is_err_broken status (IsOutcome at after a)))) (sym is) (go files calls)
+    → IfSome words (λ a. IfSome files (λ at. Answers (can_want a) out out_after is_broken err err_after is_err_broken status (IsRunOutcome at after failed a)))
+wanted words asked files after failed c out out_after is_broken err err_after is_err_broken status is calls reports =
+    subst (λ (o : Option Asked). IfSome o (λ a. IfSome files (λ at. Answers (can_want a) out out_after is_broken err err_after is_err_broken status (IsRunOutcome at after failed a)))) (sym is) (go files calls)
   where
-    go : (h : Option Holding) → IfSome h (λ at. calls_of asked c ≡ true) → IfSome h (λ at. Answers (can_want asked) out out_after is_broken err err_after is_err_broken status (IsOutcome at after asked))
+    go : (h : Option Holding) → IfSome h (λ at. calls_of asked c ≡ true) → IfSome h (λ at. Answers (can_want asked) out out_after is_broken err err_after is_err_broken status (IsRunOutcome at after failed asked))
     go None e = tt
     go (Some at) e = inr (c, may_want asked c e, reports)
+
+-- ---- what a command came to
+
+module _ (out out_after : Option (List ℕ)) (is_broken : Bool) (err err_after : Option (List ℕ)) (is_err_broken : Bool) (status : ℕ) where
+  abbrev Writes : Report → Type 0
+  Writes report = ReportsAll out out_after is_broken err err_after is_err_broken status report
+
+  pub reported : (words : Option Asked) (asked : Asked) (files after : Option Holding) (failed : Bool) (o : Outcome) → words ≡ Some asked
+      → IfSome files (λ at. AnswersOrWants (calls_of asked) (Ok o) (IsRunOutcome at after failed asked)) → Writes (outcome_view o)
+      → IfSome words (λ a. IfSome files (λ at. Answers (can_want a) out out_after is_broken err err_after is_err_broken status (IsRunOutcome at after failed a)))
+  reported words asked files after failed o is told writes =
+      subst (λ (w : Option Asked). IfSome w (λ a. IfSome files (λ at. Answers (can_want a) out out_after is_broken err err_after is_err_broken status (IsRunOutcome at after failed a)))) (sym is) (go files told)
+    where
+      go : (h : Option Holding) → IfSome h (λ at. AnswersOrWants (calls_of asked) (Ok o) (IsRunOutcome at after failed asked))
+          → IfSome h (λ at. Answers (can_want asked) out out_after is_broken err err_after is_err_broken status (IsRunOutcome at after failed asked))
+      go None told = tt
+      go (Some at) told = inl (told.0, told.1, subst Writes told.2 writes)
+
+  -- a file has changed
+  pub stored_reported : (old new : Option Holding) (o : Outcome) → (new ≡ old) ⊎ AnswersOrWants stores_file (Ok o) HasStored → Writes (outcome_view o)
+      → (new ≡ old) ⊎ Answers stores_file out out_after is_broken err err_after is_err_broken status HasStored
+  stored_reported old new o (inl same) writes = inl same
+  stored_reported old new o (inr told) writes = inr (inl (told.0, told.1, subst Writes told.2 writes))
+
+  pub stored_wanted : (old new : Option Holding) (c : Call) → (new ≡ old) ⊎ (stores_file c ≡ true) → Writes (want_report c)
+      → (new ≡ old) ⊎ Answers stores_file out out_after is_broken err err_after is_err_broken status HasStored
+  stored_wanted old new c (inl same) writes = inl same
+  stored_wanted old new c (inr stores) writes = inr (inr (c, stores, writes))

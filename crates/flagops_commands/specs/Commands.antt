@@ -1,14 +1,15 @@
 -- The table of the commands.
-use Rattle.std.specs.Prelude.{◌≡◌, Bool, true, Option, Some}
+use Rattle.std.specs.Prelude.{◌≡◌, Bool, true, Option, Some, Ok, Err}
 use Rattle.flagops_commands.specs.Apply.{IsApplyReport}
 use Rattle.flagops_commands.specs.Bucket.{bucket_report}
 use Rattle.flagops_commands.specs.Check.{IsCheckReport}
-use Rattle.flagops_commands.specs.Drive.{IsDriveReport}
-use Rattle.flagops_files.specs.Files.{Holding, KeepsOthers}
+use Rattle.flagops_commands.specs.Drive.{IsDriveReport, LeavesBook}
+use Rattle.flagops_files.specs.Files.{Holding}
 use Rattle.flagops_commands.specs.Plan.{IsPlanReport}
 use Rattle.flagops_commands.specs.Price.{price_report}
 use Rattle.flagops_commands.specs.Calls.{bucket_calls, price_calls, check_calls, resolve_calls, verify_calls, apply_calls, plan_calls, drive_calls}
-use Rattle.flagops_files.specs.Report.{Outcomes}
+use Rattle.flagops_files.specs.Refusal.{unwritable}
+use Rattle.flagops_files.specs.Report.{IsFileRefusal, Outcomes}
 use Rattle.flagops_commands.specs.Resolve.{IsResolveReport}
 use Rattle.flagops_commands.specs.Verify.{IsVerifyReport}
 use Rattle.flagops_files.specs.declared.refusal.Call.{Call}
@@ -26,9 +27,18 @@ IsOutcome at after (apply document file key site) r = IsApplyReport at document 
 IsOutcome at after (plan document request book refine) r = IsPlanReport at document request book refine r
 IsOutcome at after (drive document file workers book) r = IsDriveReport at after document file workers book r
 
--- a command leaves the files as they are; `drive` changes the file of its book alone
+-- the same; and that a file cannot be read or written is told only where one has failed
+abbrev pub IsRunOutcome : Holding → Option Holding → Bool → Asked → Outcomes
+IsRunOutcome at after has_failed asked r = IsOutcome at after asked r × (IsFileRefusal r → has_failed ≡ true)
+
+-- what a command comes to that has stored a file, or was refused while it stored one
+abbrev pub HasStored : Outcomes
+HasStored (Ok report) = Unit {0}
+HasStored (Err e) = e ≡ unwritable
+
+-- a command leaves the files as they are; `drive` changes the file of its book alone, and only where it has a book
 abbrev pub Leaves : Asked → Option Holding → Option Holding → Type 0
-Leaves (drive document file workers book) old new = KeepsOthers old new book
+Leaves (drive document file workers book) old new = LeavesBook old new document file workers book
 Leaves asked old new = new ≡ old
 
 -- words that ask for no command leave them

@@ -1,17 +1,19 @@
 -- What the command `drive` answers, and the book that it writes.
-use Rattle.std.specs.Prelude.{◌≡◌, ◌⊎◌, ℕ, List, Option, Some, Result, Ok, Err}
+use Rattle.std.specs.Prelude.{◌≡◌, ◌≢◌, ◌⊎◌, ℕ, List, true, false, Option, Some, None, is_some, IfSome, Result, Ok, Err, IfErr, IsErrAnd}
 use Rattle.flag_defs.specs.Document.{Definitions}
 use Rattle.flag_text.specs.Shape.{Shape}
 use Rattle.flagops_drive.specs.Asks.{asks_of}
-use Rattle.flagops_drive.specs.Driven.{Drove, IsDriveOf}
+use Rattle.flagops_drive.specs.Driven.{Drove, IsDriveOf, workers_refusal}
 use Rattle.flagops_drive.specs.declared.fault.DriveRefusal.{DriveRefusal}
 use Rattle.flagops_files.specs.Documents.{IsDocumentAt}
 use Rattle.flagops_files.specs.Files.{Holding, KeepsOthers, Stores}
 use Rattle.flagops_files.specs.Loading.{max_text, refused_by, tree_at}
-use Rattle.flagops_files.specs.Refusal.{unwritable}
+use Rattle.flagops_files.specs.Refusal.{call_of, is_want, unwritable}
 use Rattle.flagops_files.specs.Report.{Outcomes, done}
+use Rattle.flagops_files.specs.declared.refusal.Call.TheVariants as call
 use Rattle.flagops_files.specs.declared.refusal.Refusal.{Refusal}
 use Rattle.flagops_files.specs.declared.refusal.Refusal.TheVariants.{Drive}
+use Rattle.flagops_files.specs.declared.refused.Refused.{Refused}
 
 -- what comes of the asks, where the document and the asks were read
 abbrev pub IsDroveOf : Result Definitions Refusal → Result Shape Refusal → ℕ → Result Drove Refusal → Type 0
@@ -27,3 +29,23 @@ IsWritten at after book (Ok d) r = KeepsOthers (Some at) after book × (((r ≡ 
 unfoldable pub IsDriveReport : Holding → Option Holding → List ℕ → List ℕ → ℕ → List ℕ → Outcomes
 IsDriveReport at after path asks workers book r =
     (document : Result Definitions Refusal) × IsDocumentAt at path document × (d : Result Drove Refusal) × IsDroveOf document (tree_at at asks max_text) workers d × IsWritten at after book d r
+
+-- the document and the asks of these files were read
+abbrev pub AreRead : Holding → List ℕ → List ℕ → Type 0
+AreRead at path asks = (flags : Definitions) × IsDocumentAt at path (Ok flags) × (t : Shape) × (tree_at at asks max_text ≡ Ok t) × (is_some (asks_of t) ≡ true)
+
+-- The files stay as they are; or the number of workers is right, the document and the asks were read, and the file of the book alone changes.
+abbrev pub LeavesBook : Option Holding → Option Holding → List ℕ → List ℕ → ℕ → List ℕ → Type 0
+LeavesBook old new path asks workers book = (new ≡ old) ⊎ ((workers_refusal workers ≡ None) × IfSome old (λ at. AreRead at path asks) × KeepsOthers old new book)
+
+-- a refusal by another call than the storing of a file leaves all files as they are
+abbrev pub KeepsUnlessStored : {X : Type 0} → Option Holding → Option Holding → Result X Refused → Type 0
+KeepsUnlessStored old new r = IfErr r (λ e. call_of e.refusal ≢ call.Store → new ≡ old)
+
+-- the file at a path has a tree that is no list of asks
+abbrev pub HasNoAsks : Holding → List ℕ → Type 0
+HasNoAsks at path = (t : Shape) × (tree_at at path max_text ≡ Ok t) × (asks_of t ≡ None)
+
+-- the command is refused, and where it is by `drive` itself, then by name and not for want of memory
+abbrev pub IsRefusedByName : {X : Type 0} → Result X Refused → Type 0
+IsRefusedByName r = IsErrAnd r (λ e. call_of e.refusal ≡ call.Drive → is_want e.refusal ≡ false)

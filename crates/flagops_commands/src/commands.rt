@@ -1,6 +1,7 @@
 //! The table of the commands, and what each answers.
 ghost use Rattle.std.specs.Prelude.{◌≡◌, ◌||◌, IfSome};
 ghost use Rattle.flagops_commands.specs.Commands.{calls_of, IsOutcome, Leaves};
+ghost use Rattle.flagops_commands.specs.Drive.{KeepsUnlessStored};
 ghost use Rattle.flagops_words.specs.Asked.{asked_view};
 ghost use Rattle.flagops_files.specs.Refusal.{ComesFrom, GivesOne, is_file_fault};
 ghost use Rattle.flagops_files.specs.Report.{outcome_view};
@@ -20,6 +21,7 @@ use std::sync::Wait;
 use std::thread::Threads;
 
 /// What the command answers, or why it is refused.
+#[tactic(auto, using(crate::proofs::Refusing::all_kept))]
 pub fn outcome<R: Threads + Wait + Sync, F: FileSet>(
     rt: &R,
     alloc: Global,
@@ -30,6 +32,7 @@ pub fn outcome<R: Threads + Wait + Sync, F: FileSet>(
     ensures calls { ComesFrom (calls_of (asked_view asked.now)) result }
     ensures failed { F.has_failed files.new ≡ (F.has_failed files.old || is_file_fault result) }
     ensures left { Leaves (asked_view asked.now) (F.holding files.old) (F.holding files.new) }
+    ensures kept { KeepsUnlessStored (F.holding files.old) (F.holding files.new) result }
 {
     match asked {
         Asked::Bucket { rule, key } => bucket(alloc, files, rule, key),

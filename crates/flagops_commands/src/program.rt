@@ -1,9 +1,9 @@
 //! The program over whatever files and outlets it is given.
-ghost use Rattle.std.specs.Prelude.{◌≡◌, ◌||◌, false, true, map, IfErr, IfOk, IfSome, None, Ok, Err, Some};
+ghost use Rattle.std.specs.Prelude.{◌≡◌, ◌⊎◌, ◌||◌, false, true, map, IfErr, IfOk, IfSome, None, Ok, Err, Some};
 ghost use Rattle.clap.specs.Words.{kind_of};
 ghost use Rattle.flagops_words.specs.Asked.{asked_view};
-ghost use Rattle.flagops_commands.specs.Commands.{calls_of, can_want, IsOutcome, Leaves, LeavesAsked};
-ghost use Rattle.flagops_files.specs.Refusal.{call_of, is_want};
+ghost use Rattle.flagops_commands.specs.Commands.{calls_of, can_want, HasStored, IsRunOutcome, Leaves, LeavesAsked};
+ghost use Rattle.flagops_files.specs.Refusal.{call_of, is_want, stores_file};
 ghost use Rattle.flagops_files.specs.Report.{Answers, AnswersOrWants, PutsText, is_of_file, IsFileRefusal, outcome_view, report_of};
 ghost use Rattle.flagops_commands.specs.Telling.{Tells, TellsWords};
 ghost use Rattle.flagops_words.specs.Words.{asked_by};
@@ -35,13 +35,16 @@ pub fn run<R: AllocGlobal + Threads + Wait + Sync, S: AsStr, F: FileSet, O: Outl
     requires out_whole { O.is_broken out.old ≡ false }
     requires err_whole { E.is_broken err.old ≡ false }
     ensures answers { IfSome (asked_by (map S.text words.now)) (λ asked. IfSome (F.holding files.old) (λ at.
-        Answers (can_want asked) (O.bytes out.old) (O.bytes out.new) (O.is_broken out.new) (E.bytes err.old) (E.bytes err.new) (E.is_broken err.new) result (IsOutcome at (F.holding files.new) asked))) }
+        Answers (can_want asked) (O.bytes out.old) (O.bytes out.new) (O.is_broken out.new) (E.bytes err.old) (E.bytes err.new) (E.is_broken err.new) result (IsRunOutcome at (F.holding files.new) (F.has_failed files.new) asked))) }
     // Whatever the files hold, a read or a write that failed is what is reported.
     ensures unread { F.has_failed files.old ≡ false → F.has_failed files.new ≡ true
         → Answers is_of_file (O.bytes out.old) (O.bytes out.new) (O.is_broken out.new) (E.bytes err.old) (E.bytes err.new) (E.is_broken err.new) result IsFileRefusal }
     ensures tells { asked_by (map S.text words.now) ≡ None
         → TellsWords (O.bytes out.old) (O.bytes out.new) (O.is_broken out.new) (E.bytes err.old) (E.bytes err.new) (E.is_broken err.new) result (map S.text words.now) }
     ensures left { LeavesAsked (asked_by (map S.text words.now)) (F.holding files.old) (F.holding files.new) }
+    // Where a file has changed, that is told: no other call is said to have refused.
+    ensures stored { (F.holding files.new ≡ F.holding files.old)
+        ⊎ Answers stores_file (O.bytes out.old) (O.bytes out.new) (O.is_broken out.new) (E.bytes err.old) (E.bytes err.new) (E.is_broken err.new) result HasStored }
 {
     let alloc = rt.alloc();
     match read_words(alloc, words) {
@@ -61,9 +64,10 @@ fn answer<R: Threads + Wait + Sync, F: FileSet>(
     files: &mut F,
     asked: &Asked<'_>,
 ) -> Result<Outcome, Call>
-    ensures exact { IfSome (F.holding files.old) (λ at. AnswersOrWants (calls_of (asked_view asked.now)) result (IsOutcome at (F.holding files.new) (asked_view asked.now))) }
+    ensures exact { IfSome (F.holding files.old) (λ at. AnswersOrWants (calls_of (asked_view asked.now)) result (IsRunOutcome at (F.holding files.new) (F.has_failed files.new) (asked_view asked.now))) }
     ensures unread { F.has_failed files.old ≡ false → F.has_failed files.new ≡ true → AnswersOrWants is_of_file result IsFileRefusal }
     ensures left { Leaves (asked_view asked.now) (F.holding files.old) (F.holding files.new) }
+    ensures stored { (F.holding files.new ≡ F.holding files.old) ⊎ AnswersOrWants stores_file result HasStored }
 {
     match outcome(rt, alloc, files, asked) {
         Ok(outcome) => Ok(outcome),

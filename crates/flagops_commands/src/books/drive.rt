@@ -1,14 +1,17 @@
 //! The command `drive`: what the asks of a file resolve to, and the book of what they reach.
-ghost use Rattle.std.specs.Prelude.{◌≡◌, ◌||◌, false, true, Ok, IfSome};
+ghost use Rattle.std.specs.Prelude.{◌≡◌, ◌||◌, false, true, IfSome, IsErrAnd, Ok, Some};
 ghost use Rattle.flag_defs.specs.Flags.{flags_view};
 ghost use Rattle.flag_text.specs.Shape.{is_whole};
 ghost use Rattle.flag_text.specs.View.{view};
-ghost use Rattle.flagops_drive.specs.Driven.{drove_view};
+ghost use Rattle.flagops_drive.specs.Asks.{asks_of};
+ghost use Rattle.flagops_drive.specs.Driven.{drove_view, refusal_of, workers_refusal};
+ghost use Rattle.flagops_drive.specs.declared.fault.DriveRefusal.{DriveRefusal as Reason};
 ghost use Rattle.flagops_commands.specs.Calls.{drive_calls, drive_itself};
-ghost use Rattle.flagops_commands.specs.Drive.{IsDriveReport, IsDroveOf, IsWritten};
+ghost use Rattle.flagops_commands.specs.Drive.{HasNoAsks, IsDriveReport, IsDroveOf, IsRefusedByName, IsWritten, KeepsUnlessStored, LeavesBook};
 ghost use Rattle.flagops_files.specs.Files.{KeepsOthers};
 ghost use Rattle.flagops_files.specs.Refusal.{ComesFrom, GivesOne, is_file_fault, stores_file};
 ghost use Rattle.flagops_files.specs.Report.{outcome_view};
+ghost use Rattle.flagops_files.specs.declared.refusal.Refusal.TheVariants.{Drive};
 
 use flag_defs::Flags;
 use flag_text::Tree;
@@ -35,7 +38,11 @@ pub fn drive<R: Threads + Wait + Sync, F: FileSet>(
     ensures exact { IfSome (F.holding files.old) (λ at. GivesOne outcome_view result (IsDriveReport at (F.holding files.new) document.now asks.now workers book.now)) }
     ensures calls { ComesFrom drive_calls result }
     ensures failed { F.has_failed files.new ≡ (F.has_failed files.old || is_file_fault result) }
-    ensures others { KeepsOthers (F.holding files.old) (F.holding files.new) book.now }
+    ensures left { LeavesBook (F.holding files.old) (F.holding files.new) document.now asks.now workers book.now }
+    ensures kept { KeepsUnlessStored (F.holding files.old) (F.holding files.new) result }
+    // What is known without taking memory is refused by name, once the files before it were read.
+    ensures bad_workers { (e : Reason) → workers_refusal workers ≡ Some e → IsRefusedByName result }
+    ensures bad_asks { IfSome (F.holding files.old) (λ at. HasNoAsks at asks.now → IsRefusedByName result) }
 {
     let flags = load_flags(alloc, files, document)?;
     let tree = load_tree(alloc, files, asks, TEXT_LIMIT)?;
@@ -56,6 +63,7 @@ fn drove<R: Threads + Wait + Sync>(
     ensures exact { GivesOne drove_view result (IsDroveOf (Ok (flags_view flags.now)) (Ok (view tree.now)) workers) }
     ensures calls { ComesFrom drive_itself result }
     ensures read { is_file_fault result ≡ false }
+    ensures refused { (e : Reason) → refusal_of (asks_of (view tree.now)) workers ≡ Some e → IsErrAnd result (λ r. r.refusal ≡ Drive e) }
 {
     let workers = usize::from(workers);
     match drive_asks(rt, alloc, flags, tree, workers) {

@@ -1,16 +1,27 @@
 use Rattle.flag_defs.specs.Flags.{flags_view}
 use Rattle.flag_text.specs.View.{view}
 use Rattle.flagops_drive.specs.Driven.{drove_view}
-use Rattle.flagops_commands.proofs.Driving.{driven, kept_others, no_asks, no_document, not_driven, others_after}
-use Rattle.std.proofs.Common.{◌∙◌, rules}
+use Rattle.flagops_drive.specs.Asks.{asks_of}
+use Rattle.flagops_files.specs.Refusal.{loads_flags, loads_tree}
+use Rattle.flagops_commands.proofs.Driving.{driven, left_by_storing, no_asks, no_document, not_driven}
+use Rattle.flagops_commands.proofs.Refusing.{by_another, by_asks, by_workers, changed_by_storing, in_any_case, no_asks_driven, none_driven}
+use Rattle.std.proofs.Common.{◌∙◌, inl, refl, rules}
 use Rattle.flagops_commands.proofs.books.drive.drive.Goals as goal
 
 pub returns-in_err-flags-clause-exact : goal.returns-in_err-flags-clause-exact
 returns-in_err-flags-clause-exact g c =
     let told = no_document c.args.document.now c.args.asks.now c.args.workers c.args.book.now _ _ c.in_err-flags.field-0.0 c.load_flags.ensures.kept c.in_err-flags.ensures.exact in search rules
 
-pub returns-in_err-flags-clause-others : goal.returns-in_err-flags-clause-others
-returns-in_err-flags-clause-others g c = kept_others _ _ _ c.load_flags.ensures.kept
+pub returns-in_err-flags-clause-left : goal.returns-in_err-flags-clause-left
+returns-in_err-flags-clause-left g c = inl c.load_flags.ensures.kept
+
+pub returns-in_err-flags-clause-bad_workers : goal.returns-in_err-flags-clause-bad_workers
+returns-in_err-flags-clause-bad_workers g c = λ e wrong.
+    let told = by_another loads_flags c.in_err-flags.field-0.0.refusal refl c.in_err-flags.ensures.calls in search rules
+
+pub returns-in_err-flags-clause-bad_asks : goal.returns-in_err-flags-clause-bad_asks
+returns-in_err-flags-clause-bad_asks g c =
+    in_any_case _ _ _ (let told = by_another loads_flags c.in_err-flags.field-0.0.refusal refl c.in_err-flags.ensures.calls in search rules)
 
 pub returns-in_err-tree-clause-exact : goal.returns-in_err-tree-clause-exact
 returns-in_err-tree-clause-exact g c =
@@ -19,8 +30,16 @@ returns-in_err-tree-clause-exact g c =
     c.in_ok-flags.ensures.exact c.in_err-tree.ensures.exact in
     search rules
 
-pub returns-in_err-tree-clause-others : goal.returns-in_err-tree-clause-others
-returns-in_err-tree-clause-others g c = kept_others _ _ _ (c.load_tree.ensures.kept ∙ c.load_flags.ensures.kept)
+pub returns-in_err-tree-clause-left : goal.returns-in_err-tree-clause-left
+returns-in_err-tree-clause-left g c = inl (c.load_tree.ensures.kept ∙ c.load_flags.ensures.kept)
+
+pub returns-in_err-tree-clause-bad_workers : goal.returns-in_err-tree-clause-bad_workers
+returns-in_err-tree-clause-bad_workers g c = λ e wrong.
+    let told = by_another loads_tree c.in_err-tree.field-0.0.refusal refl c.in_err-tree.ensures.calls in search rules
+
+pub returns-in_err-tree-clause-bad_asks : goal.returns-in_err-tree-clause-bad_asks
+returns-in_err-tree-clause-bad_asks g c =
+    in_any_case _ _ _ (let told = by_another loads_tree c.in_err-tree.field-0.0.refusal refl c.in_err-tree.ensures.calls in search rules)
 
 pub returns-in_err-drove-clause-exact : goal.returns-in_err-drove-clause-exact
 returns-in_err-drove-clause-exact g c =
@@ -29,13 +48,33 @@ returns-in_err-drove-clause-exact g c =
     c.load_tree.ensures.kept c.in_ok-flags.ensures.exact c.in_ok-tree.ensures.exact c.in_err-drove.ensures.exact in
     search rules
 
-pub returns-in_err-drove-clause-others : goal.returns-in_err-drove-clause-others
-returns-in_err-drove-clause-others g c = kept_others _ _ _ (c.load_tree.ensures.kept ∙ c.load_flags.ensures.kept)
+pub returns-in_err-drove-clause-left : goal.returns-in_err-drove-clause-left
+returns-in_err-drove-clause-left g c = inl (c.load_tree.ensures.kept ∙ c.load_flags.ensures.kept)
+
+pub returns-in_err-drove-clause-bad_workers : goal.returns-in_err-drove-clause-bad_workers
+returns-in_err-drove-clause-bad_workers g c = λ e wrong.
+    let told = by_workers (asks_of (view c.in_ok-tree.tree)) c.args.workers e c.in_err-drove.field-0.0.refusal wrong c.in_err-drove.ensures.refused in search rules
+
+pub returns-in_err-drove-clause-bad_asks : goal.returns-in_err-drove-clause-bad_asks
+returns-in_err-drove-clause-bad_asks g c =
+    let told = by_asks c.args.asks.now (view c.in_ok-tree.tree) c.args.workers _ _ c.in_err-drove.field-0.0 c.load_flags.ensures.kept c.in_ok-tree.ensures.exact c.in_err-drove.ensures.refused in
+    search rules
 
 pub returns-clause-exact : goal.returns-clause-exact
 returns-clause-exact g c =
     driven c.args.document.now c.args.asks.now c.args.workers c.args.book.now (flags_view c.in_ok-flags.flags) (view c.in_ok-tree.tree) _ _ _ _ (drove_view c.in_ok-drove.drove) _
     c.load_flags.ensures.kept c.load_tree.ensures.kept c.in_ok-flags.ensures.exact c.in_ok-tree.ensures.exact c.in_ok-drove.ensures.exact c.written.ensures.exact
 
-pub returns-clause-others : goal.returns-clause-others
-returns-clause-others g c = others_after _ _ _ _ (c.load_tree.ensures.kept ∙ c.load_flags.ensures.kept) c.written.ensures.others
+pub returns-clause-left : goal.returns-clause-left
+returns-clause-left g c =
+    left_by_storing c.args.document.now c.args.asks.now c.args.workers c.args.book.now (flags_view c.in_ok-flags.flags) (view c.in_ok-tree.tree) _ _ _ _ (drove_view c.in_ok-drove.drove) c.load_flags.ensures.kept
+    c.load_tree.ensures.kept c.in_ok-flags.ensures.exact c.in_ok-tree.ensures.exact c.in_ok-drove.ensures.exact c.written.ensures.others
+
+pub returns-clause-kept : goal.returns-clause-kept
+returns-clause-kept g c = changed_by_storing _ _ _ c.written.ensures.calls
+
+pub returns-clause-bad_workers : goal.returns-clause-bad_workers
+returns-clause-bad_workers g c = λ e wrong. absurd (none_driven (asks_of (view c.in_ok-tree.tree)) c.args.workers e wrong c.in_ok-drove.ensures.refused)
+
+pub returns-clause-bad_asks : goal.returns-clause-bad_asks
+returns-clause-bad_asks g c = no_asks_driven c.args.asks.now (view c.in_ok-tree.tree) c.args.workers _ _ _ c.load_flags.ensures.kept c.in_ok-tree.ensures.exact c.in_ok-drove.ensures.refused
