@@ -9,8 +9,9 @@
 ghost use Rattle.std.specs.Prelude.{◌≡◌, ◌⊎◌, None, codes, false, length, map, true, IfErr, IfOk, IfSome};
 ghost use Rattle.std.specs.Process.{exit_status};
 ghost use Rattle.flagops.specs.First.{begins_with, WhereFiles, WhereFollow, WhereServe};
-ghost use Rattle.flagops_commands.specs.Commands.{can_want, IsOutcome, LeavesAsked};
+ghost use Rattle.flagops_commands.specs.Commands.{can_want, HasStored, IsRunOutcome, LeavesAsked};
 ghost use Rattle.flagops_commands.specs.Telling.{Complains, TellsWords, Wants};
+ghost use Rattle.flagops_files.specs.Refusal.{stores_file};
 ghost use Rattle.flagops_files.specs.Report.{Answers, IsFileRefusal, is_of_file};
 ghost use Rattle.flagops_network.specs.Mistakes.{TellsOne};
 ghost use Rattle.flagops_network.specs.Words.{follow_by, follow_faults, serve_by, serve_faults};
@@ -70,12 +71,14 @@ where
     requires err_whole { E.is_broken err.old ≡ false }
     ensures answers { IfOk words (λ w. WhereFiles (map S.text w.items)
         (IfSome (asked_by (map S.text w.items)) (λ asked. IfSome (F.holding files.old) (λ at.
-        Answers (can_want asked) (O.bytes out.old) (O.bytes out.new) (O.is_broken out.new) (E.bytes err.old) (E.bytes err.new) (E.is_broken err.new) (exit_status result) (IsOutcome at (F.holding files.new) asked))))) }
+        Answers (can_want asked) (O.bytes out.old) (O.bytes out.new) (O.is_broken out.new) (E.bytes err.old) (E.bytes err.new) (E.is_broken err.new) (exit_status result) (IsRunOutcome at (F.holding files.new) (F.has_failed files.new) asked))))) }
     ensures unread { IfOk words (λ w. WhereFiles (map S.text w.items) (F.has_failed files.old ≡ false → F.has_failed files.new ≡ true
         → Answers is_of_file (O.bytes out.old) (O.bytes out.new) (O.is_broken out.new) (E.bytes err.old) (E.bytes err.new) (E.is_broken err.new) (exit_status result) IsFileRefusal)) }
     ensures tells { IfOk words (λ w. WhereFiles (map S.text w.items) (asked_by (map S.text w.items) ≡ None
         → TellsWords (O.bytes out.old) (O.bytes out.new) (O.is_broken out.new) (E.bytes err.old) (E.bytes err.new) (E.is_broken err.new) (exit_status result) (map S.text w.items))) }
     ensures left { IfOk words (λ w. WhereFiles (map S.text w.items) (LeavesAsked (asked_by (map S.text w.items)) (F.holding files.old) (F.holding files.new))) }
+    ensures stored { IfOk words (λ w. WhereFiles (map S.text w.items) ((F.holding files.new ≡ F.holding files.old)
+        ⊎ Answers stores_file (O.bytes out.old) (O.bytes out.new) (O.is_broken out.new) (E.bytes err.old) (E.bytes err.new) (E.is_broken err.new) (exit_status result) HasStored)) }
     ensures serves { IfOk words (λ w. WhereServe (map S.text w.items) (IfSome (serve_by (map S.text w.items)) (λ s.
         Serves (length s.documents) (O.bytes out.old) (O.bytes out.new) (O.is_broken out.new) (exit_status result)
         ⊎ Wants (O.bytes out.old) (O.bytes out.new) (O.is_broken out.new) (E.bytes err.old) (E.bytes err.new) (E.is_broken err.new) (exit_status result)))) }
@@ -122,12 +125,14 @@ where
     requires err_whole { E.is_broken err.old ≡ false }
     ensures answers { WhereFiles (map S.text words.now)
         (IfSome (asked_by (map S.text words.now)) (λ asked. IfSome (F.holding files.old) (λ at.
-        Answers (can_want asked) (O.bytes out.old) (O.bytes out.new) (O.is_broken out.new) (E.bytes err.old) (E.bytes err.new) (E.is_broken err.new) result (IsOutcome at (F.holding files.new) asked)))) }
+        Answers (can_want asked) (O.bytes out.old) (O.bytes out.new) (O.is_broken out.new) (E.bytes err.old) (E.bytes err.new) (E.is_broken err.new) result (IsRunOutcome at (F.holding files.new) (F.has_failed files.new) asked)))) }
     ensures unread { WhereFiles (map S.text words.now) (F.has_failed files.old ≡ false → F.has_failed files.new ≡ true
         → Answers is_of_file (O.bytes out.old) (O.bytes out.new) (O.is_broken out.new) (E.bytes err.old) (E.bytes err.new) (E.is_broken err.new) result IsFileRefusal) }
     ensures tells { WhereFiles (map S.text words.now) (asked_by (map S.text words.now) ≡ None
         → TellsWords (O.bytes out.old) (O.bytes out.new) (O.is_broken out.new) (E.bytes err.old) (E.bytes err.new) (E.is_broken err.new) result (map S.text words.now)) }
     ensures left { WhereFiles (map S.text words.now) (LeavesAsked (asked_by (map S.text words.now)) (F.holding files.old) (F.holding files.new)) }
+    ensures stored { WhereFiles (map S.text words.now) ((F.holding files.new ≡ F.holding files.old)
+        ⊎ Answers stores_file (O.bytes out.old) (O.bytes out.new) (O.is_broken out.new) (E.bytes err.old) (E.bytes err.new) (E.is_broken err.new) result HasStored) }
     ensures serves { WhereServe (map S.text words.now) (IfSome (serve_by (map S.text words.now)) (λ s.
         Serves (length s.documents) (O.bytes out.old) (O.bytes out.new) (O.is_broken out.new) result
         ⊎ Wants (O.bytes out.old) (O.bytes out.new) (O.is_broken out.new) (E.bytes err.old) (E.bytes err.new) (E.is_broken err.new) result)) }

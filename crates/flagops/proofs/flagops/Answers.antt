@@ -1,7 +1,8 @@
-use Rattle.std.proofs.Common.{◌≡◌, ℕ, None, false, true, map, List, IfSome}
+use Rattle.std.proofs.Common.{◌≡◌, ◌⊎◌, ℕ, None, false, true, map, List, IfSome}
 use Rattle.flagops.specs.First.{WhereFiles, WhereFollow, WhereServe}
-use Rattle.flagops_commands.specs.Commands.{can_want, IsOutcome}
+use Rattle.flagops_commands.specs.Commands.{can_want, HasStored, IsRunOutcome}
 use Rattle.flagops_commands.specs.Telling.{TellsWords}
+use Rattle.flagops_files.specs.Refusal.{stores_file}
 use Rattle.flagops_files.specs.Report.{Answers, IsFileRefusal, is_of_file}
 use Rattle.flagops_network.specs.Mistakes.{TellsOne}
 use Rattle.flagops_network.specs.Words.{follow_by, follow_faults, serve_by, serve_faults}
@@ -13,7 +14,7 @@ pub returns-in-Ok-clause-answers : goal.returns-in-Ok-clause-answers
 returns-in-Ok-clause-answers g c =
     carried (λ (l : List g.row.S.Denot) (s : ℕ). WhereFiles (map g.S.AsStr.text l) (IfSome (asked_by (map g.S.AsStr.text l)) (λ asked. IfSome (g.F.FileSet.holding c.args.files.now) (λ at.
     Answers (can_want asked) (g.O.Outlet.bytes c.args.out.now) (g.O.Outlet.bytes c.status_of.new.out) (g.O.Outlet.is_broken c.status_of.new.out)
-    (g.E.Outlet.bytes c.args.err.now) (g.E.Outlet.bytes c.status_of.new.err) (g.E.Outlet.is_broken c.status_of.new.err) s (IsOutcome at (g.F.FileSet.holding c.status_of.new.files) asked)))))
+    (g.E.Outlet.bytes c.args.err.now) (g.E.Outlet.bytes c.status_of.new.err) (g.E.Outlet.is_broken c.status_of.new.err) s (IsRunOutcome at (g.F.FileSet.holding c.status_of.new.files) (g.F.FileSet.has_failed c.status_of.new.files) asked)))))
     (λ w. w.items) _ _ _ _ _ c.in-Ok.is c.as_slice.ensures.value c.from.ensures c.status_of.ensures.answers
 
 pub returns-in-Ok-clause-unread : goal.returns-in-Ok-clause-unread
@@ -29,6 +30,13 @@ returns-in-Ok-clause-tells g c =
     → TellsWords (g.O.Outlet.bytes c.args.out.now) (g.O.Outlet.bytes c.status_of.new.out) (g.O.Outlet.is_broken c.status_of.new.out)
     (g.E.Outlet.bytes c.args.err.now) (g.E.Outlet.bytes c.status_of.new.err) (g.E.Outlet.is_broken c.status_of.new.err) s (map g.S.AsStr.text l)))
     (λ w. w.items) _ _ _ _ _ c.in-Ok.is c.as_slice.ensures.value c.from.ensures c.status_of.ensures.tells
+
+pub returns-in-Ok-clause-stored : goal.returns-in-Ok-clause-stored
+returns-in-Ok-clause-stored g c =
+    carried (λ (l : List g.row.S.Denot) (s : ℕ). WhereFiles (map g.S.AsStr.text l) ((g.F.FileSet.holding c.status_of.new.files ≡ g.F.FileSet.holding c.args.files.now)
+    ⊎ Answers stores_file (g.O.Outlet.bytes c.args.out.now) (g.O.Outlet.bytes c.status_of.new.out) (g.O.Outlet.is_broken c.status_of.new.out)
+    (g.E.Outlet.bytes c.args.err.now) (g.E.Outlet.bytes c.status_of.new.err) (g.E.Outlet.is_broken c.status_of.new.err) s HasStored))
+    (λ w. w.items) _ _ _ _ _ c.in-Ok.is c.as_slice.ensures.value c.from.ensures c.status_of.ensures.stored
 
 pub returns-in-Ok-clause-serve_tells : goal.returns-in-Ok-clause-serve_tells
 returns-in-Ok-clause-serve_tells g c =
