@@ -1,11 +1,69 @@
 -- Documents that are loaded.
-use Rattle.std.specs.Prelude.{Bool, false, Result, Ok, Err}
-use Rattle.flagops_streams.specs.Refusal.{is_unreadable}
-use Rattle.flagops_network.specs.declared.loading.Unloaded.{Unloaded}
+use Rattle.std.specs.Prelude.{◌≡◌, ℕ, ◌+◌, Bool, false, List, [], ◌∷◌, ◌++◌, length, Result, Ok, Err}
+use Rattle.source_merge.specs.Sources.{SourceList}
+use Rattle.source_merge.specs.View.{sources_view}
+use Rattle.flagops_files.specs.Files.{Holding, load_of}
+use Rattle.flagops_files.specs.Loading.{◌>>=◌, max_text}
+use Rattle.flagops_files.specs.declared.files.LoadFault.{LoadFault}
+use Rattle.flagops_files.specs.declared.files.LoadFault.TheVariants as load
+use Rattle.flagops_streams.specs.Documents.{ServesTo, source_added, texts_of}
+use Rattle.flagops_streams.specs.Refusal.{is_unreadable, is_want}
+use Rattle.flagops_streams.specs.declared.documents.Documents.{Documents}
 use Rattle.flagops_streams.specs.declared.refusal.Refusal.{Refusal}
+use Rattle.flagops_streams.specs.declared.refusal.Refusal.TheVariants.{Unloaded, Unreadable}
+use Rattle.flagops_network.specs.Words.{Serving}
+use Rattle.flagops_network.specs.declared.loading.Unloaded as code
+
+-- documents by their bytes, and the sources that they are merged from
+pub record Loaded : Type 0 where
+  pub sources : SourceList
+  pub texts : List (List ℕ)
+
+abbrev pub documents_view : Documents → Loaded
+documents_view d = record { sources = sources_view d.sources; texts = texts_of d.texts.items }
+
+-- what a read of a file gives, its fault as the refusal of `serve`
+abbrev pub text_of : Result (List ℕ) LoadFault → Result (List ℕ) Refusal
+text_of (Ok bytes) = Ok bytes
+text_of (Err load.Unreadable) = Err Unreadable
+text_of (Err load.WantOfMemory) = Err Unloaded
+
+-- one more document: its source is added, then the file at the path is loaded
+abbrev pub loaded_next : Holding → Loaded → List ℕ → Result Loaded Refusal
+loaded_next at d path = do
+  sources ← source_added d.sources (length d.texts + 1)
+  text ← text_of (load_of at path max_text)
+  Ok (record { sources = sources; texts = d.texts ++ text ∷ [] })
+
+-- one more document for each path, in their order; the first refusal is the answer
+abbrev pub loaded_from : Holding → Loaded → List (List ℕ) → Result Loaded Refusal
+loaded_from at d [] = Ok d
+loaded_from at d (path ∷ paths) = do
+  next ← loaded_next at d path
+  loaded_from at next paths
+
+-- the documents of the files at these paths
+abbrev pub loaded_at : Holding → List (List ℕ) → Result Loaded Refusal
+loaded_at at paths = loaded_from at (record { sources = []; texts = [] }) paths
+
+-- what was loaded is what the definition gives, unless memory ran out
+abbrev pub LoadsTo : Result Documents code.Unloaded → Result Loaded Refusal → Type 0
+LoadsTo (Ok d) wanted = wanted ≡ Ok (documents_view d)
+LoadsTo (Err u) wanted = is_want u.refusal ≡ false → wanted ≡ Err u.refusal
+
+-- what serving them gives, or why they were not loaded
+abbrev pub ServesLoaded : ℕ → Result Loaded Refusal → Result ℕ Refusal → Type 0
+ServesLoaded subscribers (Err refusal) answer = answer ≡ Err refusal
+ServesLoaded subscribers (Ok d) answer = ServesTo subscribers 1 d.sources d.texts answer
+
+-- What `serve` answers: what serving the documents at the paths of its words gives, to as many subscribers as they say,
+-- unless memory ran out.
+abbrev pub AnswersTo : Holding → Serving → Result ℕ Refusal → Type 0
+AnswersTo at s (Ok n) = ServesLoaded s.subscribers (loaded_at at s.documents) (Ok n)
+AnswersTo at s (Err r) = is_want r ≡ false → ServesLoaded s.subscribers (loaded_at at s.documents) (Err r)
 
 -- a file could not be read
-abbrev pub is_unread : {X : Type 0} → Result X Unloaded → Bool
+abbrev pub is_unread : {X : Type 0} → Result X code.Unloaded → Bool
 is_unread (Ok x) = false
 is_unread (Err u) = is_unreadable u.refusal
 

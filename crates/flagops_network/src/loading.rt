@@ -1,7 +1,8 @@
 //! The documents that `serve` is asked for.
-ghost use Rattle.std.specs.Prelude.{◌≡◌, ◌+◌, ◌||◌, length, IfOk, OnOk};
-ghost use Rattle.flagops_network.specs.Loading.{is_unread, is_unread_next};
+ghost use Rattle.std.specs.Prelude.{◌≡◌, ◌+◌, ◌||◌, length, map, IfOk, IfSome, OnOk};
+ghost use Rattle.flagops_network.specs.Loading.{LoadsTo, documents_view, is_unread, is_unread_next, loaded_at, loaded_next};
 ghost use Rattle.flagops_streams.specs.Documents.{documents_in};
+ghost use Rattle.flagops_streams.specs.Refusal.{GivesUnlessWant};
 
 use flagops_files::{FileSet, LoadFault, TEXT_LIMIT};
 use flagops_streams::{Documents, Refusal};
@@ -20,13 +21,14 @@ pub(crate) fn loaded<'a, F: FileSet>(
     files: &mut F,
     paths: &[&'a str],
 ) -> Result<Documents, Unloaded<'a>>
+    ensures exact { IfSome (F.holding files.old) (λ at. LoadsTo result (loaded_at at (map (λ path. path.now) paths.now))) }
     ensures all { IfOk result (λ d. documents_in d ≡ length paths.now) }
     ensures failed { F.has_failed files.new ≡ (F.has_failed files.old || is_unread result) }
     ensures kept { F.holding files.new ≡ F.holding files.old }
 {
     let mut documents = Documents::new(alloc);
-    for path in paths {
-        let path = *path;
+    for named in paths {
+        let path = *named;
         if let Err(refusal) = load_next(alloc, files, &mut documents, path) {
             return Err(Unloaded { refusal, path });
         }
@@ -41,15 +43,16 @@ fn load_next<F: FileSet>(
     documents: &mut Documents,
     path: &str,
 ) -> Result<(), Refusal>
+    ensures exact { IfSome (F.holding files.old) (λ at. GivesUnlessWant (λ _. documents_view documents.new) result (loaded_next at (documents_view documents.old) path.now)) }
     ensures more { OnOk result (documents_in documents.new ≡ documents_in documents.old + 1) }
     ensures failed { F.has_failed files.new ≡ (F.has_failed files.old || is_unread_next result) }
     ensures kept { F.holding files.new ≡ F.holding files.old }
 {
     documents.add_source(alloc)?;
-    let document = match files.read(alloc, path, u64::from(TEXT_LIMIT)) {
-        Ok(document) => document,
+    let text = match files.read(alloc, path, u64::from(TEXT_LIMIT)) {
+        Ok(text) => text,
         Err(LoadFault::Unreadable) => return Err(Refusal::Unreadable),
         Err(LoadFault::WantOfMemory) => return Err(Refusal::Unloaded),
     };
-    documents.push(document)
+    documents.push(text)
 }

@@ -1,8 +1,10 @@
 //! The command `serve`.
-ghost use Rattle.std.specs.Prelude.{◌≡◌, ◌⊎◌, None, false, length, map, true, IfSome};
+ghost use Rattle.std.specs.Prelude.{◌≡◌, ◌⊎◌, ℕ, None, Result, false, length, map, true, IfSome};
 ghost use Rattle.flagops_commands.specs.Telling.{Wants};
+ghost use Rattle.flagops_network.specs.Loading.{AnswersTo};
 ghost use Rattle.flagops_network.specs.Mistakes.{TellsOne};
-ghost use Rattle.flagops_streams.specs.Report.{RefusesBy, Serves};
+ghost use Rattle.flagops_streams.specs.Report.{RefusesBy, Reports, Serves};
+ghost use Rattle.flagops_streams.specs.declared.refusal.Refusal.{Refusal};
 ghost use Rattle.flagops_streams.specs.declared.refusal.Refusal.TheVariants.{Unreadable};
 ghost use Rattle.flagops_network.specs.Words.{serve_by, serve_faults};
 
@@ -31,6 +33,9 @@ where
     E: Outlet,
     requires out_whole { O.is_broken out.old ≡ false }
     requires err_whole { E.is_broken err.old ≡ false }
+    ensures answers { IfSome (serve_by (map S.text words.now)) (λ s. IfSome (F.holding files.old) (λ at.
+        ((answer : Result ℕ Refusal) × AnswersTo at s answer × Reports answer (O.bytes out.old) (O.bytes out.new) (O.is_broken out.new) result)
+        ⊎ Wants (O.bytes out.old) (O.bytes out.new) (O.is_broken out.new) (E.bytes err.old) (E.bytes err.new) (E.is_broken err.new) result)) }
     ensures serves { IfSome (serve_by (map S.text words.now)) (λ s.
         Serves (length s.documents) (O.bytes out.old) (O.bytes out.new) (O.is_broken out.new) result
         ⊎ Wants (O.bytes out.old) (O.bytes out.new) (O.is_broken out.new) (E.bytes err.old) (E.bytes err.new) (E.is_broken err.new) result) }

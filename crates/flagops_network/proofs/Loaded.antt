@@ -1,0 +1,66 @@
+-- Documents that are loaded, one after the other, and served.
+use Rattle.std.proofs.Common.{◌≡◌, ◌+◌, ◌<◌, ◌∙◌, ◌⊎◌, ℕ, false, List, ◌∷◌, Option, Some, None, Result, Ok, Err, IfSome, inl, refl, add-one, ap, drop, get_or, length, map, subst, sym}
+use Rattle.std.proofs.Math.Seq.{drop-cons}
+use Rattle.flagops_files.specs.Files.{Holding}
+use Rattle.flagops_files.specs.Loading.{◌>>=◌}
+use Rattle.flagops_streams.specs.Documents.{ServesTo}
+use Rattle.flagops_streams.specs.Refusal.{is_want}
+use Rattle.flagops_streams.specs.declared.refusal.Refusal.{Refusal}
+use Rattle.flagops_network.specs.Loading.{AnswersTo, Loaded, ServesLoaded, loaded_at, loaded_from, loaded_next}
+use Rattle.flagops_network.specs.Words.{Serving}
+
+-- what follows for files whose bytes are known
+pub where_known : {A : Type 0} (h : Option A) (P Q : A → Type 0) → ((a : A) → P a → Q a) → IfSome h P → IfSome h Q
+where_known None P Q f p = tt
+where_known (Some a) P Q f p = f a p
+
+-- the same of two facts, where the files stay
+pub both_known : {A : Type 0} (h k : Option A) (P S : A → Type 0) → k ≡ h → IfSome h P → {Q : A → Type 0} → IfSome k Q → ((a : A) → P a → Q a → S a) → IfSome h S
+both_known {A} h k P S same p {Q} q f = go h p (subst (λ (o : Option A). IfSome o Q) same q)
+  where
+    go : (o : Option A) → IfSome o P → IfSome o Q → IfSome o S
+    go None p q = tt
+    go (Some a) p q = f a p q
+
+-- the first of those that are left, and those behind it
+pub first_left : {X : Type 0} (now : X → List ℕ) (xs : List X) (i : ℕ) (z : X) → i < length xs → map now (drop i xs) ≡ now (get_or xs i z) ∷ map now (drop (i + 1) xs)
+first_left now xs i z inside =
+    let left : drop i xs ≡ get_or xs i z ∷ drop (i + 1) xs = rw add-one (drop-cons xs i z inside) in
+    ap (map now) left
+
+-- where the first of the paths left is refused, so are all
+pub refused_next : (at : Holding) (d : Loaded) (path : List ℕ) (paths rest : List (List ℕ)) (all : Result Loaded Refusal) (refusal : Refusal)
+    → loaded_from at d paths ≡ all → loaded_next at d path ≡ Err refusal → paths ≡ path ∷ rest → all ≡ Err refusal
+refused_next at d path paths rest all refusal so_far next first =
+    sym so_far ∙ ap (loaded_from at d) first ∙ ap (λ (r : Result Loaded Refusal). r >>= λ more. loaded_from at more rest) next
+
+-- what serving the documents that were loaded gives is what the words and the files give
+pub loaded_served : (at : Holding) (s : Serving) (d : Loaded) (answer : Result ℕ Refusal) → loaded_at at s.documents ≡ Ok d → ServesTo s.subscribers 1 d.sources d.texts answer → AnswersTo at s answer
+loaded_served at s d (Ok n) loaded served = subst (λ (r : Result Loaded Refusal). ServesLoaded s.subscribers r (Ok n)) (sym loaded) served
+loaded_served at s d (Err refusal) loaded served = λ _. subst (λ (r : Result Loaded Refusal). ServesLoaded s.subscribers r (Err refusal)) (sym loaded) served
+
+-- and so is why they were not loaded
+pub not_loaded : (at : Holding) (s : Serving) (refusal : Refusal) → (is_want refusal ≡ false → loaded_at at s.documents ≡ Err refusal) → AnswersTo at s (Err refusal)
+not_loaded at s refusal loaded = λ other. subst (λ (r : Result Loaded Refusal). ServesLoaded s.subscribers r (Err refusal)) (sym (loaded other)) refl
+
+-- an answer to words that ask for this, and its report
+pub answered : (holding : Option Holding) (asked : Option Serving) (s : Serving) (answer : Result ℕ Refusal) (Reported : Result ℕ Refusal → Type 0) (Wanted : Type 0)
+    → asked ≡ Some s → IfSome holding (λ at. AnswersTo at s answer) → Reported answer
+    → IfSome asked (λ t. IfSome holding (λ at. ((r : Result ℕ Refusal) × AnswersTo at t r × Reported r) ⊎ Wanted))
+answered holding asked s answer Reported Wanted is answers report =
+    subst (λ (o : Option Serving). IfSome o (λ t. IfSome holding (λ at. ((r : Result ℕ Refusal) × AnswersTo at t r × Reported r) ⊎ Wanted))) (sym is)
+    (where_known holding (λ at. AnswersTo at s answer) (λ at. ((r : Result ℕ Refusal) × AnswersTo at s r × Reported r) ⊎ Wanted) (λ at h. inl (answer, h, report)) answers)
+
+-- the same over the words' own paths, of which the slice was taken
+module _ {X : Type 0} (now : X → List ℕ) (slice items : List X) (same : slice ≡ items) (holding : Option Holding) (s : Serving) (paths : s.documents ≡ map now items) where
+  named : map now slice ≡ s.documents
+  named = ap (map now) same ∙ sym paths
+
+  pub all_served : (d : Loaded) (answer : Result ℕ Refusal) → IfSome holding (λ at. loaded_at at (map now slice) ≡ Ok d) → ServesTo s.subscribers 1 d.sources d.texts answer → IfSome holding (λ at. AnswersTo at s answer)
+  all_served d answer loaded served =
+      where_known holding (λ at. loaded_at at (map now slice) ≡ Ok d) (λ at. AnswersTo at s answer) (λ at e. loaded_served at s d answer (ap (loaded_at at) (sym named) ∙ e) served) loaded
+
+  pub none_served : (refusal : Refusal) → IfSome holding (λ at. is_want refusal ≡ false → loaded_at at (map now slice) ≡ Err refusal) → IfSome holding (λ at. AnswersTo at s (Err refusal))
+  none_served refusal loaded =
+      where_known holding (λ at. is_want refusal ≡ false → loaded_at at (map now slice) ≡ Err refusal) (λ at. AnswersTo at s (Err refusal))
+      (λ at e. not_loaded at s refusal (λ other. ap (loaded_at at) (sym named) ∙ e other)) loaded
