@@ -6,17 +6,19 @@
 //! `follow` of `flagops_network`.
 #![tactic(auto)]
 
-ghost use Rattle.std.specs.Prelude.{◌≡◌, ◌⊎◌, None, codes, false, length, map, true, IfErr, IfOk, IfSome};
+ghost use Rattle.std.specs.Prelude.{◌≡◌, ◌⊎◌, None, codes, false, length, map, true, IfErr, IfOk, IfSome, ℕ, Result};
 ghost use Rattle.std.specs.Process.{exit_status};
 ghost use Rattle.flagops.specs.First.{begins_with, WhereFiles, WhereFollow, WhereServe};
 ghost use Rattle.flagops_commands.specs.Commands.{can_want, HasStored, IsRunOutcome, LeavesAsked};
 ghost use Rattle.flagops_commands.specs.Telling.{Complains, TellsWords, Wants};
 ghost use Rattle.flagops_files.specs.Refusal.{stores_file};
 ghost use Rattle.flagops_files.specs.Report.{Answers, IsFileRefusal, is_of_file};
+ghost use Rattle.flagops_network.specs.Loading.{AnswersTo};
 ghost use Rattle.flagops_network.specs.Mistakes.{TellsOne};
 ghost use Rattle.flagops_network.specs.Words.{follow_by, follow_faults, serve_by, serve_faults};
 ghost use Rattle.flagops_streams.specs.Printed.{Follows};
-ghost use Rattle.flagops_streams.specs.Report.{RefusesBy, Serves};
+ghost use Rattle.flagops_streams.specs.Report.{RefusesBy, Reports, Serves};
+ghost use Rattle.flagops_streams.specs.declared.refusal.Refusal.{Refusal};
 ghost use Rattle.flagops_streams.specs.declared.refusal.Refusal.TheVariants.{Unreachable, Unreadable};
 ghost use Rattle.flagops_words.specs.Words.{asked_by};
 
@@ -79,6 +81,9 @@ where
     ensures left { IfOk words (λ w. WhereFiles (map S.text w.items) (LeavesAsked (asked_by (map S.text w.items)) (F.holding files.old) (F.holding files.new))) }
     ensures stored { IfOk words (λ w. WhereFiles (map S.text w.items) ((F.holding files.new ≡ F.holding files.old)
         ⊎ Answers stores_file (O.bytes out.old) (O.bytes out.new) (O.is_broken out.new) (E.bytes err.old) (E.bytes err.new) (E.is_broken err.new) (exit_status result) HasStored)) }
+    ensures serve_answers { IfOk words (λ w. WhereServe (map S.text w.items) (IfSome (serve_by (map S.text w.items)) (λ s. IfSome (F.holding files.old) (λ at.
+        ((answer : Result ℕ Refusal) × AnswersTo at s answer × Reports answer (O.bytes out.old) (O.bytes out.new) (O.is_broken out.new) (exit_status result))
+        ⊎ Wants (O.bytes out.old) (O.bytes out.new) (O.is_broken out.new) (E.bytes err.old) (E.bytes err.new) (E.is_broken err.new) (exit_status result))))) }
     ensures serves { IfOk words (λ w. WhereServe (map S.text w.items) (IfSome (serve_by (map S.text w.items)) (λ s.
         Serves (length s.documents) (O.bytes out.old) (O.bytes out.new) (O.is_broken out.new) (exit_status result)
         ⊎ Wants (O.bytes out.old) (O.bytes out.new) (O.is_broken out.new) (E.bytes err.old) (E.bytes err.new) (E.is_broken err.new) (exit_status result)))) }
@@ -133,6 +138,9 @@ where
     ensures left { WhereFiles (map S.text words.now) (LeavesAsked (asked_by (map S.text words.now)) (F.holding files.old) (F.holding files.new)) }
     ensures stored { WhereFiles (map S.text words.now) ((F.holding files.new ≡ F.holding files.old)
         ⊎ Answers stores_file (O.bytes out.old) (O.bytes out.new) (O.is_broken out.new) (E.bytes err.old) (E.bytes err.new) (E.is_broken err.new) result HasStored) }
+    ensures serve_answers { WhereServe (map S.text words.now) (IfSome (serve_by (map S.text words.now)) (λ s. IfSome (F.holding files.old) (λ at.
+        ((answer : Result ℕ Refusal) × AnswersTo at s answer × Reports answer (O.bytes out.old) (O.bytes out.new) (O.is_broken out.new) result)
+        ⊎ Wants (O.bytes out.old) (O.bytes out.new) (O.is_broken out.new) (E.bytes err.old) (E.bytes err.new) (E.is_broken err.new) result))) }
     ensures serves { WhereServe (map S.text words.now) (IfSome (serve_by (map S.text words.now)) (λ s.
         Serves (length s.documents) (O.bytes out.old) (O.bytes out.new) (O.is_broken out.new) result
         ⊎ Wants (O.bytes out.old) (O.bytes out.new) (O.is_broken out.new) (E.bytes err.old) (E.bytes err.new) (E.is_broken err.new) result)) }
