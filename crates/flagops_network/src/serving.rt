@@ -13,9 +13,10 @@ use crate::words::read_serve;
 use flag_text::Outlet;
 use flagops_commands::explain;
 use flagops_files::FileSet;
-use flagops_remarks::of_unreadable;
-use flagops_streams::{Refusal, refuse, say, say_refused, serve_documents};
-use std::alloc::Global;
+use flag_defs::DefFault;
+use flagops_remarks::{of_document, of_unreadable};
+use flagops_streams::{Refusal, Remarks, refuse, say, say_refused, serve_documents};
+use std::alloc::{AllocError, Global};
 use std::convert::AsStr;
 use std::net::{Net, TcpListener, TcpStream};
 use std::sync::Wait;
@@ -51,12 +52,14 @@ where
         Ok(serving) => serving,
         Err(error) => return explain(alloc, &error, out, err),
     };
-    match loaded(alloc, files, serving.documents.as_slice()) {
+    let paths = serving.documents.as_slice();
+    match loaded(alloc, files, paths) {
         Ok(documents) => serve_documents(
             rt,
             serving.port,
             serving.subscribers,
             documents,
+            &AtPaths { paths },
             out,
             err,
         ),
@@ -64,6 +67,27 @@ where
             tell(alloc, err, &unloaded);
             refuse(alloc, out, unloaded.refusal)
         }
+    }
+}
+
+/// The words for documents that were read from these paths.
+struct AtPaths<'p, 'a> {
+    paths: &'p [&'a str],
+}
+
+impl Remarks for AtPaths<'_, '_> {
+    fn of_document(
+        &self,
+        alloc: Global,
+        place: u64,
+        text: &[u8],
+        fault: DefFault,
+    ) -> Result<String, AllocError> {
+        let path = match self.paths.iter().nth(place.saturating_sub(1) as usize) {
+            Some(path) => *path,
+            None => "",
+        };
+        of_document(alloc, path, text, fault)
     }
 }
 

@@ -36,6 +36,6 @@ mod subscriber;
 pub use documents::Documents;
 pub use follow::{follow_lines, follow_port};
 pub use refusal::Refusal;
-pub use remark::{say, say_refused};
+pub use remark::{Remarks, say, say_refused};
 pub use report::refuse;
 pub use serve::serve_documents;

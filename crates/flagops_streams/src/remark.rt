@@ -1,9 +1,13 @@
 //! What a person is told on the error outlet. It changes no answer: a line that can't be made or written is left out.
 use crate::refusal::Refusal;
+use flag_defs::DefFault;
 use flag_text::Outlet;
 use source_merge::SourceFault;
 use std::alloc::{AllocError, Global};
 use sync_server::StreamEnd;
+
+/// What a document that is refused leaves.
+const PUBLISHED_BEFORE: &str = "  the subscribers have what was published before it\n";
 
 /// Where subscribers may come.
 pub(crate) fn say_listening<E: Outlet>(alloc: Global, err: &mut E, port: u16, subscribers: usize) {
@@ -48,6 +52,38 @@ fn reason(end: StreamEnd) -> &'static str {
     }
 }
 
+/// What a person is told of a document, by whoever knows where it was read from.
+pub trait Remarks {
+    /// Why the document at this place, from 1, is refused, with these bytes: a line or two.
+    fn of_document(
+        &self,
+        alloc: Global,
+        place: u64,
+        text: &[u8],
+        fault: DefFault,
+    ) -> Result<String, AllocError>;
+}
+
+/// Why documents, or no more of them, were published.
+pub(crate) fn say_why<D: Remarks, E: Outlet>(
+    alloc: Global,
+    err: &mut E,
+    remarks: &D,
+    texts: &[Vec<u8>],
+    refusal: Refusal,
+) {
+    let Refusal::Set(SourceFault::Refused(fault), place) = refusal else {
+        return say_refused(alloc, err, refusal);
+    };
+    let Some(text) = texts.iter().nth(place.saturating_sub(1) as usize) else {
+        return say_refused(alloc, err, refusal);
+    };
+    if let Ok(lines) = remarks.of_document(alloc, place, text.as_slice(), fault) {
+        say(err, lines.as_str());
+        say(err, PUBLISHED_BEFORE);
+    }
+}
+
 /// Why a command was refused.
 pub fn say_refused<E: Outlet>(alloc: Global, err: &mut E, refusal: Refusal) {
     if let Ok(lines) = lines_of(alloc, refusal) {
@@ -63,7 +99,7 @@ fn lines_of(alloc: Global, refusal: Refusal) -> Result<String, AllocError> {
             other => other.name(),
         };
         return format!(in alloc;
-            "error: the document at place {place} of those to be published is refused: {why}\n  'flagops check' with its path tells where; the subscribers have what was published before\n"
+            "error: the document at place {place} of those to be published is refused: {why}\n{PUBLISHED_BEFORE}"
         );
     }
     let reason = reason_of(refusal);

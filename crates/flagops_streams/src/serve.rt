@@ -8,7 +8,7 @@ ghost use Rattle.flagops_streams.specs.Report.{Reports, Serves};
 use crate::board::Board;
 use crate::documents::{Documents, merge_next};
 use crate::refusal::Refusal;
-use crate::remark::{say_came, say_gone, say_listening, say_refused};
+use crate::remark::{Remarks, say_came, say_gone, say_listening, say_why};
 use crate::report::report_answer;
 use crate::subscriber::attend;
 use flag_defs::Flags;
@@ -23,17 +23,20 @@ use std::thread;
 use std::thread::Threads;
 
 /// Publishes documents to so many subscribers, which it first waits for on a port of this host, and writes what came of it.
+/// `remarks` has the words for a person where a document is refused.
 /// The conditions are an output that is not broken and one document at least.
-pub fn serve_documents<R, O, E>(
+pub fn serve_documents<R, D, O, E>(
     rt: &R,
     port: u16,
     subscribers: usize,
     documents: Documents,
+    remarks: &D,
     out: &mut O,
     err: &mut E,
 ) -> u8
 where
     R: AllocGlobal + Net<Listener = TcpListener, Stream = TcpStream> + Threads + Wait + Sync,
+    D: Remarks,
     O: Outlet,
     E: Outlet,
     requires whole { O.is_broken out.old ≡ false }
@@ -43,9 +46,10 @@ where
 {
     let alloc = rt.alloc();
     let Documents { sources, texts } = documents;
-    let answer = publish_documents(rt, port, subscribers, sources, texts.as_slice(), err);
+    let texts = texts.as_slice();
+    let answer = publish_documents(rt, port, subscribers, sources, texts, err);
     if let Err(refusal) = &answer {
-        say_refused(alloc, err, *refusal);
+        say_why(alloc, err, remarks, texts, *refusal);
     }
     report_answer(alloc, out, answer)
 }

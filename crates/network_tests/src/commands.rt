@@ -1,7 +1,8 @@
 //! The commands, and what stands at the other end of a stream.
 use super::memory::MemoryOutlet;
-use flagops_streams::{Documents, follow_port, serve_documents};
-use std::alloc::Global;
+use flag_defs::DefFault;
+use flagops_streams::{Documents, Remarks, follow_port, serve_documents};
+use std::alloc::{AllocError, Global};
 use std::io::Write;
 use std::net::{Net, SocketAddr, TcpListener, TcpStream};
 use std::sync::Wait;
@@ -21,11 +22,36 @@ where
     let mut err = MemoryOutlet::new(rt.alloc());
     let status = match documents_of(rt.alloc(), texts) {
         Some(documents) if documents.len() > 0 => {
-            serve_documents(rt, port, subscribers, documents, &mut out, &mut err)
+            serve_documents(
+                rt,
+                port,
+                subscribers,
+                documents,
+                &Placed,
+                &mut out,
+                &mut err,
+            )
         }
         _ => 255,
     };
     (out.bytes, err.bytes, status)
+}
+
+/// The words of the tests for a document that is refused: its place, its number of bytes, and the fault.
+struct Placed;
+
+impl Remarks for Placed {
+    fn of_document(
+        &self,
+        alloc: Global,
+        place: u64,
+        text: &[u8],
+        fault: DefFault,
+    ) -> Result<String, AllocError> {
+        let bytes = text.len();
+        let fault = fault.name();
+        format!(in alloc; "document {place}, {bytes} bytes: {fault}\n")
+    }
 }
 
 /// The documents of these texts.

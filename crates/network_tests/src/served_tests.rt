@@ -60,6 +60,10 @@ fn two_followers(rt: HostRuntime) -> Result<(), Fail> {
     Ok(())
 }
 
+/// What a person is told last where the second of the documents is refused.
+const TOLD: &[u8] =
+    b"document 2, 1 bytes: NotJson\n  the subscribers have what was published before it\n";
+
 #[test]
 fn a_refused_document_ends_the_streams(rt: HostRuntime) -> Result<(), Fail> {
     let port = free_port(&rt, 21_300)?;
@@ -71,6 +75,7 @@ fn a_refused_document_ends_the_streams(rt: HostRuntime) -> Result<(), Fail> {
     assert!(rt;
         is_printed(&served, b"refused set 4 Refused 1 NotJson\n", 1)
             && is_printed(&followed, b"snapshot 1 flags 10\nended\n", 0)
+            && served.1.as_slice().ends_with(TOLD)
     );
     Ok(())
 }
