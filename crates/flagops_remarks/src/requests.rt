@@ -4,6 +4,7 @@ use crate::words::{quoted, shown, step};
 use flag_text::{Tree, read_tree};
 use price_core::PriceFault;
 use std::alloc::{AllocError, Global};
+use std::collections::BTreeSet;
 
 /// The most bytes of a request.
 const LIMIT: usize = 4_194_304;
@@ -37,7 +38,7 @@ pub fn of_request(
 fn shape(alloc: Global, tree: &Tree) -> Result<String, AllocError> {
     let what = match misshaped(alloc, tree)? {
         Some(what) => what,
-        None => String::from_str(alloc, "a pair of variants stands twice in a list")?,
+        None => doubled(alloc, tree)?,
     };
     format!(in alloc; "{what}\n  it looks like {LOOK}; docs/FORMATS.md has all of it")
 }
@@ -189,18 +190,55 @@ pub(crate) fn pairs<'a>(tree: &'a Tree, name: &str) -> &'a [Tree] {
     }
 }
 
+/// The first pair of variants that stands twice in a list.
+fn doubled(alloc: Global, tree: &Tree) -> Result<String, AllocError> {
+    for list in ["prices", "forbid"] {
+        if let Some(what) = doubled_in(alloc, list, pairs(tree, list))? {
+            return Ok(what);
+        }
+    }
+    String::from_str(alloc, "a pair of variants stands twice in a list")
+}
+
+fn doubled_in(alloc: Global, list: &str, items: &[Tree]) -> Result<Option<String>, AllocError> {
+    let mut seen = BTreeSet::new(alloc);
+    for i in 0..items.len() {
+        if let Some((from, to)) = change(&items[i]) {
+            let length = from.len();
+            let change = format!(in alloc; "{length}:{from}{to}")?;
+            if !seen.insert(change)? {
+                let from = quoted(alloc, from)?;
+                let to = quoted(alloc, to)?;
+                return Ok(Some(format!(in alloc;
+                    "{list}[{i}] is the change from {from} to {to} once more"
+                )?));
+            }
+        }
+    }
+    Ok(None)
+}
+
+/// The old and the new variant of an item of a list of pairs.
+fn change(item: &Tree) -> Option<(&str, &str)> {
+    match item {
+        Tree::List(parts) => match parts.as_slice() {
+            [Tree::Text(from), Tree::Text(to), ..] => Some((from.as_str(), to.as_str())),
+            _ => None,
+        },
+        _ => None,
+    }
+}
+
 fn self_pair(alloc: Global, tree: &Tree) -> Result<String, AllocError> {
     for list in ["prices", "forbid"] {
         let items = pairs(tree, list);
         for i in 0..items.len() {
-            if let Tree::List(parts) = &items[i] {
-                if let [Tree::Text(from), Tree::Text(to), ..] = parts.as_slice() {
-                    if from.as_str() == to.as_str() {
-                        let name = quoted(alloc, from.as_str())?;
-                        return format!(in alloc;
-                            "{list}[{i}] is a change from {name} to itself; leave it out: who stays costs nothing"
-                        );
-                    }
+            if let Some((from, to)) = change(&items[i]) {
+                if from == to {
+                    let name = quoted(alloc, from)?;
+                    return format!(in alloc;
+                        "{list}[{i}] is a change from {name} to itself; leave it out: who stays costs nothing"
+                    );
                 }
             }
         }

@@ -6,6 +6,12 @@ use serde_json::Value;
 use simdutf8::basic;
 use std::alloc::{AllocError, Global};
 
+/// The most levels that lists and objects of a text may nest.
+const LEVELS: usize = 120;
+
+/// The bytes of a way into what nests too deep from which on no further step is shown.
+const MOST_OF_WAY: usize = 40;
+
 const WHOLE: &str =
     "  numbers are from -(2^53-1) to 2^53-1, without fraction or exponent: give cents, or a text\n";
 
@@ -107,36 +113,65 @@ pub(crate) fn from_root(alloc: Global, way: &String) -> Result<String, AllocErro
 
 fn too_deep(alloc: Global, source: &str, bytes: &[u8], limit: usize) -> Result<String, AllocError> {
     let way = match read_doc(alloc, bytes, limit) {
-        Ok(tree) => first_step(alloc, &tree)?,
+        Ok(tree) => way_down(alloc, &tree)?,
         Err(_) => String::new(alloc),
     };
     format!(in alloc; "error: {source}: lists and objects nest deeper than 120 levels, at {way}\n")
 }
 
-/// The step into the part of a tree that nests too deep.
-fn first_step(alloc: Global, tree: &Tree) -> Result<String, AllocError> {
-    let way = match tree {
-        Tree::Object(members) => deep_member(alloc, members.as_slice())?,
-        Tree::List(items) => deep_item(alloc, items.as_slice())?,
-        _ => String::new(alloc),
-    };
+/// The way into what nests too deep: its first steps, with dots behind them where there are more.
+fn way_down(alloc: Global, tree: &Tree) -> Result<String, AllocError> {
+    let mut way = String::new(alloc);
+    let mut part = tree;
+    for passed in 0..LEVELS {
+        if way.len() > MOST_OF_WAY {
+            way.push_str("..")?;
+            break;
+        }
+        let Some((step, inner)) = deep_part(alloc, part, LEVELS - 1 - passed)? else {
+            break;
+        };
+        way.push_str(step.as_str())?;
+        part = inner;
+    }
     from_root(alloc, &way)
 }
 
-fn deep_member(alloc: Global, members: &[(String, Tree)]) -> Result<String, AllocError> {
-    for (name, member) in members {
-        if !member.fits(119) {
-            return step(alloc, name.as_str());
-        }
+/// The first part of a tree that nests deeper than so many levels, and the step to it.
+fn deep_part<'a>(
+    alloc: Global,
+    tree: &'a Tree,
+    levels: usize,
+) -> Result<Option<(String, &'a Tree)>, AllocError> {
+    match tree {
+        Tree::Object(members) => deep_member(alloc, members.as_slice(), levels),
+        Tree::List(items) => deep_item(alloc, items.as_slice(), levels),
+        _ => Ok(None),
     }
-    Ok(String::new(alloc))
 }
 
-fn deep_item(alloc: Global, items: &[Tree]) -> Result<String, AllocError> {
-    for i in 0..items.len() {
-        if !items[i].fits(119) {
-            return format!(in alloc; "[{i}]");
+fn deep_member<'a>(
+    alloc: Global,
+    members: &'a [(String, Tree)],
+    levels: usize,
+) -> Result<Option<(String, &'a Tree)>, AllocError> {
+    for (name, member) in members {
+        if !member.fits(levels) {
+            return Ok(Some((step(alloc, name.as_str())?, member)));
         }
     }
-    Ok(String::new(alloc))
+    Ok(None)
+}
+
+fn deep_item<'a>(
+    alloc: Global,
+    items: &'a [Tree],
+    levels: usize,
+) -> Result<Option<(String, &'a Tree)>, AllocError> {
+    for i in 0..items.len() {
+        if !items[i].fits(levels) {
+            return Ok(Some((format!(in alloc; "[{i}]")?, &items[i])));
+        }
+    }
+    Ok(None)
 }
