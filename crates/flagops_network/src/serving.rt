@@ -10,10 +10,10 @@ ghost use Rattle.flagops_network.specs.Words.{serve_by, serve_faults};
 
 use crate::loading::{Unloaded, loaded};
 use crate::words::read_serve;
+use flag_defs::DefFault;
 use flag_text::Outlet;
 use flagops_commands::explain;
 use flagops_files::FileSet;
-use flag_defs::DefFault;
 use flagops_remarks::{of_document, of_unreadable};
 use flagops_streams::{Refusal, Remarks, refuse, say, say_refused, serve_documents};
 use std::alloc::{AllocError, Global};
@@ -71,6 +71,7 @@ where
 }
 
 /// The words for documents that were read from these paths.
+#[derive(Drop)]
 struct AtPaths<'p, 'a> {
     paths: &'p [&'a str],
 }

@@ -55,7 +55,8 @@ request {"plan":1,"flag":"a","site":-1,"totals":{}} -> error: the request "f": "
 request {"plan":1,"flag":"a","totals":{"on":[1,2]}} -> error: the request "f": totals.on is a list, no number from 0 to 2147483647 (a range [LOW,HIGH] only with "plan":2)
 request {"plan":2,"flag":"a","totals":{"on":[1]}} -> error: the request "f": totals.on is a list, no number from 0 to 2147483647 nor a range [LOW,HIGH]
 request {"plan":1,"flag":"a","totals":{},"forbid":[["on"]]} -> error: the request "f": forbid[0] is no [FROM,TO]
-request {"plan":1,"flag":"a","totals":{},"forbid":[["a","b"],["a","b"]]} -> error: the request "f": a pair of variants stands twice in a list
+request {"plan":1,"flag":"a","totals":{},"forbid":[["a","b"],["a","b"]]} -> error: the request "f": forbid[1] is the change from "a" to "b" once more
+request {"plan":1,"flag":"a","totals":{},"prices":[["a","b",1],["b","a",1],["a","b",2]]} -> error: the request "f": prices[2] is the change from "a" to "b" once more
 request {"plan":1,"flag":"a","totals":{},"forbid":[["on","on"]]} -> error: the request "f": forbid[0] is a change from "on" to itself; leave it out: who stays costs nothing
 request {"plan":1,"flag":"a","totals":{},"price":1000001} -> error: the request "f": "price" is 1000001; prices are from 0 to 1000000
 request {"plan":2,"flag":"a","totals":{"on":[5,4]}} -> error: the request "f": totals.on is [5,4]; the low limit stands first
@@ -68,6 +69,7 @@ plan {"plan":1,"none":["a",1]} -> error: "f" is no plan: none[1] is no name of a
 plan {"plan":1,"alpha":[["a",0,0],["a",1]],"beta":[],"cost":0,"rule":[]} -> error: "f" is no plan: alpha[1] is no [VARIANT,USERS,n]
 document {"flags":[]} -> error: "f" is no flag document: "flags" is a list, no object
 document {"flag":{}} -> error: "f" is no flag document: it has no "flags"
+rule [[[[[[[[[[[[[[[[[[[[[[[[[[[[[[[[[[[[[[[[[[[[[[[[[[[[[[[[[[[[[[[[[[[[[[[[[[[[[[[[[[[[[[[[[[[[[[[[[[[[[[[[[[[[[[[[[[[[[[[[[]]]]]]]]]]]]]]]]]]]]]]]]]]]]]]]]]]]]]]]]]]]]]]]]]]]]]]]]]]]]]]]]]]]]]]]]]]]]]]]]]]]]]]]]]]]]]]]]]]]]]]]]]]]]]]]]]]]]]]]]] -> error: "f": lists and objects nest deeper than 120 levels, at [0][0][0][0][0][0][0][0][0][0][0][0][0][0]..
 rule {"on":5} -> error: "f" is no rule: it is an object
 rule [["on"],"off"] -> error: "f" is no rule: its item [1] is no bucket
 rule [["on",5],["off",-0]] -> error: "f": the number at [1][1] is not whole"#;

@@ -15,7 +15,7 @@ returns-in-Ok-loaded-clause-answers g c =
     (λ r. Reports r (g.O.Outlet.bytes c.args.out.now) (g.O.Outlet.bytes c.serve_documents.new.out) (g.O.Outlet.is_broken c.serve_documents.new.out) c.serve_documents.result)
     (Wants (g.O.Outlet.bytes c.args.out.now) (g.O.Outlet.bytes c.serve_documents.new.out) (g.O.Outlet.is_broken c.serve_documents.new.out) (g.E.Outlet.bytes c.args.err.now) (g.E.Outlet.bytes c.serve_documents.new.err) (g.E.Outlet.is_broken c.serve_documents.new.err) c.serve_documents.result)
     c.in-Ok.ensures.ok
-    (all_served (λ p. p.now) c.as_slice.result.now c.in-Ok.serving.documents.items c.as_slice.ensures.value holding s refl (documents_view c.in-Ok-loaded.documents) served.0 c.in-Ok-loaded.ensures.exact served.1) served.2
+    (all_served (λ p. p.now) c.as_slice-paths.result.now c.in-Ok.serving.documents.items c.as_slice-paths.ensures.value holding s refl (documents_view c.in-Ok-loaded.documents) served.0 c.in-Ok-loaded.ensures.exact served.1) served.2
 
 pub returns-clause-answers : goal.returns-clause-answers
 returns-clause-answers g c =
@@ -26,4 +26,4 @@ returns-clause-answers g c =
     (λ r. Reports r (g.O.Outlet.bytes c.args.out.now) (g.O.Outlet.bytes c.refuse.new.out) (g.O.Outlet.is_broken c.refuse.new.out) c.refuse.result)
     (Wants (g.O.Outlet.bytes c.args.out.now) (g.O.Outlet.bytes c.refuse.new.out) (g.O.Outlet.is_broken c.refuse.new.out) (g.E.Outlet.bytes c.args.err.now) (g.E.Outlet.bytes c.tell.new.err) (g.E.Outlet.is_broken c.tell.new.err) c.refuse.result)
     c.in-Ok.ensures.ok
-    (none_served (λ p. p.now) c.as_slice.result.now c.in-Ok.serving.documents.items c.as_slice.ensures.value holding s refl refusal c.in-Err-loaded.ensures.exact) c.refuse.ensures
+    (none_served (λ p. p.now) c.as_slice-paths.result.now c.in-Ok.serving.documents.items c.as_slice-paths.ensures.value holding s refl refusal c.in-Err-loaded.ensures.exact) c.refuse.ensures
