@@ -8,7 +8,6 @@ use Rattle.flag_text.specs.declared.tree.Tree.{Tree}
 use Rattle.flag_defs.specs.Inlining.{replaced, reference_in, IsInlined}
 use Rattle.flag_defs.specs.Measure.{measure, measured, known}
 use Rattle.flag_defs.specs.declared.measure.Measure.{Measure}
-use Rattle.flag_defs.specs.declared.table.Known.{Known}
 
 -- each form in the list is that of the member at its place
 abbrev pub AreForms : Members → Members → List (Option Shape) → Type 0
@@ -50,12 +49,12 @@ pub record AreHeads (ms : List (String Global × Tree)) (measures : List (Option
   pub heads_of : (i : ℕ) → i < length ms → is_some (slice_index_or measures i None) ≡ true → IsHead ms i (slice_index_or heads i 0)
 
 -- what a table says of the evaluators of a document
-pub record IsTable (ms : List (String Global × Tree)) (known : Known) : Type 0 where
+pub record IsTable (ms : List (String Global × Tree)) (measures : List (Option Measure)) (heads : List ℕ) : Type 0 where
   pub rising : names_rise (members_view ms) ≡ true
   pub tidy : members_are_tidy (members_view ms) ≡ true
-  pub each : length known.measures.items ≡ length ms
-  pub heads : AreHeads ms known.measures.items known.heads.items
-  pub knows_all : KnowsAll (members_view ms) known.measures.items
+  pub each : length measures ≡ length ms
+  pub ends : AreHeads ms measures heads
+  pub knows_all : KnowsAll (members_view ms) measures
 
 -- how many are not known
 abbrev pub unknown_count : List (Option Measure) → ℕ

@@ -6,16 +6,13 @@ ghost use Rattle.logic_ast.specs.Expression.{Expression};
 ghost use Rattle.flag_defs.specs.Breach.{AllTell, TargetingBreaks, TargetingTells, Tells, end_rule, is_null_or_object, outline_breach, variants_rule};
 ghost use Rattle.flag_defs.specs.Definition.{HasTargeting, or_null};
 ghost use Rattle.flag_defs.specs.Document.{evaluators_in, flags_in, or_no_members};
-ghost use Rattle.flag_defs.specs.Table.{IsTable};
 
 use crate::document::{evaluators_in, members_of};
-use crate::ends::end_of;
 use crate::forecast::{Forecast, tree_forecast};
-use crate::forms::measure_of;
 use crate::kind::are_of_one_kind;
 use crate::measure::Measure;
 use crate::outline::{are_few, default_variant, state, variants};
-use crate::table::{Known, table};
+use crate::table::Evaluators;
 use flag_text::{Tree, member_by_halving};
 use std::alloc::{AllocError, Global};
 
@@ -69,51 +66,43 @@ fn all_breaches(
     requires evaluators_tidy { members_are_tidy (members_view evaluators.now) ≡ true }
     ensures { IfOk result (λ v. AllTell (members_view evaluators.now) (members_view definitions.now) v.items) }
 {
-    let known = table(alloc, evaluators)?;
-    each_breach(alloc, definitions, evaluators, &known)
+    let known = Evaluators::read(alloc, evaluators)?;
+    each_breach(alloc, definitions, &known)
 }
 
 fn each_breach(
     alloc: Global,
     definitions: &[(String, Tree)],
-    evaluators: &[(String, Tree)],
-    table: &Known,
+    evaluators: &Evaluators<'_>,
 ) -> Result<Vec<Option<Breach>>, AllocError>
-    requires table { IsTable evaluators.now table.now }
-    requires tidy { members_are_tidy (members_view definitions.now) ≡ true }
+    requires { members_are_tidy (members_view definitions.now) ≡ true }
     ensures { IfOk result (λ v. AllTell (members_view evaluators.now) (members_view definitions.now) v.items) }
 {
     let mut breaches = Vec::with_capacity(alloc, definitions.len())?;
     for (_, definition) in definitions {
-        breaches.push(first_breach(definition, evaluators, table))?;
+        breaches.push(first_breach(definition, evaluators))?;
     }
     Ok(breaches)
 }
 
 /// The first rule that a definition breaks.
-fn first_breach(definition: &Tree, evaluators: &[(String, Tree)], table: &Known) -> Option<Breach>
-    requires table { IsTable evaluators.now table.now }
-    requires tidy { is_tidy (view definition.now) ≡ true }
+fn first_breach(definition: &Tree, evaluators: &Evaluators<'_>) -> Option<Breach>
+    requires { is_tidy (view definition.now) ≡ true }
     ensures { Tells (members_view evaluators.now) (view definition.now) result }
 {
     match definition.as_object() {
-        Some(members) => members_breach(members, evaluators, table),
+        Some(members) => members_breach(members, evaluators),
         None => Some(Breach::Definition),
     }
 }
 
-fn members_breach(
-    members: &[(String, Tree)],
-    evaluators: &[(String, Tree)],
-    table: &Known,
-) -> Option<Breach>
-    requires table { IsTable evaluators.now table.now }
-    requires tidy { members_are_tidy (members_view members.now) ≡ true }
+fn members_breach(members: &[(String, Tree)], evaluators: &Evaluators<'_>) -> Option<Breach>
+    requires { members_are_tidy (members_view members.now) ≡ true }
     ensures { Tells (members_view evaluators.now) (object (members_view members.now)) result }
 {
     match outline_breach(members) {
         Some(breach) => Some(breach),
-        None => targeting_breach(member_by_halving(members, "targeting"), evaluators, table),
+        None => targeting_breach(member_by_halving(members, "targeting"), evaluators),
     }
 }
 
@@ -162,36 +151,29 @@ fn tree_rule(tree: &Tree) -> Breach
 }
 
 /// The first rule that the targeting of a definition breaks, where it has one.
-fn targeting_breach(
-    targeting: Option<&Tree>,
-    evaluators: &[(String, Tree)],
-    table: &Known,
-) -> Option<Breach>
-    requires table { IsTable evaluators.now table.now }
-    requires tidy { is_tidy (or_null (option_map (λ t. view t.now) targeting)) ≡ true }
+fn targeting_breach(targeting: Option<&Tree>, evaluators: &Evaluators<'_>) -> Option<Breach>
+    requires { is_tidy (or_null (option_map (λ t. view t.now) targeting)) ≡ true }
     ensures { TargetingTells (members_view evaluators.now) (or_null (option_map (λ t. view t.now) targeting.entry)) result }
 {
     match targeting {
-        Some(tree) => tree_breach(tree, evaluators, table),
+        Some(tree) => tree_breach(tree, evaluators),
         None => None,
     }
 }
 
-fn tree_breach(tree: &Tree, evaluators: &[(String, Tree)], table: &Known) -> Option<Breach>
-    requires table { IsTable evaluators.now table.now }
-    requires tidy { is_tidy (view tree.now) ≡ true }
+fn tree_breach(tree: &Tree, evaluators: &Evaluators<'_>) -> Option<Breach>
+    requires { is_tidy (view tree.now) ≡ true }
     ensures { TargetingTells (members_view evaluators.now) (view tree.now) result }
 {
-    match tree_forecast(tree, evaluators, table) {
-        Forecast::Broken => Some(targeting_rule(tree, evaluators, table)),
+    match tree_forecast(tree, evaluators) {
+        Forecast::Broken => Some(targeting_rule(tree, evaluators)),
         Forecast::Without => None,
         Forecast::With(_) => None,
     }
 }
 
 /// The first rule that a targeting which breaks its flag does not meet.
-fn targeting_rule(tree: &Tree, evaluators: &[(String, Tree)], table: &Known) -> Breach
-    requires table { IsTable evaluators.now table.now }
+fn targeting_rule(tree: &Tree, evaluators: &Evaluators<'_>) -> Breach
     requires tidy { is_tidy (view tree.now) ≡ true }
     requires broken { (e : Option Expression) → ¬ HasTargeting (members_view evaluators.now) (view tree.now) e }
     ensures { TargetingBreaks (members_view evaluators.now) (view tree.now) result }
@@ -199,8 +181,8 @@ fn targeting_rule(tree: &Tree, evaluators: &[(String, Tree)], table: &Known) -> 
     if !is_null_or_object(tree) {
         return Breach::Targeting;
     }
-    match measure_of(tree, evaluators, table) {
-        Some(measure) => end_rule(end_of(tree, evaluators, table), measure),
+    match evaluators.measure_of(tree) {
+        Some(measure) => end_rule(evaluators.end_of(tree), measure),
         None => Breach::Reference,
     }
 }

@@ -7,7 +7,6 @@ ghost use Rattle.flag_defs.specs.Definition.{Means, good};
 ghost use Rattle.flag_defs.specs.Flag.{flag_view};
 ghost use Rattle.flag_defs.specs.Outline.{outline_view, rules_with};
 ghost use Rattle.flag_defs.specs.Rules.{are_rules};
-ghost use Rattle.flag_defs.specs.Table.{IsTable};
 ghost use Rattle.flag_defs.specs.Weighing.{DefinitionTakes, IsWeighed};
 
 use crate::flag::Flag;
@@ -15,33 +14,31 @@ use crate::forecast::{Forecast, targeting_forecast};
 use crate::members::copy_members;
 use crate::outline::{Outline, outline_of};
 use crate::rules::Rules;
-use crate::table::Known;
+use crate::table::Evaluators;
 use crate::targeting::read_targeting;
 use flag_text::{Tree, member_by_halving};
 use logic_ast::Expr;
 use std::alloc::{AllocError, Global};
 
 /// In how many bytes the inlined form of a definition's targeting is printed at least. Nothing is expanded.
-pub(crate) fn least_bytes(definition: &Tree, evaluators: &[(String, Tree)], table: &Known) -> u32
-    requires table { IsTable evaluators.now table.now }
-    requires tidy { is_tidy (tree_view definition.now) ≡ true }
+pub(crate) fn least_bytes(definition: &Tree, evaluators: &Evaluators<'_>) -> u32
+    requires { is_tidy (tree_view definition.now) ≡ true }
     ensures { DefinitionTakes (members_view evaluators.now) (tree_view definition.now) result }
 {
     match definition.as_object() {
-        Some(members) => least_of_members(members, evaluators, table),
+        Some(members) => least_of_members(members, evaluators),
         None => 0,
     }
 }
 
-fn least_of_members(members: &[(String, Tree)], evaluators: &[(String, Tree)], table: &Known) -> u32
-    requires table { IsTable evaluators.now table.now }
-    requires tidy { members_are_tidy (members_view members.now) ≡ true }
+fn least_of_members(members: &[(String, Tree)], evaluators: &Evaluators<'_>) -> u32
+    requires { members_are_tidy (members_view members.now) ≡ true }
     ensures { DefinitionTakes (members_view evaluators.now) (object (members_view members.now)) result }
 {
     let Some(_outline) = outline_of(members) else {
         return 0;
     };
-    match targeting_forecast(member_by_halving(members, "targeting"), evaluators, table) {
+    match targeting_forecast(member_by_halving(members, "targeting"), evaluators) {
         Forecast::With(bytes) => bytes,
         Forecast::Broken => 0,
         Forecast::Without => 0,
@@ -52,16 +49,14 @@ fn least_of_members(members: &[(String, Tree)], evaluators: &[(String, Tree)], t
 pub(crate) fn read_flag(
     alloc: Global,
     definition: &Tree,
-    evaluators: &[(String, Tree)],
-    table: &Known,
+    evaluators: &Evaluators<'_>,
 ) -> Result<Flag, AllocError>
-    requires table { IsTable evaluators.now table.now }
     requires tidy { is_tidy (tree_view definition.now) ≡ true }
     requires weighed { IsWeighed (members_view evaluators.now) (tree_view definition.now) }
     ensures { IfOk result (λ f. Means (members_view evaluators.now) (tree_view definition.now) (flag_view f)) }
 {
     match definition.as_object() {
-        Some(members) => read_members(alloc, members, evaluators, table),
+        Some(members) => read_members(alloc, members, evaluators),
         None => Ok(Flag { rules: None }),
     }
 }
@@ -69,10 +64,8 @@ pub(crate) fn read_flag(
 fn read_members(
     alloc: Global,
     members: &[(String, Tree)],
-    evaluators: &[(String, Tree)],
-    table: &Known,
+    evaluators: &Evaluators<'_>,
 ) -> Result<Flag, AllocError>
-    requires table { IsTable evaluators.now table.now }
     requires tidy { members_are_tidy (members_view members.now) ≡ true }
     requires weighed { IsWeighed (members_view evaluators.now) (object (members_view members.now)) }
     ensures { IfOk result (λ f. Means (members_view evaluators.now) (object (members_view members.now)) (flag_view f)) }
@@ -81,10 +74,10 @@ fn read_members(
         return Ok(Flag { rules: None });
     };
     let targeting = member_by_halving(members, "targeting");
-    if let Forecast::Broken = targeting_forecast(targeting, evaluators, table) {
+    if let Forecast::Broken = targeting_forecast(targeting, evaluators) {
         return Ok(Flag { rules: None });
     }
-    let targeting = read_targeting(alloc, targeting, evaluators, table)?;
+    let targeting = read_targeting(alloc, targeting, evaluators)?;
     good_flag(alloc, outline, targeting)
 }
 

@@ -8,7 +8,6 @@ ghost use Rattle.flag_defs.specs.Document.{AllMean, DocumentMeans, FlagsMean, ev
 ghost use Rattle.flag_defs.specs.Fault.{of_text};
 ghost use Rattle.flag_defs.specs.Flag.{entries_view};
 ghost use Rattle.flag_defs.specs.Flags.{HoldsUnless};
-ghost use Rattle.flag_defs.specs.Table.{IsTable};
 ghost use Rattle.flag_defs.specs.Weighing.{AllTake, AreLight};
 
 use crate::definition::{least_bytes, read_flag};
@@ -17,7 +16,7 @@ use crate::flag::Flag;
 use crate::flags::Flags;
 use crate::limits::{MAX_BYTES, MAX_FLAGS, limited};
 use crate::measure::plus;
-use crate::table::{Known, table};
+use crate::table::Evaluators;
 use flag_text::{TextFault, Tree, read_doc};
 use std::alloc::{AllocError, Global};
 
@@ -88,29 +87,28 @@ fn read_definitions(
     requires evaluators_tidy { members_are_tidy (members_view evaluators.now) ≡ true }
     ensures { HoldsUnless (FlagsMean (members_view evaluators.now) (Some (members_view definitions.now))) result }
 {
-    let known = table(alloc, evaluators)?;
-    let least = least_of_all(definitions, evaluators, &known);
+    let known = Evaluators::read(alloc, evaluators)?;
+    let least = least_of_all(definitions, &known);
     if definitions.len() > MAX_FLAGS {
         return Err(DefFault::TooLarge);
     }
     if least as usize > MAX_BYTES {
         return Err(DefFault::TooLarge);
     }
-    let flags = read_all(alloc, definitions, evaluators, &known)?;
+    let flags = read_all(alloc, definitions, &known)?;
     limited(alloc, flags)
 }
 
 /// In how many bytes the inlined forms of all targetings together are printed at least, up to the most that is counted.
-fn least_of_all(definitions: &[(String, Tree)], evaluators: &[(String, Tree)], table: &Known) -> u32
-    requires table { IsTable evaluators.now table.now }
-    requires tidy { members_are_tidy (members_view definitions.now) ≡ true }
+fn least_of_all(definitions: &[(String, Tree)], evaluators: &Evaluators<'_>) -> u32
+    requires { members_are_tidy (members_view definitions.now) ≡ true }
     ensures { AllTake (members_view evaluators.now) (members_view definitions.now) result }
 {
     let mut least = 0;
     let mut left = definitions.len();
     while left > 0 {
         left -= 1;
-        let bytes = least_bytes(&definitions[left].1, evaluators, table);
+        let bytes = least_bytes(&definitions[left].1, evaluators);
         least = plus(bytes, least);
     }
     least
@@ -121,17 +119,15 @@ fn least_of_all(definitions: &[(String, Tree)], evaluators: &[(String, Tree)], t
 fn read_all(
     alloc: Global,
     definitions: &[(String, Tree)],
-    evaluators: &[(String, Tree)],
-    table: &Known,
+    evaluators: &Evaluators<'_>,
 ) -> Result<Vec<(String, Flag)>, AllocError>
-    requires table { IsTable evaluators.now table.now }
     requires tidy { members_are_tidy (members_view definitions.now) ≡ true }
     requires light { AreLight (members_view evaluators.now) (members_view definitions.now) }
     ensures { IfOk result (λ v. AllMean (members_view evaluators.now) (members_view definitions.now) (entries_view v.items)) }
 {
     let mut flags = Vec::with_capacity(alloc, definitions.len())?;
     for (key, definition) in definitions {
-        let flag = read_flag(alloc, definition, evaluators, table)?;
+        let flag = read_flag(alloc, definition, evaluators)?;
         flags.push((key.clone()?, flag))?;
     }
     Ok(flags)

@@ -1,30 +1,28 @@
 //! From a reference straight to the tree that it stands for.
-ghost use Rattle.std.specs.Prelude.{◌≡◌, ◌<◌, true, length, is_some};
+ghost use Rattle.std.specs.Prelude.{◌≡◌, ◌<◌, length};
 ghost use Rattle.std.specs.List.{HoldsAt};
+ghost use Rattle.flag_text.specs.Shape.{Shape};
 ghost use Rattle.flag_text.specs.View.{view, members_view};
-ghost use Rattle.flag_defs.specs.Measure.{known, measured};
-ghost use Rattle.flag_defs.specs.Table.{IsEndOf, IsTable};
+ghost use Rattle.flag_defs.specs.Inlining.{IsInlined};
+ghost use Rattle.flag_defs.specs.Table.{IsEndOf};
 
 use crate::references::reference_in;
-use crate::table::Known;
+use crate::table::Evaluators;
 use flag_text::{Tree, position_of};
 
-/// The tree at the end of the references from one that can be measured: itself, where it is no reference.
-pub(crate) fn end_of<'a>(
-    tree: &'a Tree,
-    evaluators: &'a [(String, Tree)],
-    table: &Known,
-) -> &'a Tree
-    requires table { IsTable evaluators.now table.now }
-    requires found { is_some (measured (known (members_view evaluators.now) table.now.measures.items) (view tree.now)) ≡ true }
-    ensures { IsEndOf (members_view evaluators.now) (view tree.now) (view result.now) }
-{
-    let Some(name) = reference_in(tree) else {
-        return tree;
-    };
-    match position_of(evaluators, name) {
-        Some(i) => tree_at(evaluators, table.heads[i]),
-        None => tree,
+impl<'a> Evaluators<'a> {
+    /// The tree at the end of the references from one that has an inlined form: itself, where it is no reference.
+    pub(crate) fn end_of(&self, tree: &'a Tree) -> &'a Tree
+        requires found { (u : Shape) × IsInlined (members_view self.now) (view tree.now) u }
+        ensures { IsEndOf (members_view self.now) (view tree.now) (view result.now) }
+    {
+        let Some(name) = reference_in(tree) else {
+            return tree;
+        };
+        match position_of(self.members, name) {
+            Some(i) => tree_at(self.members, self.heads[i]),
+            None => tree,
+        }
     }
 }
 

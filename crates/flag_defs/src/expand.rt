@@ -2,36 +2,32 @@
 ghost use Rattle.std.specs.Prelude.{IfOk};
 ghost use Rattle.flag_text.specs.View.{view, items_view, members_view};
 ghost use Rattle.flag_defs.specs.Inlining.{IsInlined};
-ghost use Rattle.flag_defs.specs.Table.{IsTable};
 ghost use Rattle.flag_defs.specs.Targeting.{HasForm, ItemsHaveForms, MembersHaveForms, AreInlined, MembersAreInlined};
 
-use crate::ends::end_of;
-use crate::table::Known;
+use crate::table::Evaluators;
 use flag_text::Tree;
 use std::alloc::{AllocError, Global};
 
 /// The inlined form of a tree that has one of at most so many levels. It takes time linear in the form, and recurses no
 /// deeper than its levels: a reference costs none.
 #[cycle(expanded)]
-pub(crate) fn expanded(
+pub(crate) fn expanded<'a>(
     alloc: Global,
-    tree: &Tree,
-    evaluators: &[(String, Tree)],
-    table: &Known,
+    tree: &'a Tree,
+    evaluators: &Evaluators<'a>,
     most: usize,
 ) -> Result<Tree, AllocError>
-    requires table { IsTable evaluators.now table.now }
-    requires form { HasForm (members_view evaluators.now) most (view tree.now) }
+    requires { HasForm (members_view evaluators.now) most (view tree.now) }
     ensures { IfOk result (λ t. IsInlined (members_view evaluators.now) (view tree.now) (view t)) }
 {
-    let end = end_of(tree, evaluators, table);
+    let end = evaluators.end_of(tree);
     match end {
         Tree::List(items) => {
-            let forms = expanded_items(alloc, items, evaluators, table, most - 1)?;
+            let forms = expanded_items(alloc, items, evaluators, most - 1)?;
             Ok(Tree::List(forms))
         }
         Tree::Object(members) => {
-            let forms = expanded_members(alloc, members, evaluators, table, most - 1)?;
+            let forms = expanded_members(alloc, members, evaluators, most - 1)?;
             Ok(Tree::Object(forms))
         }
         _ => end.copy(alloc),
@@ -39,40 +35,36 @@ pub(crate) fn expanded(
 }
 
 #[cycle(expanded)]
-fn expanded_items(
+fn expanded_items<'a>(
     alloc: Global,
-    items: &Vec<Tree>,
-    evaluators: &[(String, Tree)],
-    table: &Known,
+    items: &'a Vec<Tree>,
+    evaluators: &Evaluators<'a>,
     most: usize,
 ) -> Result<Vec<Tree>, AllocError>
-    requires table { IsTable evaluators.now table.now }
-    requires forms { ItemsHaveForms (members_view evaluators.now) most (items_view items.now.items) }
+    requires { ItemsHaveForms (members_view evaluators.now) most (items_view items.now.items) }
     ensures { IfOk result (λ v. AreInlined (members_view evaluators.now) (items_view items.now.items) (items_view v.items)) }
 {
     let mut forms = Vec::with_capacity(alloc, items.len())?;
     for item in items {
-        let form = expanded(alloc, item, evaluators, table, most)?;
+        let form = expanded(alloc, item, evaluators, most)?;
         forms.push(form)?;
     }
     Ok(forms)
 }
 
 #[cycle(expanded)]
-fn expanded_members(
+fn expanded_members<'a>(
     alloc: Global,
-    members: &Vec<(String, Tree)>,
-    evaluators: &[(String, Tree)],
-    table: &Known,
+    members: &'a Vec<(String, Tree)>,
+    evaluators: &Evaluators<'a>,
     most: usize,
 ) -> Result<Vec<(String, Tree)>, AllocError>
-    requires table { IsTable evaluators.now table.now }
-    requires forms { MembersHaveForms (members_view evaluators.now) most (members_view members.now.items) }
+    requires { MembersHaveForms (members_view evaluators.now) most (members_view members.now.items) }
     ensures { IfOk result (λ v. MembersAreInlined (members_view evaluators.now) (members_view members.now.items) (members_view v.items)) }
 {
     let mut forms = Vec::with_capacity(alloc, members.len())?;
     for (name, member) in members {
-        let form = expanded(alloc, member, evaluators, table, most)?;
+        let form = expanded(alloc, member, evaluators, most)?;
         forms.push((name.clone()?, form))?;
     }
     Ok(forms)

@@ -3,13 +3,10 @@ ghost use Rattle.std.specs.Prelude.{◌≡◌, true, option_map};
 ghost use Rattle.flag_text.specs.Shape.{is_tidy};
 ghost use Rattle.flag_text.specs.View.{view, members_view};
 ghost use Rattle.flag_defs.specs.Definition.{or_null};
-ghost use Rattle.flag_defs.specs.Table.{IsTable};
 ghost use Rattle.flag_defs.specs.Targeting.{IsForecast, end_forecast, is_nothing};
 
-use crate::ends::end_of;
-use crate::forms::measure_of;
 use crate::measure::Measure;
-use crate::table::Known;
+use crate::table::Evaluators;
 use flag_text::Tree;
 
 /// A targeting, before its references are replaced.
@@ -25,28 +22,22 @@ pub(crate) enum Forecast {
 
 /// What is known of the targeting that a flag's definition has, where it has one. Nothing is expanded, and it takes time
 /// about linear in the targeting as it stands.
-pub(crate) fn targeting_forecast(
-    targeting: Option<&Tree>,
-    evaluators: &[(String, Tree)],
-    table: &Known,
-) -> Forecast
-    requires table { IsTable evaluators.now table.now }
-    requires tidy { is_tidy (or_null (option_map (λ t. view t.now) targeting)) ≡ true }
+pub(crate) fn targeting_forecast(targeting: Option<&Tree>, evaluators: &Evaluators<'_>) -> Forecast
+    requires { is_tidy (or_null (option_map (λ t. view t.now) targeting)) ≡ true }
     ensures { IsForecast (members_view evaluators.now) (or_null (option_map (λ t. view t.now) targeting.entry)) result }
 {
     match targeting {
-        Some(tree) => tree_forecast(tree, evaluators, table),
+        Some(tree) => tree_forecast(tree, evaluators),
         None => Forecast::Without,
     }
 }
 
-pub(crate) fn tree_forecast(tree: &Tree, evaluators: &[(String, Tree)], table: &Known) -> Forecast
-    requires table { IsTable evaluators.now table.now }
-    requires tidy { is_tidy (view tree.now) ≡ true }
+pub(crate) fn tree_forecast(tree: &Tree, evaluators: &Evaluators<'_>) -> Forecast
+    requires { is_tidy (view tree.now) ≡ true }
     ensures { IsForecast (members_view evaluators.now) (view tree.now) result }
 {
-    match measure_of(tree, evaluators, table) {
-        Some(measure) => end_forecast(end_of(tree, evaluators, table), measure),
+    match evaluators.measure_of(tree) {
+        Some(measure) => end_forecast(evaluators.end_of(tree), measure),
         None => Forecast::Broken,
     }
 }

@@ -1,10 +1,10 @@
 //! The measures of the evaluators of a document, each taken over the measures of those that it refers to.
 ghost use Rattle.std.specs.Prelude.{◌≡◌, ℕ, ◌+◌, ◌<◌, true, false, length, replicate, Some, IfOk};
 ghost use Rattle.std.specs.List.{HoldsAt};
-ghost use Rattle.flag_text.specs.Shape.{names_rise};
+ghost use Rattle.flag_text.specs.Shape.{members_are_tidy, names_rise};
 ghost use Rattle.flag_text.specs.View.{view, members_view};
 ghost use Rattle.flag_defs.specs.Measure.{known, measured};
-ghost use Rattle.flag_defs.specs.Table.{AreHeads, IsHead, IsStuck, Knows, KnowsAll, unknown_count};
+ghost use Rattle.flag_defs.specs.Table.{AreHeads, IsHead, IsStuck, Knows, unknown_count};
 
 use crate::inlined_measure::measured;
 use crate::measure::Measure;
@@ -12,10 +12,12 @@ use crate::references::reference_in;
 use crate::walk::walk;
 use flag_text::{Tree, position_of};
 use std::alloc::{AllocError, Global};
+use std::marker::Model;
 
-/// What is known of each evaluator.
+/// The evaluators of a document, with what is known of each.
 #[derive(Drop)]
-pub(crate) struct Known {
+pub(crate) struct Evaluators<'a> {
+    pub(crate) members: &'a [(String, Tree)],
     /// Of each that has an inlined form, the measure of this form. The others refer to a name that there is none of, or
     /// lead back to themselves.
     pub(crate) measures: Vec<Option<Measure>>,
@@ -23,18 +25,42 @@ pub(crate) struct Known {
     pub(crate) heads: Vec<usize>,
 }
 
-pub(crate) fn table(alloc: Global, evaluators: &[(String, Tree)]) -> Result<Known, AllocError>
-    requires rising { names_rise (members_view evaluators.now) ≡ true }
-    ensures each { IfOk result (λ t. length t.measures.items ≡ length evaluators.now) }
-    ensures knows_all { IfOk result (λ t. KnowsAll (members_view evaluators.now) t.measures.items) }
-    ensures heads { IfOk result (λ t. AreHeads evaluators.now t.measures.items t.heads.items) }
-{
-    let count = evaluators.len();
-    let mut measures = none_known(alloc, count)?;
-    let mut heads = no_heads(alloc, count)?;
-    walk(alloc, evaluators, &mut measures, &mut heads)?;
-    while pass(evaluators, &mut measures, &mut heads) {}
-    Ok(Known { measures, heads })
+impl<'a> Model for Evaluators<'a> {
+    ghost use Rattle.std.specs.Prelude.{List, String};
+    ghost use Rattle.std.specs.Coded.{codes};
+    ghost use Rattle.std.specs.declared.alloc.Global.{Global};
+    ghost use Rattle.flag_text.specs.contracts.tree.Tree as tree;
+    ghost use Rattle.flag_text.specs.declared.tree.Tree.{Tree};
+    ghost use Rattle.flag_defs.specs.Table.{IsTable};
+
+    ghost Value = { List (String Global × Tree) };
+
+    ghost coded = { Prim.hlevel (codes, tree.the_row.coded) };
+
+    ghost view = { λ e. e.members.now };
+
+    ghost invariant = { λ e. IsTable e.members.now e.measures.items e.heads.items };
+}
+
+impl<'a> Evaluators<'a> {
+    /// Measures the evaluators of a document, which takes about as long as reading them, in whatever order they stand.
+    pub(crate) fn read(
+        alloc: Global,
+        members: &'a [(String, Tree)],
+    ) -> Result<Evaluators<'a>, AllocError>
+        requires { members_are_tidy (members_view members.now) ≡ true }
+        ensures { IfOk result (λ e. e ≡ members.entry.now) }
+    {
+        let mut measures = none_known(alloc, members.len())?;
+        let mut heads = no_heads(alloc, members.len())?;
+        walk(alloc, members, &mut measures, &mut heads)?;
+        while pass(members, &mut measures, &mut heads) {}
+        Ok(Evaluators {
+            members,
+            measures,
+            heads,
+        })
+    }
 }
 
 /// Measures each evaluator that can be measured now, in their order. Answers whether there was one.

@@ -4,13 +4,12 @@ ghost use Rattle.flag_text.specs.View.{view as tree_view, members_view};
 ghost use Rattle.logic_ast.specs.Expr.{view};
 ghost use Rattle.logic_ast.specs.Expression.{Expression};
 ghost use Rattle.flag_defs.specs.Definition.{or_null, targeting_of, HasTargeting};
-ghost use Rattle.flag_defs.specs.Table.{IsTable};
 ghost use Rattle.flag_defs.specs.Targeting.{IsGoodTargeting};
 ghost use Rattle.flag_defs.specs.Weighing.{HasWeighed};
 
 use crate::expand::expanded;
 use crate::forecast::is_nothing;
-use crate::table::Known;
+use crate::table::Evaluators;
 use flag_text::Tree;
 use logic_ast::{Expr, LogicFault, read_expr};
 use std::alloc::{AllocError, Global};
@@ -25,17 +24,15 @@ const MAX_LEVELS: usize = 101;
 pub(crate) fn read_targeting(
     alloc: Global,
     targeting: Option<&Tree>,
-    evaluators: &[(String, Tree)],
-    table: &Known,
+    evaluators: &Evaluators<'_>,
 ) -> Result<Option<Expr>, AllocError>
-    requires table { IsTable evaluators.now table.now }
     requires weighed { HasWeighed (members_view evaluators.now) (or_null (option_map (λ t. tree_view t.now) targeting)) }
     requires good { IsGoodTargeting (members_view evaluators.now) (or_null (option_map (λ t. tree_view t.now) targeting)) }
     ensures { IfOk result (λ e. HasTargeting (members_view evaluators.now) (or_null (option_map (λ t. tree_view t.now) targeting.entry)) (option_map view e)) }
 {
     match targeting {
         Some(tree) => {
-            let form = expanded(alloc, tree, evaluators, table, MAX_LEVELS)?;
+            let form = expanded(alloc, tree, evaluators, MAX_LEVELS)?;
             read_form(alloc, &form)
         }
         None => Ok(None),

@@ -8,10 +8,10 @@ use Rattle.flag_defs.proofs.Meant.{tidy_at}
 use Rattle.flag_defs.proofs.Reasons.{all_tell_push}
 use Rattle.flag_defs.proofs.breach.each_breach.Goals as goal
 
-pub first_breach-requires-clause-tidy : goal.first_breach-requires-clause-tidy
-first_breach-requires-clause-tidy c =
+pub first_breach-requires : goal.first_breach-requires
+first_breach-requires c =
     let x = c.loop-definition-item.result in
-    ap (λ (y : Named). is_tidy (view y.1)) c.loop-definition-item.is ∙ tidy_at c.args.definitions.now c.loop-definition.definition-index x c.loop-definition-test.true c.requires.tidy
+    ap (λ (y : Named). is_tidy (view y.1)) c.loop-definition-item.is ∙ tidy_at c.args.definitions.now c.loop-definition.definition-index x c.loop-definition-test.true c.requires
 
 pub loop-definition-preserved : goal.loop-definition-preserved
 loop-definition-preserved c =

@@ -9,13 +9,13 @@ use Rattle.flag_defs.proofs.Reasons.{outline_tells, targeting_tells}
 use Rattle.flag_defs.proofs.breach.members_breach.Goals as goal
 
 pub outline_breach-requires : goal.outline_breach-requires
-outline_breach-requires c = names_rise-tidy (members_view c.args.members.now) c.requires.tidy
+outline_breach-requires c = names_rise-tidy (members_view c.args.members.now) c.requires
 
 pub member_by_halving-requires : goal.member_by_halving-requires
-member_by_halving-requires c = record { rising = names_rise-tidy (members_view c.args.members.now) c.requires.tidy }
+member_by_halving-requires c = record { rising = names_rise-tidy (members_view c.args.members.now) c.requires }
 
-pub targeting_breach-requires-clause-tidy : goal.targeting_breach-requires-clause-tidy
-targeting_breach-requires-clause-tidy c = ap (λ o. is_tidy (or_null o)) c.member_by_halving.ensures.found ∙ tidy_targeting (members_view c.args.members.now) c.requires.tidy
+pub targeting_breach-requires : goal.targeting_breach-requires
+targeting_breach-requires c = ap (λ o. is_tidy (or_null o)) c.member_by_halving.ensures.found ∙ tidy_targeting (members_view c.args.members.now) c.requires
 
 pub returns-in-Some : goal.returns-in-Some
 returns-in-Some c = outline_tells (members_view c.args.evaluators.now) (members_view c.args.members.now) c.in-Some.breach (sym c.outline_breach.ensures ∙ c.in-Some.is)

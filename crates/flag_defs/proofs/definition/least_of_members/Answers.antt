@@ -11,13 +11,13 @@ use Rattle.flag_defs.proofs.Outlines.{found}
 use Rattle.flag_defs.proofs.definition.least_of_members.Goals as goal
 
 pub outline_of-requires : goal.outline_of-requires
-outline_of-requires c = names_rise-tidy (members_view c.args.members.now) c.requires.tidy
+outline_of-requires c = names_rise-tidy (members_view c.args.members.now) c.requires
 
 pub member_by_halving-requires : goal.member_by_halving-requires
-member_by_halving-requires c = record { rising = names_rise-tidy (members_view c.args.members.now) c.requires.tidy }
+member_by_halving-requires c = record { rising = names_rise-tidy (members_view c.args.members.now) c.requires }
 
-pub targeting_forecast-requires-clause-tidy : goal.targeting_forecast-requires-clause-tidy
-targeting_forecast-requires-clause-tidy c = ap (λ o. is_tidy (or_null o)) c.member_by_halving.ensures.found ∙ tidy_targeting (members_view c.args.members.now) c.requires.tidy
+pub targeting_forecast-requires : goal.targeting_forecast-requires
+targeting_forecast-requires c = ap (λ o. is_tidy (or_null o)) c.member_by_halving.ensures.found ∙ tidy_targeting (members_view c.args.members.now) c.requires
 
 pub returns-in-With : goal.returns-in-With
 returns-in-With c =

@@ -16,8 +16,8 @@ outline_of-requires c = names_rise-tidy (members_view c.args.members.now) c.requ
 pub member_by_halving-targeting-requires : goal.member_by_halving-targeting-requires
 member_by_halving-targeting-requires c = record { rising = names_rise-tidy (members_view c.args.members.now) c.requires.tidy }
 
-pub targeting_forecast-requires-clause-tidy : goal.targeting_forecast-requires-clause-tidy
-targeting_forecast-requires-clause-tidy c = ap (λ o. is_tidy (or_null o)) c.member_by_halving-targeting.ensures.found ∙ tidy_targeting (members_view c.args.members.now) c.requires.tidy
+pub targeting_forecast-requires : goal.targeting_forecast-requires
+targeting_forecast-requires c = ap (λ o. is_tidy (or_null o)) c.member_by_halving-targeting.ensures.found ∙ tidy_targeting (members_view c.args.members.now) c.requires.tidy
 
 pub returns-in-Broken : goal.returns-in-Broken
 returns-in-Broken c =
@@ -28,7 +28,6 @@ returns-in-Broken c =
 
 pub read_targeting-requires : goal.read_targeting-requires
 read_targeting-requires c = record {
-  table = c.requires.table;
   weighed = record {
     definition = object (members_view c.args.members.now);
     weighed = c.requires.weighed;

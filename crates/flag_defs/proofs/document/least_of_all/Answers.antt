@@ -4,9 +4,9 @@ use Rattle.flag_defs.specs.Weighing.{DefinitionTakes, AllTake}
 use Rattle.flag_defs.proofs.Meant.{one_more-takes, tidy_at}
 use Rattle.flag_defs.proofs.document.least_of_all.Goals as goal
 
-pub least_bytes-bytes-requires-clause-tidy : goal.least_bytes-bytes-requires-clause-tidy
-least_bytes-bytes-requires-clause-tidy c =
-    tidy_at c.args.definitions.now (c.loop-left.left - 1) c.index-definitions-left.result (omega (arith, c.loop-left.invariant.0, c.loop-left-test.true)) c.requires.tidy
+pub least_bytes-bytes-requires : goal.least_bytes-bytes-requires
+least_bytes-bytes-requires c =
+    tidy_at c.args.definitions.now (c.loop-left.left - 1) c.index-definitions-left.result (omega (arith, c.loop-left.invariant.0, c.loop-left-test.true)) c.requires
 
 pub loop-left-preserved : goal.loop-left-preserved
 loop-left-preserved c =

@@ -1,50 +1,48 @@
 use Rattle.std.proofs.Common.{◌≡◌, ◌<◌, length, get_or, string_bytes, sym, ap, ◌∙◌, subst, true, arith, rules, add-one}
-use Rattle.std.specs.Prelude.{is_some}
 use Rattle.flag_text.specs.declared.tree.Tree.{the_lemmas as tree_lemmas}
 use Rattle.flag_text.specs.View.{view, items_view, members_view}
 use Rattle.flag_text.proofs.Halving.{name_of}
 use Rattle.flag_defs.specs.Inlining.{IsInlined}
 use Rattle.flag_defs.specs.Targeting.{HasForm, ItemsHaveForms, MembersHaveForms}
-use Rattle.flag_defs.proofs.Expanded.{form-measured, list-end, list-whole, object-end, object-whole, is_scalar, scalar-whole, item-form, member-form, AreInlined-more, MembersAreInlined-more}
+use Rattle.flag_defs.proofs.Expanded.{list-end, list-whole, object-end, object-whole, is_scalar, scalar-whole, item-form, member-form, AreInlined-more, MembersAreInlined-more}
 use Rattle.flag_defs.proofs.expand.+expanded.Goals as goal
 
-pub expanded-end_of-end-requires-clause-found : goal.expanded-end_of-end-requires-clause-found
-expanded-end_of-end-requires-clause-found t c =
-    ap is_some (form-measured (members_view c.args.evaluators.now) c.args.table.now.measures.items c.requires.table.knows_all (view c.args.tree.now) c.requires.form.0 c.requires.form.1)
+pub expanded-end_of-end-requires : goal.expanded-end_of-end-requires
+expanded-end_of-end-requires t c = record { found = (c.requires.0, c.requires.1) }
 
 pub expanded-overflow_sub-most : goal.expanded-overflow_sub-most
 expanded-overflow_sub-most t c =
-    (list-end (members_view c.args.evaluators.now) c.args.most (view c.args.tree.now) c.end_of-end.result.now c.in-List.items c.in-List.is c.end_of-end.ensures c.requires.form).0
+    (list-end (members_view c.args.evaluators.now) c.args.most (view c.args.tree.now) c.end_of-end.result.now c.in-List.items c.in-List.is c.end_of-end.ensures c.requires).0
 
 pub expanded-expanded_items-requires : goal.expanded-expanded_items-requires
 expanded-expanded_items-requires t c =
-    let f = list-end (members_view c.args.evaluators.now) c.args.most (view c.args.tree.now) c.end_of-end.result.now c.in-List.items c.in-List.is c.end_of-end.ensures c.requires.form in
-    (omega (arith, c.decreases, f.0), (c.requires.table, f.1))
+    let f = list-end (members_view c.args.evaluators.now) c.args.most (view c.args.tree.now) c.end_of-end.result.now c.in-List.items c.in-List.is c.end_of-end.ensures c.requires in
+    (omega (arith, c.decreases, f.0), f.1)
 
 pub expanded-overflow_sub-most-in-Object : goal.expanded-overflow_sub-most-in-Object
 expanded-overflow_sub-most-in-Object t c =
-    (object-end (members_view c.args.evaluators.now) c.args.most (view c.args.tree.now) c.end_of-end.result.now c.in-Object.members c.in-Object.is c.end_of-end.ensures c.requires.form).0
+    (object-end (members_view c.args.evaluators.now) c.args.most (view c.args.tree.now) c.end_of-end.result.now c.in-Object.members c.in-Object.is c.end_of-end.ensures c.requires).0
 
 pub expanded-expanded_members-requires : goal.expanded-expanded_members-requires
 expanded-expanded_members-requires t c =
-    let f = object-end (members_view c.args.evaluators.now) c.args.most (view c.args.tree.now) c.end_of-end.result.now c.in-Object.members c.in-Object.is c.end_of-end.ensures c.requires.form in
-    (omega (arith, c.decreases, f.0), (c.requires.table, f.1))
+    let f = object-end (members_view c.args.evaluators.now) c.args.most (view c.args.tree.now) c.end_of-end.result.now c.in-Object.members c.in-Object.is c.end_of-end.ensures c.requires in
+    (omega (arith, c.decreases, f.0), f.1)
 
 pub expanded-returns-in_ok-forms-in-List : goal.expanded-returns-in_ok-forms-in-List
 expanded-returns-in_ok-forms-in-List t c =
     list-whole (members_view c.args.evaluators.now) c.args.most (view c.args.tree.now) c.end_of-end.result.now c.in-List.items c.in_ok-forms-in-List.forms c.in-List.is c.end_of-end.ensures
-    c.requires.form c.in_ok-forms-in-List.ensures
+    c.requires c.in_ok-forms-in-List.ensures
 
 pub expanded-returns-in_ok-forms-in-Object : goal.expanded-returns-in_ok-forms-in-Object
 expanded-returns-in_ok-forms-in-Object t c =
     object-whole (members_view c.args.evaluators.now) c.args.most (view c.args.tree.now) c.end_of-end.result.now c.in-Object.members c.in_ok-forms-in-Object.forms c.in-Object.is
-    c.end_of-end.ensures c.requires.form c.in_ok-forms-in-Object.ensures
+    c.end_of-end.ensures c.requires c.in_ok-forms-in-Object.ensures
 
 pub expanded-returns-in_default : goal.expanded-returns-in_default
 expanded-returns-in_default t c =
     let end = view c.end_of-end.result.now in
     let scalar : is_scalar end ≡ true = search (rules, tree_lemmas) in
-    scalar-whole (members_view c.args.evaluators.now) c.args.most (view c.args.tree.now) end scalar c.end_of-end.ensures c.requires.form c.copy.result c.copy.ensures
+    scalar-whole (members_view c.args.evaluators.now) c.args.most (view c.args.tree.now) end scalar c.end_of-end.ensures c.requires c.copy.result c.copy.ensures
 
 pub expanded_items-expanded-requires : goal.expanded_items-expanded-requires
 expanded_items-expanded-requires t c =
@@ -52,9 +50,9 @@ expanded_items-expanded-requires t c =
     let items = c.deref-item-items.result.now in
     let within : c.loop-item.item-index < length items = omega arith in
     let f = item-form evaluators c.args.most items c.loop-item.item-index c.item-item.result within
-    (subst (λ xs. ItemsHaveForms evaluators c.args.most (items_view xs)) (sym c.deref-item-items.ensures.value) c.requires.forms) in
+    (subst (λ xs. ItemsHaveForms evaluators c.args.most (items_view xs)) (sym c.deref-item-items.ensures.value) c.requires) in
     let here : HasForm evaluators c.args.most (view c.item-item.result) = subst (λ x. HasForm evaluators c.args.most (view x)) (sym c.item-item.is) f in
-    (omega (arith, c.decreases), (c.requires.table, here))
+    (omega (arith, c.decreases), here)
 
 pub expanded_items-loop-item-preserved : goal.expanded_items-loop-item-preserved
 expanded_items-loop-item-preserved t c =
@@ -73,9 +71,9 @@ expanded_members-expanded-requires t c =
     let members = c.deref-name-items.result.now in
     let within : c.loop-name.name-index < length members = omega arith in
     let f = member-form evaluators c.args.most members c.loop-name.name-index c.loop-name-item.result within
-    (subst (λ xs. MembersHaveForms evaluators c.args.most (members_view xs)) (sym c.deref-name-items.ensures.value) c.requires.forms) in
+    (subst (λ xs. MembersHaveForms evaluators c.args.most (members_view xs)) (sym c.deref-name-items.ensures.value) c.requires) in
     let here : HasForm evaluators c.args.most (view c.loop-name-item.result.1) = subst (λ x. HasForm evaluators c.args.most (view x.1)) (sym c.loop-name-item.is) f in
-    (omega (arith, c.decreases), (c.requires.table, here))
+    (omega (arith, c.decreases), here)
 
 pub expanded_members-loop-name-preserved : goal.expanded_members-loop-name-preserved
 expanded_members-loop-name-preserved t c =

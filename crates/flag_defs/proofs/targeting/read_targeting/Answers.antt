@@ -7,8 +7,8 @@ use Rattle.flag_defs.specs.Targeting.{IsGoodTargeting}
 use Rattle.flag_defs.proofs.Targetings.{good-form, form-good}
 use Rattle.flag_defs.proofs.targeting.read_targeting.Goals as goal
 
-pub expanded-requires-clause-form : goal.expanded-requires-clause-form
-expanded-requires-clause-form c =
+pub expanded-requires : goal.expanded-requires
+expanded-requires c =
     let seen : Option (Bor Tree) → Option Shape = λ o. option_map (λ t. view t.now) o in
     let good = subst (λ o. IsGoodTargeting (members_view c.args.evaluators.now) (or_null (seen o))) c.in-Some.is c.requires.good in
     good-form (members_view c.args.evaluators.now) (view c.in-Some.tree.now) good
