@@ -72,10 +72,23 @@ for kind, (place, targeting) in kinds.items():
     print(f"{kind}: one ask in a file as long {around:.2f} s")
 PYTHON
 
+# A crate of the repository, copied with the library that was built of it, which the kit finds good by what it was made of: so
+# it proves the program alone. A crate that was not built here is proved there.
+copied() {
+    mkdir -p "$folder/lock/crates/$1/out"
+    for part in "$here/crates/$1"/*; do
+        if [ "$part" != "$here/crates/$1/out" ]; then
+            cp -a "$part" "$folder/lock/crates/$1"
+        elif [ -d "$part/rlib" ]; then
+            cp -a "$part/rlib" "$folder/lock/crates/$1/out"
+        fi
+    done
+}
+
 mkdir -p "$folder/lock/crates/drive_bench/src"
 cp "$here/HANDLES" "$folder/lock/HANDLES"
 for crate in murmur_core flag_text bucket_core logic_ast logic_eval flag_defs flag_resolve book_core book_lock book_share flagops_drive; do
-    cp -r "$here/crates/$crate" "$folder/lock/crates/$crate"
+    copied "$crate"
     grep "^$crate[ :]" "$here/crates.txt" >> "$folder/lock/crates.txt"
 done
 cp "$here/bench/drive/lock.rattle" "$folder/lock/crates/drive_bench/src/main.rt"
