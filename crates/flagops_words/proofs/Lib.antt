@@ -1,3 +1,4 @@
+mod Adding
 pub mod Filled
 pub mod Matched
 pub mod Named

@@ -13,7 +13,6 @@ use clap::{Arg, Command, Error};
 use std::alloc::{AllocError, Global};
 
 /// The program with its commands.
-#[tactic(auto, unfolding(crate::specs::Words::flagops_app))]
 pub fn flagops<'a>(alloc: Global) -> Result<Command<'a>, AllocError>
     ensures { IfOk result (λ c. app_of c ≡ flagops_app) }
 {
@@ -79,14 +78,21 @@ fn program<'a>(alloc: Global) -> Result<Command<'a>, AllocError>
 {
     let program = Command::new(alloc, "flagops")
         .bin_name("flagops")?
-        .version("0.1.0")
         .about("Feature flags with rollouts that switch the fewest users.")
-        .after_help(STATUSES)
+        .after_help(STATUSES);
+    Ok(taking_commands(program))
+}
+
+/// The program, which has a version, and of which a command has to be named.
+fn taking_commands<'a>(program: Command<'a>) -> Command<'a>
+    ensures { app_of result ≡ on_top takes_commands (app_of program.entry) }
+{
+    program
+        .version("0.1.0")
         .no_binary_name(true)
         .disable_help_subcommand(true)
         .arg_required_else_help(true)
-        .subcommand_required(true);
-    Ok(program)
+        .subcommand_required(true)
 }
 
 #[tactic(auto, unfolding(crate::specs::Words::bucket_app))]
@@ -94,26 +100,23 @@ fn bucket<'a>(alloc: Global) -> Result<Command<'a>, AllocError>
     ensures app { IfOk result (λ c. app_of c ≡ bucket_app) }
     ensures local { IfOk result (λ c. (out-Command c).has_globals ≡ false) }
 {
-    let rule = required(
+    let bucket = Command::new(alloc, "bucket")
+        .about("Prints the hash of a key, its point on a rule and the variant there");
+    let bucket = with_word(
         alloc,
+        bucket,
         "RULE",
         "The rule file, as [[\"red\",50],[\"blue\",50]]",
-    );
-    let key = required(alloc, "KEY", "The hash input, as a targeting key");
-    Command::new(alloc, "bucket")
-        .about("Prints the hash of a key, its point on a rule and the variant there")
-        .arg(rule)?
-        .arg(key)
+    )?;
+    with_word(alloc, bucket, "KEY", "The hash input, as a targeting key")
 }
 
-#[tactic(auto, unfolding(crate::specs::Words::price_app))]
 fn price<'a>(alloc: Global) -> Result<Command<'a>, AllocError>
     ensures app { IfOk result (λ c. app_of c ≡ price_app) }
     ensures local { IfOk result (λ c. (out-Command c).has_globals ≡ false) }
 {
-    let price = Command::new(alloc, "price")
-        .bin_name("flagops price")?
-        .about("Prints the totals of a new rule and what it costs the keys of a file");
+    let about = "Prints the totals of a new rule and what it costs the keys of a file";
+    let price = new_command(alloc, "price", "flagops price", about)?;
     let price = with_word(alloc, price, "OLD", "The file of the old rule")?;
     let price = with_word(
         alloc,
@@ -140,13 +143,11 @@ fn check<'a>(alloc: Global) -> Result<Command<'a>, AllocError>
     ensures app { IfOk result (λ c. app_of c ≡ check_app) }
     ensures local { IfOk result (λ c. (out-Command c).has_globals ≡ false) }
 {
-    let check = Command::new(alloc, "check")
-        .bin_name("flagops check")?
-        .about("Prints which flags of a document are good and which are broken");
+    let about = "Prints which flags of a document are good and which are broken";
+    let check = new_command(alloc, "check", "flagops check", about)?;
     with_word(alloc, check, "DOC", "The flag document")
 }
 
-#[tactic(auto, unfolding(crate::specs::Words::resolve_app))]
 fn resolve<'a>(alloc: Global) -> Result<Command<'a>, AllocError>
     ensures app { IfOk result (λ c. app_of c ≡ resolve_app) }
     ensures local { IfOk result (λ c. (out-Command c).has_globals ≡ false) }
@@ -178,9 +179,8 @@ fn resolve_begun<'a>(alloc: Global) -> Result<Command<'a>, AllocError>
     ensures app { IfOk result (λ c. app_of c ≡ resolve_begun) }
     ensures local { IfOk result (λ c. (out-Command c).has_globals ≡ false) }
 {
-    let resolve = Command::new(alloc, "resolve")
-        .bin_name("flagops resolve")?
-        .about("Prints what the flag of a key resolves to in a context");
+    let about = "Prints what the flag of a key resolves to in a context";
+    let resolve = new_command(alloc, "resolve", "flagops resolve", about)?;
     let resolve = with_word(alloc, resolve, "DOC", "The flag document")?;
     let resolve = with_word(alloc, resolve, "KEY", "The flag's key")?;
     with_word(
@@ -196,36 +196,30 @@ fn plan<'a>(alloc: Global) -> Result<Command<'a>, AllocError>
     ensures app { IfOk result (λ c. app_of c ≡ plan_app) }
     ensures local { IfOk result (λ c. (out-Command c).has_globals ≡ false) }
 {
-    let plan = Command::new(alloc, "plan").bin_name("flagops plan")?.about(
-        "Prints the rule that a rollout request asks for and that switches the fewest",
-    );
+    let about = "Prints the rule that a rollout request asks for and that switches the fewest";
+    let plan = new_command(alloc, "plan", "flagops plan", about)?;
     let plan = with_rollout(alloc, plan)?;
     with_refine(alloc, plan)
 }
 
-#[tactic(auto, unfolding(crate::specs::Words::verify_app))]
 fn verify<'a>(alloc: Global) -> Result<Command<'a>, AllocError>
     ensures app { IfOk result (λ c. app_of c ≡ verify_app) }
     ensures local { IfOk result (λ c. (out-Command c).has_globals ≡ false) }
 {
-    let verify = Command::new(alloc, "verify")
-        .bin_name("flagops verify")?
-        .about(
-            "Checks, apart from the planner, that a plan is right and the cheapest for a rollout request",
-        );
+    let about =
+        "Checks, apart from the planner, that a plan is right and the cheapest for a rollout request";
+    let verify = new_command(alloc, "verify", "flagops verify", about)?;
     let verify = with_rollout(alloc, verify)?;
     let verify = with_word(alloc, verify, "PLAN", "The plan file")?;
     with_refine(alloc, verify)
 }
 
-#[tactic(auto, unfolding(crate::specs::Words::apply_app))]
 fn apply<'a>(alloc: Global) -> Result<Command<'a>, AllocError>
     ensures app { IfOk result (λ c. app_of c ≡ apply_app) }
     ensures local { IfOk result (λ c. (out-Command c).has_globals ≡ false) }
 {
-    let apply = Command::new(alloc, "apply")
-        .bin_name("flagops apply")?
-        .about("Prints a document with the rule of a plan at a site of a flag");
+    let about = "Prints a document with the rule of a plan at a site of a flag";
+    let apply = new_command(alloc, "apply", "flagops apply", about)?;
     let apply = with_word(alloc, apply, "DOC", "The flag document")?;
     let apply = with_word(alloc, apply, "PLAN", "The plan file")?;
     let apply = with_word(alloc, apply, "FLAG", "The flag's key")?;
@@ -238,14 +232,13 @@ fn apply<'a>(alloc: Global) -> Result<Command<'a>, AllocError>
     )
 }
 
-#[tactic(auto, unfolding(crate::specs::Words::drive_app))]
 fn drive<'a>(alloc: Global) -> Result<Command<'a>, AllocError>
     ensures app { IfOk result (λ c. app_of c ≡ drive_app) }
     ensures local { IfOk result (λ c. (out-Command c).has_globals ≡ false) }
 {
-    let drive = Command::new(alloc, "drive")
-        .bin_name("flagops drive")?
-        .about("Prints what the asks of a file resolve to, and writes the book of what they reach");
+    let about =
+        "Prints what the asks of a file resolve to, and writes the book of what they reach";
+    let drive = new_command(alloc, "drive", "flagops drive", about)?;
     let drive = with_word(alloc, drive, "DOC", "The flag document")?;
     let drive = with_word(alloc, drive, "ASKS", "The file of the asks")?;
     let drive = with_number(
@@ -256,6 +249,19 @@ fn drive<'a>(alloc: Global) -> Result<Command<'a>, AllocError>
         LARGEST_16,
     )?;
     with_word(alloc, drive, "BOOK", "The book file that is written")
+}
+
+/// A command without its words, with its name in the texts of its usage and what it is about.
+fn new_command<'a>(
+    alloc: Global,
+    name: &'a str,
+    usage: &str,
+    about: &'a str,
+) -> Result<Command<'a>, AllocError>
+    ensures app { IfOk result (λ c. app_of c ≡ new_app name.entry.now) }
+    ensures local { IfOk result (λ c. (out-Command c).has_globals ≡ false) }
+{
+    Ok(Command::new(alloc, name).bin_name(usage)?.about(about))
 }
 
 /// The command with the words that name a rollout.
