@@ -100,8 +100,9 @@ fn bucket<'a>(alloc: Global) -> Result<Command<'a>, AllocError>
     ensures app { IfOk result (λ c. app_of c ≡ bucket_app) }
     ensures local { IfOk result (λ c. (out-Command c).has_globals ≡ false) }
 {
-    let bucket = Command::new(alloc, "bucket")
-        .about("Prints the hash of a key, its point on a rule and the variant there");
+    let bucket = Command::new(alloc, "bucket").about(
+        "Prints the hash of a key, its point on a rule and the variant there",
+    );
     let bucket = with_word(
         alloc,
         bucket,
@@ -236,8 +237,7 @@ fn drive<'a>(alloc: Global) -> Result<Command<'a>, AllocError>
     ensures app { IfOk result (λ c. app_of c ≡ drive_app) }
     ensures local { IfOk result (λ c. (out-Command c).has_globals ≡ false) }
 {
-    let about =
-        "Prints what the asks of a file resolve to, and writes the book of what they reach";
+    let about = "Prints what the asks of a file resolve to, and writes the book of what they reach";
     let drive = new_command(alloc, "drive", "flagops drive", about)?;
     let drive = with_word(alloc, drive, "DOC", "The flag document")?;
     let drive = with_word(alloc, drive, "ASKS", "The file of the asks")?;
