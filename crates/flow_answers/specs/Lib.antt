@@ -1,2 +1,3 @@
 pub mod Costs
+pub mod Laws
 pub mod Prices

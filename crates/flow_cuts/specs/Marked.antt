@@ -17,3 +17,10 @@ pub record AreHeld (p : FlowProblem) (f : Flow) (s : Search) (marks : List Bool)
 pub record AreUnsettled (p : FlowProblem) (s : Search) (marks : List Bool) : Type 0 where
   pub size : length marks ≡ names_of p
   pub each : (v : ℕ) → v < names_of p → slice_index_or marks v false ≡ nat_lt (names_of p) (rank_of s v)
+
+-- a point of the group is at a settled name; none is
+abbrev pub StandsInside : FlowProblem → Flow → Search → ℕ → Type 0
+StandsInside p f s group = (v : ℕ) × (v < names_of p) × (0 < placed_at p f group v) × (rank_of s v < names_of p + 1)
+
+abbrev pub StandsOutside : FlowProblem → Flow → Search → ℕ → Type 0
+StandsOutside p f s group = (v : ℕ) → v < names_of p → 0 < placed_at p f group v → rank_of s v < names_of p + 1 → ⊥

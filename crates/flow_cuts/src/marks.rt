@@ -3,12 +3,12 @@ ghost use Rattle.std.specs.Prelude.{◌≡◌, ◌≤◌, ◌<◌, ◌+◌, ℕ,
 ghost use Rattle.std.specs.Map.{keys_of};
 ghost use Rattle.bucket_core.specs.Rule.{names_view};
 ghost use Rattle.flow_cuts.specs.Chosen.{chosen};
-ghost use Rattle.flow_cuts.specs.Marked.{AreHeld, AreUnsettled};
+ghost use Rattle.flow_cuts.specs.Marked.{AreHeld, AreUnsettled, StandsInside, StandsOutside};
 ghost use Rattle.flow_passes.specs.Placing.{IsStuckAbove};
 ghost use Rattle.price_core.specs.Limits.{limits_view};
 ghost use Rattle.residual_arcs.specs.Problem.{IsFlowProblem, names_of};
-ghost use Rattle.residual_flow.specs.Flow.{IsFlow, groups_of, placed_at};
-ghost use Rattle.shortest_path.specs.Found.{HasSize, rank_of};
+ghost use Rattle.residual_flow.specs.Flow.{IsFlow, groups_of};
+ghost use Rattle.shortest_path.specs.Found.{HasSize};
 
 use price_core::Limit;
 use residual_arcs::FlowProblem;
@@ -38,9 +38,7 @@ fn stands_inside(problem: &FlowProblem, flow: &Flow, search: &Search, group: usi
     requires few { names_of problem.now ≤ 64 }
     requires search { HasSize (names_of problem.now + 1) search.now }
     requires group { group < groups_of problem.now }
-    ensures { MatchBool result
-        ((v : ℕ) × (v < names_of problem.now) × (0 < placed_at problem.now flow.now group v) × (rank_of search.now v < names_of problem.now + 1))
-        ((v : ℕ) → v < names_of problem.now → 0 < placed_at problem.now flow.now group v → rank_of search.now v < names_of problem.now + 1 → ⊥) }
+    ensures { MatchBool result (StandsInside problem.now flow.now search.now group) (StandsOutside problem.now flow.now search.now group) }
 {
     let names = problem.high.len();
     for v in 0..names {

@@ -1,6 +1,6 @@
 -- When a flow of points from groups to names costs the least for its totals, as prices of the names show, and the residual
 -- arcs along which points may move (Ahuja, Magnanti, Orlin, Network Flows, sections 9.2 and 9.3).
-use Rattle.std.specs.Prelude.{◌≡◌, ℕ, ◌+◌, ◌<◌, ℤ, pos, ◌+ℤ◌, ◌≤ℤ◌, Bool, true, Option, Some, None}
+use Rattle.std.specs.Prelude.{◌≡◌, ◌≢◌, ℕ, ◌+◌, ◌<◌, ℤ, pos, ◌+ℤ◌, ◌≤ℤ◌, Bool, true, Option, Some, None}
 use Rattle.shortest_path.specs.declared.arc.Arc.{Arc}
 
 -- what a problem asks, and a flow with its totals: groups and names are numbered; a point of a group that a name is given
@@ -49,3 +49,10 @@ pub record Shifts (old new : Flows) (group from to points : ℕ) : Type 0 where
   pub left : new.flow group from + points ≡ old.flow group from
   pub entered : new.flow group to ≡ old.flow group to + points
   pub others : (g v : ℕ) → v < old.names → (g ≡ group → v ≡ from → ⊥) → (g ≡ group → v ≡ to → ⊥) → new.flow g v ≡ old.flow g v
+
+-- Where points move between names of equal cost less price, points are still at names of the least.
+abbrev pub ShiftsKeepLeast : Type 0
+ShiftsKeepLeast =
+    (old new : Flows) (price : ℕ → ℤ) (group from to points : ℕ) → AreLeast old price → Shifts old new group from to points
+    → group < old.groups → from < old.names → to < old.names → from ≢ to → 0 < points
+    → (old.cost group from +ℤ price to) ≡ (old.cost group to +ℤ price from) → AreLeast new price

@@ -1,6 +1,6 @@
-ghost use Rattle.std.specs.Prelude.{ℕ, ℤ, true, Option, ◌≡◌, ◌≢◌, ◌<◌, ◌+◌, ◌+ℤ◌, ◌≤ℤ◌};
+ghost use Rattle.std.specs.Prelude.{ℕ, ℤ, Option, ◌+◌};
 ghost use Rattle.shortest_path.specs.Network.{IsReduced};
-ghost use Rattle.flow_laws.specs.Optimal.{Flows, AreLeast, IsOptimal, AreResidual, Shifts};
+ghost use Rattle.flow_laws.specs.Optimal.{Flows, IsOptimal, AreResidual, ShiftsKeepLeast};
 
 use shortest_path::Arc;
 
@@ -12,7 +12,5 @@ pub fn optimality()
 
 /// Where points move between names of equal cost less price, points are still at names of the least.
 pub fn shifting()
-    ensures { (old new : Flows) (price : ℕ → ℤ) (group from to points : ℕ) → AreLeast old price → Shifts old new group from to points
-        → group < old.groups → from < old.names → to < old.names → from ≢ to → 0 < points → (old.cost group from +ℤ price to) ≡ (old.cost group to +ℤ price from)
-        → AreLeast new price }
+    ensures { ShiftsKeepLeast }
 {}

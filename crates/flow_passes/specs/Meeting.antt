@@ -34,6 +34,13 @@ pub record WantsBelow (p : FlowProblem) (f : Flow) (wanted : List Bool) : Type 0
 abbrev pub missing : FlowProblem → Flow → ℕ
 missing p f = sum_to (names_of p) (λ v. slice_index p.low.items v - total_at f v)
 
+-- no name is below its low limit; this one is
+abbrev pub MeetsLow : FlowProblem → Flow → Type 0
+MeetsLow p f = (v : ℕ) → v < names_of p → slice_index p.low.items v ≤ total_at f v
+
+abbrev pub IsBelow : FlowProblem → Flow → ℕ → Type 0
+IsBelow p f v = (v < names_of p) × (total_at f v < slice_index p.low.items v)
+
 -- a search has found the shortest path from the limits to a name below its low limit, and its potentials keep the flow optimal
 pub record IsWayBelow (p : FlowProblem) (f : Flow) (s : Search) (last : ℕ) : Type 0 where
   pub meeting : IsMeeting p f s
@@ -53,3 +60,7 @@ pub record IsStuckBelow (p : FlowProblem) (f : Flow) (s : Search) : Type 0 where
   pub under : total_at f below < slice_index p.low.items below
   pub bare : (v : ℕ) → v < names_of p → names_of p + 1 ≤ rank_of s v → total_at f v ≤ slice_index p.low.items v
   pub closed : IsClosed p f s
+
+-- the search is stuck so, where there is a name below its low limit
+abbrev pub IsStuckIfBelow : FlowProblem → Flow → Search → Type 0
+IsStuckIfBelow p f s = (v : ℕ) → v < names_of p → total_at f v < slice_index p.low.items v → IsStuckBelow p f s

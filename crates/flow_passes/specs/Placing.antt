@@ -38,6 +38,14 @@ pub record WantsLimits (p : FlowProblem) (wanted : List Bool) : Type 0 where
 abbrev pub StayPlaced : FlowProblem → Flow → Flow → Type 0
 StayPlaced p old new = (v : ℕ) → total_at old v ≤ slice_index p.high.items v → total_at new v ≤ slice_index p.high.items v
 
+-- no name is above its high limit
+abbrev pub MeetsHigh : FlowProblem → Flow → Type 0
+MeetsHigh p f = (v : ℕ) → v < names_of p → total_at f v ≤ slice_index p.high.items v
+
+-- the name is within its high limit, and so are all that were, midway
+abbrev pub IsEmptied : FlowProblem → Flow → Flow → Search → ℕ → Type 0
+IsEmptied p old new s from = IsMidway p new s × (total_at new from ≤ slice_index p.high.items from) × StayPlaced p old new
+
 -- a search has found the shortest path to the limits, over a name with room, and its potentials are those of a flow midway
 pub record IsWay (p : FlowProblem) (f : Flow) (s : Search) (from last : ℕ) : Type 0 where
   pub midway : IsMidway p f s

@@ -1,7 +1,7 @@
 //! The second pass: names below their low limits get points from names that have more than theirs.
-ghost use Rattle.std.specs.Prelude.{◌≡◌, ◌≤◌, ◌<◌, ◌+◌, ℕ, IfOk, IsTrue, MatchBool, MatchOption, MatchResult, OnOk, false, length, nat_lt, slice_index, slice_index_or};
+ghost use Rattle.std.specs.Prelude.{◌≡◌, ◌≤◌, ◌<◌, ◌+◌, IfOk, IsTrue, MatchBool, MatchOption, MatchResult, OnOk, false, length, nat_lt, slice_index, slice_index_or};
 ghost use Rattle.flow_passes.specs.Effort.{Searches, nodes_of};
-ghost use Rattle.flow_passes.specs.Meeting.{IsMeeting, IsStuckBelow, IsWayBelow, WantsBelow, missing};
+ghost use Rattle.flow_passes.specs.Meeting.{IsBelow, IsMeeting, IsStuckBelow, IsStuckIfBelow, IsWayBelow, MeetsLow, WantsBelow, missing};
 ghost use Rattle.residual_arcs.specs.Problem.{IsFlowProblem, names_of};
 ghost use Rattle.residual_flow.specs.Flow.{IsFlow, total_at};
 ghost use Rattle.search_effort.specs.Spent.{Settles};
@@ -26,7 +26,7 @@ pub fn meet_low<L: Ledger>(
     requires problem { IsFlowProblem problem.now }
     requires meeting { IsMeeting problem.now flow.old search.old }
     ensures met { IfOk result (λ met. MatchBool met
-        (IsMeeting problem.now flow.new search.new × ((v : ℕ) → v < names_of problem.now → slice_index problem.now.low.items v ≤ total_at flow.new v))
+        (IsMeeting problem.now flow.new search.new × MeetsLow problem.now flow.new)
         (IsStuckBelow problem.now flow.new search.new)) }
     ensures augmentations { effort.new.augmentations ≤ effort.old.augmentations + missing problem.now flow.old }
     ensures searches { Searches (nodes_of problem.now) 1 effort.old effort.new }
@@ -47,9 +47,7 @@ pub fn meet_low<L: Ledger>(
 fn name_below(problem: &FlowProblem, flow: &Flow) -> Option<usize>
     requires problem { IsFlowProblem problem.now }
     requires flow { IsFlow problem.now flow.now }
-    ensures { MatchOption result
-        ((v : ℕ) → v < names_of problem.now → slice_index problem.now.low.items v ≤ total_at flow.now v)
-        (λ v. (v < names_of problem.now) × (total_at flow.now v < slice_index problem.now.low.items v)) }
+    ensures { MatchOption result (MeetsLow problem.now flow.now) (λ v. IsBelow problem.now flow.now v) }
 {
     for name in 0..problem.high.len() {
         if is_below(problem, flow, name) {
@@ -94,8 +92,7 @@ fn find_below<L: Ledger>(
     requires meeting { IsMeeting problem.now flow.now search.old }
     requires wanted { WantsBelow problem.now flow.now wanted.now }
     ensures way { MatchOption result
-        ((v : ℕ) → v < names_of problem.now → total_at flow.now v < slice_index problem.now.low.items v → IsStuckBelow problem.now flow.now search.new)
-        (λ last. IsWayBelow problem.now flow.now search.new last) }
+        (IsStuckIfBelow problem.now flow.now search.new) (λ last. IsWayBelow problem.now flow.now search.new last) }
     ensures effort { Settles (nodes_of problem.now) effort.old effort.new }
 {
     search.find(flow.arcs.as_slice(), wanted, problem.high.len(), effort)

@@ -1,9 +1,9 @@
 //! The first pass: all points are placed within the high limits.
-ghost use Rattle.std.specs.Prelude.{◌<◌, ◌≤◌, ◌+◌, ℕ, IfOk, IsTrue, MatchBool, slice_index};
+ghost use Rattle.std.specs.Prelude.{◌≤◌, ◌+◌, IfOk, IsTrue, MatchBool};
 ghost use Rattle.flow_passes.specs.Effort.{Searches, nodes_of};
-ghost use Rattle.flow_passes.specs.Placing.{IsMidway, IsStuckAbove, WantsLimits, excess};
-ghost use Rattle.residual_arcs.specs.Problem.{IsFlowProblem, names_of};
-ghost use Rattle.residual_flow.specs.Flow.{IsFlow, total_at};
+ghost use Rattle.flow_passes.specs.Placing.{IsMidway, IsStuckAbove, MeetsHigh, WantsLimits, excess};
+ghost use Rattle.residual_arcs.specs.Problem.{IsFlowProblem};
+ghost use Rattle.residual_flow.specs.Flow.{IsFlow};
 
 use crate::placing::empty_to_high;
 use residual_arcs::FlowProblem;
@@ -25,7 +25,7 @@ pub fn place_within_high<L: Ledger>(
     requires problem { IsFlowProblem problem.now }
     requires midway { IsMidway problem.now flow.old search.old }
     ensures placed { IfOk result (λ placed. MatchBool placed
-        (IsMidway problem.now flow.new search.new × ((v : ℕ) → v < names_of problem.now → total_at flow.new v ≤ slice_index problem.now.high.items v))
+        (IsMidway problem.now flow.new search.new × MeetsHigh problem.now flow.new)
         (IsStuckAbove problem.now flow.new search.new × IsFlow problem.now flow.new)) }
     ensures augmentations { effort.new.augmentations ≤ effort.old.augmentations + excess problem.now flow.old }
     ensures searches { Searches (nodes_of problem.now) 1 effort.old effort.new }

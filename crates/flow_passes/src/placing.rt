@@ -1,7 +1,7 @@
 //! Points of a name above its high limit move to names with room.
 ghost use Rattle.std.specs.Prelude.{◌≡◌, ◌<◌, ◌≤◌, ◌+◌, ℕ, IfOk, IsTrue, MatchBool, MatchOption, MatchResult, OnOk, slice_index};
 ghost use Rattle.flow_passes.specs.Effort.{Searches, nodes_of};
-ghost use Rattle.flow_passes.specs.Placing.{IsMidway, IsStuckAbove, IsWay, StayPlaced, WantsLimits, excess};
+ghost use Rattle.flow_passes.specs.Placing.{IsEmptied, IsMidway, IsStuckAbove, IsWay, StayPlaced, WantsLimits, excess};
 ghost use Rattle.residual_arcs.specs.Problem.{IsFlowProblem, names_of};
 ghost use Rattle.residual_flow.specs.Flow.{IsFlow, total_at};
 ghost use Rattle.search_effort.specs.Spent.{Settles};
@@ -30,7 +30,7 @@ pub(crate) fn empty_to_high<L: Ledger>(
     requires wanted { WantsLimits problem.now wanted.now }
     requires from { from < names_of problem.now }
     ensures emptied { IfOk result (λ emptied. MatchBool emptied
-        (IsMidway problem.now flow.new search.new × (total_at flow.new from ≤ slice_index problem.now.high.items from) × StayPlaced problem.now flow.old flow.new)
+        (IsEmptied problem.now flow.old flow.new search.new from)
         (IsStuckAbove problem.now flow.new search.new × IsFlow problem.now flow.new)) }
     ensures excess { IfOk result (λ emptied. effort.new.augmentations + excess problem.now flow.new ≤ effort.old.augmentations + excess problem.now flow.old) }
     ensures augmentations { effort.new.augmentations ≤ effort.old.augmentations + excess problem.now flow.old }

@@ -42,3 +42,8 @@ ChangesLimits names name old new =
 -- the points here are as before but those of a group
 abbrev pub ChangesGroup : ℕ → (ℕ → ℕ) → (ℕ → ℕ) → Type 0
 ChangesGroup group old now = (g : ℕ) → g ≢ group → now g ≡ old g
+
+-- arcs from the name that were right for points which differ from these at one group alone, of which there were some, are right for these
+abbrev pub KeepsRow : FlowProblem → List ℕ → ℕ → ℕ → List (Option Arc) → List (Option Arc) → Type 0
+KeepsRow p placed group v old new = let now : ℕ → ℕ = λ g. cell_at placed (names_of p) g v in
+    (before : ℕ → ℕ) → 0 < before group → ChangesGroup group before now → HasRow p before v old → HasRow p now v new

@@ -3,7 +3,7 @@ ghost use Rattle.residual_arcs.specs.Problem.{IsFlowProblem, cost_in, may_take_i
 ghost use Rattle.residual_arcs.specs.Row.{IsWidened};
 ghost use Rattle.residual_arcs.specs.Spans.{AreSpans};
 ghost use Rattle.residual_flow.specs.Flow.{cell_at, groups_of};
-ghost use Rattle.residual_flow.specs.Rows.{ChangesGroup, ChangesLimits, ChangesRow, HasArcs, HasLimits, HasRow, IsLimitArc, MayBe};
+ghost use Rattle.residual_flow.specs.Rows.{ChangesGroup, ChangesLimits, ChangesRow, HasArcs, HasLimits, HasRow, IsLimitArc, KeepsRow, MayBe};
 ghost use Rattle.shortest_path.specs.Network.{arc_at};
 
 use residual_arcs::{FlowProblem, Span, enter, renew};
@@ -77,8 +77,7 @@ pub(crate) fn leave(
     requires placed { length placed.now ≡ groups_of problem.now * names_of problem.now }
     requires free { MayBe problem.now placed.now name }
     requires spans { AreSpans problem.now.groups.items (names_of problem.now) placed.now spans.old }
-    ensures row { (old : ℕ → ℕ) → 0 < old group → ChangesGroup group old (λ g. cell_at placed.now (names_of problem.now) g name) → HasRow problem.now old name arcs.old
-        → HasRow problem.now (λ g. cell_at placed.now (names_of problem.now) g name) name arcs.new }
+    ensures row { KeepsRow problem.now placed.now group name arcs.old arcs.new }
     ensures others { ChangesRow (names_of problem.now) name arcs.old arcs.new }
     ensures spans { AreSpans problem.now.groups.items (names_of problem.now) placed.now spans.new }
 {

@@ -1,6 +1,6 @@
 -- What a search of a residual network leaves: shortest paths and potentials, or a set of nodes that no arc leaves.
-use Rattle.std.specs.Prelude.{◌≡◌, ℕ, ◌<◌, ◌≤◌, ◌*◌, ◌⊎◌, ℤ, pos, ◌+ℤ◌, ◌-ℤ◌, ◌≤ℤ◌, Bool, true, List, length, Option, Some, slice_get, slice_index, slice_index_or}
-use Rattle.shortest_path.specs.Network.{IsReduced, max_cost}
+use Rattle.std.specs.Prelude.{◌≡◌, ℕ, ◌<◌, ◌≤◌, ◌*◌, ◌⊎◌, ℤ, pos, ◌+ℤ◌, ◌-ℤ◌, ◌≤ℤ◌, Bool, true, List, length, MatchOption, Option, Some, slice_get, slice_index, slice_index_or}
+use Rattle.shortest_path.specs.Network.{IsReduced, arc_at, max_cost}
 use Rattle.shortest_path.specs.Searched.{IsTight}
 use Rattle.shortest_path.specs.declared.arc.Arc.{Arc}
 use Rattle.shortest_path.specs.declared.search.Search.{Search}
@@ -40,3 +40,9 @@ pub record HasFound (nodes : ℕ) (arc : ℕ → ℕ → Option Arc) (wanted : L
   pub kept : (v : ℕ) → v < nodes → nodes ≤ rank v → potential' v ≡ potential v
   pub low : (v : ℕ) → v < nodes → rank v < nodes → (potential node -ℤ pos (2 * (nodes * max_cost))) ≤ℤ potential' v
   pub high : (v : ℕ) → v < nodes → rank v < nodes → potential' v ≤ℤ (potential node +ℤ pos (2 * (nodes * max_cost)))
+
+-- the node that was found, or none can be, over arcs that stand by node
+abbrev pub Finds : ℕ → List (Option Arc) → List Bool → ℕ → (ℕ → ℤ) → (ℕ → ℤ) → (ℕ → ℕ) → (ℕ → ℕ) → Option ℕ → Type 0
+Finds nodes arcs wanted source potential potential' parent rank found = MatchOption found
+    (IsStuck nodes (arc_at arcs nodes) wanted source potential potential' rank)
+    (HasFound nodes (arc_at arcs nodes) wanted source potential potential' parent rank)

@@ -1,7 +1,7 @@
 ghost use Rattle.std.specs.Prelude.{IfOk, MatchBool, MatchOption, ◌≡◌, ◌≤◌, ◌<◌, ◌+◌, ◌*◌, ℕ, ℤ, pos, Some, None, ◌≤ℤ◌, ◌+ℤ◌, ◌-ℤ◌, length, slice_index, slice_index_or, slice_get, true, ◌≢◌};
 ghost use Rattle.shortest_path.specs.Network.{IsShort, IsReduced, IsWithin, arc_at, max_cost, max_nodes};
-ghost use Rattle.shortest_path.specs.Found.{HasSize, HasFound, IsStuck, potential_of, parent_of, rank_of};
-ghost use Rattle.shortest_path.specs.Searched.{Relaxes, IsSearched, IsNearest, HasNone, Lowers, length_in, potential_in};
+ghost use Rattle.shortest_path.specs.Found.{HasSize, Finds, potential_of, parent_of, rank_of};
+ghost use Rattle.shortest_path.specs.Searched.{RelaxesTo, AreSearched, IsNearestOf, HaveNone, Lowers, length_in, potential_in};
 ghost use Rattle.search_effort.specs.Spent.{Settles};
 
 use crate::arc::Arc;
@@ -52,9 +52,8 @@ impl Search {
         requires costs { IsWithin (length wanted.now) (arc_at arcs.now (length wanted.now)) max_cost }
         requires reduced { IsReduced (length wanted.now) (arc_at arcs.now (length wanted.now)) (λ v. slice_index_or self.old.potentials.items v (pos 0)) }
         ensures size { HasSize (length wanted.now) self.new }
-        ensures found { MatchOption result
-            (IsStuck (length wanted.now) (arc_at arcs.now (length wanted.now)) wanted.now source (potential_of self.old) (potential_of self.new) (rank_of self.new))
-            (HasFound (length wanted.now) (arc_at arcs.now (length wanted.now)) wanted.now source (potential_of self.old) (potential_of self.new) (parent_of self.new) (rank_of self.new)) }
+        ensures found { Finds (length wanted.now) arcs.now wanted.now source
+            (potential_of self.old) (potential_of self.new) (parent_of self.new) (rank_of self.new) result }
         ensures effort { Settles (length wanted.now) effort.old effort.new }
     {
         search_from(
@@ -91,10 +90,8 @@ fn search_from<L: Ledger>(
     requires short { (v : ℕ) → v < length ranks.old → IsShort (slice_index_or potentials.old v (pos 0)) }
     requires costs { IsWithin (length ranks.old) (arc_at arcs.now (length ranks.old)) max_cost }
     requires reduced { IsReduced (length ranks.old) (arc_at arcs.now (length ranks.old)) (potential_in potentials.old) }
-    ensures found { MatchOption result
-        (IsStuck (length ranks.old) (arc_at arcs.now (length ranks.old)) wanted.now source (potential_in potentials.old) (potential_in potentials.new) (slice_index ranks.new))
-        (HasFound (length ranks.old) (arc_at arcs.now (length ranks.old)) wanted.now source (potential_in potentials.old) (potential_in potentials.new)
-        (slice_index parents.new) (slice_index ranks.new)) }
+    ensures found { Finds (length ranks.old) arcs.now wanted.now source
+        (potential_in potentials.old) (potential_in potentials.new) (slice_index parents.new) (slice_index ranks.new) result }
     ensures effort { Settles (length ranks.old) effort.old effort.new }
 {
     begin(lengths, ranks, source);
@@ -132,17 +129,14 @@ fn settle<L: Ledger>(
     requires costs { IsWithin (length ranks.old) (arc_at arcs.now (length ranks.old)) max_cost }
     requires reduced { IsReduced (length ranks.old) (arc_at arcs.now (length ranks.old)) (potential_in potentials.now) }
     requires unsettled { (v : ℕ) → v < length ranks.old → length ranks.old ≤ slice_index ranks.old v }
-    requires start { IsSearched (length ranks.old) (arc_at arcs.now (length ranks.old)) (potential_in potentials.now) source max_cost 0
-        (length_in lengths.old) (slice_index parents.old) (slice_index ranks.old) }
+    requires start { AreSearched (length ranks.old) arcs.now potentials.now source 0 lengths.old parents.old ranks.old }
     ensures lengths { length lengths.new ≡ length ranks.old }
     ensures parents { length parents.new ≡ length ranks.old }
     ensures ranks { length ranks.new ≡ length ranks.old }
-    ensures searched { IsSearched (length ranks.old) (arc_at arcs.now (length ranks.old)) (potential_in potentials.now) source max_cost (length ranks.old)
-        (length_in lengths.new) (slice_index parents.new) (slice_index ranks.new) }
+    ensures searched { AreSearched (length ranks.old) arcs.now potentials.now source (length ranks.old) lengths.new parents.new ranks.new }
     ensures unwanted { (v : ℕ) → v < length ranks.old → slice_index ranks.new v < length ranks.old → slice_get wanted.now v ≡ Some true → ⊥ }
-    ensures found { MatchOption result
-        (HasNone (length ranks.old) (length_in lengths.new) (slice_index ranks.new))
-        (λ r. IsNearest (length ranks.old) (potential_in potentials.now) (length_in lengths.new) (slice_index ranks.new) r.0 r.1 × (slice_get wanted.now r.0 ≡ Some true)) }
+    ensures found { MatchOption result (HaveNone lengths.new ranks.new (length ranks.old))
+        (λ r. IsNearestOf potentials.now lengths.new ranks.new (length ranks.old) r × (slice_get wanted.now r.0 ≡ Some true)) }
     ensures effort { Settles (length ranks.old) effort.old effort.new }
 {
     let nodes = ranks.len();
@@ -223,9 +217,8 @@ fn nearest(lengths: &[Option<i64>], potentials: &[i64], ranks: &[usize]) -> Opti
     requires potentials { length potentials.now ≡ length ranks.now }
     requires short_lengths { (v : ℕ) (a : ℤ) → v < length ranks.now → slice_index_or lengths.now v None ≡ Some a → IsShort a }
     requires short { (v : ℕ) → v < length ranks.now → IsShort (slice_index_or potentials.now v (pos 0)) }
-    ensures { MatchOption result
-        (HasNone (length ranks.now) (length_in lengths.now) (slice_index ranks.now))
-        (λ r. IsNearest (length ranks.now) (potential_in potentials.now) (length_in lengths.now) (slice_index ranks.now) r.0 r.1) }
+    ensures { MatchOption result (HaveNone lengths.now ranks.now (length ranks.now))
+        (λ r. IsNearestOf potentials.now lengths.now ranks.now (length ranks.now) r) }
 {
     let mut least = None;
     let mut node = 0;
@@ -263,9 +256,7 @@ fn relax(
     requires ranks { length ranks.now ≡ length arcs.now }
     requires costs { (v : ℕ) (a : Arc) → v < length arcs.now → slice_index_or arcs.now v None ≡ Some a → IsShort a.cost }
     requires so_far { IsShort so_far }
-    ensures each { (v : ℕ) → v < length arcs.now
-        → Relaxes (length arcs.now) node so_far (slice_index_or arcs.now v None) (slice_index ranks.now v)
-        (slice_index_or lengths.old v None) (slice_index_or lengths.new v None) (slice_index parents.old v) (slice_index parents.new v) }
+    ensures each { (v : ℕ) → v < length arcs.now → RelaxesTo arcs.now ranks.now node so_far lengths.old lengths.new parents.old parents.new v }
 {
     for v in 0..arcs.len() {
         if ranks[v] >= arcs.len() {

@@ -3,4 +3,4 @@ use Rattle.flow_answers.proofs.Offering.{least_offers}
 use Rattle.flow_answers.proofs.laws.the_prices_of_groups_are_least_offers.Goals as goal
 
 pub returns : goal.returns
-returns c p q alpha beta are same each = least_offers p q alpha beta are same each
+returns c p q alpha beta are offers = least_offers p q alpha beta are offers.0 offers.1
