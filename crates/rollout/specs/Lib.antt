@@ -2,6 +2,7 @@ pub mod Applied
 pub mod Change
 pub mod Fault
 pub mod Lawful
+pub mod Laws
 pub mod Planned
 pub mod Refined
 pub mod Verified

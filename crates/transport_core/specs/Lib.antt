@@ -6,6 +6,7 @@ pub mod Fault
 pub mod Fits
 pub mod Groups
 pub mod Instance
+pub mod Laws
 pub mod Refusals
 pub mod Rows
 pub mod Sum

@@ -1,5 +1,5 @@
 -- When each refusal of a plan comes: its own demand fails, and all that are tested before it are met.
-use Rattle.std.specs.Prelude.{◌≡◌, ◌≢◌, ◌<◌, ◌≤◌, ◌*◌, ◌&&◌, ◌⊎◌, ℕ, ℤ, pos, ◌+ℤ◌, Bool, not, List, map, Option, Some, None, find, int_lt, string_bytes}
+use Rattle.std.specs.Prelude.{◌≡◌, ◌≢◌, ◌<◌, ◌≤◌, ◌*◌, ◌&&◌, ◌⊎◌, ℕ, ℤ, pos, ◌+ℤ◌, Bool, not, List, map, MatchResult, Option, Some, None, Result, find, int_lt, string_bytes}
 use Rattle.std.specs.List.{range_with_len, flat_map}
 use Rattle.std.specs.Map.{keys_of}
 use Rattle.bucket_core.specs.Rule.{Entries, total_weight, total_of}
@@ -93,3 +93,7 @@ pub record AreDuals (old : Entries) (limits : Limits) (pricing : Pricing) (input
   pub names : keys_of c.beta ≡ keys_of limits
   pub unbroken : first_broken pricing c ≡ None
   pub sum : dual_sum old inputs limits c ≡ pos c.cost
+
+-- what checking these numbers comes to
+abbrev pub ChecksDuals : {X : Type 0} → Entries → Limits → Pricing → List (List ℕ) → DualPrices → Result X CheckFault → Type 0
+ChecksDuals old limits pricing inputs c result = MatchResult result (λ _. AreDuals old limits pricing inputs c) (RefusesDuals old limits pricing inputs c)

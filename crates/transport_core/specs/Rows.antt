@@ -1,5 +1,5 @@
 -- Rows of a key and an amount, where a key may stand more than once.
-use Rattle.std.specs.Prelude.{◌≡◌, ◌==◌, ℕ, ◌+◌, ◌-◌, ◌<◌, Bool, List, [], ◌∷◌, map, sum_by, count_by, unwrap_or, if◌then◌else◌}
+use Rattle.std.specs.Prelude.{◌≡◌, ◌==◌, ℕ, ◌+◌, ◌-◌, ◌<◌, ◌≤◌, Bool, List, [], ◌∷◌, map, sum_by, count_by, unwrap_or, if◌then◌else◌}
 use Rattle.std.specs.Borrow.{Bor}
 use Rattle.std.specs.Cmp.Lexicographic.{slice_cmp}
 use Rattle.std.specs.List.{All, range_with_len}
@@ -8,6 +8,7 @@ use Rattle.std.specs.Map.{keys_of, lookup}
 use Rattle.std.specs.Ordering.{nat_cmp}
 use Rattle.std.specs.Str.{bytes_eq}
 use Rattle.bucket_core.specs.Rule.{Entries, points, at}
+use Rattle.price_core.specs.Limits.{Limits, low_of, high_of}
 use Rattle.transport_core.specs.Dual.{inputs_at}
 use Rattle.transport_core.specs.Groups.{GroupKey, is_same_group}
 
@@ -66,3 +67,16 @@ total_in totals name = unwrap_or (lookup (bytes_eq name) totals) 0
 -- totals of the program, without where the names lie in memory
 abbrev pub totals_view : List (Bor (List ℕ) × ℕ) → List (List ℕ × ℕ)
 totals_view totals = map (λ r. (r.0.now, r.1)) totals
+
+-- totals by name, each at most its high limit, or not; each at least its low one, or not
+abbrev pub KeepHigh : List (List ℕ × ℕ) → Limits → Type 0
+KeepHigh totals limits = (name : List ℕ) → total_in totals name ≤ high_of limits name
+
+abbrev pub BreakHigh : List (List ℕ × ℕ) → Limits → Type 0
+BreakHigh totals limits = (name : List ℕ) × (high_of limits name < total_in totals name)
+
+abbrev pub KeepLow : List (List ℕ × ℕ) → Limits → Type 0
+KeepLow totals limits = (name : List ℕ) → low_of limits name ≤ total_in totals name
+
+abbrev pub BreakLow : List (List ℕ × ℕ) → Limits → Type 0
+BreakLow totals limits = (name : List ℕ) × (total_in totals name < low_of limits name)

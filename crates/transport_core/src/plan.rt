@@ -3,7 +3,7 @@ ghost use Rattle.std.specs.Prelude.{◌≡◌, ◌≢◌, ◌<◌, ◌^◌, leng
 ghost use Rattle.bucket_core.specs.Rule.{total_weight};
 ghost use Rattle.transport_core.specs.Certificate.{IsCertified, certificate_view};
 ghost use Rattle.transport_core.specs.Fits.{Fits, IsLeast};
-ghost use Rattle.transport_core.specs.Refusals.{Refuses, RefusesRule, RefusesDuals, AreDuals};
+ghost use Rattle.transport_core.specs.Refusals.{Refuses, RefusesRule, ChecksDuals};
 
 use crate::certificate::Certificate;
 use crate::duals::{are_groups, are_names, sums_to};
@@ -86,9 +86,7 @@ fn check_duals(
 ) -> Result<(), CheckFault>
     requires few { length inputs.now < 2 ^ 32 }
     requires lows { sum_by (λ l. l.1.0) totals.now < 2 ^ 32 }
-    ensures { MatchResult result
-        (λ _. AreDuals old.now totals.now prices.now (map string_bytes inputs.now) (certificate_view certificate.now))
-        (RefusesDuals old.now totals.now prices.now (map string_bytes inputs.now) (certificate_view certificate.now)) }
+    ensures { ChecksDuals old.now totals.now prices.now (map string_bytes inputs.now) (certificate_view certificate.now) result }
 {
     let limits = totals.entries();
     let alpha = certificate.alpha.as_slice();

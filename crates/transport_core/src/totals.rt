@@ -5,9 +5,9 @@ ghost use Rattle.std.specs.List.Sorted.{IsStrictlySortedBy};
 ghost use Rattle.std.specs.Map.{keys_of};
 ghost use Rattle.std.specs.Ordering.{nat_cmp};
 ghost use Rattle.bucket_core.specs.Rule.{total_weight, entries_view};
-ghost use Rattle.price_core.specs.Limits.{low_of, high_of, limits_view};
+ghost use Rattle.price_core.specs.Limits.{high_of, limits_view};
 ghost use Rattle.transport_core.specs.Refusals.{KeepsLimits, BreaksLimit};
-ghost use Rattle.transport_core.specs.Rows.{AreTotals, total_in, totals_view};
+ghost use Rattle.transport_core.specs.Rows.{AreTotals, BreakHigh, BreakLow, KeepHigh, KeepLow, total_in, totals_view};
 
 use crate::rows::joined;
 use bucket_core::Rule;
@@ -53,8 +53,7 @@ fn weights(alloc: Global, entries: &[(String, u64)]) -> Result<Vec<(&str, u32)>,
 fn keeps_high(totals: &[(&str, u32)], limits: &[Limit]) -> bool
     requires { IsStrictlySortedBy (slice_cmp nat_cmp) (keys_of (totals_view totals.now)) }
     ensures { MatchBool result
-        ((name : List ℕ) → total_in (totals_view totals.now) name ≤ high_of (limits_view limits.now) name)
-        ((name : List ℕ) × (high_of (limits_view limits.now) name < total_in (totals_view totals.now) name)) }
+        (KeepHigh (totals_view totals.now) (limits_view limits.now)) (BreakHigh (totals_view totals.now) (limits_view limits.now)) }
 {
     for (name, total) in totals {
         if high_of(limits, name) < *total {
@@ -67,8 +66,7 @@ fn keeps_high(totals: &[(&str, u32)], limits: &[Limit]) -> bool
 fn keeps_low(totals: &[(&str, u32)], limits: &[Limit]) -> bool
     requires { IsStrictlySortedBy (slice_cmp nat_cmp) (keys_of (limits_view limits.now)) }
     ensures { MatchBool result
-        ((name : List ℕ) → low_of (limits_view limits.now) name ≤ total_in (totals_view totals.now) name)
-        ((name : List ℕ) × (total_in (totals_view totals.now) name < low_of (limits_view limits.now) name)) }
+        (KeepLow (totals_view totals.now) (limits_view limits.now)) (BreakLow (totals_view totals.now) (limits_view limits.now)) }
 {
     for limit in limits {
         if total_in(totals, limit.name.as_str()) < limit.low {
