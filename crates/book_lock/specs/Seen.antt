@@ -1,6 +1,7 @@
 -- What a seat has seen of the one list of a book's calls.
 use Rattle.std.specs.Prelude.{◌≡◌, ℕ, zero, suc, ◌+◌, List, [], ◌∷◌, ◌++◌, Bool, true, false, ◌==◌, nat_lt, if◌then◌else◌, is_ok}
-use Rattle.book_core.specs.Calls.{Call, AreCalls}
+use Rattle.book_core.specs.Book.{Contents}
+use Rattle.book_core.specs.Calls.{Call, AreCalls, book_of_calls}
 use Rattle.book_lock.specs.declared.call.Sight.{Sight}
 use Rattle.book_lock.specs.declared.call.View.{View}
 
@@ -81,3 +82,11 @@ at_list all (x ∷ xs) = sight x.number all ∷ at_list all xs
 abbrev pub seen_in : List Sight → List Call
 seen_in [] = []
 seen_in (x ∷ xs) = x.seen
+
+-- the book is what these calls make, a legal list
+abbrev pub IsMade : Contents → List Call → Type 0
+IsMade book calls = IsLegal calls × (book ≡ book_of_calls [] calls)
+
+-- the same, where the calls go on from what a seat had seen
+abbrev pub IsMadeSince : Contents → List Call → Sight → Type 0
+IsMadeSince book calls before = (book ≡ book_of_calls [] calls) × IsLegal calls × Knows calls before

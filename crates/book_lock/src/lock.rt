@@ -5,7 +5,7 @@ ghost use Rattle.book_lock.specs.Notes.{Answers, Looks, accepted};
 ghost use Rattle.book_core.specs.Calls.{book_of_calls};
 ghost use Rattle.book_lock.specs.Rule.{holding, idle};
 ghost use Rattle.book_lock.specs.Sealed.{IsSealed};
-ghost use Rattle.book_lock.specs.Seen.{IsLegal, Knows, first_of, rest_of, seen_in, sight, view_of};
+ghost use Rattle.book_lock.specs.Seen.{IsLegal, IsMade, IsMadeSince, first_of, rest_of, seen_in, sight, view_of};
 
 use crate::call::View;
 use crate::rule::{Accepted, Cut, Give, Orders, Record, Take};
@@ -36,7 +36,8 @@ impl BookLock {
         requires few { number + 1 < 2 ^ 64 }
         requires idle { place.old.me ≡ (idle number (seen_in place.old.me.0.seats), []) }
         ensures kept { place.new.table_id ≡ place.old.table_id }
-        ensures some { IfSome result (λ book. (place.new.me ≡ (holding number (seen_in place.new.me.0.seats), (0, None) ∷ [])) × (book ≡ book_of_calls [] (seen_in place.new.me.0.seats)) × IsLegal (seen_in place.new.me.0.seats) × Knows (seen_in place.new.me.0.seats) (sight number (seen_in place.old.me.0.seats))) }
+        ensures some { IfSome result (λ book. (place.new.me ≡ (holding number (seen_in place.new.me.0.seats), (0, None) ∷ []))
+            × IsMadeSince book (seen_in place.new.me.0.seats) (sight number (seen_in place.old.me.0.seats))) }
         ensures none { IfNone result (place.new.me ≡ place.old.me) }
     {
         let shared = &self.table.shared;
@@ -97,7 +98,7 @@ impl BookLock {
     )
         requires table { place.old.table_id ≡ self.now.table.shared.table_id }
         requires holding { place.old.me ≡ (holding number (seen_in place.old.me.0.seats), (0, None) ∷ []) }
-        requires accepted { IfOk reply (λ noted. IsLegal (seen_in place.old.me.0.seats ++ accepted number page.now input.now noted ∷ []) × (book ≡ book_of_calls [] (seen_in place.old.me.0.seats ++ accepted number page.now input.now noted ∷ []))) }
+        requires accepted { IfOk reply (λ noted. IsMade book (seen_in place.old.me.0.seats ++ accepted number page.now input.now noted ∷ [])) }
         requires refused { OnErr reply (book ≡ book_of_calls [] (seen_in place.old.me.0.seats)) }
         ensures kept { place.new.table_id ≡ place.old.table_id }
         ensures accepted { IfOk reply (λ noted. place.new.me ≡ (idle number (seen_in place.old.me.0.seats ++ accepted number page.now input.now noted ∷ []), [])) }

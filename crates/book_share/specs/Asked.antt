@@ -92,3 +92,7 @@ every between (suc first) (a ∷ rest) = every between first rest
 -- the asks that a worker takes: the one of its own number, then each that comes as many after as there are workers
 abbrev pub asks_of : ℕ → ℕ → List Ask → List Ask
 asks_of workers worker asks = every (workers - 1) worker asks
+
+-- the same of the flag of a key, whose targeting is among the flags
+abbrev pub mentions_by : Definitions → List ℕ → List Reach → List Mention
+mentions_by flags key reached = mentions_in key (targeting_of flags key) reached

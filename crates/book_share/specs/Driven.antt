@@ -1,8 +1,9 @@
 -- What a drive ends with, and what its workers end with.
-use Rattle.std.specs.Prelude.{◌≡◌, ◌↔◌, ◌≤◌, ℕ, zero, suc, ◌+◌, ◌-◌, List, [], ◌∷◌, ◌++◌, length, map, count_by, sum_by, All, Bool, true, Some, Err, option_map, slice_get, string_bytes}
+use Rattle.std.specs.Prelude.{◌≡◌, ◌↔◌, ◌≤◌, ℕ, zero, suc, ◌+◌, ◌-◌, List, [], ◌∷◌, ◌++◌, length, map, count_by, sum_by, All, Bool, true, false, Some, Result, Err, IfErr, IfOk, IfSome, option_map, slice_get, string_bytes}
 use Rattle.std.specs.List.{list_any}
 use Rattle.std.specs.Set.{distinct_count}
 use Rattle.std.specs.Str.{bytes_eq}
+use Rattle.std.specs.VecDeque.{deque_items}
 use Rattle.flag_defs.specs.Document.{Definitions}
 use Rattle.flag_resolve.specs.Views.{resolution_view}
 use Rattle.flag_resolve.specs.declared.resolution.Resolution.{Resolution}
@@ -14,9 +15,13 @@ use Rattle.book_lock.specs.Counts.{own}
 use Rattle.book_lock.specs.Seen.{AllKnow, IsLegal, StartsWith}
 use Rattle.book_lock.specs.Told.{all_told}
 use Rattle.book_lock.specs.declared.call.Sight.{Sight}
-use Rattle.book_share.specs.Asked.{Mention, every, is_mention, mentioned_on, mentions_of, resolved}
+use Rattle.book_share.specs.Asked.{Mention, asks_of, every, is_mention, mentioned_on, mentions_of, resolved}
+use Rattle.book_share.specs.DriveFault.{is_of_workers}
 use Rattle.book_share.specs.declared.ask.Ask.{Ask}
+use Rattle.book_share.specs.declared.drive_fault.DriveFault.{DriveFault}
+use Rattle.book_share.specs.declared.gather.Harvest.{Harvest}
 use Rattle.book_share.specs.declared.reach.Refusal.{Refusal}
+use Rattle.book_share.specs.declared.worker.Part.{Part}
 
 -- What was noted of the mentioned inputs. Each mention was accepted or refused by a full page, and there was no full page
 -- exactly where no page has more than 1000000 different inputs mentioned for it. The book then has just the mentioned inputs.
@@ -88,3 +93,23 @@ pub record AreWorks (flags : Definitions) (workers : ℕ) (asks : List Ask) (sea
   pub answers : AreInTurn flags (workers - 1) 0 (length seats) asks given
   pub noted : (p : Mention → Bool) → count_by p (noted_by (all_told seats) refused) ≡ mentions_to_all flags p (workers - 1) (length seats) asks
   pub full : AreFullToAll seats refused
+
+-- the part of worker w is what its asks come to
+abbrev pub IsPart : {L : Type 0} → Definitions → ℕ → List Ask → ℕ → Part L → Type 0
+IsPart flags workers asks w p = IsWork flags (asks_of workers w asks) p.seat p.answers.items p.refused.items
+
+-- each part that there is, in the order of the workers
+abbrev pub AreParts : {L : Type 0} → Definitions → ℕ → List Ask → List (Result (Part L) DriveFault) → Type 0
+AreParts flags workers asks parts = (w : ℕ) → IfSome (slice_get parts w) (λ r. IfOk r (λ p. IsPart flags workers asks w p))
+
+-- the parts of all workers, put together
+abbrev pub IsHarvest : {L : Type 0} → Definitions → ℕ → List Ask → Harvest L → Type 0
+IsHarvest flags workers asks h = AreWorks flags workers asks h.seats.items (map deque_items h.answers.items) h.refused.items
+
+-- a worker was not refused for the number of workers
+abbrev pub HasStarted : {X : Type 0} → Result X DriveFault → Type 0
+HasStarted r = IfErr r (λ e. is_of_workers e ≡ false)
+
+-- a seat noted these and no more, where full pages refused some of them
+abbrev pub NotesTo : List Mention → Sight → Sight → List Refusal → List Refusal → Type 0
+NotesTo more old new refused refused' = Notes more (noted_by (own old) refused) (noted_by (own new) refused')

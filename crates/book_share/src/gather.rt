@@ -1,13 +1,10 @@
 //! What the workers made, put together.
-ghost use Rattle.std.specs.Prelude.{◌≡◌, ◌≢◌, ◌<◌, [], ℕ, List, false, length, map, slice_get, All, Err, IfErr, IfOk, IfSome};
-ghost use Rattle.std.specs.VecDeque.{deque_items};
+ghost use Rattle.std.specs.Prelude.{◌≡◌, ◌≢◌, ◌<◌, [], ℕ, List, length, slice_get, All, Err, IfOk, IfSome};
 ghost use Rattle.flag_defs.specs.Document.{Definitions};
 ghost use Rattle.flag_defs.specs.Flags.{flags_view};
 ghost use Rattle.book_lock.specs.Counts.{own};
 ghost use Rattle.book_lock.specs.Seen.{unseen};
-ghost use Rattle.book_share.specs.Asked.{asks_of};
-ghost use Rattle.book_share.specs.DriveFault.{is_of_workers};
-ghost use Rattle.book_share.specs.Driven.{AreWorks, IsWork};
+ghost use Rattle.book_share.specs.Driven.{AreParts, HasStarted, IsHarvest, IsPart};
 ghost use Rattle.book_share.specs.declared.ask.Ask.{Ask};
 
 use crate::drive_fault::DriveFault;
@@ -61,9 +58,9 @@ pub(crate) fn parts_of<L: BookName + Send + Sync, G: Gate, R: Threads + Wait + S
 ) -> Result<Vec<Result<Part<L>, DriveFault>>, AllocError>
     requires fresh { seats.items ≡ unseen round.now.step }
     ensures len { IfOk result (λ parts. length parts.items ≡ round.now.step) }
-    ensures work { IfOk result (λ parts. (w : ℕ) → IfSome (slice_get parts.items w) (λ r. IfOk r (λ p. IsWork (flags_view round.now.flags.now) (asks_of round.now.step w round.now.asks.now) p.seat p.answers.items p.refused.items))) }
+    ensures work { IfOk result (λ parts. AreParts (flags_view round.now.flags.now) round.now.step round.now.asks.now parts.items) }
     ensures unstalled { G.always → IfOk result (λ parts. All (λ r. r ≢ Err DriveFault.Stalled) parts.items) }
-    ensures started { IfOk result (λ parts. All (λ r. IfErr r (λ e. is_of_workers e ≡ false)) parts.items) }
+    ensures started { IfOk result (λ parts. All (λ r. HasStarted r) parts.items) }
 {
     let jobs = jobs_of(alloc, seats, round.step)?;
     thread::map_vec(
@@ -71,7 +68,8 @@ pub(crate) fn parts_of<L: BookName + Send + Sync, G: Gate, R: Threads + Wait + S
         jobs,
         &|job: Job<L>| -> Result<Part<L>, DriveFault>
             requires { (own job.seat ≡ []) × (job.first < round.now.step) }
-            ensures { IfOk result (λ p. IsWork (flags_view round.entry.now.flags.now) (asks_of round.entry.now.step job.first round.entry.now.asks.now) p.seat p.answers.items p.refused.items) × (G.always → result ≢ Err DriveFault.Stalled) × IfErr result (λ e. is_of_workers e ≡ false) }
+            ensures { IfOk result (λ p. IsPart (flags_view round.entry.now.flags.now) round.entry.now.step round.entry.now.asks.now job.first p)
+                × (G.always → result ≢ Err DriveFault.Stalled) × HasStarted result }
         { work(rt, alloc, round, job) },
     )
 }
@@ -82,9 +80,10 @@ pub(crate) fn gathered<L: BookName>(
     parts: Vec<Result<Part<L>, DriveFault>>,
 ) -> Result<Harvest<L>, DriveFault>
     ensures len { IfOk result (λ h. length h.seats.items ≡ length parts.items) }
-    ensures work { (flags : Definitions) (asks : List Ask) (workers : ℕ) → ((w : ℕ) → IfSome (slice_get parts.items w) (λ r. IfOk r (λ p. IsWork flags (asks_of workers w asks) p.seat p.answers.items p.refused.items))) → IfOk result (λ h. AreWorks flags workers asks h.seats.items (map deque_items h.answers.items) h.refused.items) }
+    ensures work { (flags : Definitions) (asks : List Ask) (workers : ℕ) → AreParts flags workers asks parts.items
+        → IfOk result (λ h. IsHarvest flags workers asks h) }
     ensures unstalled { All (λ r. r ≢ Err DriveFault.Stalled) parts.items → result ≢ Err DriveFault.Stalled }
-    ensures started { All (λ r. IfErr r (λ e. is_of_workers e ≡ false)) parts.items → IfErr result (λ e. is_of_workers e ≡ false) }
+    ensures started { All (λ r. HasStarted r) parts.items → HasStarted result }
 {
     let mut seats = Vec::with_capacity(alloc, parts.len())?;
     let mut answers = VecDeque::with_capacity(alloc, parts.len())?;

@@ -5,8 +5,8 @@ ghost use Rattle.logic_ast.specs.Expr.{view};
 ghost use Rattle.logic_eval.specs.Views.{reach_view};
 ghost use Rattle.book_core.specs.Book.{most_bytes};
 ghost use Rattle.book_lock.specs.Counts.{own};
-ghost use Rattle.book_share.specs.Asked.{by_at, mention, mentions_in, page_of, targeting_of as targeting_named};
-ghost use Rattle.book_share.specs.Driven.{AreFull, Notes, noted_by, refused_mention};
+ghost use Rattle.book_share.specs.Asked.{by_at, mention, mentions_by, page_of, targeting_of as targeting_named};
+ghost use Rattle.book_share.specs.Driven.{AreFull, Notes, NotesTo, noted_by, refused_mention};
 ghost use Rattle.book_share.specs.declared.reach.Refusal.{Refusal as Kept};
 
 use book_core::{BookFault, Page};
@@ -39,7 +39,7 @@ pub(crate) fn note_reached<L: BookName, R: Wait>(
     reached: &[Reached],
 ) -> Result<(), AllocError>
     requires room { length (own seat.old) + length reached.now < 2 ^ 64 - 1 }
-    ensures noted { IfOk result (λ _. Notes (mentions_in key.now (targeting_named (flags_view flags.now) key.now) (map reach_view reached.now)) (noted_by (own seat.old) refused.old.items) (noted_by (own seat.new) refused.new.items)) }
+    ensures noted { IfOk result (λ _. NotesTo (mentions_by (flags_view flags.now) key.now (map reach_view reached.now)) seat.old seat.new refused.old.items refused.new.items) }
     ensures full { IfOk result (λ _. AreFull seat.old.seen refused.old.items → AreFull seat.new.seen refused.new.items) }
     ensures grown { IfOk result (λ _. length (own seat.new) ≤ length (own seat.old) + length reached.now) }
 {

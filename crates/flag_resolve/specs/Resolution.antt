@@ -101,3 +101,8 @@ found a (Some d) s = defined a d s
 unfoldable pub resolution_of : Option Definitions → Asked → Situation → Resolved
 resolution_of None a s = failed a ProviderNotReady []
 resolution_of (Some flags) a s = if is_none (as_object s.context) then failed a InvalidContext [] else found a (lookup (bytes_eq s.flag) flags) s
+
+-- the same of what a caller gives: the flags, the kind and the default, the context with the flag's key and the moment
+abbrev pub resolved_by : Option Definitions → Kind → Shape → Shape → List ℕ → ℕ → Resolved
+resolved_by flags want default context key moment =
+    resolution_of flags (record { want = want; default = default }) (record { context = context; flag = key; moment = moment })

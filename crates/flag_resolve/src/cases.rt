@@ -8,7 +8,7 @@ ghost use Rattle.logic_ast.specs.Expr.{view as expr_view};
 ghost use Rattle.logic_eval.specs.Evaluation.{evaluation_of};
 ghost use Rattle.logic_eval.specs.Views.{reach_view, situation};
 ghost use Rattle.flag_resolve.specs.Lawful.{IsLawful};
-ghost use Rattle.flag_resolve.specs.Resolution.{default_of, defined, evaluated, name_in, resolution_of, targeted, variant_named};
+ghost use Rattle.flag_resolve.specs.Resolution.{default_of, defined, evaluated, name_in, resolution_of, resolved_by, targeted, variant_named};
 ghost use Rattle.flag_resolve.specs.Views.{asked_view, resolution_view, variant_view};
 
 use crate::asked::{Asked, Variant};
@@ -58,9 +58,8 @@ pub fn resolve(
     requires default { is_whole (view default.now) ≡ true }
     requires context { is_whole (view context.now) ≡ true }
     requires moment { moment < 2 ^ 53 }
-    ensures exact { IfOk result (λ r. resolution_view r ≡ resolution_of (option_map (λ f. flags_view f.now) flags.entry)
-        (record { want = want; default = view default.now })
-        (record { context = view context.now; flag = key.now; moment = moment })) }
+    ensures exact { IfOk result (λ r. resolution_view r ≡
+        resolved_by (option_map (λ f. flags_view f.now) flags.entry) want (view default.now) (view context.now) key.now moment) }
     ensures lawful { IfOk result (λ r. IsLawful (record { want = want; default = view default.now }) (resolution_view r)) }
 {
     found(alloc, flags, key, &Asked { want, default }, context, moment)

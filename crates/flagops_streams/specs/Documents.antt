@@ -5,6 +5,7 @@ use Rattle.flag_defs.specs.Document.{Definitions}
 use Rattle.snap_share.specs.declared.fault.ShareFault.TheVariants as share
 use Rattle.source_merge.specs.Merge.{merged_of}
 use Rattle.source_merge.specs.Sources.{Sets, SourceList, added, most_sources}
+use Rattle.source_merge.specs.View.{sources_view}
 use Rattle.source_merge.specs.declared.fault.SourceFault.{SourceFault}
 use Rattle.source_merge.specs.declared.fault.SourceFault.TheVariants as source
 use Rattle.flagops_streams.specs.declared.documents.Documents.{Documents}
@@ -59,3 +60,7 @@ MayFail subscribers refusal = ⊥
 -- what serving gives: one of these refusals, or what publishing the documents gives
 abbrev pub ServesTo : ℕ → ℕ → SourceList → List (List ℕ) → Result ℕ Refusal → Type 0
 ServesTo subscribers number sources texts answer = ((refusal : Refusal) × (answer ≡ Err refusal) × MayFail subscribers refusal) ⊎ Gives number sources texts answer
+
+-- the same of documents that were loaded, with their sources, from the first on
+abbrev pub ServesAll : ℕ → Documents → Result ℕ Refusal → Type 0
+ServesAll subscribers d answer = ServesTo subscribers 1 (sources_view d.sources) (texts_of d.texts.items) answer

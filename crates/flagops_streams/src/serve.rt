@@ -2,7 +2,7 @@
 ghost use Rattle.std.specs.Prelude.{◌≡◌, ◌⊎◌, ◌<◌, ℕ, Err, Result, false, length, vec_len, IfErr, IfOk};
 ghost use denote.Param.Send.{IsSend, IsSync};
 ghost use Rattle.source_merge.specs.View.{sources_view};
-ghost use Rattle.flagops_streams.specs.Documents.{Gives, MayFail, ServesTo, documents_in, texts_of};
+ghost use Rattle.flagops_streams.specs.Documents.{Gives, MayFail, ServesAll, ServesTo, documents_in, texts_of};
 ghost use Rattle.flagops_streams.specs.Report.{Reports, Serves};
 
 use crate::board::Board;
@@ -42,7 +42,7 @@ where
     requires whole { O.is_broken out.old ≡ false }
     requires some { 0 < documents_in documents }
     ensures serves { Serves (documents_in documents) (O.bytes out.old) (O.bytes out.new) (O.is_broken out.new) result }
-    ensures documents { (answer : Result ℕ Refusal) × ServesTo subscribers 1 (sources_view documents.sources) (texts_of documents.texts.items) answer × Reports answer (O.bytes out.old) (O.bytes out.new) (O.is_broken out.new) result }
+    ensures documents { (answer : Result ℕ Refusal) × ServesAll subscribers documents answer × Reports answer (O.bytes out.old) (O.bytes out.new) (O.is_broken out.new) result }
 {
     let alloc = rt.alloc();
     let Documents { sources, texts } = documents;

@@ -48,3 +48,8 @@ abbrev pub AtEnd : List ℕ → ReadEnd → Type 0
 AtEnd stream Ended = IsDone stream
 AtEnd stream EndedInside = IsDone stream → ⊥
 AtEnd stream end = ⊥
+
+-- a stream that stood so is led on by a piece of it, which has these snapshots
+abbrev pub LeadsOn : Feed → Feed → List ℕ → List Numbered → Step → Type 0
+LeadsOn feed feed' piece more step =
+    (stream : List ℕ) (ss : List Numbered) (left : Option (List ℕ)) → Stands feed stream ss → LeadsTo feed' (stream ++ piece) (ss ++ more) left false step

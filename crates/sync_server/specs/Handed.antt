@@ -1,5 +1,6 @@
 -- What a sink was handed.
 use Rattle.std.specs.Prelude.{◌≡◌, List, [], ◌∷◌, ◌++◌, Bool, true, false}
+use Rattle.std.specs.Bool.{MatchBool}
 use Rattle.snap_core.specs.Hub.{Numbered}
 
 -- It took these, one after the other.
@@ -11,3 +12,7 @@ Took took x (s ∷ ss) y = (z : _) × took x s z × Took took z ss y
 abbrev pub Handed : {X : Type 0} → (X → Numbered → X → Type 0) → (X → Numbered → X → Type 0) → X → List Numbered → Bool → X → Type 0
 Handed took refused x ss false y = Took took x ss y
 Handed took refused x ss true y = (taken : List Numbered) × (last : Numbered) × (z : _) × (ss ≡ taken ++ last ∷ []) × Took took x taken z × refused z last y
+
+-- none is left where all were taken
+abbrev pub NoneLeftIf : Bool → List Numbered → Type 0
+NoneLeftIf all left = MatchBool all (left ≡ []) (Unit {0})

@@ -5,6 +5,7 @@ use Rattle.std.specs.Io.KnownBytes.{Appends}
 use Rattle.snap_core.specs.Hub.{Numbered}
 use Rattle.sync_frames.specs.Frames.{Frames, IsDocumentOf, frame_of, last_number}
 use Rattle.sync_server.specs.declared.end.StreamEnd.{StreamEnd}
+use Rattle.sync_server.specs.declared.serve.Progress.{Progress}
 use Rattle.sync_server.specs.declared.end.StreamEnd.TheVariants.{WriteFault}
 
 -- these bytes begin a frame of s, and are not all of it
@@ -38,3 +39,13 @@ Wrote known last before after (Ok None) = Appends before after []
 Wrote known last before after (Ok (Some n)) = (s : Numbered) × (d : List ℕ) × IsDocumentOf s d × Contains known s × (last < s.number) × (n ≡ s.number) × Appends before after (frame_of s.number d)
 Wrote known last before after (Err WriteFault) = (s : Numbered) × (part : List ℕ) × Contains known s × (last < s.number) × BeginsFrameOf s part × Appends before after part
 Wrote known last before after (Err end) = Appends before after []
+
+-- what was sent before goes on, by what is known and written after a turn
+abbrev pub SendsOn : List Numbered → List Numbered → Option (List ℕ) → Option (List ℕ) → Progress → Progress → Type 0
+SendsOn known known' out out' old new =
+    (before : Option (List ℕ)) → Sent known before out old.last old.count → Sent known' before out' new.last new.count
+
+-- what was sent before ends with this turn
+abbrev pub SendsLast : List Numbered → List Numbered → Option (List ℕ) → Option (List ℕ) → Progress → Progress → StreamEnd → Type 0
+SendsLast known known' out out' old new end =
+    (before : Option (List ℕ)) → Sent known before out old.last old.count → Serves known' before out' new.count end

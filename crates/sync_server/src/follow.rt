@@ -1,10 +1,9 @@
 //! Following a stream of snapshots.
-ghost use Rattle.std.specs.Prelude.{◌≡◌, ℕ, ◌<◌, List, [], ◌++◌, false, not, length, Option, is_none};
-ghost use Rattle.std.specs.Bool.{MatchBool};
+ghost use Rattle.std.specs.Prelude.{◌≡◌, ℕ, ◌<◌, List, ◌++◌, false, not, length, is_none};
 ghost use Rattle.snap_core.specs.Hub.{Numbered};
 ghost use Rattle.sync_frames.specs.Feed.{HasBeenFed, has_failed, snapshots_view};
-ghost use Rattle.sync_server.specs.Follows.{AtEnd, Follows, LeadsTo, Stands, Steps, is_full};
-ghost use Rattle.sync_server.specs.Handed.{Handed};
+ghost use Rattle.sync_server.specs.Follows.{AtEnd, Follows, LeadsOn, Steps, is_full};
+ghost use Rattle.sync_server.specs.Handed.{Handed, NoneLeftIf};
 
 use crate::end::{ReadEnd, end_by};
 use crate::inlet::Inlet;
@@ -82,7 +81,7 @@ fn take_piece<S: Sink>(alloc: Global, sink: &mut S, feed: &mut Feed, piece: &[u8
     ensures full { S.is_full sink.new ≡ is_full result }
     ensures leads { (more : List Numbered)
         × Handed S.took S.refused sink.old more (is_full result) sink.new
-        × ((stream : List ℕ) (ss : List Numbered) (left : Option (List ℕ)) → Stands feed.old stream ss → LeadsTo feed.new (stream ++ piece.now) (ss ++ more) left false result) }
+        × LeadsOn feed.old feed.new piece.now more result }
 {
     match feed.feed(alloc, piece) {
         Ok(snapshots) => {
@@ -103,7 +102,7 @@ fn hand_on<S: Sink>(sink: &mut S, snapshots: Vec<Snapshot>) -> bool
     requires { S.is_full sink.old ≡ false }
     ensures full { S.is_full sink.new ≡ not result }
     ensures handed { (taken : List Numbered) × (left : List Numbered) × (snapshots_view snapshots.items ≡ taken ++ left)
-        × Handed S.took S.refused sink.old taken (not result) sink.new × MatchBool result (left ≡ []) (Unit {0}) }
+        × Handed S.took S.refused sink.old taken (not result) sink.new × NoneLeftIf result left }
 {
     for snapshot in snapshots {
         if !sink.take(snapshot) {

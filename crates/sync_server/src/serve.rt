@@ -1,10 +1,10 @@
 //! Writing a stream of snapshots.
-ghost use Rattle.std.specs.Prelude.{◌≡◌, ℕ, ◌<◌, ◌≤◌, ◌+◌, ◌^◌, List, Option, false, not, length, take, IfErr, IfNone, IfSome, MatchResult};
+ghost use Rattle.std.specs.Prelude.{◌≡◌, ℕ, ◌<◌, ◌≤◌, ◌+◌, ◌^◌, false, not, length, take, IfErr, IfNone, IfSome, MatchResult};
 ghost use Rattle.std.specs.Bool.{MatchBool};
 ghost use Rattle.std.specs.Io.KnownBytes.{Appends};
 ghost use Rattle.sync_server.specs.End.{is_closed_end, is_write_fault};
 ghost use Rattle.snap_share.specs.Lists.{StartsWith};
-ghost use Rattle.sync_server.specs.Served.{Sent, Serves, Wrote};
+ghost use Rattle.sync_server.specs.Served.{SendsLast, SendsOn, Serves, Wrote};
 
 use crate::end::StreamEnd;
 use crate::next::NextNumber;
@@ -60,12 +60,11 @@ fn take_turn<C: Current, O: Outlet>(
 ) -> Option<StreamEnd>
     requires whole { O.is_broken out.old ≡ false }
     requires room { progress.old.count + 1 < 2 ^ 64 }
-    ensures goes_on { IfNone result ((before : Option (List ℕ)) → Sent (C.known current.old) before (O.bytes out.old) progress.old.last progress.old.count
-        → Sent (C.known current.new) before (O.bytes out.new) progress.new.last progress.new.count) }
+    ensures goes_on { IfNone result (SendsOn (C.known current.old) (C.known current.new) (O.bytes out.old) (O.bytes out.new) progress.old progress.new) }
     ensures counts { IfNone result (progress.new.count ≤ progress.old.count + 1) }
     ensures works { IfNone result (O.is_broken out.new ≡ false) }
-    ensures ends { IfSome result (λ end. (before : Option (List ℕ)) → Sent (C.known current.old) before (O.bytes out.old) progress.old.last progress.old.count
-        → Serves (C.known current.new) before (O.bytes out.new) progress.new.count end) }
+    ensures ends { IfSome result (λ end.
+        SendsLast (C.known current.old) (C.known current.new) (O.bytes out.old) (O.bytes out.new) progress.old progress.new end) }
     ensures closed { IfSome result (λ end. is_closed_end end ≡ false) }
     ensures broken { IfSome result (λ end. O.is_broken out.new ≡ is_write_fault end) }
 {
