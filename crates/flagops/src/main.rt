@@ -6,20 +6,12 @@
 //! `follow` of `flagops_network`.
 #![tactic(auto)]
 
-ghost use Rattle.std.specs.Prelude.{◌≡◌, ◌⊎◌, None, codes, false, length, map, true, IfErr, IfOk, IfSome, ℕ, Result};
+ghost use Rattle.std.specs.Prelude.{◌≡◌, false, map, IfErr};
 ghost use Rattle.std.specs.Process.{exit_status};
-ghost use Rattle.flagops.specs.First.{begins_with, WhereFiles, WhereFollow, WhereServe};
-ghost use Rattle.flagops_commands.specs.Commands.{can_want, HasStored, IsRunOutcome, LeavesAsked};
-ghost use Rattle.flagops_commands.specs.Telling.{Complains, TellsWords, Wants};
-ghost use Rattle.flagops_files.specs.Refusal.{stores_file};
-ghost use Rattle.flagops_files.specs.Report.{Answers, IsFileRefusal, is_of_file};
-ghost use Rattle.flagops_network.specs.Loading.{AnswersTo};
-ghost use Rattle.flagops_network.specs.Mistakes.{TellsOne};
-ghost use Rattle.flagops_network.specs.Words.{follow_by, follow_faults, serve_by, serve_faults};
-ghost use Rattle.flagops_streams.specs.Printed.{Follows};
-ghost use Rattle.flagops_streams.specs.Report.{RefusesBy, Reports, Serves};
-ghost use Rattle.flagops_streams.specs.declared.refusal.Refusal.{Refusal};
-ghost use Rattle.flagops_streams.specs.declared.refusal.Refusal.TheVariants.{Unreachable, Unreadable};
+ghost use Rattle.flagops.specs.First.{begins_with, OnFiles, OnFollow, OnServe, WhereFiles, WhereFollow, WhereServe};
+ghost use Rattle.flagops_commands.specs.Commands.{LeavesAsked};
+ghost use Rattle.flagops_commands.specs.Ended.{AnswersAsked, AnswersStored, AnswersUnread, ComplainsAt, TellsUnasked};
+ghost use Rattle.flagops_network.specs.Ended.{AnswersServe, FollowsAsked, RefusesUnread, ServesAsked, TellsFollow, TellsServe};
 ghost use Rattle.flagops_words.specs.Words.{asked_by};
 
 use flag_text::{Outlet, WriteOutlet};
@@ -71,37 +63,37 @@ where
     E: Outlet,
     requires out_whole { O.is_broken out.old ≡ false }
     requires err_whole { E.is_broken err.old ≡ false }
-    ensures answers { IfOk words (λ w. WhereFiles (map S.text w.items)
-        (IfSome (asked_by (map S.text w.items)) (λ asked. IfSome (F.holding files.old) (λ at.
-        Answers (can_want asked) (O.bytes out.old) (O.bytes out.new) (O.is_broken out.new) (E.bytes err.old) (E.bytes err.new) (E.is_broken err.new) (exit_status result) (IsRunOutcome at (F.holding files.new) (F.has_failed files.new) asked))))) }
-    ensures unread { IfOk words (λ w. WhereFiles (map S.text w.items) (F.has_failed files.old ≡ false → F.has_failed files.new ≡ true
-        → Answers is_of_file (O.bytes out.old) (O.bytes out.new) (O.is_broken out.new) (E.bytes err.old) (E.bytes err.new) (E.is_broken err.new) (exit_status result) IsFileRefusal)) }
-    ensures tells { IfOk words (λ w. WhereFiles (map S.text w.items) (asked_by (map S.text w.items) ≡ None
-        → TellsWords (O.bytes out.old) (O.bytes out.new) (O.is_broken out.new) (E.bytes err.old) (E.bytes err.new) (E.is_broken err.new) (exit_status result) (map S.text w.items))) }
-    ensures left { IfOk words (λ w. WhereFiles (map S.text w.items) (LeavesAsked (asked_by (map S.text w.items)) (F.holding files.old) (F.holding files.new))) }
-    ensures stored { IfOk words (λ w. WhereFiles (map S.text w.items) ((F.holding files.new ≡ F.holding files.old)
-        ⊎ Answers stores_file (O.bytes out.old) (O.bytes out.new) (O.is_broken out.new) (E.bytes err.old) (E.bytes err.new) (E.is_broken err.new) (exit_status result) HasStored)) }
-    ensures serve_answers { IfOk words (λ w. WhereServe (map S.text w.items) (IfSome (serve_by (map S.text w.items)) (λ s. IfSome (F.holding files.old) (λ at.
-        ((answer : Result ℕ Refusal) × AnswersTo at s answer × Reports answer (O.bytes out.old) (O.bytes out.new) (O.is_broken out.new) (exit_status result))
-        ⊎ Wants (O.bytes out.old) (O.bytes out.new) (O.is_broken out.new) (E.bytes err.old) (E.bytes err.new) (E.is_broken err.new) (exit_status result))))) }
-    ensures serves { IfOk words (λ w. WhereServe (map S.text w.items) (IfSome (serve_by (map S.text w.items)) (λ s.
-        Serves (length s.documents) (O.bytes out.old) (O.bytes out.new) (O.is_broken out.new) (exit_status result)
-        ⊎ Wants (O.bytes out.old) (O.bytes out.new) (O.is_broken out.new) (E.bytes err.old) (E.bytes err.new) (E.is_broken err.new) (exit_status result)))) }
-    ensures serve_unread { IfOk words (λ w. WhereServe (map S.text w.items) (F.has_failed files.old ≡ false → F.has_failed files.new ≡ true
-        → RefusesBy Unreadable (O.bytes out.old) (O.bytes out.new) (O.is_broken out.new) (exit_status result))) }
-    ensures serve_tells { IfOk words (λ w. WhereServe (map S.text w.items) (serve_by (map S.text w.items) ≡ None
-        → TellsOne (O.bytes out.old) (O.bytes out.new) (O.is_broken out.new) (E.bytes err.old) (E.bytes err.new) (E.is_broken err.new) (exit_status result) (serve_faults (map S.text w.items)))) }
-    ensures serve_kept { IfOk words (λ w. WhereServe (map S.text w.items) (F.holding files.new ≡ F.holding files.old)) }
-    ensures follows { IfOk words (λ w. WhereFollow (map S.text w.items) (IfSome (follow_by (map S.text w.items)) (λ _.
-        Follows (O.bytes out.old) (O.bytes out.new) (O.is_broken out.new) (exit_status result)
-        ⊎ RefusesBy Unreachable (O.bytes out.old) (O.bytes out.new) (O.is_broken out.new) (exit_status result)
-        ⊎ Wants (O.bytes out.old) (O.bytes out.new) (O.is_broken out.new) (E.bytes err.old) (E.bytes err.new) (E.is_broken err.new) (exit_status result)))) }
-    ensures follow_tells { IfOk words (λ w. WhereFollow (map S.text w.items) (follow_by (map S.text w.items) ≡ None
-        → TellsOne (O.bytes out.old) (O.bytes out.new) (O.is_broken out.new) (E.bytes err.old) (E.bytes err.new) (E.is_broken err.new) (exit_status result) (follow_faults (map S.text w.items)))) }
-    ensures follow_kept { IfOk words (λ w. WhereFollow (map S.text w.items) (files.new ≡ files.old)) }
-    ensures no_words { IfErr words (λ _.
-        Complains (O.bytes out.old) (O.bytes out.new) (O.is_broken out.new) (E.bytes err.old) (E.bytes err.new) (E.is_broken err.new) (exit_status result)
-        ⊎ Wants (O.bytes out.old) (O.bytes out.new) (O.is_broken out.new) (E.bytes err.old) (E.bytes err.new) (E.is_broken err.new) (exit_status result)) }
+    ensures answers { OnFiles (λ w. map S.text w.items) words (λ l.
+        AnswersAsked O.bytes O.is_broken out.old out.new E.bytes E.is_broken err.old err.new (exit_status result)
+        F.holding F.has_failed files.old files.new l) }
+    ensures unread { OnFiles (λ w. map S.text w.items) words (λ l.
+        AnswersUnread O.bytes O.is_broken out.old out.new E.bytes E.is_broken err.old err.new (exit_status result)
+        F.holding F.has_failed files.old files.new) }
+    ensures tells { OnFiles (λ w. map S.text w.items) words (λ l.
+        TellsUnasked O.bytes O.is_broken out.old out.new E.bytes E.is_broken err.old err.new (exit_status result) l) }
+    ensures left { OnFiles (λ w. map S.text w.items) words (λ l.
+        LeavesAsked (asked_by l) (F.holding files.old) (F.holding files.new)) }
+    ensures stored { OnFiles (λ w. map S.text w.items) words (λ l.
+        AnswersStored O.bytes O.is_broken out.old out.new E.bytes E.is_broken err.old err.new (exit_status result)
+        F.holding F.has_failed files.old files.new) }
+    ensures serve_answers { OnServe (λ w. map S.text w.items) words (λ l.
+        AnswersServe O.bytes O.is_broken out.old out.new E.bytes E.is_broken err.old err.new (exit_status result)
+        F.holding files.old l) }
+    ensures serves { OnServe (λ w. map S.text w.items) words (λ l.
+        ServesAsked O.bytes O.is_broken out.old out.new E.bytes E.is_broken err.old err.new (exit_status result) l) }
+    ensures serve_unread { OnServe (λ w. map S.text w.items) words (λ l.
+        RefusesUnread O.bytes O.is_broken out.old out.new (exit_status result) F.has_failed files.old files.new) }
+    ensures serve_tells { OnServe (λ w. map S.text w.items) words (λ l.
+        TellsServe O.bytes O.is_broken out.old out.new E.bytes E.is_broken err.old err.new (exit_status result) l) }
+    ensures serve_kept { OnServe (λ w. map S.text w.items) words (λ l.
+        F.holding files.new ≡ F.holding files.old) }
+    ensures follows { OnFollow (λ w. map S.text w.items) words (λ l.
+        FollowsAsked O.bytes O.is_broken out.old out.new E.bytes E.is_broken err.old err.new (exit_status result) l) }
+    ensures follow_tells { OnFollow (λ w. map S.text w.items) words (λ l.
+        TellsFollow O.bytes O.is_broken out.old out.new E.bytes E.is_broken err.old err.new (exit_status result) l) }
+    ensures follow_kept { OnFollow (λ w. map S.text w.items) words (λ l.
+        files.new ≡ files.old) }
+    ensures no_words { IfErr words (λ _. ComplainsAt O.bytes O.is_broken out.old out.new E.bytes E.is_broken err.old err.new (exit_status result)) }
     ensures no_words_kept { IfErr words (λ _. files.new ≡ files.old) }
 {
     match words {
@@ -129,33 +121,35 @@ where
     requires out_whole { O.is_broken out.old ≡ false }
     requires err_whole { E.is_broken err.old ≡ false }
     ensures answers { WhereFiles (map S.text words.now)
-        (IfSome (asked_by (map S.text words.now)) (λ asked. IfSome (F.holding files.old) (λ at.
-        Answers (can_want asked) (O.bytes out.old) (O.bytes out.new) (O.is_broken out.new) (E.bytes err.old) (E.bytes err.new) (E.is_broken err.new) result (IsRunOutcome at (F.holding files.new) (F.has_failed files.new) asked)))) }
-    ensures unread { WhereFiles (map S.text words.now) (F.has_failed files.old ≡ false → F.has_failed files.new ≡ true
-        → Answers is_of_file (O.bytes out.old) (O.bytes out.new) (O.is_broken out.new) (E.bytes err.old) (E.bytes err.new) (E.is_broken err.new) result IsFileRefusal) }
-    ensures tells { WhereFiles (map S.text words.now) (asked_by (map S.text words.now) ≡ None
-        → TellsWords (O.bytes out.old) (O.bytes out.new) (O.is_broken out.new) (E.bytes err.old) (E.bytes err.new) (E.is_broken err.new) result (map S.text words.now)) }
-    ensures left { WhereFiles (map S.text words.now) (LeavesAsked (asked_by (map S.text words.now)) (F.holding files.old) (F.holding files.new)) }
-    ensures stored { WhereFiles (map S.text words.now) ((F.holding files.new ≡ F.holding files.old)
-        ⊎ Answers stores_file (O.bytes out.old) (O.bytes out.new) (O.is_broken out.new) (E.bytes err.old) (E.bytes err.new) (E.is_broken err.new) result HasStored) }
-    ensures serve_answers { WhereServe (map S.text words.now) (IfSome (serve_by (map S.text words.now)) (λ s. IfSome (F.holding files.old) (λ at.
-        ((answer : Result ℕ Refusal) × AnswersTo at s answer × Reports answer (O.bytes out.old) (O.bytes out.new) (O.is_broken out.new) result)
-        ⊎ Wants (O.bytes out.old) (O.bytes out.new) (O.is_broken out.new) (E.bytes err.old) (E.bytes err.new) (E.is_broken err.new) result))) }
-    ensures serves { WhereServe (map S.text words.now) (IfSome (serve_by (map S.text words.now)) (λ s.
-        Serves (length s.documents) (O.bytes out.old) (O.bytes out.new) (O.is_broken out.new) result
-        ⊎ Wants (O.bytes out.old) (O.bytes out.new) (O.is_broken out.new) (E.bytes err.old) (E.bytes err.new) (E.is_broken err.new) result)) }
-    ensures serve_unread { WhereServe (map S.text words.now) (F.has_failed files.old ≡ false → F.has_failed files.new ≡ true
-        → RefusesBy Unreadable (O.bytes out.old) (O.bytes out.new) (O.is_broken out.new) result) }
-    ensures serve_tells { WhereServe (map S.text words.now) (serve_by (map S.text words.now) ≡ None
-        → TellsOne (O.bytes out.old) (O.bytes out.new) (O.is_broken out.new) (E.bytes err.old) (E.bytes err.new) (E.is_broken err.new) result (serve_faults (map S.text words.now))) }
-    ensures serve_kept { WhereServe (map S.text words.now) (F.holding files.new ≡ F.holding files.old) }
-    ensures follows { WhereFollow (map S.text words.now) (IfSome (follow_by (map S.text words.now)) (λ _.
-        Follows (O.bytes out.old) (O.bytes out.new) (O.is_broken out.new) result
-        ⊎ RefusesBy Unreachable (O.bytes out.old) (O.bytes out.new) (O.is_broken out.new) result
-        ⊎ Wants (O.bytes out.old) (O.bytes out.new) (O.is_broken out.new) (E.bytes err.old) (E.bytes err.new) (E.is_broken err.new) result)) }
-    ensures follow_tells { WhereFollow (map S.text words.now) (follow_by (map S.text words.now) ≡ None
-        → TellsOne (O.bytes out.old) (O.bytes out.new) (O.is_broken out.new) (E.bytes err.old) (E.bytes err.new) (E.is_broken err.new) result (follow_faults (map S.text words.now))) }
-    ensures follow_kept { WhereFollow (map S.text words.now) (files.new ≡ files.old) }
+        (AnswersAsked O.bytes O.is_broken out.old out.new E.bytes E.is_broken err.old err.new result
+        F.holding F.has_failed files.old files.new (map S.text words.now)) }
+    ensures unread { WhereFiles (map S.text words.now)
+        (AnswersUnread O.bytes O.is_broken out.old out.new E.bytes E.is_broken err.old err.new result
+        F.holding F.has_failed files.old files.new) }
+    ensures tells { WhereFiles (map S.text words.now)
+        (TellsUnasked O.bytes O.is_broken out.old out.new E.bytes E.is_broken err.old err.new result (map S.text words.now)) }
+    ensures left { WhereFiles (map S.text words.now)
+        (LeavesAsked (asked_by (map S.text words.now)) (F.holding files.old) (F.holding files.new)) }
+    ensures stored { WhereFiles (map S.text words.now)
+        (AnswersStored O.bytes O.is_broken out.old out.new E.bytes E.is_broken err.old err.new result
+        F.holding F.has_failed files.old files.new) }
+    ensures serve_answers { WhereServe (map S.text words.now)
+        (AnswersServe O.bytes O.is_broken out.old out.new E.bytes E.is_broken err.old err.new result
+        F.holding files.old (map S.text words.now)) }
+    ensures serves { WhereServe (map S.text words.now)
+        (ServesAsked O.bytes O.is_broken out.old out.new E.bytes E.is_broken err.old err.new result (map S.text words.now)) }
+    ensures serve_unread { WhereServe (map S.text words.now)
+        (RefusesUnread O.bytes O.is_broken out.old out.new result F.has_failed files.old files.new) }
+    ensures serve_tells { WhereServe (map S.text words.now)
+        (TellsServe O.bytes O.is_broken out.old out.new E.bytes E.is_broken err.old err.new result (map S.text words.now)) }
+    ensures serve_kept { WhereServe (map S.text words.now)
+        (F.holding files.new ≡ F.holding files.old) }
+    ensures follows { WhereFollow (map S.text words.now)
+        (FollowsAsked O.bytes O.is_broken out.old out.new E.bytes E.is_broken err.old err.new result (map S.text words.now)) }
+    ensures follow_tells { WhereFollow (map S.text words.now)
+        (TellsFollow O.bytes O.is_broken out.old out.new E.bytes E.is_broken err.old err.new result (map S.text words.now)) }
+    ensures follow_kept { WhereFollow (map S.text words.now)
+        (files.new ≡ files.old) }
 {
     if begins_with(words, "serve") {
         serve(rt, words, files, out, err)

@@ -4,6 +4,7 @@ pub mod Calls
 pub mod Check
 pub mod Commands
 pub mod Drive
+pub mod Ended
 pub mod Plan
 pub mod Price
 pub mod Resolve

@@ -2,10 +2,11 @@
 ghost use Rattle.std.specs.Prelude.{◌≡◌, ◌⊎◌, ◌||◌, false, true, map, IfErr, IfOk, IfSome, None, Ok, Err, Some};
 ghost use Rattle.clap.specs.Words.{kind_of};
 ghost use Rattle.flagops_words.specs.Asked.{asked_view};
-ghost use Rattle.flagops_commands.specs.Commands.{calls_of, can_want, HasStored, IsRunOutcome, Leaves, LeavesAsked};
+ghost use Rattle.flagops_commands.specs.Ended.{AnswersAsked, AnswersStored, AnswersUnread, TellsUnasked};
+ghost use Rattle.flagops_commands.specs.Commands.{calls_of, HasStored, IsRunOutcome, Leaves, LeavesAsked};
 ghost use Rattle.flagops_files.specs.Refusal.{call_of, is_want, stores_file};
-ghost use Rattle.flagops_files.specs.Report.{Answers, AnswersOrWants, PutsText, is_of_file, IsFileRefusal, outcome_view, report_of};
-ghost use Rattle.flagops_commands.specs.Telling.{Tells, TellsWords};
+ghost use Rattle.flagops_files.specs.Report.{AnswersOrWants, PutsText, is_of_file, IsFileRefusal, outcome_view, report_of};
+ghost use Rattle.flagops_commands.specs.Telling.{Tells};
 ghost use Rattle.flagops_words.specs.Words.{asked_by};
 
 use crate::commands::outcome;
@@ -34,17 +35,16 @@ pub fn run<R: AllocGlobal + Threads + Wait + Sync, S: AsStr, F: FileSet, O: Outl
 ) -> u8
     requires out_whole { O.is_broken out.old ≡ false }
     requires err_whole { E.is_broken err.old ≡ false }
-    ensures answers { IfSome (asked_by (map S.text words.now)) (λ asked. IfSome (F.holding files.old) (λ at.
-        Answers (can_want asked) (O.bytes out.old) (O.bytes out.new) (O.is_broken out.new) (E.bytes err.old) (E.bytes err.new) (E.is_broken err.new) result (IsRunOutcome at (F.holding files.new) (F.has_failed files.new) asked))) }
+    ensures answers { AnswersAsked O.bytes O.is_broken out.old out.new E.bytes E.is_broken err.old err.new result
+        F.holding F.has_failed files.old files.new (map S.text words.now) }
     // Whatever the files hold, a read or a write that failed is what is reported.
-    ensures unread { F.has_failed files.old ≡ false → F.has_failed files.new ≡ true
-        → Answers is_of_file (O.bytes out.old) (O.bytes out.new) (O.is_broken out.new) (E.bytes err.old) (E.bytes err.new) (E.is_broken err.new) result IsFileRefusal }
-    ensures tells { asked_by (map S.text words.now) ≡ None
-        → TellsWords (O.bytes out.old) (O.bytes out.new) (O.is_broken out.new) (E.bytes err.old) (E.bytes err.new) (E.is_broken err.new) result (map S.text words.now) }
+    ensures unread { AnswersUnread O.bytes O.is_broken out.old out.new E.bytes E.is_broken err.old err.new result
+        F.holding F.has_failed files.old files.new }
+    ensures tells { TellsUnasked O.bytes O.is_broken out.old out.new E.bytes E.is_broken err.old err.new result (map S.text words.now) }
     ensures left { LeavesAsked (asked_by (map S.text words.now)) (F.holding files.old) (F.holding files.new) }
     // Where a file has changed, that is told: no other call is said to have refused.
-    ensures stored { (F.holding files.new ≡ F.holding files.old)
-        ⊎ Answers stores_file (O.bytes out.old) (O.bytes out.new) (O.is_broken out.new) (E.bytes err.old) (E.bytes err.new) (E.is_broken err.new) result HasStored }
+    ensures stored { AnswersStored O.bytes O.is_broken out.old out.new E.bytes E.is_broken err.old err.new result
+        F.holding F.has_failed files.old files.new }
 {
     let alloc = rt.alloc();
     match read_words(alloc, words) {

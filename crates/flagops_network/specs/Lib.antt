@@ -1,3 +1,4 @@
+pub mod Ended
 pub mod Loading
 pub mod Mistakes
 pub mod Words

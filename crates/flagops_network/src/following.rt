@@ -1,11 +1,6 @@
 //! The command `follow`.
-ghost use Rattle.std.specs.Prelude.{◌≡◌, ◌⊎◌, None, false, map, IfSome};
-ghost use Rattle.flagops_commands.specs.Telling.{Wants};
-ghost use Rattle.flagops_network.specs.Mistakes.{TellsOne};
-ghost use Rattle.flagops_streams.specs.Printed.{Follows};
-ghost use Rattle.flagops_streams.specs.Report.{RefusesBy};
-ghost use Rattle.flagops_streams.specs.declared.refusal.Refusal.TheVariants.{Unreachable};
-ghost use Rattle.flagops_network.specs.Words.{follow_by, follow_faults};
+ghost use Rattle.std.specs.Prelude.{◌≡◌, false, map};
+ghost use Rattle.flagops_network.specs.Ended.{FollowsAsked, TellsFollow};
 
 use crate::words::read_follow;
 use flag_text::Outlet;
@@ -26,12 +21,8 @@ pub fn follow<R: AllocGlobal + Net + Clock, S: AsStr, O: Outlet, E: Outlet>(
 ) -> u8
     requires out_whole { O.is_broken out.old ≡ false }
     requires err_whole { E.is_broken err.old ≡ false }
-    ensures follows { IfSome (follow_by (map S.text words.now)) (λ f.
-        Follows (O.bytes out.old) (O.bytes out.new) (O.is_broken out.new) result
-        ⊎ RefusesBy Unreachable (O.bytes out.old) (O.bytes out.new) (O.is_broken out.new) result
-        ⊎ Wants (O.bytes out.old) (O.bytes out.new) (O.is_broken out.new) (E.bytes err.old) (E.bytes err.new) (E.is_broken err.new) result) }
-    ensures tells { follow_by (map S.text words.now) ≡ None
-        → TellsOne (O.bytes out.old) (O.bytes out.new) (O.is_broken out.new) (E.bytes err.old) (E.bytes err.new) (E.is_broken err.new) result (follow_faults (map S.text words.now)) }
+    ensures follows { FollowsAsked O.bytes O.is_broken out.old out.new E.bytes E.is_broken err.old err.new result (map S.text words.now) }
+    ensures tells { TellsFollow O.bytes O.is_broken out.old out.new E.bytes E.is_broken err.old err.new result (map S.text words.now) }
 {
     let alloc = rt.alloc();
     match read_follow(alloc, words) {

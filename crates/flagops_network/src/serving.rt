@@ -1,12 +1,6 @@
 //! The command `serve`.
-ghost use Rattle.std.specs.Prelude.{◌≡◌, ◌⊎◌, ℕ, None, Result, false, length, map, true, IfSome};
-ghost use Rattle.flagops_commands.specs.Telling.{Wants};
-ghost use Rattle.flagops_network.specs.Loading.{AnswersTo};
-ghost use Rattle.flagops_network.specs.Mistakes.{TellsOne};
-ghost use Rattle.flagops_streams.specs.Report.{RefusesBy, Reports, Serves};
-ghost use Rattle.flagops_streams.specs.declared.refusal.Refusal.{Refusal};
-ghost use Rattle.flagops_streams.specs.declared.refusal.Refusal.TheVariants.{Unreadable};
-ghost use Rattle.flagops_network.specs.Words.{serve_by, serve_faults};
+ghost use Rattle.std.specs.Prelude.{◌≡◌, false, map};
+ghost use Rattle.flagops_network.specs.Ended.{AnswersServe, RefusesUnread, ServesAsked, TellsServe};
 
 use crate::loading::{Unloaded, loaded};
 use crate::words::read_serve;
@@ -34,17 +28,12 @@ where
     E: Outlet,
     requires out_whole { O.is_broken out.old ≡ false }
     requires err_whole { E.is_broken err.old ≡ false }
-    ensures answers { IfSome (serve_by (map S.text words.now)) (λ s. IfSome (F.holding files.old) (λ at.
-        ((answer : Result ℕ Refusal) × AnswersTo at s answer × Reports answer (O.bytes out.old) (O.bytes out.new) (O.is_broken out.new) result)
-        ⊎ Wants (O.bytes out.old) (O.bytes out.new) (O.is_broken out.new) (E.bytes err.old) (E.bytes err.new) (E.is_broken err.new) result)) }
-    ensures serves { IfSome (serve_by (map S.text words.now)) (λ s.
-        Serves (length s.documents) (O.bytes out.old) (O.bytes out.new) (O.is_broken out.new) result
-        ⊎ Wants (O.bytes out.old) (O.bytes out.new) (O.is_broken out.new) (E.bytes err.old) (E.bytes err.new) (E.is_broken err.new) result) }
+    ensures answers { AnswersServe O.bytes O.is_broken out.old out.new E.bytes E.is_broken err.old err.new result
+        F.holding files.old (map S.text words.now) }
+    ensures serves { ServesAsked O.bytes O.is_broken out.old out.new E.bytes E.is_broken err.old err.new result (map S.text words.now) }
     // Whatever the files hold, a read that failed is what is reported.
-    ensures unread { F.has_failed files.old ≡ false → F.has_failed files.new ≡ true
-        → RefusesBy Unreadable (O.bytes out.old) (O.bytes out.new) (O.is_broken out.new) result }
-    ensures tells { serve_by (map S.text words.now) ≡ None
-        → TellsOne (O.bytes out.old) (O.bytes out.new) (O.is_broken out.new) (E.bytes err.old) (E.bytes err.new) (E.is_broken err.new) result (serve_faults (map S.text words.now)) }
+    ensures unread { RefusesUnread O.bytes O.is_broken out.old out.new result F.has_failed files.old files.new }
+    ensures tells { TellsServe O.bytes O.is_broken out.old out.new E.bytes E.is_broken err.old err.new result (map S.text words.now) }
     ensures kept { F.holding files.new ≡ F.holding files.old }
 {
     let alloc = rt.alloc();
