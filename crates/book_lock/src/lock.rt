@@ -78,6 +78,7 @@ impl BookLock {
         ensures kept { place.new.table_id ≡ place.old.table_id }
         ensures idle { place.new.me ≡ (idle number (seen_in place.old.me.0.seats ++ accepted number page.now input.now noted ∷ []), []) }
     {
+        // The contract alone names these three: the call that was accepted.
         let _ = page;
         let _ = input;
         let _ = noted;

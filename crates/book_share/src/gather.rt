@@ -39,6 +39,7 @@ fn jobs_of<L: BookName>(
     ensures first { IfOk result (λ jobs. (i : ℕ) → IfSome (slice_get jobs.items i) (λ job. job.first ≡ i)) }
     ensures len { IfOk result (λ jobs. length jobs.items ≡ workers) }
 {
+    // The contract alone names their number.
     let _ = workers;
     let mut jobs = Vec::with_capacity(alloc, seats.len())?;
     for seat in seats {

@@ -24,6 +24,7 @@ pub(crate) fn in_order(
     requires turns { AreInTurn (flags_view flags.now) (length answers.items - 1) 0 (length answers.items) asks.now (map deque_items answers.items) }
     ensures { IfOk result (λ v. map resolution_view v.items ≡ map (resolved (flags_view flags.now)) asks.now) }
 {
+    // The contract alone names the flags.
     let _ = flags;
     let mut line = answers;
     let mut resolutions = Vec::with_capacity(alloc, asks.len())?;

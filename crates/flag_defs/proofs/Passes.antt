@@ -7,48 +7,45 @@ use Rattle.flag_text.specs.View.{view, members_view}
 use Rattle.flag_text.proofs.Views.{Named}
 use Rattle.flag_defs.specs.Inlining.{replaced}
 use Rattle.flag_defs.specs.Measure.{measure, measured, known}
-use Rattle.flag_defs.specs.Table.{AreForms, Knows, KnowsAll, IsStuck, unknown_count}
+use Rattle.flag_defs.specs.Table.{AreForms, Knows, KnowsAll, Learned, IsStuck, unknown_count}
 use Rattle.flag_defs.specs.declared.measure.Measure.{Measure}
 use Rattle.flag_defs.proofs.Tables.{measured-known, known-map}
 
--- how far a pass has come that began with these measures
-pub record IsPassing (ms : List Named) (first now : List (Option Measure)) (learned : Bool) (i : ℕ) : Type 0 where
-  pub each : length now ≡ length ms
-  pub knows : Knows (members_view ms) now
-  pub fewer : learned ≡ true → unknown_count now < unknown_count first
-  pub same : learned ≡ false → now ≡ first
-  pub stuck : learned ≡ false → (k : ℕ) → k < i → IsStuck ms now k
+-- how far a pass has come that began with this table
+pub record IsPassing (first now : Learned) (learned : Bool) (i : ℕ) : Type 0 where
+  pub members : now.members ≡ first.members
+  pub fewer : learned ≡ true → unknown_count now.measures < unknown_count first.measures
+  pub same : learned ≡ false → now.measures ≡ first.measures
+  pub stuck : learned ≡ false → (k : ℕ) → k < i → IsStuck now.members now.measures k
 
-pub IsPassing-step : (ms : List Named) (first now next : List (Option Measure)) (learned new : Bool) (i : ℕ) → IsPassing ms first now learned i
-    → length next ≡ length ms → Knows (members_view ms) next → (new ≡ true → unknown_count next + 1 ≡ unknown_count now) → (new ≡ false → next ≡ now) → (new ≡ false → IsStuck ms now i)
-    → IsPassing ms first next (learned || new) (i + 1)
-IsPassing-step ms first now next true true i p each knows fewer same stuck = record {
-  each = each;
-  knows = knows;
+pub IsPassing-step : (first now next : Learned) (learned new : Bool) (i : ℕ) → IsPassing first now learned i → next.members ≡ now.members
+    → (new ≡ true → unknown_count next.measures + 1 ≡ unknown_count now.measures) → (new ≡ false → next.measures ≡ now.measures)
+    → (new ≡ false → IsStuck now.members now.measures i) → IsPassing first next (learned || new) (i + 1)
+IsPassing-step first now next true true i p members fewer same stuck = record {
+  members = members ∙ p.members;
   fewer = λ e. omega (arith, p.fewer refl, fewer refl);
   same = λ e. cc;
   stuck = λ e. cc;
 }
-IsPassing-step ms first now next true false i p each knows fewer same stuck = record {
-  each = each;
-  knows = knows;
+IsPassing-step first now next true false i p members fewer same stuck = record {
+  members = members ∙ p.members;
   fewer = λ e. omega (arith, p.fewer refl, ap unknown_count (same refl));
   same = λ e. cc;
   stuck = λ e. cc;
 }
-IsPassing-step ms first now next false true i p each knows fewer same stuck = record {
-  each = each;
-  knows = knows;
+IsPassing-step first now next false true i p members fewer same stuck = record {
+  members = members ∙ p.members;
   fewer = λ e. omega (arith, fewer refl, ap unknown_count (p.same refl));
   same = λ e. cc;
   stuck = λ e. cc;
 }
-IsPassing-step ms first now next false false i p each knows fewer same stuck = record {
-  each = each;
-  knows = knows;
+IsPassing-step first now next false false i p members fewer same stuck = record {
+  members = members ∙ p.members;
   fewer = λ e. cc;
   same = λ e. same refl ∙ p.same refl;
-  stuck = λ e. subst (λ ns. (k : ℕ) → k < i + 1 → IsStuck ms ns k) (sym (same refl)) (below_more (IsStuck ms now) i (p.stuck refl) (stuck refl));
+  stuck = λ e.
+      subst (λ ms. (k : ℕ) → k < i + 1 → IsStuck ms next.measures k) (sym members)
+      (subst (λ es. (k : ℕ) → k < i + 1 → IsStuck now.members es k) (sym (same refl)) (below_more (IsStuck now.members now.measures) i (p.stuck refl) (stuck refl)));
 }
 
 -- ---- nothing is known at first

@@ -48,13 +48,22 @@ pub record AreHeads (ms : List (String Global × Tree)) (measures : List (Option
   pub each : length heads ≡ length ms
   pub heads_of : (i : ℕ) → i < length ms → is_some (slice_index_or measures i None) ≡ true → IsHead ms i (slice_index_or heads i 0)
 
+-- the evaluators of a document, and the measures of those that have been measured
+pub record Learned : Type 0 where
+  pub members : List (String Global × Tree)
+  pub measures : List (Option Measure)
+
 -- what a table says of the evaluators of a document
 pub record IsTable (ms : List (String Global × Tree)) (measures : List (Option Measure)) (heads : List ℕ) : Type 0 where
   pub rising : names_rise (members_view ms) ≡ true
-  pub tidy : members_are_tidy (members_view ms) ≡ true
   pub each : length measures ≡ length ms
+  pub knows : Knows (members_view ms) measures
   pub ends : AreHeads ms measures heads
-  pub knows_all : KnowsAll (members_view ms) measures
+
+-- all of tidy evaluators that have a form are measured
+pub record IsWhole (t : Learned) : Type 0 where
+  pub tidy : members_are_tidy (members_view t.members) ≡ true
+  pub knows_all : KnowsAll (members_view t.members) t.measures
 
 -- how many are not known
 abbrev pub unknown_count : List (Option Measure) → ℕ

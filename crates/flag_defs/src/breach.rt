@@ -4,7 +4,7 @@ ghost use Rattle.flag_text.specs.Shape.{is_tidy, members_are_tidy, names_rise, o
 ghost use Rattle.flag_text.specs.View.{view, members_view};
 ghost use Rattle.logic_ast.specs.Expression.{Expression};
 ghost use Rattle.flag_defs.specs.Breach.{AllTell, TargetingBreaks, TargetingTells, Tells, end_rule, is_null_or_object, outline_breach, variants_rule};
-ghost use Rattle.flag_defs.specs.Definition.{HasTargeting, or_null};
+ghost use Rattle.flag_defs.specs.Definition.{HasTargeting};
 ghost use Rattle.flag_defs.specs.Document.{evaluators_in, flags_in, or_no_members};
 
 use crate::document::{evaluators_in, members_of};
@@ -52,22 +52,12 @@ pub fn breaches(alloc: Global, document: &Tree) -> Result<Vec<Option<Breach>>, A
     ensures { IfOk result (λ v. AllTell (evaluators_in (view document.now)) (or_no_members (flags_in (view document.now))) v.items) }
 {
     match members_of(document, "flags") {
-        Some(definitions) => all_breaches(alloc, definitions, evaluators_in(document)),
+        Some(definitions) => {
+            let evaluators = Evaluators::read(alloc, evaluators_in(document))?;
+            each_breach(alloc, definitions, &evaluators)
+        }
         None => Ok(Vec::new(alloc)),
     }
-}
-
-fn all_breaches(
-    alloc: Global,
-    definitions: &[(String, Tree)],
-    evaluators: &[(String, Tree)],
-) -> Result<Vec<Option<Breach>>, AllocError>
-    requires tidy { members_are_tidy (members_view definitions.now) ≡ true }
-    requires evaluators_tidy { members_are_tidy (members_view evaluators.now) ≡ true }
-    ensures { IfOk result (λ v. AllTell (members_view evaluators.now) (members_view definitions.now) v.items) }
-{
-    let known = Evaluators::read(alloc, evaluators)?;
-    each_breach(alloc, definitions, &known)
 }
 
 fn each_breach(
@@ -100,9 +90,12 @@ fn members_breach(members: &[(String, Tree)], evaluators: &Evaluators<'_>) -> Op
     requires { members_are_tidy (members_view members.now) ≡ true }
     ensures { Tells (members_view evaluators.now) (object (members_view members.now)) result }
 {
-    match outline_breach(members) {
-        Some(breach) => Some(breach),
-        None => targeting_breach(member_by_halving(members, "targeting"), evaluators),
+    if let Some(breach) = outline_breach(members) {
+        return Some(breach);
+    }
+    match member_by_halving(members, "targeting") {
+        Some(targeting) => targeting_breach(targeting, evaluators),
+        None => None,
     }
 }
 
@@ -150,18 +143,8 @@ fn tree_rule(tree: &Tree) -> Breach
     }
 }
 
-/// The first rule that the targeting of a definition breaks, where it has one.
-fn targeting_breach(targeting: Option<&Tree>, evaluators: &Evaluators<'_>) -> Option<Breach>
-    requires { is_tidy (or_null (option_map (λ t. view t.now) targeting)) ≡ true }
-    ensures { TargetingTells (members_view evaluators.now) (or_null (option_map (λ t. view t.now) targeting.entry)) result }
-{
-    match targeting {
-        Some(tree) => tree_breach(tree, evaluators),
-        None => None,
-    }
-}
-
-fn tree_breach(tree: &Tree, evaluators: &Evaluators<'_>) -> Option<Breach>
+/// The first rule that the targeting of a definition breaks.
+fn targeting_breach(tree: &Tree, evaluators: &Evaluators<'_>) -> Option<Breach>
     requires { is_tidy (view tree.now) ≡ true }
     ensures { TargetingTells (members_view evaluators.now) (view tree.now) result }
 {

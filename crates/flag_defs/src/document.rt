@@ -54,7 +54,10 @@ fn read_document(alloc: Global, document: &Tree) -> Result<Flags, DefFault>
     ensures { HoldsUnless (FlagsMean (evaluators_in (view document.now)) (flags_in (view document.now))) result }
 {
     match members_of(document, "flags") {
-        Some(definitions) => read_definitions(alloc, definitions, evaluators_in(document)),
+        Some(definitions) => {
+            let evaluators = Evaluators::read(alloc, evaluators_in(document))?;
+            read_definitions(alloc, definitions, &evaluators)
+        }
         None => Err(DefFault::NoFlags),
     }
 }
@@ -81,21 +84,19 @@ pub(crate) fn evaluators_in(document: &Tree) -> &[(String, Tree)]
 fn read_definitions(
     alloc: Global,
     definitions: &[(String, Tree)],
-    evaluators: &[(String, Tree)],
+    evaluators: &Evaluators<'_>,
 ) -> Result<Flags, DefFault>
-    requires tidy { members_are_tidy (members_view definitions.now) ≡ true }
-    requires evaluators_tidy { members_are_tidy (members_view evaluators.now) ≡ true }
+    requires { members_are_tidy (members_view definitions.now) ≡ true }
     ensures { HoldsUnless (FlagsMean (members_view evaluators.now) (Some (members_view definitions.now))) result }
 {
-    let known = Evaluators::read(alloc, evaluators)?;
-    let least = least_of_all(definitions, &known);
+    let least = least_of_all(definitions, evaluators);
     if definitions.len() > MAX_FLAGS {
         return Err(DefFault::TooLarge);
     }
     if least as usize > MAX_BYTES {
         return Err(DefFault::TooLarge);
     }
-    let flags = read_all(alloc, definitions, &known)?;
+    let flags = read_all(alloc, definitions, evaluators)?;
     limited(alloc, flags)
 }
 

@@ -19,8 +19,9 @@ impl<'a> Evaluators<'a> {
         let Some(name) = reference_in(tree) else {
             return tree;
         };
-        match position_of(self.members, name) {
-            Some(i) => tree_at(self.members, self.heads[i]),
+        let table = &self.table;
+        match position_of(table.members, name) {
+            Some(i) => tree_at(table.members, table.heads[i]),
             None => tree,
         }
     }

@@ -1,16 +1,14 @@
 //! Flags by their keys.
-ghost use Rattle.std.specs.Prelude.{◌≡◌, ◌≤◌, ◌<◌, ◌↔◌, true, [], length, Some, option_map};
+ghost use Rattle.std.specs.Prelude.{◌≡◌, ◌≤◌, ◌<◌, ◌↔◌, true, [], length, Some};
 ghost use Rattle.std.specs.Cmp.Lexicographic.{slice_cmp};
 ghost use Rattle.std.specs.List.{slice_get};
 ghost use Rattle.std.specs.List.Sorted.{IsStrictlySortedBy};
-ghost use Rattle.std.specs.Map.{keys_of, lookup};
+ghost use Rattle.std.specs.Map.{keys_of};
 ghost use Rattle.std.specs.Ordering.{nat_cmp};
-ghost use Rattle.std.specs.Str.{bytes_eq};
 ghost use Rattle.std.proofs.lemmas.Map.Keys.{IsStrictlySortedBy-prop};
 ghost use Rattle.flag_defs.specs.Document.{max_flags, max_bytes, printed};
 ghost use Rattle.flag_defs.specs.Flag.{entries_view, flag_view};
 
-use crate::find::find_flag;
 use crate::flag::Flag;
 
 /// Flags by their keys, which rise strictly as bytes: at most 10,000, printed in at most 4,194,304 bytes.
@@ -38,13 +36,6 @@ impl Flags {
         ensures { result ≡ true ↔ (flags_view self.now ≡ []) }
     {
         self.flags.is_empty()
-    }
-
-    /// The flag of this key, where there is one, found by halving.
-    pub fn get(&self, key: &str) -> Option<&Flag>
-        ensures { option_map (λ f. flag_view f.now) result ≡ lookup (bytes_eq key.now) (flags_view self.now) }
-    {
-        find_flag(self.flags.as_slice(), key)
     }
 
     /// The flag at a place in the order of the keys' bytes, with its key.

@@ -18,6 +18,6 @@ impl<'a> Evaluators<'a> {
             ((u : Shape) → ¬ IsInlined (members_view self.now) (view tree.now) u)
             (λ m. (u : Shape) × IsInlined (members_view self.now) (view tree.now) u × (measure u ≡ m)) }
     {
-        measured(tree, self.members, self.measures.as_slice())
+        measured(tree, &self.table)
     }
 }

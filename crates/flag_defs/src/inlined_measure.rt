@@ -1,94 +1,71 @@
 //! Measuring a tree with a measure in the place of each reference.
-ghost use Rattle.std.specs.Prelude.{◌≡◌, ℕ, true, false, length, Some, option_map};
-ghost use Rattle.flag_text.specs.Shape.{whole, text, list, names_rise};
+ghost use Rattle.std.specs.Prelude.{◌≡◌, option_map};
+ghost use Rattle.flag_text.specs.Shape.{whole, text, list};
 ghost use Rattle.flag_text.specs.View.{view, items_view, members_view};
 ghost use Rattle.flag_defs.specs.Measure.{known, measure, measured, object_measured, members_measured, both, list_measure, literal_measure, item_in_front, member_in_front, operation_reading, operation_measure, takes_count};
 
 use crate::measure::{Measure, Parts, Reading, capped, member_in_front, plus};
 use crate::references::{is_reference_name, reference_of};
+use crate::table::Table;
 use bucket_core::MAX_TOTAL;
 use flag_text::{Tree, is_in_range, position_of};
 use logic_ast::{Operator, is_fractional};
 
 /// What is known of the evaluator of this name.
-pub(crate) fn known(
-    evaluators: &[(String, Tree)],
-    measures: &[Option<Measure>],
-    name: &str,
-) -> Option<Measure>
-    requires rising { names_rise (members_view evaluators.now) ≡ true }
-    requires each { length measures.now ≡ length evaluators.now }
-    ensures { result ≡ known (members_view evaluators.now) measures.now name.now }
+pub(crate) fn known(table: &Table<'_>, name: &str) -> Option<Measure>
+    ensures { result ≡ known (members_view table.now.members) table.now.measures name.now }
 {
-    match position_of(evaluators, name) {
-        Some(i) => measures[i],
+    match position_of(table.members, name) {
+        Some(i) => table.measures[i],
         None => None,
     }
 }
 
 /// The measure of a tree, where that of each reference in it is known.
 #[cycle(measured)]
-pub(crate) fn measured(
-    tree: &Tree,
-    evaluators: &[(String, Tree)],
-    measures: &[Option<Measure>],
-) -> Option<Measure>
-    requires rising { names_rise (members_view evaluators.now) ≡ true }
-    requires each { length measures.now ≡ length evaluators.now }
-    ensures { result ≡ measured (known (members_view evaluators.now) measures.now) (view tree.now) }
+pub(crate) fn measured(tree: &Tree, table: &Table<'_>) -> Option<Measure>
+    ensures { result ≡ measured (known (members_view table.now.members) table.now.measures) (view tree.now) }
 {
     match tree {
         Tree::Null | Tree::Bool(_) => Some(Measure::scalar(true, false, false, 0)),
         Tree::Whole(n) => Some(whole_measure(*n)),
         Tree::Other => Some(Measure::scalar(false, false, false, 0)),
         Tree::Text(text) => Some(text_measure(text.as_str())),
-        Tree::List(items) => list_measured(items, evaluators, measures),
+        Tree::List(items) => list_measured(items, table),
         Tree::Object(members) => match reference_of(members.as_slice()) {
-            Some(name) => known(evaluators, measures, name),
-            None => object_measured(members, evaluators, measures),
+            Some(name) => known(table, name),
+            None => object_measured(members, table),
         },
     }
 }
 
 #[cycle(measured)]
-fn list_measured(
-    items: &Vec<Tree>,
-    evaluators: &[(String, Tree)],
-    measures: &[Option<Measure>],
-) -> Option<Measure>
-    requires rising { names_rise (members_view evaluators.now) ≡ true }
-    requires each { length measures.now ≡ length evaluators.now }
-    ensures { result ≡ measured (known (members_view evaluators.now) measures.now) (list (items_view items.now.items)) }
+fn list_measured(items: &Vec<Tree>, table: &Table<'_>) -> Option<Measure>
+    ensures { result ≡ measured (known (members_view table.now.members) table.now.measures) (list (items_view items.now.items)) }
 {
     let mut parts = Some(Parts::NONE);
     // From the back, as the definition adds them up: it folds from the right.
     for i in (0..items.len()).rev() {
-        let item = measured(&items[i], evaluators, measures);
+        let item = measured(&items[i], table);
         parts = item_in_front(item, parts);
     }
     list_measure(items.len(), parts)
 }
 
 #[cycle(measured)]
-fn object_measured(
-    members: &Vec<(String, Tree)>,
-    evaluators: &[(String, Tree)],
-    measures: &[Option<Measure>],
-) -> Option<Measure>
-    requires rising { names_rise (members_view evaluators.now) ≡ true }
-    requires each { length measures.now ≡ length evaluators.now }
-    ensures { result ≡ object_measured (known (members_view evaluators.now) measures.now) (members_view members.now.items) }
+fn object_measured(members: &Vec<(String, Tree)>, table: &Table<'_>) -> Option<Measure>
+    ensures { result ≡ object_measured (known (members_view table.now.members) table.now.measures) (members_view members.now.items) }
 {
     if members.len() == 1 {
         let (name, member) = &members[0];
-        let measure = measured(member, evaluators, measures);
+        let measure = measured(member, table);
         return operation_measure(name.as_str(), measure);
     }
     let mut all = Some((Reading::NOTHING, 0));
     // From the back, as above.
     for i in (0..members.len()).rev() {
         let (name, member) = &members[i];
-        let measure = measured(member, evaluators, measures);
+        let measure = measured(member, table);
         all = front_member(name.as_str(), measure, all);
     }
     literal_measure(all)

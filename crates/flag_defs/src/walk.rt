@@ -1,12 +1,8 @@
 //! A walk over the evaluators of a document, in which each is measured after those that it refers to.
-ghost use Rattle.std.specs.Prelude.{◌≡◌, true, false, length, replicate, IfOk};
-ghost use Rattle.flag_text.specs.Shape.{names_rise};
-ghost use Rattle.flag_text.specs.View.{members_view};
-ghost use Rattle.flag_defs.specs.Table.{AreHeads, Knows};
+ghost use Rattle.std.specs.Prelude.{◌≡◌, length, IfOk};
 
-use crate::measure::Measure;
 use crate::references::reference_of;
-use crate::table::learn;
+use crate::table::Table;
 use flag_text::{Tree, position_of};
 use std::alloc::{AllocError, Global};
 
@@ -21,51 +17,33 @@ enum Step<'a> {
 
 /// Measures the evaluators, each after those that it refers to. Each is entered once, so this takes about as long as
 /// reading them, in whatever order they stand.
-pub(crate) fn walk<'a>(
-    alloc: Global,
-    evaluators: &'a [(String, Tree)],
-    measures: &mut Vec<Option<Measure>>,
-    heads: &mut Vec<usize>,
-) -> Result<(), AllocError>
-    requires rising { names_rise (members_view evaluators.now) ≡ true }
-    requires each { length measures.old.items ≡ length evaluators.now }
-    requires knows { Knows (members_view evaluators.now) measures.old.items }
-    requires heads { AreHeads evaluators.now measures.old.items heads.old.items }
-    ensures each { length measures.new.items ≡ length evaluators.now }
-    ensures knows { Knows (members_view evaluators.now) measures.new.items }
-    ensures heads { AreHeads evaluators.now measures.new.items heads.new.items }
+pub(crate) fn walk(alloc: Global, table: &mut Table<'_>) -> Result<(), AllocError>
+    ensures { table.new.members ≡ table.old.members }
 {
+    let evaluators = table.members;
     let mut entered = none_entered(alloc, evaluators.len())?;
     let mut steps = Vec::new(alloc);
     for (name, _) in evaluators {
         steps.push(Step::Enter(name.as_str()))?;
-        follow(evaluators, &mut steps, &mut entered, measures, heads)?;
+        follow(&mut steps, &mut entered, table)?;
     }
     Ok(())
 }
 
 /// Takes the steps from the last on, with those that they lead to, until none is left.
 fn follow<'a>(
-    evaluators: &'a [(String, Tree)],
     steps: &mut Vec<Step<'a>>,
     entered: &mut Vec<bool>,
-    measures: &mut Vec<Option<Measure>>,
-    heads: &mut Vec<usize>,
+    table: &mut Table<'a>,
 ) -> Result<(), AllocError>
-    requires rising { names_rise (members_view evaluators.now) ≡ true }
-    requires each_entered { length entered.old.items ≡ length evaluators.now }
-    requires each { length measures.old.items ≡ length evaluators.now }
-    requires knows { Knows (members_view evaluators.now) measures.old.items }
-    requires heads { AreHeads evaluators.now measures.old.items heads.old.items }
-    ensures each_entered { length entered.new.items ≡ length evaluators.now }
-    ensures each { length measures.new.items ≡ length evaluators.now }
-    ensures knows { Knows (members_view evaluators.now) measures.new.items }
-    ensures heads { AreHeads evaluators.now measures.new.items heads.new.items }
+    requires { length entered.old.items ≡ length table.old.members }
+    ensures members { table.new.members ≡ table.old.members }
+    ensures each_entered { length entered.new.items ≡ length table.new.members }
 {
     for _ in 0..u64::MAX {
         match steps.pop() {
-            Some(Step::Enter(name)) => enter(evaluators, steps, entered, name)?,
-            Some(Step::Measure(name)) => learn_named(evaluators, measures, heads, name),
+            Some(Step::Enter(name)) => enter(steps, entered, table, name)?,
+            Some(Step::Measure(name)) => learn_named(table, name),
             None => break,
         }
     }
@@ -74,15 +52,15 @@ fn follow<'a>(
 
 /// Puts behind the steps those of an evaluator that was not entered before.
 fn enter<'a>(
-    evaluators: &'a [(String, Tree)],
     steps: &mut Vec<Step<'a>>,
     entered: &mut Vec<bool>,
+    table: &Table<'a>,
     name: &'a str,
 ) -> Result<(), AllocError>
-    requires rising { names_rise (members_view evaluators.now) ≡ true }
-    requires each { length entered.old.items ≡ length evaluators.now }
-    ensures { length entered.new.items ≡ length evaluators.now }
+    requires { length entered.old.items ≡ length table.now.members }
+    ensures { length entered.new.items ≡ length table.now.members }
 {
+    let evaluators = table.members;
     let Some(i) = position_of(evaluators, name) else {
         return Ok(());
     };
@@ -95,22 +73,11 @@ fn enter<'a>(
 }
 
 /// Measures the evaluator of this name, if there is one.
-fn learn_named(
-    evaluators: &[(String, Tree)],
-    measures: &mut Vec<Option<Measure>>,
-    heads: &mut Vec<usize>,
-    name: &str,
-)
-    requires rising { names_rise (members_view evaluators.now) ≡ true }
-    requires each { length measures.old.items ≡ length evaluators.now }
-    requires knows { Knows (members_view evaluators.now) measures.old.items }
-    requires heads { AreHeads evaluators.now measures.old.items heads.old.items }
-    ensures each { length measures.new.items ≡ length evaluators.now }
-    ensures knows { Knows (members_view evaluators.now) measures.new.items }
-    ensures heads { AreHeads evaluators.now measures.new.items heads.new.items }
+fn learn_named(table: &mut Table<'_>, name: &str)
+    ensures { table.new.members ≡ table.old.members }
 {
-    if let Some(i) = position_of(evaluators, name) {
-        learn(evaluators, measures, heads, i);
+    if let Some(i) = position_of(table.members, name) {
+        table.learn(i);
     }
 }
 

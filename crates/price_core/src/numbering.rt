@@ -92,6 +92,7 @@ impl<'a> Numbering<'a> {
         ensures lawful { IsNumbering self.now }
         ensures prices_lawful { IsPricing prices.now }
     {
+        // A look into the numbering, by which a proof learns what holds of its fields.
         let _ = &self.by_name;
         let named = prices.named();
         let mut by_numbers = HashMap::new(alloc);

@@ -1,13 +1,7 @@
-use Rattle.std.proofs.Common.{Option, Bor, None, option_map, sym, subst}
-use Rattle.flag_text.specs.Shape.{Shape}
+use Rattle.std.proofs.Common.{None, subst}
 use Rattle.flag_text.specs.View.{view, members_view}
-use Rattle.flag_text.specs.declared.tree.Tree.{Tree}
-use Rattle.flag_defs.specs.Definition.{or_null}
-use Rattle.flag_defs.specs.Targeting.{IsGoodTargeting}
-use Rattle.flag_defs.proofs.Weighed.{forecast_absent}
+use Rattle.flag_defs.specs.Targeting.{IsForecast}
 use Rattle.flag_defs.proofs.breach.targeting_breach.Goals as goal
 
-pub returns-in-None : goal.returns-in-None
-returns-in-None c =
-    let seen : Option (Bor Tree) → Option Shape = λ o. option_map (λ t. view t.now) o in
-    subst (λ o. IsGoodTargeting (members_view c.args.evaluators.now) (or_null (seen o))) (sym c.in-None.is) (None, forecast_absent (members_view c.args.evaluators.now))
+pub returns-in-Without : goal.returns-in-Without
+returns-in-Without c = (None, subst (IsForecast (members_view c.args.evaluators.now) (view c.args.tree.now)) c.in-Without.is c.tree_forecast.ensures)

@@ -6,18 +6,18 @@ use Rattle.flag_defs.proofs.document.read_definitions.Goals as goal
 
 pub returns-then-definitions-gt-MAX_FLAGS : goal.returns-then-definitions-gt-MAX_FLAGS
 returns-then-definitions-gt-MAX_FLAGS c = λ _.
-    many_meant (members_view c.args.evaluators.now) c.args.definitions.now c.least_of_all-least.result (rw c.in_ok-known.ensures at c.least_of_all-least.ensures) c.if-definitions-gt-MAX_FLAGS.true
+    many_meant (members_view c.args.evaluators.now) c.args.definitions.now c.least_of_all-least.result c.least_of_all-least.ensures c.if-definitions-gt-MAX_FLAGS.true
 
 pub returns-then-least-gt-MAX_BYTES : goal.returns-then-least-gt-MAX_BYTES
 returns-then-least-gt-MAX_BYTES c = λ _.
-    heavy_meant (members_view c.args.evaluators.now) c.args.definitions.now c.least_of_all-least.result (names_rise-tidy (members_view c.args.definitions.now) c.requires.tidy)
-    (rw c.in_ok-known.ensures at c.least_of_all-least.ensures)
+    heavy_meant (members_view c.args.evaluators.now) c.args.definitions.now c.least_of_all-least.result (names_rise-tidy (members_view c.args.definitions.now) c.requires)
+    c.least_of_all-least.ensures
     c.if-least-gt-MAX_BYTES.true
 
 pub read_all-requires-clause-light : goal.read_all-requires-clause-light
 read_all-requires-clause-light c =
-    light (members_view c.in_ok-known.known) c.args.definitions.now c.least_of_all-least.result c.least_of_all-least.ensures c.if-least-gt-MAX_BYTES.false c.if-definitions-gt-MAX_FLAGS.false
+    light (members_view c.args.evaluators.now) c.args.definitions.now c.least_of_all-least.result c.least_of_all-least.ensures c.if-least-gt-MAX_BYTES.false c.if-definitions-gt-MAX_FLAGS.false
 
 pub limited-requires : goal.limited-requires
 limited-requires c =
-    rise_meant (members_view c.in_ok-known.known) (members_view c.args.definitions.now) (entries_view c.in_ok-flags.flags.items) (names_rise-tidy (members_view c.args.definitions.now) c.requires.tidy) c.in_ok-flags.ensures
+    rise_meant (members_view c.args.evaluators.now) (members_view c.args.definitions.now) (entries_view c.in_ok-flags.flags.items) (names_rise-tidy (members_view c.args.definitions.now) c.requires) c.in_ok-flags.ensures

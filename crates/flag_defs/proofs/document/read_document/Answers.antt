@@ -4,8 +4,8 @@ use Rattle.flag_text.specs.View.{view, members_view}
 use Rattle.flag_defs.proofs.Meant.{tidy_named_object, tidy_evaluators}
 use Rattle.flag_defs.proofs.document.read_document.Goals as goal
 
-pub read_definitions-requires-clause-tidy : goal.read_definitions-requires-clause-tidy
-read_definitions-requires-clause-tidy c = tidy_named_object (codes "flags") (view c.args.document.now) (members_view c.in-Some.definitions.now) c.requires (sym c.in-Some.ensures)
+pub read-requires : goal.read-requires
+read-requires c = ap members_are_tidy c.evaluators_in.ensures ∙ tidy_evaluators (view c.args.document.now) c.requires
 
-pub read_definitions-requires-clause-evaluators_tidy : goal.read_definitions-requires-clause-evaluators_tidy
-read_definitions-requires-clause-evaluators_tidy c = ap members_are_tidy c.evaluators_in.ensures ∙ tidy_evaluators (view c.args.document.now) c.requires
+pub read_definitions-requires : goal.read_definitions-requires
+read_definitions-requires c = tidy_named_object (codes "flags") (view c.args.document.now) (members_view c.in-Some.definitions.now) c.requires (sym c.in-Some.ensures)

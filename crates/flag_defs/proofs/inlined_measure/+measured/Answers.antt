@@ -8,7 +8,7 @@ use Rattle.flag_defs.proofs.inlined_measure.+measured.Goals as goal
 
 pub list_measured-returns : goal.list_measured-returns
 list_measured-returns t c =
-    let refer = known (members_view c.args.evaluators.now) c.args.measures.now in
+    let refer = known (members_view c.args.table.now.members) c.args.table.now.measures in
     let items = c.args.items.now.items in
     let parts = c.loop-i.parts in
     let z : c.loop-i.i ≡ 0 = omega arith in
@@ -18,7 +18,7 @@ list_measured-returns t c =
 
 pub object_measured-returns-then-len-eq1 : goal.object_measured-returns-then-len-eq1
 object_measured-returns-then-len-eq1 t c =
-    let refer = known (members_view c.args.evaluators.now) c.args.measures.now in
+    let refer = known (members_view c.args.table.now.members) c.args.table.now.measures in
     let ms = c.args.members.now.items in
     let m = c.index.result.now in
     let first = ap (λ x. option_map (operation_measure (name_of x)) (measured refer (view x.1))) c.index.ensures in
@@ -27,7 +27,7 @@ object_measured-returns-then-len-eq1 t c =
 
 pub object_measured-returns : goal.object_measured-returns
 object_measured-returns t c =
-    let refer = known (members_view c.args.evaluators.now) c.args.measures.now in
+    let refer = known (members_view c.args.table.now.members) c.args.table.now.measures in
     let ms = c.args.members.now.items in
     let z : c.loop-i.i ≡ 0 = omega arith in
     let all : members_measured refer (members_view ms) ≡ c.loop-i.all = ap (λ k. members_measured refer (members_view (drop k ms))) (sym z) ∙ c.loop-i.invariant in

@@ -1,12 +1,5 @@
 use Rattle.std.proofs.Common.{◌≡◌, length}
-use Rattle.flag_text.specs.View.{members_view}
-use Rattle.flag_defs.specs.Table.{AreHeads, Knows}
 use Rattle.flag_defs.proofs.walk.follow.Given as goal
 
 abbrev pub invariant-loop : goal.invariant-loop
-invariant-loop l = record {
-  each_entered : length l.entered.items ≡ length l.evaluators;
-  each : length l.measures.items ≡ length l.evaluators;
-  knows : Knows (members_view l.evaluators) l.measures.items;
-  heads : AreHeads l.evaluators l.measures.items l.heads.items;
-}
+invariant-loop l = record { members : l.table.members ≡ l.initial.table.members; each_entered : length l.entered.items ≡ length l.table.members }
