@@ -1,9 +1,13 @@
 pub mod Bools
+mod Entered
 pub mod Entries
 pub mod Halving
 pub mod Printed
 pub mod Pushed
 pub mod Readings
 pub mod Rising
+mod Trees
+mod Turns
 pub mod Views
 pub mod Writes
+mod Written

@@ -1,30 +1,15 @@
 -- What is written for a tree, and that it reads as the tree.
-use Rattle.std.proofs.Common.{◌≡◌, ℕ, suc, pos, negsuc, ◌≤◌, List, [], ◌∷◌, map, true, false, max, length, Some, Ok, Ordering, Less, Equal, Greater, nat_cmp, refl, sym, ap, ap₂, ◌∙◌, arith}
+use Rattle.std.proofs.Common.{◌≡◌, ℕ, pos, negsuc, ◌≤◌, List, true, false, length, Some, Ok, Ordering, Less, Equal, Greater, nat_cmp, refl, sym, ap, ap₂, ◌∙◌, arith}
 use Rattle.std.specs.Ordering.{match_ordering}
 use Rattle.std.specs.Cmp.Lexicographic.{slice_cmp}
-use Rattle.serde_json.specs.declared.value.Value.{Value}
 use Rattle.serde_json.specs.Data as json
-use Rattle.serde_json.specs.View.{view as data_view, items_of as items_json_of, items_view as items_json}
-use Rattle.serde_json.specs.Written.{has_float, items_have_float, members_have_float}
-use Rattle.flag_text.specs.declared.tree.Tree.{Tree}
-use Rattle.flag_text.specs.Shape.{Shape, null, boolean, whole, other, text, list, object, Items, no_items, item, Members, no_members, member, levels, items_levels, members_levels, has_other, items_have_other, members_have_other, comes_first, is_whole, items_are_whole, members_are_whole}
+use Rattle.flag_text.specs.Shape.{Shape, null, boolean, whole, other, text, list, object, Items, no_items, item, Members, no_members, member, levels, has_other, items_have_other, members_have_other, comes_first, is_whole, items_are_whole, members_are_whole}
 use Rattle.std.specs.Str.{IsUtf8}
 use Rattle.serde_json.specs.Read.{read}
 use Rattle.flag_text.specs.Reading.{shape_of, items_shape, members_shape, max_levels, if_whole, tree_of}
 use Rattle.flag_text.proofs.Bools.{left, right}
 use Rattle.flag_text.proofs.Readings.{doc_of-read}
 use Rattle.flag_text.specs.Printing.{data_of, items_data, members_data}
-use Rattle.flag_text.specs.View.{view, items_view}
-
-abbrev pub printed : Tree → json.Data
-printed t = data_of (view t)
-
-items_data-map : (ts : List Tree) → items_data (items_view ts) ≡ items_json_of (map printed ts)
-items_data-map [] = refl
-items_data-map (t ∷ ts) = ap (json.item (printed t)) (items_data-map ts)
-
-pub items_json-printed : (vs : List Value) (ts : List Tree) → map data_view vs ≡ map printed ts → items_json vs ≡ items_data (items_view ts)
-items_json-printed vs ts e = ap items_json_of e ∙ sym (items_data-map ts)
 
 put_first : (o : Ordering) (a b c : json.Members) → match_ordering o true false false ≡ true → match_ordering o a b c ≡ a
 put_first Less a b c h = refl
@@ -32,7 +17,7 @@ put_first Equal a b c h = cc
 put_first Greater a b c h = cc
 
 -- where the names rise, each member goes in front of those after it
-members_data-rising : (k : List ℕ) (t : Shape) (ms : Members) → members_are_whole (member k t ms) ≡ true → members_data (member k t ms) ≡ json.member k (data_of t) (members_data ms)
+pub members_data-rising : (k : List ℕ) (t : Shape) (ms : Members) → members_are_whole (member k t ms) ≡ true → members_data (member k t ms) ≡ json.member k (data_of t) (members_data ms)
 members_data-rising k t no_members h = refl
 members_data-rising k t (member l u ms) h =
     let later = members_data-rising l u ms (right (is_whole t) _ (right (comes_first k (member l u ms)) _ h)) in
@@ -61,47 +46,6 @@ mutual
       ap members_shape (members_data-rising k t ms h) ∙ ap₂ (member k) (shape_of-data_of t (left _ _ rest)) (members_shape-members_data ms (right (is_whole t) _ rest))
 
 mutual
-  pub depth-data_of : (t : Shape) → is_whole t ≡ true → json.depth (data_of t) ≡ levels t
-  depth-data_of null h = refl
-  depth-data_of (boolean b) h = refl
-  depth-data_of (whole n) h = refl
-  depth-data_of other h = cc
-  depth-data_of (text s) h = refl
-  depth-data_of (list ts) h = ap suc (items_depth-items_data ts h)
-  depth-data_of (object ms) h = ap suc (members_depth-members_data ms h)
-
-  items_depth-items_data : (ts : Items) → items_are_whole ts ≡ true → json.items_depth (items_data ts) ≡ items_levels ts
-  items_depth-items_data no_items h = refl
-  items_depth-items_data (item t ts) h = ap₂ max (depth-data_of t (left _ _ h)) (items_depth-items_data ts (right (is_whole t) _ h))
-
-  members_depth-members_data : (ms : Members) → members_are_whole ms ≡ true → json.members_depth (members_data ms) ≡ members_levels ms
-  members_depth-members_data no_members h = refl
-  members_depth-members_data (member k t ms) h =
-      let rest = right (comes_first k ms) _ h in
-      ap json.members_depth (members_data-rising k t ms h) ∙ ap₂ max (depth-data_of t (left _ _ rest)) (members_depth-members_data ms (right (is_whole t) _ rest))
-
-mutual
-  pub has_float-data_of : (t : Shape) → is_whole t ≡ true → has_float (data_of t) ≡ false
-  has_float-data_of null h = refl
-  has_float-data_of (boolean b) h = refl
-  has_float-data_of (whole (pos n)) h = refl
-  has_float-data_of (whole (negsuc n)) h = refl
-  has_float-data_of other h = refl
-  has_float-data_of (text s) h = refl
-  has_float-data_of (list ts) h = items_have_float-items_data ts h
-  has_float-data_of (object ms) h = members_have_float-members_data ms h
-
-  items_have_float-items_data : (ts : Items) → items_are_whole ts ≡ true → items_have_float (items_data ts) ≡ false
-  items_have_float-items_data no_items h = refl
-  items_have_float-items_data (item t ts) h = rw (has_float-data_of t (left _ _ h)) (items_have_float-items_data ts (right (is_whole t) _ h))
-
-  members_have_float-members_data : (ms : Members) → members_are_whole ms ≡ true → members_have_float (members_data ms) ≡ false
-  members_have_float-members_data no_members h = refl
-  members_have_float-members_data (member k t ms) h =
-      let rest = right (comes_first k ms) _ h in
-      ap members_have_float (members_data-rising k t ms h) ∙ rw (has_float-data_of t (left _ _ rest)) (members_have_float-members_data ms (right (is_whole t) _ rest))
-
-mutual
   pub has_other-whole : (t : Shape) → is_whole t ≡ true → has_other t ≡ false
   has_other-whole null h = refl
   has_other-whole (boolean b) h = refl
@@ -121,7 +65,7 @@ mutual
       let rest = right (comes_first k ms) _ h in
       rw (has_other-whole t (left _ _ rest)) (members_have_other-whole ms (right (is_whole t) _ rest))
 
-if_whole-kept : (t : Shape) → levels t ≤ max_levels → has_other t ≡ false → if_whole (Ok t) ≡ Ok t
+pub if_whole-kept : (t : Shape) → levels t ≤ max_levels → has_other t ≡ false → if_whole (Ok t) ≡ Ok t
 if_whole-kept t deep e = grind (arith, e)
 
 -- what is written for a tree reads as the tree

@@ -1,4 +1,5 @@
 pub mod Fault
+pub mod Grammar
 pub mod Outcome
 pub mod Outlet
 pub mod Printing

@@ -24,15 +24,16 @@
 //!   bytes, or a front of them and then says so.
 #![tactic(auto)]
 
-mod convert;
 mod equal;
 mod fault;
 mod named;
+mod number;
 mod outlet;
 mod print;
 mod push;
 mod read;
 mod readers;
+mod tokens;
 mod tree;
 mod whole;
 

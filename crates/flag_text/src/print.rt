@@ -1,72 +1,58 @@
 //! From a tree to its text.
-ghost use Rattle.std.specs.Prelude.{◌≡◌, ◌≤◌, ℕ, true, length, string_bytes, Ok, IfOk, OnOk};
-ghost use Rattle.serde_json.specs.Data.{put};
-ghost use Rattle.serde_json.specs.View.{view as data_view, items_view as items_json, members_view as members_json};
-ghost use Rattle.flag_text.specs.Printing.{data_of, items_data, members_data, text_of};
+ghost use Rattle.std.specs.Prelude.{◌≡◌, ◌≤◌, ◌++◌, ℕ, true, length, string_bytes, Ok, IfOk, OnOk};
+ghost use Rattle.json.specs.Tree.{json_tokens, items_tokens, members_tokens};
+ghost use Rattle.flag_text.specs.Grammar.{written, items_written, members_written};
+ghost use Rattle.flag_text.specs.Printing.{text_of};
 ghost use Rattle.flag_text.specs.Reading.{tree_of, max_levels};
 ghost use Rattle.flag_text.specs.Shape.{is_whole, levels};
 ghost use Rattle.flag_text.specs.View.{view, items_view, members_view};
 
 use crate::tree::Tree;
-use serde_json::{Map, Value};
+use json::Writer;
 use std::alloc::{AllocError, Global};
 
-#[cycle(values)]
-fn tree_value(alloc: Global, tree: &Tree) -> Result<Value, AllocError>
-    ensures { IfOk result (λ v. data_view v ≡ data_of (view tree.now)) }
+#[cycle(write)]
+fn write(tree: &Tree, out: &mut Writer) -> Result<(), AllocError>
+    ensures ok { OnOk result (out.new.tokens ≡ out.old.tokens ++ json_tokens (written (view tree.now))) }
+    ensures before { out.new.before ≡ out.old.before }
 {
     match tree {
-        Tree::Null | Tree::Other => Ok(Value::Null),
-        Tree::Bool(b) => Ok(Value::Bool(*b)),
-        Tree::Whole(n) => Ok(Value::from(*n)),
-        Tree::Text(text) => Ok(Value::String(text.clone()?)),
-        Tree::List(items) => Ok(Value::Array(item_values(alloc, items)?)),
-        Tree::Object(members) => Ok(Value::Object(member_values(alloc, members)?)),
+        Tree::Null | Tree::Other => out.null(),
+        Tree::Bool(b) => out.boolean(*b),
+        Tree::Whole(n) => out.i64(*n),
+        Tree::Text(text) => out.string(text.as_str()),
+        Tree::List(items) => {
+            out.begin_array()?;
+            write_items(items, out)
+        }
+        Tree::Object(members) => {
+            out.begin_object()?;
+            write_members(members, out)
+        }
     }
 }
 
-#[cycle(values)]
-#[inline(never)]
-fn item_values(alloc: Global, items: &Vec<Tree>) -> Result<Vec<Value>, AllocError>
-    ensures { IfOk result (λ v. items_json v.items ≡ items_data (items_view items.now.items)) }
+#[cycle(write)]
+fn write_items(items: &Vec<Tree>, out: &mut Writer) -> Result<(), AllocError>
+    ensures ok { OnOk result (out.new.tokens ≡ out.old.tokens ++ items_tokens (items_written (items_view items.now.items))) }
+    ensures before { out.new.before ≡ out.old.before }
 {
-    let mut values = Vec::with_capacity(alloc, items.len())?;
     for item in items {
-        values.push(tree_value(alloc, item)?)?;
+        write(item, out)?;
     }
-    Ok(values)
+    out.end_array()
 }
 
-#[cycle(values)]
-#[inline(never)]
-fn member_values(
-    alloc: Global,
-    members: &Vec<(String, Tree)>,
-) -> Result<Map<String, Value>, AllocError>
-    ensures { IfOk result (λ m. members_json m.entries ≡ members_data (members_view members.now.items)) }
+#[cycle(write)]
+fn write_members(members: &Vec<(String, Tree)>, out: &mut Writer) -> Result<(), AllocError>
+    ensures ok { OnOk result (out.new.tokens ≡ out.old.tokens ++ members_tokens (members_written (members_view members.now.items))) }
+    ensures before { out.new.before ≡ out.old.before }
 {
-    let mut values = Map::new(alloc);
-    // From the back, as the definition puts them: it folds from the right.
-    for i in (0..members.len()).rev() {
-        let (name, member) = &members[i];
-        let value = tree_value(alloc, member)?;
-        put_value(alloc, &mut values, name.as_str(), value)?;
+    for (name, member) in members {
+        out.key(name.as_str())?;
+        write(member, out)?;
     }
-    Ok(values)
-}
-
-// Not inlined, so that the recursion does not hold the large frame of an insert at each level.
-#[inline(never)]
-fn put_value(
-    alloc: Global,
-    values: &mut Map<String, Value>,
-    name: &str,
-    value: Value,
-) -> Result<(), AllocError>
-    ensures { OnOk result (members_json values.new.entries
-        ≡ put name.now (data_view value) (members_json values.old.entries)) }
-{
-    serde_json::put(values, alloc, name, value)
+    out.end_object()
 }
 
 /// The compact text of a tree: no blanks, members in their order, and in texts the escapes of
@@ -79,5 +65,7 @@ pub fn print_tree(alloc: Global, tree: &Tree) -> Result<String, AllocError>
     ensures reads_back { IfOk result (λ s. (limit : ℕ) → levels (view tree.now) ≤ max_levels
         → length (string_bytes s) ≤ limit → tree_of (string_bytes s) limit ≡ Ok (view tree.now)) }
 {
-    tree_value(alloc, tree)?.to_string(alloc)
+    let mut out = Writer::new(Vec::with_capacity(alloc, 128)?);
+    write(tree, &mut out)?;
+    Ok(String::from_utf8(out.into_inner()).unwrap())
 }

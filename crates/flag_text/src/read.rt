@@ -7,14 +7,17 @@ ghost use Rattle.flag_text.specs.Reading.{max_levels, if_json, doc_of, if_whole,
 ghost use Rattle.flag_text.specs.Shape.{is_tidy, is_whole, levels};
 ghost use Rattle.flag_text.specs.View.{view};
 
-use crate::convert::value_tree;
 use crate::fault::TextFault;
+use crate::tokens::read;
 use crate::tree::{Tree, fits, has_other};
-use serde_json::Value;
+use json::{Reader, Scratch};
 use simdutf8::basic;
 use std::alloc::Global;
 
 const MAX_LEVELS: usize = 120;
+
+/// How deep lists and objects of a JSON text nest at most, as `serde_json` reads it.
+const MAX_DEPTH: usize = 127;
 
 /// The tree that the bytes of a JSON text stand for, with `Other` for each number that is not whole.
 /// A member that is repeated under its name takes the place of the one before. `max` is the most bytes
@@ -33,21 +36,22 @@ pub fn read_doc(alloc: Global, bytes: &[u8], max: usize) -> Result<Tree, TextFau
         return Err(TextFault::TooLarge);
     }
     match basic::from_utf8(bytes) {
-        Ok(text) => text_tree(alloc, text),
+        Ok(text) => text_tree(alloc, text, &mut Scratch::new(alloc)),
         Err(_) => Err(TextFault::NotJson),
     }
 }
 
 /// The tree that a JSON text stands for.
-fn text_tree(alloc: Global, text: &str) -> Result<Tree, TextFault>
+fn text_tree(alloc: Global, text: &str, scratch: &mut Scratch) -> Result<Tree, TextFault>
     ensures exact { GivesUnless TextFault.WantOfMemory view result (if_json (read text.now)) }
     ensures kind { result ≢ Err TextFault.TooLarge }
 {
-    match Value::from_str(alloc, text) {
-        Ok(value) => Ok(value_tree(alloc, value)?),
-        Err(e) if e.is_memory() => Err(TextFault::WantOfMemory),
-        Err(_) => Err(TextFault::NotJson),
+    let mut reader = Reader::new(text, scratch)?;
+    let tree = read(alloc, &mut reader, MAX_DEPTH)?;
+    if reader.next().is_some() {
+        return Err(TextFault::NotJson);
     }
+    Ok(tree)
 }
 
 /// As [`read_doc`], for texts whose numbers are all whole and that have at most 120 levels.

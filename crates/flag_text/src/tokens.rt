@@ -1,0 +1,100 @@
+//! From the tokens of a JSON text to a tree, with no other value in between: each text, list and object is made once.
+ghost use Rattle.std.specs.Prelude.{◌≡◌, ◌≢◌, ◌<◌, length, Some, None, Err, IfOk, IfErr, OnOk};
+ghost use Rattle.json.specs.Json.{value, items, members};
+ghost use Rattle.serde_json.specs.Read.{converted};
+ghost use Rattle.flag_text.specs.Grammar.{tree_from, items_from, members_from};
+ghost use Rattle.flag_text.specs.Shape.{no_members};
+ghost use Rattle.flag_text.specs.View.{view, items_view, members_view};
+
+use crate::fault::TextFault;
+use crate::number::number_tree;
+use crate::tree::Tree;
+use json::{Reader, Token};
+use std::alloc::{AllocError, Global};
+use std::collections::BTreeMap;
+
+/// Reads a value whose lists and objects nest at most so deep.
+#[cycle(read)]
+pub(crate) fn read(alloc: Global, reader: &mut Reader<'_>, depth: usize) -> Result<Tree, TextFault>
+    ensures ok { IfOk result (λ t. converted tree_from (value depth reader.old) ≡ Some (view t, reader.new)) }
+    ensures shorter { OnOk result (length reader.new < length reader.old) }
+    ensures err { result ≡ Err TextFault.NotJson → converted tree_from (value depth reader.old) ≡ None }
+    ensures kind { IfErr result (λ e. e ≢ TextFault.WantOfMemory → e ≡ TextFault.NotJson) }
+{
+    let token = reader.next().ok_or(TextFault::NotJson)?;
+    match token {
+        Token::String(text) => Ok(Tree::Text(String::from_str(alloc, text)?)),
+        Token::Number(text) => match number_tree(text) {
+            Some(number) => Ok(number),
+            None => Err(TextFault::NotJson),
+        },
+        Token::Bool(b) => Ok(Tree::Bool(b)),
+        Token::Null => Ok(Tree::Null),
+        Token::EndObject | Token::EndArray | Token::Key(_) | Token::Bad => Err(TextFault::NotJson),
+        Token::BeginArray => {
+            if depth == 0 {
+                return Err(TextFault::NotJson);
+            }
+            Ok(Tree::List(read_items(alloc, reader, depth - 1)?))
+        }
+        Token::BeginObject => {
+            if depth == 0 {
+                return Err(TextFault::NotJson);
+            }
+            let members = read_members(alloc, reader, depth - 1)?;
+            Ok(Tree::Object(listed(alloc, members)?))
+        }
+    }
+}
+
+/// Reads the items of a list, and its end.
+#[cycle(read)]
+fn read_items(alloc: Global, reader: &mut Reader<'_>, depth: usize) -> Result<Vec<Tree>, TextFault>
+    ensures ok { IfOk result (λ v. converted items_from (items (value depth) (length reader.old) reader.old)
+        ≡ Some (items_view v.items, reader.new)) }
+    ensures shorter { OnOk result (length reader.new < length reader.old) }
+    ensures err { result ≡ Err TextFault.NotJson
+        → converted items_from (items (value depth) (length reader.old) reader.old) ≡ None }
+    ensures kind { IfErr result (λ e. e ≢ TextFault.WantOfMemory → e ≡ TextFault.NotJson) }
+{
+    let mut found = Vec::new(alloc);
+    'items: while !reader.take_end_array() {
+        let item = read(alloc, reader, depth)?;
+        found.push(item)?;
+    }
+    Ok(found)
+}
+
+/// Reads the members of an object, and its end. Of a name that is repeated the last member stays.
+#[cycle(read)]
+fn read_members(
+    alloc: Global,
+    reader: &mut Reader<'_>,
+    depth: usize,
+) -> Result<BTreeMap<String, Tree>, TextFault>
+    ensures ok { IfOk result (λ m. converted (λ ms. members_from ms no_members) (members (value depth) (length reader.old) reader.old)
+        ≡ Some (members_view m.entries, reader.new)) }
+    ensures shorter { OnOk result (length reader.new < length reader.old) }
+    ensures err { result ≡ Err TextFault.NotJson
+        → converted (λ ms. members_from ms no_members) (members (value depth) (length reader.old) reader.old) ≡ None }
+    ensures kind { IfErr result (λ e. e ≢ TextFault.WantOfMemory → e ≡ TextFault.NotJson) }
+{
+    let mut found = BTreeMap::new(alloc);
+    'members: while let Some(name) = reader.next_key().or(Err(TextFault::NotJson))? {
+        let key = String::from_str(alloc, name)?;
+        let member = read(alloc, reader, depth)?;
+        drop(found.insert(key, member)?);
+    }
+    Ok(found)
+}
+
+/// The members of a map, by name.
+fn listed(alloc: Global, members: BTreeMap<String, Tree>) -> Result<Vec<(String, Tree)>, AllocError>
+    ensures { IfOk result (λ v. v.items ≡ members.entries) }
+{
+    let mut list = Vec::with_capacity(alloc, members.len())?;
+    for member in members {
+        list.push(member)?;
+    }
+    Ok(list)
+}
