@@ -9,7 +9,7 @@ pub mod Grouped
 pub mod Inputs
 pub mod Joined
 pub mod Keys
-mod Laden
+mod Lengths
 pub mod Members
 pub mod NameTotals
 pub mod Pairs
@@ -21,4 +21,5 @@ pub mod Regroup
 pub mod Runs
 pub mod Spread
 pub mod Sums
+mod Tallied
 pub mod Weighted

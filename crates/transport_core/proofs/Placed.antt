@@ -1,5 +1,5 @@
 -- Points of inputs, sorted and joined: the number of inputs on each point.
-use Rattle.std.proofs.Common.{◌≡◌, ◌==◌, ℕ, ◌<◌, List, [], ◌∷◌, length, map, Bool, true, cond, eqb, String, Global, string_bytes, unwrap_or, count_by, Ordering, refl, sym, ap, ◌∙◌, subst, arith}
+use Rattle.std.proofs.Common.{◌≡◌, ◌==◌, ℕ, ◌<◌, List, [], ◌∷◌, length, map, Bool, true, cond, eqb, String, Global, string_bytes, count_by, Ordering, refl, sym, ap, ◌∙◌, subst, arith}
 use Rattle.std.specs.Cmp.{IsTotalOrder}
 use Rattle.std.specs.List.{All}
 use Rattle.std.specs.List.Sorted.{IsPermutation, IsSortedBy, IsStrictlySortedBy}
@@ -18,13 +18,12 @@ use Rattle.std.proofs.lemmas.List.Sums.{sum_by-cons}
 use Rattle.std.proofs.lemmas.Map.Text.{is_eq-slice_cmp}
 use Rattle.std.proofs.lemmas.Slice.Eq.{bytes_eq-Decides}
 use Rattle.bucket_core.specs.Point.{point_of}
-use Rattle.bucket_core.specs.Rule.{Entries, total_weight, at}
+use Rattle.bucket_core.specs.Rule.{Entries, total_weight}
 use Rattle.transport_core.specs.Dual.{inputs_at}
 use Rattle.transport_core.specs.Groups.{GroupKey, is_same_group, group_cmp, AreSizes, row_view, rows_view}
 use Rattle.transport_core.specs.Rows.{amount_of, whole_amount, joined, IsLoads, CoversPoints}
 use Rattle.transport_core.proofs.Joined.{seen, step, rise-joined, joined-seen, keys-joined, amount-joined, passed-joined, some-joined, lookup-amount}
 use Rattle.transport_core.proofs.Points.{point_of-below}
-use Rattle.transport_core.proofs.Ranges.{count-same}
 
 -- ---- numbers
 
@@ -126,9 +125,9 @@ abbrev pub same_key : Bor (List ℕ) × ℕ → Bor (List ℕ) × ℕ → Bool
 same_key x y = is_same_group (key_view x) (key_view y)
 
 -- the groups of a rule, from its runs, sorted and joined
-pub sizes-joined : (rule : Entries) (inputs : List (List ℕ)) (load : ℕ → ℕ) (rows sorted : List ((Bor (List ℕ) × ℕ) × ℕ)) → ((p : ℕ) → load p ≡ inputs_at (total_weight rule) inputs p) → CoversPoints rule load (total_weight rule) (rows_view rows)
+pub sizes-joined : (rule : Entries) (inputs : List (List ℕ)) (rows sorted : List ((Bor (List ℕ) × ℕ) × ℕ)) → CoversPoints rule (inputs_at (total_weight rule) inputs) (total_weight rule) (rows_view rows)
     → IsPermutation rows sorted → IsSortedBy row_lt sorted → AreSizes rule inputs (rows_view (joined same_key sorted))
-sizes-joined rule inputs load rows sorted loads covers moved rises =
+sizes-joined rule inputs rows sorted covers moved rises =
     let as_seen : rows_view (joined same_key sorted) ≡ joined is_same_group (rows_view sorted) = joined-seen key_view same_key is_same_group (λ a b. refl) sorted in
     let moved_view : IsPermutation (rows_view rows) (rows_view sorted) = IsPermutation-map row_view rows sorted moved in
     let rise : IsStrictlySortedBy group_cmp (keys_of (joined is_same_group (rows_view sorted))) =
@@ -139,9 +138,7 @@ sizes-joined rule inputs load rows sorted loads covers moved rises =
           let found = lookup-amount is_same_group same_group group_cmp group_order g (joined is_same_group (rows_view sorted)) rise in
           let kept = amount-joined is_same_group same_group (rows_view sorted) g in
           let same = sum_by-IsPermutation (λ (r : GroupKey × ℕ). cond (is_same_group g r.0) r.1 0) (rows_view rows) (rows_view sorted) moved_view in
-          let counted = count-same (λ p. is_same_group g (unwrap_or (at rule p) [], load p)) (λ p. is_same_group g (unwrap_or (at rule p) [], inputs_at (total_weight rule) inputs p)) 0 (total_weight rule)
-          (λ p low high. ap (λ n. is_same_group g (unwrap_or (at rule p) [], n)) (loads p)) in
-          found ∙ (kept ∙ (same ∙ (covers.amounts g ∙ counted)));
+          found ∙ (kept ∙ (same ∙ covers.amounts g));
       some = some-joined is_same_group (rows_view sorted) (All-permutation (λ (r : GroupKey × ℕ). 0 < r.1) (rows_view rows) (rows_view sorted) moved_view covers.some);
     } in
     subst (λ rs. AreSizes rule inputs rs) (sym as_seen) sizes

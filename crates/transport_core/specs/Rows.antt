@@ -1,5 +1,5 @@
 -- Rows of a key and an amount, where a key may stand more than once.
-use Rattle.std.specs.Prelude.{◌≡◌, ◌==◌, ℕ, ◌+◌, ◌-◌, ◌<◌, ◌≤◌, Bool, List, [], ◌∷◌, map, sum_by, count_by, unwrap_or, if◌then◌else◌}
+use Rattle.std.specs.Prelude.{◌≡◌, ◌==◌, ℕ, ◌+◌, ◌-◌, ◌<◌, ◌≤◌, Bool, List, [], ◌∷◌, length, map, sum_by, count_by, unwrap_or, if◌then◌else◌}
 use Rattle.std.specs.Borrow.{Bor}
 use Rattle.std.specs.Cmp.Lexicographic.{slice_cmp}
 use Rattle.std.specs.List.{All, range_with_len}
@@ -34,11 +34,6 @@ pub record IsLoads (total : ℕ) (inputs : List (List ℕ)) (loads : List (ℕ �
   pub within : All (λ load. load.0 < total) loads
   pub counts : (p : ℕ) → unwrap_or (lookup (λ q. p == q) loads) 0 ≡ inputs_at total inputs p
 
--- the places from `place` on whose count is not 0, each with its count
-abbrev pub laden_from : ℕ → List ℕ → List (ℕ × ℕ)
-laden_from place [] = []
-laden_from place (count ∷ counts) = if count == 0 then laden_from (place + 1) counts else (place, count) ∷ laden_from (place + 1) counts
-
 -- how many points from `from` on and below `to` are of the group, if each has this number of inputs
 abbrev pub points_between : Entries → ℕ → ℕ → ℕ → GroupKey → ℕ
 points_between rule count from to g = count_by (λ p. is_same_group g (unwrap_or (at rule p) [], count)) (range_with_len from (to - from))
@@ -47,6 +42,12 @@ points_between rule count from to g = count_by (λ p. is_same_group g (unwrap_or
 pub record AddsPoints (rule : Entries) (count from to : ℕ) (old new : List (GroupKey × ℕ)) : Type 0 where
   pub amounts : (g : GroupKey) → amount_of is_same_group new g ≡ amount_of is_same_group old g + points_between rule count from to g
   pub whole : whole_amount new ≡ whole_amount old + (to - from)
+  pub some : All (λ r. 0 < r.1) old → All (λ r. 0 < r.1) new
+
+-- the rows have points of this name more, on each of which so many inputs fall
+pub record AddsCounts (name : List ℕ) (counts : List ℕ) (old new : List (GroupKey × ℕ)) : Type 0 where
+  pub amounts : (g : GroupKey) → amount_of is_same_group new g ≡ amount_of is_same_group old g + count_by (λ count. is_same_group g (name, count)) counts
+  pub whole : whole_amount new ≡ whole_amount old + length counts
   pub some : All (λ r. 0 < r.1) old → All (λ r. 0 < r.1) new
 
 -- the rows are the points of the rule, each with the number of inputs that its load says

@@ -1,16 +1,19 @@
 ghost use Rattle.std.specs.Prelude.{◌≡◌, ◌<◌, ◌^◌, IfOk, length, map, string_bytes};
 ghost use Rattle.book_core.specs.Counts.{counts_of};
 ghost use Rattle.bucket_core.specs.Point.{point_of};
-ghost use Rattle.bucket_core.specs.Rule.{IsRuleTotal};
+ghost use Rattle.bucket_core.specs.Rule.{IsRuleTotal, total_weight};
+ghost use Rattle.transport_core.specs.Dual.{inputs_at};
 ghost use Rattle.transport_core.specs.Groups.{AreSizes, rows_view};
-ghost use Rattle.transport_core.specs.Rows.{IsLoads, laden_from, whole_amount};
+ghost use Rattle.transport_core.specs.Rows.{CoversPoints, IsLoads, whole_amount};
 
+use crate::counted::counted_rows;
 use crate::rows::{Row, joined, runs};
 use bucket_core::{Rule, point};
 use std::alloc::{AllocError, Global};
 
-/// The groups of a rule's points with their sizes, by name and then by number of inputs. It takes `O(n log n)` steps at
-/// n entries and inputs.
+/// The groups of a rule's points with their sizes, by name and then by number of inputs. Up to a million points it takes
+/// `O(points + inputs)` steps but for the sort of each name's numbers, and of more points `O(n log n)` steps at n entries
+/// and inputs.
 pub(crate) fn groups<'a>(
     alloc: Global,
     rule: &'a Rule,
@@ -20,8 +23,7 @@ pub(crate) fn groups<'a>(
     ensures sizes { IfOk result (λ v. AreSizes rule.now (map string_bytes inputs.now) (rows_view v.items)) }
     ensures few { IfOk result (λ v. whole_amount v.items < 2 ^ 32) }
 {
-    let loads = loads(alloc, rule.total(), inputs)?;
-    let mut rows = runs(alloc, rule, loads.as_slice())?;
+    let mut rows = point_rows(alloc, rule, inputs)?;
     rows.sort_unstable();
     joined(alloc, rows.as_slice())
 }
@@ -29,37 +31,27 @@ pub(crate) fn groups<'a>(
 /// Up to this many points each has a count of its own.
 const MOST_COUNTED: u32 = 1_000_000;
 
-/// The points on which inputs fall, each with their number, in order. Up to a million points are counted, which takes
-/// `O(points + inputs)` steps; of more points those that have an input are sorted.
-fn loads(alloc: Global, total: u32, inputs: &[String]) -> Result<Vec<(u32, u32)>, AllocError>
-    requires total { IsRuleTotal total }
-    requires few { length inputs.now < 2 ^ 32 }
-    ensures { IfOk result (λ v. IsLoads total (map string_bytes inputs.now) v.items) }
+/// Rows that are the points of a rule, each with its number of inputs. Up to a million points are counted; of more those
+/// that have an input are sorted.
+fn point_rows<'a>(
+    alloc: Global,
+    rule: &'a Rule,
+    inputs: &[String],
+) -> Result<Vec<Row<'a>>, AllocError>
+    requires { length inputs.now < 2 ^ 32 }
+    ensures covers { IfOk result (λ v. CoversPoints rule.now (inputs_at (total_weight rule.now) (map string_bytes inputs.now)) (total_weight rule.now) (rows_view v.items)) }
+    ensures few { IfOk result (λ v. whole_amount v.items < 2 ^ 32) }
 {
+    let total = rule.total();
     if total > MOST_COUNTED {
-        return sorted_loads(alloc, total, inputs);
+        let loads = sorted_loads(alloc, total, inputs)?;
+        return runs(alloc, rule, loads.as_slice());
     }
     let counts = count_points(alloc, inputs, total)?;
-    laden(alloc, counts.as_slice())
+    counted_rows(alloc, rule, counts.as_slice())
 }
 
-/// The places of these counts that are not 0, each with its count.
-fn laden(alloc: Global, counts: &[u32]) -> Result<Vec<(u32, u32)>, AllocError>
-    requires { length counts.now < 2 ^ 32 }
-    ensures { IfOk result (λ v. v.items ≡ laden_from 0 counts.now) }
-{
-    let mut loads = Vec::new(alloc);
-    let mut point = 0;
-    for count in counts {
-        if *count != 0 {
-            loads.push((point, *count))?;
-        }
-        point += 1;
-    }
-    Ok(loads)
-}
-
-/// The same as [`loads`], by sorting the points.
+/// The points on which inputs fall, each with their number, in order.
 fn sorted_loads(alloc: Global, total: u32, inputs: &[String]) -> Result<Vec<(u32, u32)>, AllocError>
     requires total { IsRuleTotal total }
     requires few { length inputs.now < 2 ^ 32 }

@@ -31,6 +31,7 @@
 
 mod assignment;
 mod certificate;
+mod counted;
 mod cut;
 mod duals;
 mod fault;

@@ -2,11 +2,9 @@
 use Rattle.std.proofs.Common.{◌≡◌, ◌<◌, ◌^◌, ℕ, List, map, string_bytes, Vec, Bor, Global, sym, ap, ◌∙◌, subst, arith}
 use Rattle.std.proofs.lemmas.List.Sorted.{sum_by-IsPermutation}
 use Rattle.std.proofs.lemmas.Result.{IfOk-weaker}
-use Rattle.transport_core.specs.Dual.{inputs_at}
 use Rattle.transport_core.specs.Groups.{AreSizes, rows_view}
 use Rattle.transport_core.specs.Rows.{whole_amount, joined}
 use Rattle.transport_core.proofs.Placed.{sizes-joined, same_key, whole-view, whole-joined}
-use Rattle.transport_core.proofs.Runs.{load_of}
 use Rattle.transport_core.proofs.groups.groups.Goals as goal
 
 abbrev Row : Type 0
@@ -15,21 +13,17 @@ Row = (Bor (List ℕ) × ℕ) × ℕ
 pub joined-requires : goal.joined-requires
 joined-requires c =
     let same = sum_by-IsPermutation (λ (r : Row). r.1) c.in_ok-rows.rows.items c.sort_unstable.new.self.items c.sort_unstable.ensures.permutation in
-    let covers = c.in_ok-rows.ensures in
-    omega (arith, ap whole_amount c.as_slice-2.ensures.value, same, whole-view c.in_ok-rows.rows.items, covers.whole, c.total.ensures.value, c.total.ensures.allowed.small)
+    omega (arith, ap whole_amount c.as_slice.ensures.value, same, c.in_ok-rows.ensures.few)
 
 pub returns-clause-sizes : goal.returns-clause-sizes
 returns-clause-sizes c =
     let rule = c.args.rule.now in
     let inputs = map string_bytes c.args.inputs.now in
     let sorted = c.sort_unstable.new.self.items in
-    let loads = c.in_ok-loads.ensures in
-    IfOk-weaker c.joined.result (λ (v : Vec Row Global). v.items ≡ joined same_key c.as_slice-2.result.now) (λ (v : Vec Row Global). AreSizes rule inputs (rows_view v.items))
+    IfOk-weaker c.joined.result (λ (v : Vec Row Global). v.items ≡ joined same_key c.as_slice.result.now) (λ (v : Vec Row Global). AreSizes rule inputs (rows_view v.items))
     (λ v is.
-    let out : v.items ≡ joined same_key sorted = is ∙ ap (joined same_key) c.as_slice-2.ensures.value in
-    let sizes = sizes-joined rule inputs (load_of c.as_slice.result.now) c.in_ok-rows.rows.items sorted
-    (λ p. ap (λ ls. load_of ls p) c.as_slice.ensures.value ∙ (loads.counts p ∙ ap (λ w. inputs_at w inputs p) c.total.ensures.value))
-    c.in_ok-rows.ensures c.sort_unstable.ensures.permutation c.sort_unstable.ensures.sorted in
+    let out : v.items ≡ joined same_key sorted = is ∙ ap (joined same_key) c.as_slice.ensures.value in
+    let sizes = sizes-joined rule inputs c.in_ok-rows.rows.items sorted c.in_ok-rows.ensures.covers c.sort_unstable.ensures.permutation c.sort_unstable.ensures.sorted in
     subst (λ (rs : List Row). AreSizes rule inputs (rows_view rs)) (sym out) sizes)
     c.joined.ensures
 
@@ -37,9 +31,8 @@ pub returns-clause-few : goal.returns-clause-few
 returns-clause-few c =
     let sorted = c.sort_unstable.new.self.items in
     let rows = c.in_ok-rows.rows.items in
-    let covers = c.in_ok-rows.ensures in
-    IfOk-weaker c.joined.result (λ (v : Vec Row Global). v.items ≡ joined same_key c.as_slice-2.result.now) (λ (v : Vec Row Global). whole_amount v.items < 2 ^ 32)
+    IfOk-weaker c.joined.result (λ (v : Vec Row Global). v.items ≡ joined same_key c.as_slice.result.now) (λ (v : Vec Row Global). whole_amount v.items < 2 ^ 32)
     (λ v is.
-    let whole = ap whole_amount (is ∙ ap (joined same_key) c.as_slice-2.ensures.value) ∙ (whole-joined rows sorted c.sort_unstable.ensures.permutation ∙ covers.whole) in
-    omega (arith, whole, c.total.ensures.value, c.total.ensures.allowed.small))
+    let whole = ap whole_amount (is ∙ ap (joined same_key) c.as_slice.ensures.value) ∙ whole-joined rows sorted c.sort_unstable.ensures.permutation ∙ whole-view rows in
+    omega (arith, whole, c.in_ok-rows.ensures.few))
     c.joined.ensures

@@ -1,11 +1,12 @@
 -- what was read is what was handed in
-use Rattle.std.proofs.Common.{map, string_bytes, sym, ap, ◌∙◌, refl, Some, arith}
+use Rattle.std.proofs.Common.{ℕ, ◌<◌, ◌^◌, map, string_bytes, sum_by, sym, ap, ◌∙◌, subst, refl, Some, arith}
 use Rattle.std.proofs.lemmas.Bool.{false≢true}
-use Rattle.price_core.specs.Limits.{limits_view}
+use Rattle.price_core.specs.Limits.{Limits, limits_view}
 use Rattle.transport_core.specs.Certificate.{alpha_view, beta_row, beta_view, certificate_view}
 use Rattle.transport_core.specs.Groups.{rows_view}
 use Rattle.transport_core.specs.Rows.{whole_amount}
-use Rattle.transport_core.proofs.Certified.{refuse_groups, refuse_names, groups_exact, names_exact, first_is, sum_is}
+use Rattle.transport_core.proofs.Certified.{refuse_groups, refuse_names, groups_exact, names_exact, first_is, sum_is, lows-view}
+use Rattle.transport_core.proofs.Lengths.{groups_long, names_long}
 use Rattle.transport_core.proofs.plan.check_duals.Goals as goal
 
 pub returns-then-not-are_groups : goal.returns-then-not-are_groups
@@ -24,6 +25,17 @@ returns-then-not-are_names c =
 
 pub sums_to-requires-clause-points : goal.sums_to-requires-clause-points
 sums_to-requires-clause-points c = omega (arith, ap whole_amount c.as_slice-groups.ensures.value, c.in_ok-sizes.ensures.few)
+
+pub sums_to-requires-clause-groups : goal.sums_to-requires-clause-groups
+sums_to-requires-clause-groups c = groups_long c.as_slice-alpha.result.now c.as_slice-groups.result.now c.if-not-are_groups.ensures
+
+pub sums_to-requires-clause-names : goal.sums_to-requires-clause-names
+sums_to-requires-clause-names c = names_long c.as_slice-beta.result.now c.entries-limits.result.now c.if-not-are_names.ensures
+
+pub sums_to-requires-clause-lows : goal.sums_to-requires-clause-lows
+sums_to-requires-clause-lows c =
+    let is = sym (lows-view c.entries-limits.result.now) ∙ ap (λ (ls : Limits). sum_by (λ l. l.1.0) ls) c.entries-limits.ensures.value in
+    subst (λ (n : ℕ). n < 2 ^ 32) (sym is) c.requires.lows
 
 pub returns-in-Some : goal.returns-in-Some
 returns-in-Some c =
