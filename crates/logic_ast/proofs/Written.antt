@@ -9,7 +9,7 @@ use Rattle.logic_ast.specs.Expression.{Expression, literal, list, operation, fra
 use Rattle.logic_ast.specs.FirstFault.{is_list_tree, item_count, are_buckets, are_site_arguments, expression_fault, expressions_fault, site_fault, by_fault, buckets_fault}
 use Rattle.logic_ast.specs.Formed.{is_literal, is_list, expression_count, are_literals, is_formed, are_formed, buckets_are_formed, bucket_is_formed}
 use Rattle.logic_ast.specs.Operator.{takes}
-use Rattle.logic_ast.specs.Reading.{expression_from, expressions_from, site_from, by_from, buckets_from}
+use Rattle.logic_ast.specs.Reading.{expression_from, expressions_from, arguments_from, site_from, by_from, buckets_from}
 use Rattle.logic_ast.specs.Sites.{sites}
 use Rattle.logic_ast.specs.Writing.{written, all_written, buckets_written}
 use Rattle.logic_ast.proofs.Operators.{operator_of-operator_name, is_fractional-operator_name, is_fractional-fractional}
@@ -59,6 +59,15 @@ by_from-other k other ts h = refl
 by_from-other k (text s) ts h = refl
 by_from-other k (shape.list ps) ts h = cc
 by_from-other k (object ms) ts h = refl
+
+pub arguments_from-other : (k : ℕ) (t : Shape) → is_list_tree t ≡ false → arguments_from k t ≡ expression (expression_from k t) no_expressions
+arguments_from-other k null h = refl
+arguments_from-other k (boolean b) h = refl
+arguments_from-other k (whole n) h = refl
+arguments_from-other k other h = refl
+arguments_from-other k (text s) h = refl
+arguments_from-other k (shape.list ps) h = cc
+arguments_from-other k (object ms) h = refl
 
 pub site_from-other : (k : ℕ) (t : Shape) → is_list_tree t ≡ false → site_from k t ≡ fractional k (by (expression_from (suc k) t)) no_buckets
 site_from-other k null h = refl

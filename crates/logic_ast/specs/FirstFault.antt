@@ -81,8 +81,11 @@ abbrev mutual
   -- the buckets are the lists among the arguments
   pub buckets_fault : Items → Option LogicFault
   buckets_fault no_items = None
-  buckets_fault (item (list ps) ts) = first (bucket_fault ps) (buckets_fault ts)
-  buckets_fault (item t ts) = buckets_fault ts
+  buckets_fault (item t ts) = first (site_argument_fault t) (buckets_fault ts)
+
+  pub site_argument_fault : Shape → Option LogicFault
+  site_argument_fault (list ps) = bucket_fault ps
+  site_argument_fault t = None
 
   -- nothing is wrong in a literal bucket
   pub bucket_fault : Items → Option LogicFault

@@ -72,11 +72,15 @@ abbrev mutual
   site_size (object ms) = object_size ms
   site_size t = scalar
 
-  -- The bucketing expression is no list. What else is no bucket is counted as an expression, too.
   pub buckets_size : Items → Size
   buckets_size no_items = nothing
-  buckets_size (item (list ps) ts) = beside (unless_literal (entry_of ps) (bucket_parts_size ps)) (buckets_size ts)
-  buckets_size (item t ts) = beside (expression_size t) (buckets_size ts)
+  buckets_size (item t ts) = beside (site_argument_size t) (buckets_size ts)
+
+  -- The bucketing expression is no list. What else is no bucket is counted as an expression, too.
+  pub site_argument_size : Shape → Size
+  site_argument_size (list ps) = unless_literal (entry_of ps) (bucket_parts_size ps)
+  site_argument_size (object ms) = object_size ms
+  site_argument_size t = scalar
 
   -- an absent weight is written as 1
   pub bucket_parts_size : Items → Size

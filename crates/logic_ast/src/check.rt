@@ -2,7 +2,7 @@
 ghost use Rattle.std.specs.Prelude.{◌≡◌};
 ghost use Rattle.flag_text.specs.Shape.{list};
 ghost use Rattle.flag_text.specs.View.{view, items_view, members_view};
-ghost use Rattle.logic_ast.specs.FirstFault.{is_list_tree, item_count, argument_count, is_bucket, are_buckets, are_site_arguments, expression_fault, object_fault, expressions_fault, arguments_fault, site_fault, by_fault, buckets_fault, bucket_fault};
+ghost use Rattle.logic_ast.specs.FirstFault.{is_list_tree, item_count, argument_count, is_bucket, are_buckets, are_site_arguments, expression_fault, object_fault, expressions_fault, arguments_fault, site_fault, by_fault, buckets_fault, site_argument_fault, bucket_fault};
 
 use crate::fault::LogicFault;
 use crate::operator::{Operator, is_fractional};
@@ -173,13 +173,21 @@ fn buckets_fault(items: &[Tree]) -> Option<LogicFault>
     ensures { result ≡ buckets_fault (items_view items.now) }
 {
     for item in items {
-        if let Tree::List(parts) = item {
-            if let Some(fault) = bucket_fault(parts.as_slice()) {
-                return Some(fault);
-            }
+        if let Some(fault) = site_argument_fault(item) {
+            return Some(fault);
         }
     }
     None
+}
+
+#[cycle(check)]
+fn site_argument_fault(value: &Tree) -> Option<LogicFault>
+    ensures { result ≡ site_argument_fault (view value.now) }
+{
+    match value {
+        Tree::List(parts) => bucket_fault(parts.as_slice()),
+        _ => None,
+    }
 }
 
 #[cycle(check)]

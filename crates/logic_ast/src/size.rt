@@ -1,7 +1,7 @@
 //! Whether a tree is too big to be read as an expression.
 ghost use Rattle.std.specs.Prelude.{◌≡◌, option_map};
 ghost use Rattle.flag_text.specs.View.{view, items_view, members_view};
-ghost use Rattle.logic_ast.specs.Size.{around, full_size, items_size, members_size, expression_size, object_size, expressions_size, arguments_size, site_size, buckets_size, bucket_parts_size, bucket_size, is_too_big, left_after, left_inside};
+ghost use Rattle.logic_ast.specs.Size.{around, full_size, items_size, members_size, expression_size, object_size, expressions_size, arguments_size, site_size, buckets_size, site_argument_size, bucket_parts_size, bucket_size, is_too_big, left_after, left_inside};
 
 use crate::operator::is_fractional;
 use bucket_core::literal_bucket;
@@ -102,12 +102,19 @@ fn count_buckets(items: &[Tree], levels: u32, nodes: u32) -> Option<u32>
 {
     let mut left = nodes;
     for item in items {
-        left = match item {
-            Tree::List(parts) => count_bucket(parts.as_slice(), levels, left)?,
-            _ => count(item, levels, left)?,
-        };
+        left = count_site_argument(item, levels, left)?;
     }
     Some(left)
+}
+
+#[cycle(count)]
+fn count_site_argument(value: &Tree, levels: u32, nodes: u32) -> Option<u32>
+    ensures { result ≡ left_after levels nodes (site_argument_size (view value.now)) }
+{
+    match value {
+        Tree::List(parts) => count_bucket(parts.as_slice(), levels, nodes),
+        _ => count(value, levels, nodes),
+    }
 }
 
 #[cycle(count)]

@@ -1,21 +1,21 @@
-use Rattle.std.proofs.Common.{◌≡◌, ℕ, ◌+◌, ◌<◌, ◌^◌, List, [], drop, get_or, map, Some, Vec, Global, false, sym, ap, ap₂, ◌∙◌, subst, arith, add-one, rules}
+use Rattle.std.proofs.Common.{◌≡◌, ℕ, ◌+◌, ◌<◌, ◌^◌, List, [], ◌∷◌, ◌++◌, drop, get_or, map, Some, Vec, Global, false, sym, ap, ap₂, ◌∙◌, subst, arith, add-one, rules}
 use Rattle.std.specs.Prelude.{IfOk, OnOk}
 use Rattle.std.proofs.lemmas.List.{drop_all}
 use Rattle.flag_text.specs.Shape.{list, member, no_members}
 use Rattle.flag_text.specs.View.{view, items_view, members_view}
 use Rattle.flag_text.specs.declared.tree.Tree.{the_lemmas as tree_lemmas}
-use Rattle.logic_ast.specs.Expression.{fractional, literal, by, computed_bucket}
+use Rattle.logic_ast.specs.Expression.{Expression, expression, no_expressions, fractional, literal, by, computed_bucket}
 use Rattle.logic_ast.specs.FirstFault.{is_list_tree}
 use Rattle.logic_ast.specs.Reading.{expression_from, object_from, by_from, buckets_from, bucket_from, computed_from}
 use Rattle.logic_ast.specs.Sites.{sites, sites_in, sites_in_by, sites_in_buckets, sites_in_bucket}
-use Rattle.logic_ast.specs.View.{node_view, bucket_view, buckets_view}
+use Rattle.logic_ast.specs.View.{node_view, nodes_view, bucket_view, buckets_view}
 use Rattle.logic_ast.specs.declared.node.Bucket.{Bucket as BucketOf}
 use Rattle.logic_ast.specs.declared.node.Node.{Node}
 use Rattle.logic_ast.proofs.Readings.{dropped, begins, alone, begins_twice, one_member, onto_buckets, node-fits, node-value, node-number, nodes-value, bucket-fits, bucket-value, bucket-number, bucket-none, buckets-value}
 use Rattle.logic_ast.proofs.Sizes.{object_from-none, object_from-several}
 use Rattle.logic_ast.proofs.Trees.{view-object}
 use Rattle.logic_ast.proofs.Views.{node_view-fractional, node_view-literal, node_view-one}
-use Rattle.logic_ast.proofs.Written.{by_from-other, site_from-other}
+use Rattle.logic_ast.proofs.Written.{arguments_from-other, by_from-other, site_from-other}
 use Rattle.logic_ast.proofs.read.+read.Goals as goal
 use Rattle.logic_ast.proofs.read.+read.Goals.{read_buckets-in-List+in_ok-read_bucket+in_ok-push, read_buckets-in_default}
 
@@ -224,4 +224,17 @@ read_site-returns-in_ok-by-in_default t c =
     record {
       value = node_view-fractional k (Some c.in_ok-by-in_default.by) c.new-buckets.result ∙ (ap₂ (fractional k) (ap (λ n. by (node_view n)) c.in_ok-by-in_default.ensures.ok ∙ ap by value) (ap buckets_view c.new-buckets.ensures.items) ∙ sym made);
       next = omega (arith, ap sites made, number);
+    }
+
+pub read_arguments-returns-in_ok-push-in_default : goal.read_arguments-returns-in_ok-push-in_default
+read_arguments-returns-in_ok-push-in_default t c =
+    let k = c.args.next.now in
+    let tree = view c.args.value.now in
+    let other : is_list_tree tree ≡ false = search (rules, tree_lemmas) in
+    let made = arguments_from-other k tree other in
+    let node = c.in_ok-read_node-in_default.field-0 in
+    let nodes = c.in_ok-push-in_default.ensures.items ∙ ap (λ (xs : List Node). xs ++ node ∷ []) c.new-nodes.ensures.items in
+    record {
+      value = ap nodes_view nodes ∙ (ap (λ (e : Expression). expression e no_expressions) c.in_ok-read_node-in_default.ensures.value ∙ sym made);
+      next = omega (arith, ap sites_in made, c.in_ok-read_node-in_default.ensures.next);
     }
