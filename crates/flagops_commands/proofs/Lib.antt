@@ -1,6 +1,7 @@
 pub mod AddedUp
 pub mod Checked
 pub mod Driving
+mod Gathered
 pub mod Hexadecimal
 pub mod Leaving
 pub mod Refusing

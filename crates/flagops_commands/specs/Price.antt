@@ -1,10 +1,11 @@
 -- What the command `price` answers.
-use Rattle.std.specs.Prelude.{ℕ, List, [], ◌∷◌, ◌++◌, ◌==◌, codes, decimal, if◌then◌else◌, Option, Some, None, option_map, option_and_then, Result, Ok, Err}
+use Rattle.std.specs.Prelude.{ℕ, List, [], ◌∷◌, ◌++◌, ◌==◌, ◌&&◌, Bool, true, nat_le, length, String, string_bytes, codes, decimal, if◌then◌else◌, Option, Some, None, option_map, option_and_then, Result, Ok, Err}
 use Rattle.flag_text.specs.Printing.{text_of}
 use Rattle.flag_text.specs.Readers.{as_text, as_list}
 use Rattle.flag_text.specs.Shape.{Shape, text, Items, no_items, item}
 use Rattle.bucket_core.specs.Rule.{Entries, total_weight}
-use Rattle.book_core.specs.Book.{Contents, Inputs, inputs_on, reply_to, with_input}
+use Rattle.std.specs.declared.alloc.Global.{Global}
+use Rattle.book_core.specs.Book.{Contents, Inputs, inputs_on, most_bytes, most_inputs, reply_to, with_input}
 use Rattle.book_core.specs.Page.{PageName}
 use Rattle.price_core.specs.Cost.{cost_of, first_forbidden_of}
 use Rattle.price_core.specs.Pricing.{Pricing}
@@ -55,6 +56,15 @@ key_page = record { flag = []; site = 0; by = None }
 abbrev pub noted_from : Contents → Inputs → Result Contents Refusal
 noted_from book [] = Ok book
 noted_from book (key ∷ keys) = refused_by Note (reply_to book key_page key) >>= λ _. noted_from (with_input book key_page key) keys
+
+-- whether none of the texts is longer than an input may be
+abbrev pub are_short : List (String Global) → Bool
+are_short [] = true
+are_short (key ∷ keys) = nat_le (length (string_bytes key)) most_bytes && are_short keys
+
+-- whether a page takes all these texts, in whatever order they are noted
+abbrev pub are_taken : List (String Global) → Bool
+are_taken keys = nat_le (length keys) most_inputs && are_short keys
 
 -- the inputs that the book then has
 abbrev pub exposed : Inputs → Result Inputs Refusal

@@ -2,7 +2,7 @@
 ghost use Rattle.std.specs.Prelude.{◌≡◌, ◌<◌, ◌^◌, ◌++◌, ◌||◌, false, IfOk, IfSome, codes, decimal, map, string_bytes};
 ghost use Rattle.bucket_core.specs.Rule.{total_weight};
 ghost use Rattle.flag_text.specs.View.{view, items_view};
-ghost use Rattle.flagops_commands.specs.Price.{request_at, keys_at, keys_in, if_keys, texts_of, exposed, price_report, weighed, price_text, total_lines, forbidden_line, cost_line};
+ghost use Rattle.flagops_commands.specs.Price.{request_at, keys_at, keys_in, if_keys, texts_of, are_short, are_taken, exposed, price_report, weighed, price_text, total_lines, forbidden_line, cost_line};
 ghost use Rattle.flagops_commands.specs.Calls.{loads_keys, loads_request, notes_keys, price_calls, price_itself};
 ghost use Rattle.flagops_files.specs.Refusal.{ComesFrom, GivesUnlessWant, is_file_fault};
 ghost use Rattle.flagops_files.specs.Report.{outcome_view};
@@ -44,7 +44,7 @@ pub fn price<R: Threads + Sync, F: FileSet>(
     let request = load_request(alloc, files, request)?;
     let path = keys;
     let keys = load_keys(alloc, files, path)?;
-    let exposure = exposed(alloc, path, keys.as_slice())?;
+    let exposure = exposed(alloc, path, keys)?;
     priced(rt, alloc, &old, &new, request.prices(), &exposure)
 }
 
@@ -120,8 +120,46 @@ fn no_keys(alloc: Global, path: &str, place: Option<usize>, value: &Tree) -> Ref
     }
 }
 
-/// The keys of the file at a path as the inputs of a page of their own.
-fn exposed(alloc: Global, path: &str, keys: &[String]) -> Result<Exposure, Refused>
+/// The most keys that a page takes in whatever order they are noted.
+const MOST_KEYS: usize = 1_000_000;
+
+/// The most bytes that each of them has.
+const MOST_KEY_BYTES: usize = 1024;
+
+/// The keys of the file at a path as the inputs of a page of their own. Where none can be refused they are noted in rising
+/// order, in which a page finds its place for each at once.
+fn exposed(alloc: Global, path: &str, mut keys: Vec<String>) -> Result<Exposure, Refused>
+    ensures exact { GivesUnlessWant (λ e. e) result (exposed (map string_bytes keys.items)) }
+    ensures calls { ComesFrom notes_keys result }
+    ensures read { is_file_fault result ≡ false }
+{
+    if !are_taken(keys.as_slice()) {
+        return noted(alloc, path, keys.as_slice());
+    }
+    keys.sort_unstable();
+    noted(alloc, path, keys.as_slice())
+}
+
+/// Whether a page takes all these keys in whatever order they are noted.
+fn are_taken(keys: &[String]) -> bool
+    ensures { result ≡ are_taken keys.now }
+{
+    keys.len() <= MOST_KEYS && are_short(keys)
+}
+
+fn are_short(keys: &[String]) -> bool
+    ensures { result ≡ are_short keys.now }
+{
+    for key in keys {
+        if key.len() > MOST_KEY_BYTES {
+            return false;
+        }
+    }
+    true
+}
+
+/// The keys as the inputs of a page of their own, noted one after the other.
+fn noted(alloc: Global, path: &str, keys: &[String]) -> Result<Exposure, Refused>
     ensures exact { GivesUnlessWant (λ e. e) result (exposed (map string_bytes keys.now)) }
     ensures calls { ComesFrom notes_keys result }
     ensures read { is_file_fault result ≡ false }
