@@ -1,13 +1,13 @@
 //! Worked rows, and a table of further cases for each operator.
-ghost use Rattle.std.specs.Prelude.{◌≡◌, true, IfOk};
+ghost use Rattle.std.specs.Prelude.{◌≡◌, true};
 ghost use Rattle.flag_text.specs.Shape.{is_whole};
 ghost use Rattle.flag_text.specs.View.{view};
 
+use crate::rows::each;
 use flag_text::{Tree, print_tree, read_tree};
-use logic_ast::read_expr;
+use logic_ast::{Expr, read_expr};
 use logic_eval::{Context, Reached, eval};
-use std::alloc::Global;
-use std::process::Abort;
+use std::alloc::{AllocError, Global};
 use std::test::Fail;
 
 const ROW: &[u8] = b"{\"a\":1,\"l\":[1,2,3]}";
@@ -15,398 +15,295 @@ const ROW: &[u8] = b"{\"a\":1,\"l\":[1,2,3]}";
 const WIDE: &[u8] =
     b"{\"e\":\"\",\"l\":[1,[2,{\"k\":\"v\"}]],\"n\":null,\"o\":{\"\":5,\"p\":{\"q\":\"r\"}},\"t\":\"yes\",\"targetingKey\":\"st\",\"z\":false}";
 
-fn tree(alloc: Global, bytes: &[u8]) -> Result<Tree, Fail>
-    ensures { IfOk result (λ t. is_whole (view t) ≡ true) }
-{
-    Ok(read_tree(alloc, bytes, 4_194_304)?)
+/// What stands behind a reached site: a blank, its number, its input and its total, with colons between.
+fn behind_site<'a>(alloc: Global, shown: &'a str, site: &Reached) -> Option<&'a str> {
+    let text = format!(in alloc; " {}:{}:{}", site.site, site.input.as_str(), site.total).ok()?;
+    shown.strip_prefix(text.as_str())
 }
 
-// The value, and each reached site as its number, its input and its total.
-fn shown(alloc: Global, value: &Tree, reached: &[Reached]) -> Result<String, Fail> {
-    if !value.is_whole() {
-        return Ok(String::from_str(alloc, "not whole")?);
-    }
-    let mut text = print_tree(alloc, value)?;
+/// Whether these are the sites that are shown.
+fn are_reached(alloc: Global, reached: &[Reached], shown: &str) -> bool {
+    let mut rest = shown;
     for site in reached {
-        text.push_str(" ")?;
-        text.push_str(format!(in alloc; "{}", site.site)?.as_str())?;
-        text.push_str(":")?;
-        text.push_str(site.input.as_str())?;
-        text.push_str(":")?;
-        text.push_str(format!(in alloc; "{}", site.total)?.as_str())?;
-    }
-    Ok(text)
-}
-
-// What an expression gives in a context under the flag key `te` at the moment 7, or its fault.
-fn given(alloc: Global, expression: &Tree, context: &Tree) -> Result<String, Fail>
-    requires expression { is_whole (view expression.now) ≡ true }
-    requires context { is_whole (view context.now) ≡ true }
-{
-    let expr = read_expr(alloc, expression)?;
-    match context {
-        Tree::Object(_) => {
-            let context = Context::make(context, "te", 7);
-            match eval(alloc, &expr, &context) {
-                Ok((value, reached)) => shown(alloc, &value, reached.as_slice()),
-                Err(fault) => Ok(String::from_str(alloc, fault.name())?),
-            }
+        match behind_site(alloc, rest, site) {
+            Some(behind) => rest = behind,
+            None => return false,
         }
-        _ => Ok(String::from_str(alloc, "no object")?),
+    }
+    rest.is_empty()
+}
+
+/// Whether the value is shown first, and then each site that was reached.
+fn is_shown(alloc: Global, value: &Tree, reached: &[Reached], want: &str) -> bool
+    requires { is_whole (view value.now) ≡ true }
+{
+    match print_tree(alloc, value) {
+        Ok(text) => match want.strip_prefix(text.as_str()) {
+            Some(rest) => are_reached(alloc, reached, rest),
+            None => false,
+        },
+        Err(_) => false,
     }
 }
 
-fn outcome(alloc: Global, expression: &[u8], context: &[u8]) -> Result<String, Fail> {
-    given(alloc, &tree(alloc, expression)?, &tree(alloc, context)?)
+/// Whether an expression comes to this in a context under the flag key `te` at the moment 7, or has this fault.
+fn comes_to(alloc: Global, expr: &Expr, context: &Context, want: &str) -> bool {
+    match eval(alloc, expr, context) {
+        Ok((value, reached)) => is_shown(alloc, &value, reached.as_slice(), want),
+        Err(fault) => fault.name() == want,
+    }
 }
 
-// Asserts what each expression gives in the context.
-fn give(
-    rt: &impl Abort,
-    alloc: Global,
-    context: &[u8],
-    rows: &[(&[u8], &str)],
-) -> Result<(), Fail> {
-    for (bytes, want) in rows {
-        let got = outcome(alloc, bytes, context)?;
-        assert_eq!(rt; got.as_str(), *want, "at {bytes:?}");
+/// Whether an expression comes to this in the context of a text.
+fn comes_to_in(alloc: Global, expr: &Expr, context: &[u8], want: &str) -> bool {
+    match read_tree(alloc, context, 4_194_304) {
+        Ok(tree) => match &tree {
+            Tree::Object(_) => comes_to(alloc, expr, &Context::make(&tree, "te", 7), want),
+            _ => false,
+        },
+        Err(_) => false,
     }
-    Ok(())
 }
+
+/// Whether the expression of a text comes to this in the context of a text.
+fn gives(alloc: Global, expression: &[u8], context: &[u8], want: &str) -> bool {
+    match read_tree(alloc, expression, 4_194_304) {
+        Ok(tree) => match read_expr(alloc, &tree) {
+            Ok(expr) => comes_to_in(alloc, &expr, context, want),
+            Err(_) => false,
+        },
+        Err(_) => false,
+    }
+}
+
+/// Whether the expression comes to this in the first context.
+fn gives_in_row(alloc: Global, expression: &str, want: &str) -> bool {
+    gives(alloc, expression.as_bytes(), ROW, want)
+}
+
+/// Whether the expression comes to this in the wide context.
+fn gives_in_wide(alloc: Global, expression: &str, want: &str) -> bool {
+    gives(alloc, expression.as_bytes(), WIDE, want)
+}
+
+const WORKED: &str = r#"{"var":"l.1"} -> 2
+{"var":["b",7]} -> 7
+{"missing":["a","b"]} -> ["b"]
+{"missing_some":[1,["a","b"]]} -> []
+{"==":[1,"1"]} -> true
+{"===":[1,"1"]} -> false
+{"==":[[],[]]} -> false
+{"<":[1,2,3]} -> true
+{"<":[1,3,3]} -> false
+{"+":["2",3]} -> 5
+{"%":[-7,3]} -> -1
+{"%":[1,0]} -> Arithmetic
+{"+":[9007199254740991,1]} -> Arithmetic
+{"reduce":[{"var":"l"},{"+":[{"var":"current"},{"var":"accumulator"}]},0]} -> 6
+{"all":[[],true]} -> false
+{"merge":[1,[2,3]]} -> [1,2,3]
+{"cat":["a",1,null,true]} -> "a1true"
+{"substr":["jsonlogic",-5]} -> "logic"
+{"substr":["jsonlogic",4,-2]} -> "log"
+{"sem_ver":["v1.2","^","1.9.0"]} -> true
+{"sem_ver":["1.0.0-beta","<","1.0.0"]} -> true
+{"sem_ver":["1.x","=","1.0.0"]} -> false
+{"fractional":["test",["red",-1]]} -> BadBuckets
+{"map":[["test",""],{"fractional":[{"var":""},["x",5],["y",5]]}]} -> ["y","x"] 0:test:10 0::10
+{"if":[true,"x",{"fractional":["test",["x"]]}]} -> "x""#;
 
 #[test]
 fn worked_vectors(rt: HostRuntime) -> Result<(), Fail> {
-    let rows = [
-        (b"{\"var\":\"l.1\"}".as_slice(), "2"),
-        (b"{\"var\":[\"b\",7]}".as_slice(), "7"),
-        (b"{\"missing\":[\"a\",\"b\"]}".as_slice(), "[\"b\"]"),
-        (b"{\"missing_some\":[1,[\"a\",\"b\"]]}".as_slice(), "[]"),
-        (b"{\"==\":[1,\"1\"]}".as_slice(), "true"),
-        (b"{\"===\":[1,\"1\"]}".as_slice(), "false"),
-        (b"{\"==\":[[],[]]}".as_slice(), "false"),
-        (b"{\"<\":[1,2,3]}".as_slice(), "true"),
-        (b"{\"<\":[1,3,3]}".as_slice(), "false"),
-        (b"{\"+\":[\"2\",3]}".as_slice(), "5"),
-        (b"{\"%\":[-7,3]}".as_slice(), "-1"),
-        (b"{\"%\":[1,0]}".as_slice(), "Arithmetic"),
-        (b"{\"+\":[9007199254740991,1]}".as_slice(), "Arithmetic"),
-        (
-            b"{\"reduce\":[{\"var\":\"l\"},{\"+\":[{\"var\":\"current\"},{\"var\":\"accumulator\"}]},0]}".as_slice(),
-            "6",
-        ),
-        (b"{\"all\":[[],true]}".as_slice(), "false"),
-        (b"{\"merge\":[1,[2,3]]}".as_slice(), "[1,2,3]"),
-        (b"{\"cat\":[\"a\",1,null,true]}".as_slice(), "\"a1true\""),
-        (b"{\"substr\":[\"jsonlogic\",-5]}".as_slice(), "\"logic\""),
-        (b"{\"substr\":[\"jsonlogic\",4,-2]}".as_slice(), "\"log\""),
-        (
-            b"{\"sem_ver\":[\"v1.2\",\"^\",\"1.9.0\"]}".as_slice(),
-            "true",
-        ),
-        (
-            b"{\"sem_ver\":[\"1.0.0-beta\",\"<\",\"1.0.0\"]}".as_slice(),
-            "true",
-        ),
-        (
-            b"{\"sem_ver\":[\"1.x\",\"=\",\"1.0.0\"]}".as_slice(),
-            "false",
-        ),
-        (
-            b"{\"fractional\":[\"test\",[\"red\",-1]]}".as_slice(),
-            "BadBuckets",
-        ),
-        (
-            b"{\"map\":[[\"test\",\"\"],{\"fractional\":[{\"var\":\"\"},[\"x\",5],[\"y\",5]]}]}".as_slice(),
-            "[\"y\",\"x\"] 0:test:10 0::10",
-        ),
-        (
-            b"{\"if\":[true,\"x\",{\"fractional\":[\"test\",[\"x\"]]}]}".as_slice(),
-            "\"x\"",
-        ),
-    ];
-    give(&rt, rt.alloc(), ROW, &rows)
+    each(rt.alloc(), WORKED, gives_in_row)
 }
+
+const PATHS: &str = r#"{"var":"o.p.q"} -> "r"
+{"var":"o."} -> 5
+{"var":["o..x",2]} -> 2
+{"var":"l.1.1.k"} -> "v"
+{"var":["l.01",3]} -> 3
+{"var":["l.99999999999999999999999",4]} -> 4
+{"var":["l.-1",5]} -> 5
+{"var":["n",6]} -> null
+{"var":[true,7]} -> 7
+{"var":"$flagd.flagKey"} -> "te"
+{"var":"$flagd"} -> {"flagKey":"te","timestamp":7}
+{"==":[{"var":"$flagd.timestamp"},7]} -> true
+{"map":[[5,[6,7]],{"var":1}]} -> [null,7]
+{"map":[[5],{"var":[]}]} -> [5]
+{"map":[[5],{"var":"t"}]} -> [null]
+{"reduce":[[3],{"var":""}]} -> {"accumulator":null,"current":3}
+{"missing":[["t","e","n","x"],"y"]} -> ["e","n","x"]
+{"missing":["t",true,null]} -> [true]
+{"missing_some":[2,["t","x"]]} -> ["x"]
+{"missing_some":["x",5]} -> Arithmetic
+{"!":[[]]} -> true
+[{"!!":"0"},{"!!":0},{"!!":{"a":1,"b":2}},{"!!":[[0]]},{"!!":""}] -> [true,false,true,true,false]
+[{"and":[]},{"and":[1,0,2]},{"and":[1,2]},{"or":[0,3,4]},{"or":[0,""]}] -> [null,0,2,3,""]
+[{"if":[]},{"if":[5]},{"if":[0,1]},{"if":[0,1,1,2,3]},{"if":[0,1,0,2,3]}] -> [null,5,null,2,3]"#;
 
 #[test]
 fn paths_and_truth(rt: HostRuntime) -> Result<(), Fail> {
-    let rows = [
-        (b"{\"var\":\"o.p.q\"}".as_slice(), "\"r\""),
-        (b"{\"var\":\"o.\"}".as_slice(), "5"),
-        (b"{\"var\":[\"o..x\",2]}".as_slice(), "2"),
-        (b"{\"var\":\"l.1.1.k\"}".as_slice(), "\"v\""),
-        (b"{\"var\":[\"l.01\",3]}".as_slice(), "3"),
-        (
-            b"{\"var\":[\"l.99999999999999999999999\",4]}".as_slice(),
-            "4",
-        ),
-        (b"{\"var\":[\"l.-1\",5]}".as_slice(), "5"),
-        (b"{\"var\":[\"n\",6]}".as_slice(), "null"),
-        (b"{\"var\":[true,7]}".as_slice(), "7"),
-        (b"{\"var\":\"$flagd.flagKey\"}".as_slice(), "\"te\""),
-        (
-            b"{\"var\":\"$flagd\"}".as_slice(),
-            "{\"flagKey\":\"te\",\"timestamp\":7}",
-        ),
-        (
-            b"{\"==\":[{\"var\":\"$flagd.timestamp\"},7]}".as_slice(),
-            "true",
-        ),
-        (b"{\"map\":[[5,[6,7]],{\"var\":1}]}".as_slice(), "[null,7]"),
-        (b"{\"map\":[[5],{\"var\":[]}]}".as_slice(), "[5]"),
-        (b"{\"map\":[[5],{\"var\":\"t\"}]}".as_slice(), "[null]"),
-        (
-            b"{\"reduce\":[[3],{\"var\":\"\"}]}".as_slice(),
-            "{\"accumulator\":null,\"current\":3}",
-        ),
-        (
-            b"{\"missing\":[[\"t\",\"e\",\"n\",\"x\"],\"y\"]}".as_slice(),
-            "[\"e\",\"n\",\"x\"]",
-        ),
-        (b"{\"missing\":[\"t\",true,null]}".as_slice(), "[true]"),
-        (
-            b"{\"missing_some\":[2,[\"t\",\"x\"]]}".as_slice(),
-            "[\"x\"]",
-        ),
-        (b"{\"missing_some\":[\"x\",5]}".as_slice(), "Arithmetic"),
-        (b"{\"!\":[[]]}".as_slice(), "true"),
-        (
-            b"[{\"!!\":\"0\"},{\"!!\":0},{\"!!\":{\"a\":1,\"b\":2}},{\"!!\":[[0]]},{\"!!\":\"\"}]".as_slice(),
-            "[true,false,true,true,false]",
-        ),
-        (
-            b"[{\"and\":[]},{\"and\":[1,0,2]},{\"and\":[1,2]},{\"or\":[0,3,4]},{\"or\":[0,\"\"]}]".as_slice(),
-            "[null,0,2,3,\"\"]",
-        ),
-        (
-            b"[{\"if\":[]},{\"if\":[5]},{\"if\":[0,1]},{\"if\":[0,1,1,2,3]},{\"if\":[0,1,0,2,3]}]".as_slice(),
-            "[null,5,null,2,3]",
-        ),
-    ];
-    give(&rt, rt.alloc(), WIDE, &rows)
+    each(rt.alloc(), PATHS, gives_in_wide)
 }
+
+const COMPARISONS: &str =
+    r#"[{"==":[true,1]},{"==":[false,"0"]},{"==":[null,null]},{"==":[null,0]},{"==":["-0",0]},{"==":["007",7]}] -> [true,false,true,false,true,true]
+[{"==":["+1",1]},{"==":[" 1",1]},{"==":["1.0",1]},{"==":["9007199254740992",1]},{"!=":[1,2]},{"!==":[1,"1"]}] -> [false,false,false,false,true,true]
+[{"<":["a","b"]},{"<":["10","9"]},{"<":["10",9]},{"<":[false,"1"]},{"<=":[null,1]},{">":[2,1]},{">=":[2,2]},{"<=":[1,1,0]}] -> [true,true,false,true,false,true,true,false]
+[{"+":[]},{"+":"5"},{"-":3},{"-":[3,5]},{"*":[2,"3",4]},{"max":["3",1]},{"min":[3,"1"]},{"%":[7,-3]}] -> [0,5,-3,-2,24,3,1,1]
+{"+":[9007199254740991,1,-1]} -> Arithmetic
+{"*":[3000000000,3002399752,0]} -> Arithmetic
+{"-":[-9007199254740991,1]} -> Arithmetic
+{"max":[1,"x"]} -> Arithmetic
+{"-":true} -> Arithmetic
+{"+":[{"fractional":["a",[1]]},"x"]} -> BadBuckets"#;
 
 #[test]
 fn comparisons_and_arithmetic(rt: HostRuntime) -> Result<(), Fail> {
-    let rows = [
-        (
-            b"[{\"==\":[true,1]},{\"==\":[false,\"0\"]},{\"==\":[null,null]},{\"==\":[null,0]},{\"==\":[\"-0\",0]},{\"==\":[\"007\",7]}]".as_slice(),
-            "[true,false,true,false,true,true]",
-        ),
-        (
-            b"[{\"==\":[\"+1\",1]},{\"==\":[\" 1\",1]},{\"==\":[\"1.0\",1]},{\"==\":[\"9007199254740992\",1]},{\"!=\":[1,2]},{\"!==\":[1,\"1\"]}]".as_slice(),
-            "[false,false,false,false,true,true]",
-        ),
-        (
-            b"[{\"<\":[\"a\",\"b\"]},{\"<\":[\"10\",\"9\"]},{\"<\":[\"10\",9]},{\"<\":[false,\"1\"]},{\"<=\":[null,1]},{\">\":[2,1]},{\">=\":[2,2]},{\"<=\":[1,1,0]}]".as_slice(),
-            "[true,true,false,true,false,true,true,false]",
-        ),
-        (
-            b"[{\"+\":[]},{\"+\":\"5\"},{\"-\":3},{\"-\":[3,5]},{\"*\":[2,\"3\",4]},{\"max\":[\"3\",1]},{\"min\":[3,\"1\"]},{\"%\":[7,-3]}]".as_slice(),
-            "[0,5,-3,-2,24,3,1,1]",
-        ),
-        (b"{\"+\":[9007199254740991,1,-1]}".as_slice(), "Arithmetic"),
-        (
-            b"{\"*\":[3000000000,3002399752,0]}".as_slice(),
-            "Arithmetic",
-        ),
-        (b"{\"-\":[-9007199254740991,1]}".as_slice(), "Arithmetic"),
-        (b"{\"max\":[1,\"x\"]}".as_slice(), "Arithmetic"),
-        (b"{\"-\":true}".as_slice(), "Arithmetic"),
-        (
-            b"{\"+\":[{\"fractional\":[\"a\",[1]]},\"x\"]}".as_slice(),
-            "BadBuckets",
-        ),
-    ];
-    give(&rt, rt.alloc(), WIDE, &rows)
+    each(rt.alloc(), COMPARISONS, gives_in_wide)
 }
+
+const LISTS: &str =
+    r#"[{"filter":[[0,1,2],{"var":""}]},{"map":[5,1]},{"filter":["x",1]}] -> [[1,2],[],[]]
+[{"all":[[1,2],{"var":""}]},{"all":[[1,0],{"var":""}]},{"some":[[0,1],{"var":""}]},{"some":[[],1]},{"none":[[],1]},{"none":[[0],{"var":""}]}] -> [true,false,true,false,true,true]
+{"some":[[1,"x"],{"+":[{"var":""}]}]} -> true
+{"none":[[0,"x"],{"+":[{"var":""}]}]} -> Arithmetic
+{"reduce":[[],1,"s"]} -> "s"
+{"reduce":[[1,2],{"cat":[{"var":"accumulator"},{"var":"current"}]},"s"]} -> "s12"
+[{"merge":[]},{"merge":[[[1]],null]}] -> [[],[[1],null]]
+[{"in":["b","abc"]},{"in":["",""]},{"in":["c","ab"]},{"in":[1,"1"]},{"in":[1,["1",1]]},{"in":[[1],[[1]]]},{"in":[1,5]}] -> [true,true,false,false,true,false,false]
+{"cat":[-5,[1],{"a":1,"b":2},false,"\u00e9"]} -> "-5falseé"
+[{"substr":["a\u00e9\u20ac",1]},{"substr":["a\u00e9\u20ac",-1]},{"substr":["a\u00e9\u20ac",0,2]},{"substr":["abc",5]},{"substr":["abc",-9,1]},{"substr":["abc",1,-5]},{"substr":[123,"1",1]}] -> ["é€","€","aé","","a","","2"]
+{"substr":["abc",null]} -> Arithmetic
+[{"starts_with":["abc","ab"]},{"ends_with":["abc","bc"]},{"starts_with":["a","ab"]},{"ends_with":[1,"1"]},{"ends_with":["",""]}] -> [true,true,false,false,true]"#;
 
 #[test]
 fn lists_and_texts(rt: HostRuntime) -> Result<(), Fail> {
-    let rows = [
-        (
-            b"[{\"filter\":[[0,1,2],{\"var\":\"\"}]},{\"map\":[5,1]},{\"filter\":[\"x\",1]}]".as_slice(),
-            "[[1,2],[],[]]",
-        ),
-        (
-            b"[{\"all\":[[1,2],{\"var\":\"\"}]},{\"all\":[[1,0],{\"var\":\"\"}]},{\"some\":[[0,1],{\"var\":\"\"}]},{\"some\":[[],1]},{\"none\":[[],1]},{\"none\":[[0],{\"var\":\"\"}]}]".as_slice(),
-            "[true,false,true,false,true,true]",
-        ),
-        (
-            b"{\"some\":[[1,\"x\"],{\"+\":[{\"var\":\"\"}]}]}".as_slice(),
-            "true",
-        ),
-        (
-            b"{\"none\":[[0,\"x\"],{\"+\":[{\"var\":\"\"}]}]}".as_slice(),
-            "Arithmetic",
-        ),
-        (b"{\"reduce\":[[],1,\"s\"]}".as_slice(), "\"s\""),
-        (
-            b"{\"reduce\":[[1,2],{\"cat\":[{\"var\":\"accumulator\"},{\"var\":\"current\"}]},\"s\"]}".as_slice(),
-            "\"s12\"",
-        ),
-        (
-            b"[{\"merge\":[]},{\"merge\":[[[1]],null]}]".as_slice(),
-            "[[],[[1],null]]",
-        ),
-        (
-            b"[{\"in\":[\"b\",\"abc\"]},{\"in\":[\"\",\"\"]},{\"in\":[\"c\",\"ab\"]},{\"in\":[1,\"1\"]},{\"in\":[1,[\"1\",1]]},{\"in\":[[1],[[1]]]},{\"in\":[1,5]}]".as_slice(),
-            "[true,true,false,false,true,false,false]",
-        ),
-        (
-            b"{\"cat\":[-5,[1],{\"a\":1,\"b\":2},false,\"\\u00e9\"]}".as_slice(),
-            "\"-5falseé\"",
-        ),
-        (
-            b"[{\"substr\":[\"a\\u00e9\\u20ac\",1]},{\"substr\":[\"a\\u00e9\\u20ac\",-1]},{\"substr\":[\"a\\u00e9\\u20ac\",0,2]},{\"substr\":[\"abc\",5]},{\"substr\":[\"abc\",-9,1]},{\"substr\":[\"abc\",1,-5]},{\"substr\":[123,\"1\",1]}]".as_slice(),
-            "[\"é€\",\"€\",\"aé\",\"\",\"a\",\"\",\"2\"]",
-        ),
-        (b"{\"substr\":[\"abc\",null]}".as_slice(), "Arithmetic"),
-        (
-            b"[{\"starts_with\":[\"abc\",\"ab\"]},{\"ends_with\":[\"abc\",\"bc\"]},{\"starts_with\":[\"a\",\"ab\"]},{\"ends_with\":[1,\"1\"]},{\"ends_with\":[\"\",\"\"]}]".as_slice(),
-            "[true,true,false,false,true]",
-        ),
-    ];
-    give(&rt, rt.alloc(), WIDE, &rows)
+    each(rt.alloc(), LISTS, gives_in_wide)
 }
+
+const VERSIONS: &str =
+    r#"[{"sem_ver":["V1","=","1.0.0"]},{"sem_ver":["1.2.3+a","=","1.2.3+b"]},{"sem_ver":["1.2.3","~","1.2.9"]},{"sem_ver":["1.2.3","~","1.3.0"]},{"sem_ver":["1.0.0-a.2","<","1.0.0-a.10"]}] -> [true,true,true,false,true]
+[{"sem_ver":["1.2-a","!=","1.0.0"]},{"sem_ver":["2",">=","2.0"]},{"sem_ver":["2.0.0","<>","2.0.0"]},{"sem_ver":[1,"=","1"]},{"sem_ver":["vv1","=","1"]},{"sem_ver":["1.0.1","!=","1.0.0"]}] -> [false,true,false,false,false,true]
+{"fractional":[["red",50],["blue",50]]} -> "blue" 0:test:100
+{"fractional":[null,["red"]]} -> null
+{"fractional":["a"]} -> null
+{"fractional":["a",["x",0]]} -> null
+{"fractional":[7,["x",-1]]} -> BadBuckets
+{"fractional":["a",["x",2147483647],["y"]]} -> BadBuckets
+{"fractional":["a",[{"var":"t"},{"+":[1,2]}]]} -> "yes" 0:a:3
+{"fractional":["a",[{"a":1,"b":2},{"+":[1,2]}]]} -> BadBuckets
+[{"fractional":["a",["x"]]},{"if":[0,{"fractional":["b",["x"]]},{"fractional":["c",["z"]]}]}] -> ["x","z"] 0:a:1 2:c:1
+{"reduce":[[1,2],{"fractional":[{"cat":[{"var":"current"}]},["x"]]}]} -> "x" 0:1:1 0:2:1
+{"map":[[1],{"fractional":[["x"]]}]} -> ["x"] 0:test:1
+{"fractional":[{"fractional":["a",["k"]]},[{"fractional":["b",["n"]]}]]} -> "n" 1:a:1 2:b:1 0:k:1"#;
 
 #[test]
 fn versions_and_sites(rt: HostRuntime) -> Result<(), Fail> {
-    let rows = [
-        (
-            b"[{\"sem_ver\":[\"V1\",\"=\",\"1.0.0\"]},{\"sem_ver\":[\"1.2.3+a\",\"=\",\"1.2.3+b\"]},{\"sem_ver\":[\"1.2.3\",\"~\",\"1.2.9\"]},{\"sem_ver\":[\"1.2.3\",\"~\",\"1.3.0\"]},{\"sem_ver\":[\"1.0.0-a.2\",\"<\",\"1.0.0-a.10\"]}]".as_slice(),
-            "[true,true,true,false,true]",
-        ),
-        (
-            b"[{\"sem_ver\":[\"1.2-a\",\"!=\",\"1.0.0\"]},{\"sem_ver\":[\"2\",\">=\",\"2.0\"]},{\"sem_ver\":[\"2.0.0\",\"<>\",\"2.0.0\"]},{\"sem_ver\":[1,\"=\",\"1\"]},{\"sem_ver\":[\"vv1\",\"=\",\"1\"]},{\"sem_ver\":[\"1.0.1\",\"!=\",\"1.0.0\"]}]".as_slice(),
-            "[false,true,false,false,false,true]",
-        ),
-        (
-            b"{\"fractional\":[[\"red\",50],[\"blue\",50]]}".as_slice(),
-            "\"blue\" 0:test:100",
-        ),
-        (b"{\"fractional\":[null,[\"red\"]]}".as_slice(), "null"),
-        (b"{\"fractional\":[\"a\"]}".as_slice(), "null"),
-        (b"{\"fractional\":[\"a\",[\"x\",0]]}".as_slice(), "null"),
-        (b"{\"fractional\":[7,[\"x\",-1]]}".as_slice(), "BadBuckets"),
-        (
-            b"{\"fractional\":[\"a\",[\"x\",2147483647],[\"y\"]]}".as_slice(),
-            "BadBuckets",
-        ),
-        (
-            b"{\"fractional\":[\"a\",[{\"var\":\"t\"},{\"+\":[1,2]}]]}".as_slice(),
-            "\"yes\" 0:a:3",
-        ),
-        (
-            b"{\"fractional\":[\"a\",[{\"a\":1,\"b\":2},{\"+\":[1,2]}]]}".as_slice(),
-            "BadBuckets",
-        ),
-        (
-            b"[{\"fractional\":[\"a\",[\"x\"]]},{\"if\":[0,{\"fractional\":[\"b\",[\"x\"]]},{\"fractional\":[\"c\",[\"z\"]]}]}]".as_slice(),
-            "[\"x\",\"z\"] 0:a:1 2:c:1",
-        ),
-        (
-            b"{\"reduce\":[[1,2],{\"fractional\":[{\"cat\":[{\"var\":\"current\"}]},[\"x\"]]}]}".as_slice(),
-            "\"x\" 0:1:1 0:2:1",
-        ),
-        (
-            b"{\"map\":[[1],{\"fractional\":[[\"x\"]]}]}".as_slice(),
-            "[\"x\"] 0:test:1",
-        ),
-        (
-            b"{\"fractional\":[{\"fractional\":[\"a\",[\"k\"]]},[{\"fractional\":[\"b\",[\"n\"]]}]]}".as_slice(),
-            "\"n\" 1:a:1 2:b:1 0:k:1",
-        ),
-    ];
-    give(&rt, rt.alloc(), WIDE, &rows)
+    each(rt.alloc(), VERSIONS, gives_in_wide)
 }
 
-// A list of so many of the text.
-fn repeated(alloc: Global, text: &str, count: usize) -> Result<String, Fail> {
-    let mut all = String::new(alloc);
+/// The front, so many zeros with commas between, and the back.
+fn zeros(alloc: Global, front: &str, count: usize, back: &str) -> Result<String, AllocError> {
+    let mut text = String::from_str(alloc, front)?;
     for i in 0..count {
-        if i > 0 {
-            all.push_str(",")?;
-        }
-        all.push_str(text)?;
+        text.push_str(if i == 0 { "0" } else { ",0" })?;
     }
-    Ok(all)
+    text.push_str(back)?;
+    Ok(text)
+}
+
+/// Whether an expression comes to this where `l` is a list of so many zeros.
+fn gives_of_zeros(alloc: Global, expression: &[u8], count: usize, want: &str) -> bool {
+    match zeros(alloc, "{\"l\":[", count, "]}") {
+        Ok(context) => gives(alloc, expression, context.as_bytes(), want),
+        Err(_) => false,
+    }
+}
+
+/// Whether an expression comes to the list of so many zeros that it is given as `l`.
+fn gives_zeros(alloc: Global, expression: &[u8], count: usize) -> bool {
+    match zeros(alloc, "[", count, "]") {
+        Ok(all) => gives_of_zeros(alloc, expression, count, all.as_str()),
+        Err(_) => false,
+    }
 }
 
 #[test]
-fn budget_of_units(rt: HostRuntime) -> Result<(), Fail> {
+fn budget_of_units(rt: HostRuntime) {
     let alloc = rt.alloc();
     let expression = b"{\"map\":[{\"var\":\"l\"},{\"var\":\"\"}]}";
-    for (count, fits) in [(24_999, true), (25_000, false)] {
-        let zeros = repeated(alloc, "0", count)?;
-        let context = format!(in alloc; "{{\"l\":[{}]}}", zeros.as_str())?;
-        let all = format!(in alloc; "[{}]", zeros.as_str())?;
-        let want = if fits { all.as_str() } else { "TooLong" };
-        let got = outcome(alloc, expression, context.as_bytes())?;
-        assert!(rt; got.as_str() == want, "at {count}");
-    }
-    Ok(())
+    assert!(rt; gives_zeros(alloc, expression, 24_999));
+    assert!(rt; gives_of_zeros(alloc, expression, 25_000, "TooLong"));
 }
 
 #[test]
-fn faults_and_the_budget(rt: HostRuntime) -> Result<(), Fail> {
+fn faults_and_the_budget(rt: HostRuntime) {
     let alloc = rt.alloc();
     // A list of n zeros costs 4 + n here: the list of two 1, `var` 1, its path 1 and its value 1 + n. The sum that fails
     // costs 2.
     let expression = b"[{\"var\":\"l\"},{\"+\":\"x\"}]";
-    for (count, want) in [(99_994, "Arithmetic"), (99_995, "TooLong")] {
-        let context = format!(in alloc; "{{\"l\":[{}]}}", repeated(alloc, "0", count)?.as_str())?;
-        let got = outcome(alloc, expression, context.as_bytes())?;
-        assert_eq!(rt; got.as_str(), want, "at {count}");
+    assert!(rt; gives_of_zeros(alloc, expression, 99_994, "Arithmetic"));
+    assert!(rt; gives_of_zeros(alloc, expression, 99_995, "TooLong"));
+}
+
+/// Whether `cat` of the text twice, and of what stands behind it, comes to this.
+fn joins_to(alloc: Global, text: &str, behind: &str, want: &str) -> bool {
+    match format!(in alloc; "{{\"cat\":[\"{text}\",\"{text}\"{behind}]}}") {
+        Ok(expression) => gives(alloc, expression.as_bytes(), ROW, want),
+        Err(_) => false,
     }
-    Ok(())
+}
+
+/// Whether `cat` of the text twice comes to its double.
+fn doubles(alloc: Global, text: &str) -> bool {
+    match format!(in alloc; "\"{text}{text}\"") {
+        Ok(double) => joins_to(alloc, text, "", double.as_str()),
+        Err(_) => false,
+    }
+}
+
+/// Whether an expression comes to this where the targeting key is the text twice.
+fn gives_by_key(alloc: Global, expression: &[u8], text: &str, want: &str) -> bool {
+    match format!(in alloc; "{{\"targetingKey\":\"{text}{text}\"}}") {
+        Ok(context) => gives(alloc, expression, context.as_bytes(), want),
+        Err(_) => false,
+    }
 }
 
 #[test]
 fn long_texts(rt: HostRuntime) -> Result<(), Fail> {
     let alloc = rt.alloc();
-    let mut half = String::new(alloc);
-    for _i in 0..2048 {
-        half.push_str("0123456789abcdef")?;
-    }
-    let long = half.as_str();
-    let at_the_limit = format!(in alloc; "{{\"cat\":[\"{}\",\"{}\"]}}", long, long)?;
-    let above = format!(in alloc; "{{\"cat\":[\"{}\",\"{}\",1]}}", long, long)?;
-    let whole = format!(in alloc; "\"{}{}\"", long, long)?;
-    let key = format!(in alloc; "{{\"targetingKey\":\"{}{}\"}}", long, long)?;
-    for (expression, context, want) in [
-        (at_the_limit.as_bytes(), ROW, whole.as_str()),
-        (above.as_bytes(), ROW, "TextTooLong"),
-        (
-            b"{\"fractional\":[[\"x\"]]}".as_slice(),
-            key.as_bytes(),
-            "TextTooLong",
-        ),
-        (
-            b"{\"fractional\":[[\"x\",0]]}".as_slice(),
-            key.as_bytes(),
-            "null",
-        ),
-    ] {
-        let got = outcome(alloc, expression, context)?;
-        assert!(rt; got.as_str() == want);
-    }
+    let half = "0123456789abcdef".repeat(alloc, 2048)?;
+    let text = half.as_str();
+    assert!(rt;
+        doubles(alloc, text)
+            && joins_to(alloc, text, ",1", "TextTooLong")
+            && gives_by_key(alloc, b"{\"fractional\":[[\"x\"]]}", text, "TextTooLong")
+            && gives_by_key(alloc, b"{\"fractional\":[[\"x\",0]]}", text, "null")
+    );
     Ok(())
+}
+
+/// The lists that the running value stands in.
+const LISTS_AROUND: usize = 90;
+
+/// The text of an expression that puts its value in lists at each of the items of `l`.
+fn deepening(alloc: Global) -> Result<String, AllocError> {
+    let open = "[".repeat(alloc, LISTS_AROUND)?;
+    let close = "]".repeat(alloc, LISTS_AROUND)?;
+    format!(in alloc;
+        "{{\"!!\":{{\"reduce\":[{{\"var\":\"l\"}},{}{{\"var\":\"accumulator\"}}{}]}}}}",
+        open.as_str(),
+        close.as_str()
+    )
 }
 
 #[test]
 fn deep_values(rt: HostRuntime) -> Result<(), Fail> {
     let alloc = rt.alloc();
-    let mut expression = String::from_str(alloc, "{\"!!\":{\"reduce\":[{\"var\":\"l\"},")?;
-    for _i in 0..90 {
-        expression.push_str("[")?;
-    }
-    expression.push_str("{\"var\":\"accumulator\"}")?;
-    for _i in 0..90 {
-        expression.push_str("]")?;
-    }
-    expression.push_str("]}}")?;
-    let context = format!(in alloc; "{{\"l\":[{}]}}", repeated(alloc, "0", 45)?.as_str())?;
-    let got = outcome(alloc, expression.as_bytes(), context.as_bytes())?;
-    assert_eq!(rt; got.as_str(), "true");
+    let expression = deepening(alloc)?;
+    assert!(rt; gives_of_zeros(alloc, expression.as_bytes(), 45, "true"));
     Ok(())
 }

@@ -1,3 +1,9 @@
+//! Texts and trees: what is read, refused and printed, members, copies, and writers that fail.
+ghost use Rattle.std.specs.Prelude.{◌≡◌, true};
+ghost use Rattle.flag_text.specs.Shape.{is_whole};
+ghost use Rattle.flag_text.specs.View.{view};
+
+use crate::rows::each;
 use flag_text::{
     TextFault, Tree, WriteOutlet, is_in_range, member_by_halving, position_of, print_tree,
     push_text, read_doc, read_tree, whole_tree, write_whole,
@@ -20,225 +26,315 @@ fn brackets(alloc: Global, levels: usize, inside: &[u8]) -> Result<Vec<u8>, Allo
     Ok(text)
 }
 
+/// Whether a text is refused by this fault, `none` where it is read.
+fn is_refused(alloc: Global, bytes: &[u8], max: usize, want: &str) -> bool {
+    match read_tree(alloc, bytes, max) {
+        Ok(_) => want == "none",
+        Err(fault) => fault.name() == want,
+    }
+}
+
+/// Whether so many lists, the inmost of which has this inside, are refused by this fault.
+fn is_deep(alloc: Global, levels: usize, inside: &[u8], max: usize, want: &str) -> bool {
+    match brackets(alloc, levels, inside) {
+        Ok(text) => is_refused(alloc, text.as_slice(), max, want),
+        Err(_) => false,
+    }
+}
+
+/// Levels of lists, and the fault.
+const NESTING: &[(usize, &str)] = &[
+    (1, "none"),
+    (120, "none"),
+    (121, "TooDeep"),
+    (127, "TooDeep"),
+    (128, "NotJson"),
+];
+
 #[test]
-fn nesting(rt: HostRuntime) -> Result<(), Fail> {
-    let alloc = rt.alloc();
-    for (levels, want) in [
-        (1, None),
-        (120, None),
-        (121, Some(TextFault::TooDeep)),
-        (127, Some(TextFault::TooDeep)),
-        (128, Some(TextFault::NotJson)),
-    ] {
-        let text = brackets(alloc, levels, b"")?;
-        assert_eq!(rt;
-            read_tree(alloc, text.as_slice(), 1000).err(),
-            want,
+fn nesting(rt: HostRuntime) {
+    for (levels, want) in NESTING {
+        assert!(rt;
+            is_deep(rt.alloc(), *levels, b"", 1000, want),
             "at {levels}"
         );
     }
-    Ok(())
 }
 
+/// A text, the most bytes that are read, and the fault.
+const REFUSALS: &[(&[u8], usize, &str)] = &[
+    (b"[1, {\"a\": -7}]", 14, "none"),
+    (b"[1, {\"a\": -7}]", 13, "TooLarge"),
+    (b"", 0, "NotJson"),
+    (b"[\"a\",", 5, "NotJson"),
+    (b"[\"a\",", 4, "TooLarge"),
+    (b"\"\xff\"", 100, "NotJson"),
+    (b"\"\xed\xa0\x80\"", 100, "NotJson"),
+    (b"[1.5, 1e400000]", 100, "NotJson"),
+    (b"[[1.5]]", 100, "NotWhole"),
+];
+
+/// What stands in 121 lists, the most bytes that are read, and the fault.
+const DEEP_REFUSALS: &[(&[u8], usize, &str)] = &[
+    (b"x", 1000, "NotJson"),
+    (b"1.5", 1000, "TooDeep"),
+    (b"1.5", 244, "TooLarge"),
+];
+
 #[test]
-fn refusals_in_order(rt: HostRuntime) -> Result<(), Fail> {
-    let alloc = rt.alloc();
-    let deep_and_not_whole = brackets(alloc, 121, b"1.5")?;
-    let deep_and_no_json = brackets(alloc, 121, b"x")?;
-    for (bytes, max, want) in [
-        (b"[1, {\"a\": -7}]".as_slice(), 14, None),
-        (
-            b"[1, {\"a\": -7}]".as_slice(),
-            13,
-            Some(TextFault::TooLarge),
-        ),
-        (b"".as_slice(), 0, Some(TextFault::NotJson)),
-        (b"[\"a\",".as_slice(), 5, Some(TextFault::NotJson)),
-        (b"[\"a\",".as_slice(), 4, Some(TextFault::TooLarge)),
-        (b"\"\xff\"".as_slice(), 100, Some(TextFault::NotJson)),
-        (
-            b"\"\xed\xa0\x80\"".as_slice(),
-            100,
-            Some(TextFault::NotJson),
-        ),
-        (b"[1.5, 1e400000]".as_slice(), 100, Some(TextFault::NotJson)),
-        (deep_and_no_json.as_slice(), 1000, Some(TextFault::NotJson)),
-        (
-            deep_and_not_whole.as_slice(),
-            1000,
-            Some(TextFault::TooDeep),
-        ),
-        (
-            deep_and_not_whole.as_slice(),
-            244,
-            Some(TextFault::TooLarge),
-        ),
-        (b"[[1.5]]".as_slice(), 100, Some(TextFault::NotWhole)),
-    ] {
-        assert_eq!(rt; read_tree(alloc, bytes, max).err(), want, "at {bytes:?}");
+fn refusals_in_order(rt: HostRuntime) {
+    for (bytes, max, want) in REFUSALS {
+        assert!(rt; is_refused(rt.alloc(), bytes, *max, want), "at {bytes:?}");
     }
-    Ok(())
+    for (inside, max, want) in DEEP_REFUSALS {
+        assert!(rt; is_deep(rt.alloc(), 121, inside, *max, want), "at {want}");
+    }
 }
+
+/// Whether a text is read as this whole number, `other` where it is none.
+fn is_number(alloc: Global, text: &str, want: &str) -> bool {
+    match read_doc(alloc, text.as_bytes(), 100) {
+        Ok(tree) => match tree.as_whole() {
+            Some(number) => {
+                want.parse::<i64>() == Ok(number) && tree.is_whole() && !matches!(tree, Tree::Other)
+            }
+            None => want == "other" && !tree.is_whole() && matches!(tree, Tree::Other),
+        },
+        Err(_) => false,
+    }
+}
+
+const NUMBERS: &str = "0 -> 0
+9007199254740991 -> 9007199254740991
+-9007199254740991 -> -9007199254740991
+9007199254740992 -> other
+-9007199254740992 -> other
+18446744073709551616 -> other
+-0 -> other
+1.0 -> other
+1e2 -> other
+1E-2 -> other";
 
 #[test]
 fn whole_numbers(rt: HostRuntime) -> Result<(), Fail> {
-    let alloc = rt.alloc();
-    for (bytes, want) in [
-        (b"0".as_slice(), Some(0)),
-        (b"9007199254740991".as_slice(), Some(9007199254740991)),
-        (b"-9007199254740991".as_slice(), Some(-9007199254740991)),
-        (b"9007199254740992".as_slice(), None),
-        (b"-9007199254740992".as_slice(), None),
-        (b"18446744073709551616".as_slice(), None),
-        (b"-0".as_slice(), None),
-        (b"1.0".as_slice(), None),
-        (b"1e2".as_slice(), None),
-        (b"1E-2".as_slice(), None),
-    ] {
-        let tree = read_doc(alloc, bytes, 100)?;
-        let shown = (
-            tree.as_whole(),
-            matches!(tree, Tree::Other),
-            tree.is_whole(),
-        );
-        assert_eq!(rt;
-            shown,
-            (want, want.is_none(), want.is_some()),
-            "at {bytes:?}"
-        );
-    }
-    Ok(())
+    each(rt.alloc(), NUMBERS, is_number)
 }
 
-#[test]
-fn prints_and_reads_back(rt: HostRuntime) -> Result<(), Fail> {
-    let alloc = rt.alloc();
-    for (bytes, want) in [
-        (
-            b" {\"b\": [null, true, -12], \"a\": \"x\\u00e9\\n\", \"b\": {}}".as_slice(),
-            b"{\"a\":\"x\xc3\xa9\\n\",\"b\":{}}".as_slice(),
-        ),
-        (
-            b"{\"\": 0, \"\\u0000\": \"\\u001f\\\"\\\\/\\u007f\"}".as_slice(),
-            b"{\"\":0,\"\\u0000\":\"\\u001f\\\"\\\\/\x7f\"}".as_slice(),
-        ),
-        (b"[ ] ".as_slice(), b"[]".as_slice()),
-    ] {
-        let tree = read_tree(alloc, bytes, 100)?;
-        assert!(rt; tree.is_whole(), "at {bytes:?}");
-        let text = print_tree(alloc, &tree)?;
-        assert_eq!(rt; text.as_bytes(), want, "at {bytes:?}");
-        let again = read_tree(alloc, text.as_bytes(), want.len())?;
-        assert!(rt; again.equals(&tree), "at {bytes:?}");
+/// Whether a text is read as this tree, by exactly as many bytes as it has.
+fn is_text_of(alloc: Global, text: &[u8], tree: &Tree) -> bool {
+    match read_tree(alloc, text, text.len()) {
+        Ok(again) => again.equals(tree),
+        Err(_) => false,
     }
-    Ok(())
+}
+
+/// Whether a text's tree is printed so, and read back as the same tree.
+fn is_printed(alloc: Global, bytes: &[u8], want: &[u8]) -> bool {
+    match read_tree(alloc, bytes, 100) {
+        Ok(tree) => match print_tree(alloc, &tree) {
+            Ok(text) => {
+                tree.is_whole() && text.as_bytes() == want && is_text_of(alloc, want, &tree)
+            }
+            Err(_) => false,
+        },
+        Err(_) => false,
+    }
+}
+
+/// A text, and how its tree is printed.
+const PRINTED: &[(&[u8], &[u8])] = &[
+    (
+        b" {\"b\": [null, true, -12], \"a\": \"x\\u00e9\\n\", \"b\": {}}",
+        b"{\"a\":\"x\xc3\xa9\\n\",\"b\":{}}",
+    ),
+    (
+        b"{\"\": 0, \"\\u0000\": \"\\u001f\\\"\\\\/\\u007f\"}",
+        b"{\"\":0,\"\\u0000\":\"\\u001f\\\"\\\\/\x7f\"}",
+    ),
+    (b"[ ] ", b"[]"),
+];
+
+#[test]
+fn prints_and_reads_back(rt: HostRuntime) {
+    for (bytes, want) in PRINTED {
+        assert!(rt; is_printed(rt.alloc(), bytes, want), "at {bytes:?}");
+    }
+}
+
+/// Whether each member is read as what it is.
+fn has_members(tree: &Tree) -> bool {
+    tree.member("t").and_then(Tree::as_text) == Some("x")
+        && tree.member("b").and_then(Tree::as_bool) == Some(true)
+        && tree.member("n").and_then(Tree::as_whole) == Some(-3)
+        && tree.member("m").is_none()
+        && tree
+            .member("l")
+            .and_then(Tree::as_list)
+            .map_or(0, |items| items.len())
+            == 1
+        && tree.as_object().map_or(0, |members| members.len()) == 4
 }
 
 #[test]
 fn readers(rt: HostRuntime) -> Result<(), Fail> {
-    let alloc = rt.alloc();
-    let tree = read_tree(
-        alloc,
-        b"{\"t\": \"x\", \"b\": true, \"l\": [1], \"n\": -3}",
-        100,
-    )?;
+    let text = b"{\"t\": \"x\", \"b\": true, \"l\": [1], \"n\": -3}";
+    let tree = read_tree(rt.alloc(), text, 100)?;
+    assert!(rt; has_members(&tree) && whole_tree(tree).is_ok());
+    assert!(rt; whole_tree(Tree::Other).err() == Some(TextFault::NotWhole));
     assert!(rt;
-        tree.member("t").and_then(Tree::as_text) == Some("x")
-            && tree.member("b").and_then(Tree::as_bool) == Some(true)
-            && tree.member("n").and_then(Tree::as_whole) == Some(-3)
-            && tree.member("m").is_none()
-            && tree
-                .member("l")
-                .and_then(Tree::as_list)
-                .map_or(0, |items| items.len())
-                == 1
-            && tree.as_object().map_or(0, |members| members.len()) == 4
+        is_in_range(-9007199254740991)
+            && !is_in_range(9007199254740992)
+            && TextFault::TooDeep.number() == 4
+            && TextFault::TooDeep.name() == "TooDeep"
     );
-    assert!(rt; is_in_range(-9007199254740991) && !is_in_range(9007199254740992));
-    assert!(rt;
-        whole_tree(tree).is_ok() && whole_tree(Tree::Other).err() == Some(TextFault::NotWhole)
-    );
-    assert!(rt; TextFault::TooDeep.number() == 4 && TextFault::TooDeep.name() == "TooDeep");
     Ok(())
 }
+
+/// Whether the member of this name stands at the place that is its value, `none` where there is no such member.
+fn is_member(tree: &Tree, name: &str, want: &str) -> bool
+    requires whole { is_whole (view tree.now) ≡ true }
+{
+    match tree.as_object() {
+        Some(members) => {
+            match (
+                position_of(members, name),
+                member_by_halving(members, name).and_then(Tree::as_whole),
+            ) {
+                (Some(i), Some(value)) => want.parse::<usize>() == Ok(i) && value == i as i64,
+                (None, None) => want == "none",
+                _ => false,
+            }
+        }
+        None => false,
+    }
+}
+
+/// Whether a name is found where it stands among five.
+fn is_found(alloc: Global, name: &str, want: &str) -> bool {
+    let text = b"{\"b\": 1, \"\": 0, \"bb\": 2, \"d\": 3, \"\xc3\xa9\": 4}";
+    match read_tree(alloc, text, 100) {
+        Ok(tree) => is_member(&tree, name, want),
+        Err(_) => false,
+    }
+}
+
+const NAMES: &str = " -> 0
+a -> none
+b -> 1
+bb -> 2
+bbb -> none
+d -> 3
+\u{e9} -> 4
+\u{ea} -> none";
 
 #[test]
 fn members_by_halving(rt: HostRuntime) -> Result<(), Fail> {
-    let alloc = rt.alloc();
-    let text = b"{\"b\": 1, \"\": 0, \"bb\": 2, \"d\": 3, \"\xc3\xa9\": 4}";
-    let tree = read_tree(alloc, text, 100)?;
-    let Some(members) = tree.as_object() else {
-        return Err("no object".into());
-    };
-    for (name, want) in [
-        ("", Some(0)),
-        ("a", None),
-        ("b", Some(1)),
-        ("bb", Some(2)),
-        ("bbb", None),
-        ("d", Some(3)),
-        ("\u{e9}", Some(4)),
-        ("\u{ea}", None),
-    ] {
-        assert_eq!(rt; position_of(members, name), want, "at {want:?}");
-        let found = member_by_halving(members, name).and_then(Tree::as_whole);
-        assert_eq!(rt; found, want.map(|i| i as i64), "at {want:?}");
+    each(rt.alloc(), NAMES, is_found)
+}
+
+const UNLIKE: &str = r#"null
+true
+1
+1.5
+"1"
+[]
+[1]
+[1,1]
+{}
+{"a":1}
+{"a":2}
+{"b":1}"#;
+
+/// Whether a text's tree equals this one exactly where that is wanted.
+fn is_equal(alloc: Global, tree: &Tree, text: &str, want: bool) -> bool {
+    match read_doc(alloc, text.as_bytes(), 100) {
+        Ok(other) => tree.equals(&other) == want,
+        Err(_) => false,
     }
-    Ok(())
+}
+
+/// Whether the tree of one of the unlike texts equals that of no other.
+fn is_unlike(alloc: Global, tree: &Tree, text: &str) -> bool {
+    for other in UNLIKE.lines() {
+        if !is_equal(alloc, tree, other, other == text) {
+            return false;
+        }
+    }
+    true
+}
+
+/// Whether the tree's copy equals it.
+fn is_copied(alloc: Global, tree: &Tree) -> bool {
+    match tree.copy(alloc) {
+        Ok(copy) => copy.equals(tree),
+        Err(_) => false,
+    }
+}
+
+/// Whether the text's tree equals its copy, and the tree of no other text.
+fn is_itself_alone(alloc: Global, text: &str) -> bool {
+    match read_doc(alloc, text.as_bytes(), 100) {
+        Ok(tree) => is_copied(alloc, &tree) && is_unlike(alloc, &tree, text),
+        Err(_) => false,
+    }
 }
 
 #[test]
-fn unlike_trees(rt: HostRuntime) -> Result<(), Fail> {
-    let alloc = rt.alloc();
-    let texts = [
-        b"null".as_slice(),
-        b"true".as_slice(),
-        b"1".as_slice(),
-        b"1.5".as_slice(),
-        b"\"1\"".as_slice(),
-        b"[]".as_slice(),
-        b"[1]".as_slice(),
-        b"[1,1]".as_slice(),
-        b"{}".as_slice(),
-        b"{\"a\":1}".as_slice(),
-        b"{\"a\":2}".as_slice(),
-        b"{\"b\":1}".as_slice(),
-    ];
-    for (i, left) in texts.iter().enumerate() {
-        let tree = read_doc(alloc, left, 100)?;
-        assert!(rt; tree.copy(alloc)?.equals(&tree), "at {left:?}");
-        for (j, right) in texts.iter().enumerate() {
-            let other = read_doc(alloc, right, 100)?;
-            assert_eq!(rt; tree.equals(&other), i == j, "at {left:?} and {right:?}");
-        }
+fn unlike_trees(rt: HostRuntime) {
+    for text in UNLIKE.lines() {
+        assert!(rt; is_itself_alone(rt.alloc(), text), "at {text}");
     }
     assert!(rt; !Tree::Whole(1 << 53).is_whole());
-    Ok(())
 }
 
 // As deep as a value that an evaluation makes can be.
 const DEEP: usize = 5000;
 
-#[test]
-fn deep_values(rt: HostRuntime) -> Result<(), Fail> {
-    let alloc = rt.alloc();
+/// A list of the tree alone.
+fn in_list(alloc: Global, tree: Tree) -> Result<Tree, AllocError> {
+    let mut items = Vec::new(alloc);
+    items.push(tree)?;
+    Ok(Tree::List(items))
+}
+
+/// An object of the tree alone.
+fn in_object(alloc: Global, tree: Tree) -> Result<Tree, AllocError> {
+    let name = String::from_str(alloc, "accumulator")?;
+    let mut members = Vec::new(alloc);
+    members.push((name, tree))?;
+    Ok(Tree::Object(members))
+}
+
+/// Null in lists and objects by turns.
+fn deep_tree(alloc: Global) -> Result<Tree, AllocError> {
     let mut tree = Tree::Null;
     for level in 0..DEEP {
         tree = if level % 2 == 0 {
-            let mut items = Vec::new(alloc);
-            items.push(tree)?;
-            Tree::List(items)
+            in_list(alloc, tree)?
         } else {
-            let mut members = Vec::new(alloc);
-            members.push((String::from_str(alloc, "accumulator")?, tree))?;
-            Tree::Object(members)
+            in_object(alloc, tree)?
         };
     }
+    Ok(tree)
+}
+
+/// Whether the tree is whole, and its text has so many bytes.
+fn has_length(alloc: Global, tree: &Tree, want: usize) -> bool {
+    if !tree.is_whole() {
+        return false;
+    }
+    match print_tree(alloc, tree) {
+        Ok(text) => text.len() == want,
+        Err(_) => false,
+    }
+}
+
+#[test]
+fn deep_values(rt: HostRuntime) -> Result<(), Fail> {
+    let alloc = rt.alloc();
+    let tree = deep_tree(alloc)?;
     assert!(rt; tree.fits(DEEP) && !tree.fits(DEEP - 1));
-    let copy = tree.copy(alloc)?;
-    assert!(rt; copy.equals(&tree) && copy.is_whole());
-    let text = print_tree(alloc, &copy)?;
-    assert_eq!(rt; text.len(), 4 + DEEP / 2 * 18);
+    assert!(rt; is_copied(alloc, &tree) && has_length(alloc, &tree, 4 + DEEP / 2 * 18));
     Ok(())
 }
 
@@ -265,24 +361,24 @@ impl Write for Small {
     }
 }
 
+/// Whether a writer with so much room is written to as a whole, and has so many bytes then.
+fn is_taken(alloc: Global, room: usize, whole: bool, taken: usize) -> bool {
+    let mut small = Small {
+        taken: Vec::new(alloc),
+        room,
+    };
+    let mut out = WriteOutlet::new(&mut small);
+    let is_whole = write_whole(&mut out, b"abcdefg");
+    drop(out);
+    is_whole == whole && small.taken.len() == taken
+}
+
 #[test]
-fn writes(rt: HostRuntime) -> Result<(), Fail> {
+fn writes(rt: HostRuntime) {
     let alloc = rt.alloc();
-    for (room, whole, taken) in [(7, true, 7), (6, false, 6), (0, false, 0)] {
-        let mut small = Small {
-            taken: Vec::new(alloc),
-            room,
-        };
-        let mut out = WriteOutlet::new(&mut small);
-        assert_eq!(rt;
-            write_whole(&mut out, b"abcdefg"),
-            whole,
-            "with room for {room}"
-        );
-        drop(out);
-        assert_eq!(rt; small.taken.len(), taken, "with room for {room}");
-    }
-    Ok(())
+    assert!(rt; is_taken(alloc, 7, true, 7));
+    assert!(rt; is_taken(alloc, 6, false, 6));
+    assert!(rt; is_taken(alloc, 0, false, 0));
 }
 
 #[test]
