@@ -1,40 +1,31 @@
 //! What a flag's definition means: good or broken.
-use crate::rows::parts;
-use flag_defs::{DefFault, read_flags};
+use crate::rows::each;
+use flag_defs::read_flags;
 use std::alloc::{AllocError, Global};
 use std::test::Fail;
 
-fn text(alloc: Global, parts: &[&str]) -> Result<Vec<u8>, AllocError> {
-    let mut bytes = Vec::new(alloc);
-    for part in parts {
-        bytes.extend_from_slice(part.as_bytes())?;
+/// Whether the flag `f` of a document is `good` or `broken`, as is wanted.
+fn is_flag(alloc: Global, document: &[u8], want: &str) -> bool {
+    match read_flags(alloc, document) {
+        Ok(flags) => match flags.get("f") {
+            Some(flag) => flag.is_broken() == (want == "broken"),
+            None => false,
+        },
+        Err(_) => false,
     }
-    Ok(bytes)
 }
 
-// Whether the definition of the one flag of a document is broken.
-fn is_broken(alloc: Global, evaluators: &str, definition: &str) -> Result<bool, DefFault> {
-    let document = text(
-        alloc,
-        &[
-            "{\"$evaluators\":",
-            evaluators,
-            ",\"flags\":{\"f\":",
-            definition,
-            "}}",
-        ],
-    )?;
-    let flags = read_flags(alloc, document.as_slice())?;
-    Ok(match flags.get("f") {
-        Some(flag) => flag.is_broken(),
-        None => true,
-    })
+/// Whether the one flag of a document with these evaluators and this definition is `good` or `broken`, as is wanted.
+fn is_so(alloc: Global, evaluators: &str, definition: &str, want: &str) -> bool {
+    match format!(in alloc; "{{\"$evaluators\":{evaluators},\"flags\":{{\"f\":{definition}}}}}") {
+        Ok(document) => is_flag(alloc, document.as_bytes(), want),
+        Err(_) => false,
+    }
 }
 
-// Whether the row's definition is good or broken as the row says.
-fn is_so(alloc: Global, evaluators: &str, row: &str) -> Result<bool, Fail> {
-    let (definition, want) = parts(row)?;
-    Ok(is_broken(alloc, evaluators, definition)? == (want == "broken"))
+/// Whether a definition without evaluators is `good` or `broken`, as is wanted.
+fn is_alone_so(alloc: Global, definition: &str, want: &str) -> bool {
+    is_so(alloc, "{}", definition, want)
 }
 
 const DEFINITIONS: &str = r#"{"state":"ENABLED","variants":{"on":1}} -> good
@@ -65,10 +56,7 @@ const DEFINITIONS: &str = r#"{"state":"ENABLED","variants":{"on":1}} -> good
 
 #[test]
 fn definitions_with_a_wrong_part_are_broken(rt: HostRuntime) -> Result<(), Fail> {
-    for row in DEFINITIONS.lines() {
-        assert!(rt; is_so(rt.alloc(), "{}", row)?, "{row}");
-    }
-    Ok(())
+    each(rt.alloc(), DEFINITIONS, is_alone_so)
 }
 
 const EVALUATORS: &str =
@@ -85,21 +73,19 @@ const TARGETINGS: &str = r#"{"if":[{"$ref":"a"},"on"]} -> good
 {"a":{"$ref":"a"},"b":1} -> good
 {"a":{"$ref":"c"},"b":1} -> broken"#;
 
-// Whether a flag with the row's targeting is good or broken as the row says.
-fn is_targeting_so(alloc: Global, row: &str) -> Result<bool, Fail> {
-    let (targeting, want) = parts(row)?;
-    let definition = format!(in alloc;
+/// Whether a flag with this targeting is `good` or `broken`, as is wanted.
+fn is_targeting_so(alloc: Global, targeting: &str, want: &str) -> bool {
+    match format!(in alloc;
         "{{\"state\":\"ENABLED\",\"variants\":{{\"on\":1}},\"targeting\":{targeting}}}"
-    )?;
-    Ok(is_broken(alloc, EVALUATORS, definition.as_str())? == (want == "broken"))
+    ) {
+        Ok(definition) => is_so(alloc, EVALUATORS, definition.as_str(), want),
+        Err(_) => false,
+    }
 }
 
 #[test]
 fn targetings_with_a_lost_reference_are_broken(rt: HostRuntime) -> Result<(), Fail> {
-    for row in TARGETINGS.lines() {
-        assert!(rt; is_targeting_so(rt.alloc(), row)?, "{row}");
-    }
-    Ok(())
+    each(rt.alloc(), TARGETINGS, is_targeting_so)
 }
 
 // A definition with so many variants.
@@ -113,15 +99,18 @@ fn with_variants(alloc: Global, count: u32) -> Result<String, AllocError> {
     Ok(definition)
 }
 
-#[test]
-fn up_to_64_variants(rt: HostRuntime) -> Result<(), Fail> {
-    let alloc = rt.alloc();
-    for (count, want) in [(1, false), (64, false), (65, true)] {
-        let definition = with_variants(alloc, count)?;
-        assert!(rt;
-            is_broken(alloc, "{}", definition.as_str())? == want,
-            "at {count}"
-        );
+/// Whether a definition with so many variants is `good` or `broken`, as is wanted.
+fn is_with_variants_so(alloc: Global, count: u32, want: &str) -> bool {
+    match with_variants(alloc, count) {
+        Ok(definition) => is_alone_so(alloc, definition.as_str(), want),
+        Err(_) => false,
     }
-    Ok(())
+}
+
+#[test]
+fn up_to_64_variants(rt: HostRuntime) {
+    let alloc = rt.alloc();
+    assert!(rt; is_with_variants_so(alloc, 1, "good"));
+    assert!(rt; is_with_variants_so(alloc, 64, "good"));
+    assert!(rt; is_with_variants_so(alloc, 65, "broken"));
 }

@@ -1,7 +1,6 @@
 //! Documents at their limits: targetings that grow as their references are replaced, chains of references, many flags.
-use flag_defs::{DefFault, read_flags};
+use flag_defs::read_flags;
 use std::alloc::{AllocError, Global};
-use std::test::Fail;
 
 fn text(alloc: Global, parts: &[&str]) -> Result<Vec<u8>, AllocError> {
     let mut bytes = Vec::new(alloc);
@@ -11,13 +10,18 @@ fn text(alloc: Global, parts: &[&str]) -> Result<Vec<u8>, AllocError> {
     Ok(bytes)
 }
 
-// Whether the flag `f` of a document is broken.
-fn is_broken(alloc: Global, document: &[u8]) -> Result<bool, DefFault> {
-    let flags = read_flags(alloc, document)?;
-    Ok(match flags.get("f") {
-        Some(flag) => flag.is_broken(),
-        None => true,
-    })
+// The state of the flag `f` of a document: `good`, `broken` or `none`, or the name of the document's fault.
+fn state_of(alloc: Global, document: Result<Vec<u8>, AllocError>) -> &'static str {
+    match document {
+        Ok(bytes) => match read_flags(alloc, bytes.as_slice()) {
+            Ok(flags) => match flags.get("f") {
+                Some(flag) => if flag.is_broken() { "broken" } else { "good" },
+                None => "none",
+            },
+            Err(fault) => fault.name(),
+        },
+        Err(AllocError) => "no document",
+    }
 }
 
 // `evaluators` from `e0` up, each with what the one before stands for twice under an operator; a flag refers to the last.
@@ -37,26 +41,25 @@ fn growing(alloc: Global, first: &str, operator: &str, last: usize) -> Result<Ve
     Ok(document)
 }
 
-// Whether the flag is broken.
-fn grows_too_large(alloc: Global, first: &str, operator: &str, last: usize) -> Result<bool, Fail> {
-    let document = growing(alloc, first, operator, last)?;
-    Ok(is_broken(alloc, document.as_slice())?)
-}
+// What the first evaluator stands for, the operator, the last evaluator, and the state of the flag that refers to it.
+const GROWING: &[(&str, &str, usize, &str)] = &[
+    ("1", "+", 11, "good"),
+    ("1", "+", 12, "broken"),
+    ("1", "+", 60, "broken"),
+    ("[\"on\",1]", "cat", 1, "good"),
+    ("[\"on\",1]", "cat", 10, "good"),
+    ("[\"on\",1]", "cat", 11, "broken"),
+    ("[\"on\",1]", "cat", 12, "broken"),
+    ("[\"on\",1]", "cat", 60, "broken"),
+];
 
 #[test]
-fn evaluators_that_grow_past_10000_nodes_break_a_flag(rt: HostRuntime) -> Result<(), Fail> {
+fn evaluators_that_grow_past_10000_nodes_break_a_flag(rt: HostRuntime) {
     let alloc = rt.alloc();
-    for (last, want) in [(11, false), (12, true), (60, true)] {
-        assert!(rt;
-            grows_too_large(alloc, "1", "+", last)? == want,
-            "at {last}"
-        );
+    for (first, operator, last, want) in GROWING {
+        let state = state_of(alloc, growing(alloc, first, operator, *last));
+        assert!(rt; state == *want, "{first} at {last}");
     }
-    for (last, want) in [(1, false), (10, false), (11, true), (12, true), (60, true)] {
-        let found = grows_too_large(alloc, "[\"on\",1]", "cat", last)?;
-        assert!(rt; found == want, "at {last}");
-    }
-    Ok(())
 }
 
 // A document with flags whose targeting is a reference to `t`, a `fractional` with so many buckets, each a reference to one
@@ -81,28 +84,13 @@ fn heavy(alloc: Global, flags: usize, buckets: usize) -> Result<Vec<u8>, AllocEr
     Ok(document)
 }
 
-// Whether a document is refused as too large.
-fn is_too_large(alloc: Global, document: &[u8]) -> bool {
-    matches!(read_flags(alloc, document), Err(DefFault::TooLarge))
-}
-
-// Whether a document is read.
-fn is_read(alloc: Global, document: &[u8]) -> bool {
-    read_flags(alloc, document).is_ok()
-}
-
 #[test]
-fn buckets_that_print_in_too_many_bytes(rt: HostRuntime) -> Result<(), Fail> {
+fn buckets_that_print_in_too_many_bytes(rt: HostRuntime) {
     let alloc = rt.alloc();
-    assert!(rt; is_read(alloc, heavy(alloc, 1, 100)?.as_slice()));
-    for (flags, buckets) in [(1, 105), (1, 9000), (300, 100)] {
-        let document = heavy(alloc, flags, buckets)?;
-        assert!(rt;
-            is_too_large(alloc, document.as_slice()),
-            "at {flags} and {buckets}"
-        );
-    }
-    Ok(())
+    assert!(rt; state_of(alloc, heavy(alloc, 1, 100)) == "broken");
+    assert!(rt; state_of(alloc, heavy(alloc, 1, 105)) == "TooLarge");
+    assert!(rt; state_of(alloc, heavy(alloc, 1, 9000)) == "TooLarge");
+    assert!(rt; state_of(alloc, heavy(alloc, 300, 100)) == "TooLarge");
 }
 
 // A document whose flag refers to the first of so many evaluators, each of which refers to the next, and the last to `last`.
@@ -122,28 +110,14 @@ fn chain(alloc: Global, count: usize, last: &str) -> Result<Vec<u8>, AllocError>
     Ok(document)
 }
 
-// Whether the flag is broken.
-fn chain_breaks(alloc: Global, count: usize, last: &str) -> Result<bool, Fail> {
-    let document = chain(alloc, count, last)?;
-    Ok(is_broken(alloc, document.as_slice())?)
-}
-
 #[test]
-fn chains_and_cycles_of_references(rt: HostRuntime) -> Result<(), Fail> {
+fn chains_and_cycles_of_references(rt: HostRuntime) {
     let alloc = rt.alloc();
-    for (count, last, want) in [
-        (3, "end", false),
-        (3, "0", true),
-        (100_000, "end", false),
-        (100_000, "0", true),
-        (100_000, "nobody", true),
-    ] {
-        assert!(rt;
-            chain_breaks(alloc, count, last)? == want,
-            "at {count} to {last}"
-        );
-    }
-    Ok(())
+    assert!(rt; state_of(alloc, chain(alloc, 3, "end")) == "good");
+    assert!(rt; state_of(alloc, chain(alloc, 3, "0")) == "broken");
+    assert!(rt; state_of(alloc, chain(alloc, 100_000, "end")) == "good");
+    assert!(rt; state_of(alloc, chain(alloc, 100_000, "0")) == "broken");
+    assert!(rt; state_of(alloc, chain(alloc, 100_000, "nobody")) == "broken");
 }
 
 // A document of so many broken flags.
@@ -158,9 +132,8 @@ fn broken_flags(alloc: Global, count: u32) -> Result<Vec<u8>, AllocError> {
 }
 
 #[test]
-fn up_to_10000_flags(rt: HostRuntime) -> Result<(), Fail> {
+fn up_to_10000_flags(rt: HostRuntime) {
     let alloc = rt.alloc();
-    assert!(rt; is_read(alloc, broken_flags(alloc, 10_000)?.as_slice()));
-    assert!(rt; is_too_large(alloc, broken_flags(alloc, 10_001)?.as_slice()));
-    Ok(())
+    assert!(rt; state_of(alloc, broken_flags(alloc, 10_000)) == "none");
+    assert!(rt; state_of(alloc, broken_flags(alloc, 10_001)) == "TooLarge");
 }

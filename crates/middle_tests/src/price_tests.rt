@@ -3,16 +3,20 @@ use crate::rows::parts;
 use book_core::{Book, Exposure, Page};
 use bucket_core::{Rule, read_rule};
 use flag_text::read_tree;
-use price_core::{Request, first_forbidden, switch_cost};
+use price_core::{Prices, Request, first_forbidden, switch_cost};
 use std::alloc::Global;
 use std::test::Fail;
 use std::thread::Threads;
 
-fn rule(alloc: Global, text: &[u8]) -> Result<Rule, Fail> {
-    Ok(read_rule(alloc, &read_tree(alloc, text, 1000)?)?)
+fn rule(alloc: Global, text: &[u8]) -> Option<Rule> {
+    match read_tree(alloc, text, 1000) {
+        Ok(tree) => read_rule(alloc, &tree).ok(),
+        Err(_) => None,
+    }
 }
 
-fn exposure(alloc: Global, inputs: &[&str]) -> Result<Exposure, Fail> {
+/// The inputs as those of a page.
+fn exposure(alloc: Global, inputs: &[&str]) -> Option<Exposure> {
     let page = Page {
         flag: String::new(alloc),
         site: 0,
@@ -20,9 +24,9 @@ fn exposure(alloc: Global, inputs: &[&str]) -> Result<Exposure, Fail> {
     };
     let mut book = Book::new(alloc);
     for input in inputs {
-        book.note(alloc, &page, input)?;
+        book.note(alloc, &page, input).ok()?;
     }
-    Ok(book.exposure(alloc, &page)?)
+    book.exposure(alloc, &page).ok()
 }
 
 /// Seven inputs, which lie on the points 0, 1, 4, 4, 6, 7 and 7 of 10.
@@ -36,32 +40,62 @@ const INPUTS: [&str; 7] = [
     "Hello, world!",
 ];
 
-/// What the change from red 5, blue 5 to another rule costs the seven inputs, and the least forbidden point, `none` where
-/// there is none or the totals differ.
-fn priced(
-    rt: &(impl Threads + Sync),
-    alloc: Global,
-    new: &Rule,
-    request: &Request,
-) -> Result<String, Fail> {
-    let old = rule(alloc, b"[[\"red\",5],[\"blue\",5]]")?;
-    let inputs = exposure(alloc, INPUTS.as_slice())?;
-    let prices = request.prices();
-    let cost = switch_cost(rt, alloc, &old, new, &inputs, prices)?;
-    if old.total() == new.total() {
-        if let Some(point) = first_forbidden(&old, new, prices) {
-            return Ok(format!(in alloc; "{cost} {point}")?);
-        }
+/// Whether the least forbidden point of a change is this, `none` where there is none or the totals differ.
+fn is_forbidden(old: &Rule, new: &Rule, prices: &Prices, want: &str) -> bool {
+    if old.total() != new.total() {
+        return want == "none";
     }
-    Ok(format!(in alloc; "{cost} none")?)
+    match first_forbidden(old, new, prices) {
+        Some(point) => want.parse::<u32>() == Ok(point),
+        None => want == "none",
+    }
 }
 
-/// Whether the change to red 3, blue 7 is priced by the row's request as the row says.
-fn is_priced(rt: &(impl Threads + Sync), alloc: Global, row: &str) -> Result<bool, Fail> {
-    let (request, want) = parts(row)?;
-    let request = Request::read(alloc, request.as_bytes())?;
-    let new = rule(alloc, b"[[\"red\",3],[\"blue\",7]]")?;
-    Ok(priced(rt, alloc, &new, &request)?.as_str() == want)
+/// Whether a change costs the inputs the first number, and its least forbidden point is the other.
+fn costs(
+    rt: &(impl Threads + Sync),
+    alloc: Global,
+    old: &Rule,
+    new: &Rule,
+    inputs: &Exposure,
+    prices: &Prices,
+    want: &str,
+) -> bool {
+    let (price, point) = want.split_once(' ').unwrap_or((want, "no point"));
+    match switch_cost(rt, alloc, old, new, inputs, prices) {
+        Ok(cost) => price.parse::<u64>() == Ok(cost) && is_forbidden(old, new, prices, point),
+        Err(_) => false,
+    }
+}
+
+/// Whether the change from red 5, blue 5 to another rule costs the seven inputs the first number, and its least forbidden
+/// point is the other.
+fn is_priced(
+    rt: &(impl Threads + Sync),
+    alloc: Global,
+    new: &[u8],
+    prices: &Prices,
+    want: &str,
+) -> bool {
+    match rule(alloc, b"[[\"red\",5],[\"blue\",5]]") {
+        Some(old) => match rule(alloc, new) {
+            Some(new) => match exposure(alloc, INPUTS.as_slice()) {
+                Some(inputs) => costs(rt, alloc, &old, &new, &inputs, prices, want),
+                None => false,
+            },
+            None => false,
+        },
+        None => false,
+    }
+}
+
+/// Whether the change to red 3, blue 7 is priced by the request as is wanted.
+fn is_priced_by(rt: &(impl Threads + Sync), alloc: Global, request: &str, want: &str) -> bool {
+    let new = b"[[\"red\",3],[\"blue\",7]]";
+    match Request::read(alloc, request.as_bytes()) {
+        Ok(request) => is_priced(rt, alloc, new, request.prices(), want),
+        Err(_) => false,
+    }
 }
 
 const PRICES: &str = r#"{"plan":1,"flag":"color","totals":{}} -> 2 none
@@ -72,11 +106,11 @@ const PRICES: &str = r#"{"plan":1,"flag":"color","totals":{}} -> 2 none
 {"plan":1,"flag":"color","totals":{},"forbid":[["red","blue"],["a","b"]]} -> 2 3"#;
 
 #[test]
-fn prices_of_a_new_rule(rt: HostRuntime) -> Result<(), Fail> {
+fn prices_of_a_new_rule(rt: HostRuntime) {
     for row in PRICES.lines() {
-        assert!(rt; is_priced(&rt, rt.alloc(), row)?, "{row}");
+        let (request, want) = parts(row);
+        assert!(rt; is_priced_by(&rt, rt.alloc(), request, want), "{row}");
     }
-    Ok(())
 }
 
 const DEAR: &[u8] =
@@ -95,11 +129,9 @@ fn one_price_for_all_changes(rt: HostRuntime) -> Result<(), Fail> {
             && !prices.forbidden("red", "blue")
     );
     // the same variants at all points; one variant, where the inputs on the points 6, 7 and 7 were blue
-    let same = rule(alloc, b"[[\"red\",5],[\"blue\",5]]")?;
-    let one = rule(alloc, b"[[\"red\",1]]")?;
     assert!(rt;
-        priced(&rt, alloc, &same, &request)?.as_str() == "0 none"
-            && priced(&rt, alloc, &one, &request)?.as_str() == "9 none"
+        is_priced(&rt, alloc, b"[[\"red\",5],[\"blue\",5]]", prices, "0 none")
+            && is_priced(&rt, alloc, b"[[\"red\",1]]", prices, "9 none")
     );
     Ok(())
 }

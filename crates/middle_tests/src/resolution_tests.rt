@@ -1,5 +1,5 @@
 //! Resolutions as they are printed: worked ones, and one for each case that those leave out.
-ghost use Rattle.std.specs.Prelude.{◌≡◌, ◌<◌, ◌^◌, true, IfOk};
+ghost use Rattle.std.specs.Prelude.{◌≡◌, ◌<◌, ◌^◌, true};
 ghost use Rattle.flag_text.specs.Shape.{is_whole};
 ghost use Rattle.flag_text.specs.View.{view};
 
@@ -39,12 +39,6 @@ const MORE_FLAGS: &[u8] = br#"{"flags":{
     "targeting":{"fractional":[{"var":"key"},["red",0],["blue",0]]}},
 "wrong":{"state":"ENABLED","variants":{"on":1},"defaultVariant":"on"}}}"#;
 
-fn tree(alloc: Global, bytes: &[u8]) -> Result<Tree, Fail>
-    ensures { IfOk result (λ t. is_whole (view t) ≡ true) }
-{
-    Ok(read_tree(alloc, bytes, 4_194_304)?)
-}
-
 /// The default that the rows give for a kind.
 fn default_of(want: Kind) -> &'static [u8] {
     match want {
@@ -55,33 +49,60 @@ fn default_of(want: Kind) -> &'static [u8] {
     }
 }
 
-/// A resolution as it is printed.
+/// A flag's resolution as it is printed.
 fn resolved(
     alloc: Global,
     flags: Option<&Flags>,
     key: &str,
-    want: Kind,
-    context: &[u8],
+    kind: Kind,
+    default: &Tree,
+    context: &Tree,
     moment: u64,
-) -> Result<String, Fail>
+) -> Option<String>
+    requires moment { moment < 2 ^ 53 }
+    requires default { is_whole (view default.now) ≡ true }
+    requires context { is_whole (view context.now) ≡ true }
+{
+    match resolve(alloc, flags, key, kind, default, context, moment) {
+        Ok(resolution) => print_resolution(alloc, &resolution).ok(),
+        Err(_) => None,
+    }
+}
+
+/// Whether a flag resolves as is wanted with its kind's default and this context.
+fn is_resolved(
+    alloc: Global,
+    flags: Option<&Flags>,
+    key: &str,
+    kind: Kind,
+    context: &str,
+    moment: u64,
+    want: &str,
+) -> bool
     requires { moment < 2 ^ 53 }
 {
-    let default = tree(alloc, default_of(want))?;
-    let context = tree(alloc, context)?;
-    let resolution = resolve(alloc, flags, key, want, &default, &context, moment)?;
-    Ok(print_resolution(alloc, &resolution)?)
+    match read_tree(alloc, default_of(kind), 100) {
+        Ok(default) => match read_tree(alloc, context.as_bytes(), 1000) {
+            Ok(context) => resolved(
+                alloc, flags, key, kind, &default, &context, moment,
+            ).is_some_and(|text| text.as_str() == want),
+            Err(_) => false,
+        },
+        Err(_) => false,
+    }
 }
 
 /// Whether the row's key, kind and context resolve as the row says.
-fn is_resolved(alloc: Global, flags: &Flags, moment: u64, row: &str) -> Result<bool, Fail>
+fn is_row(alloc: Global, flags: &Flags, moment: u64, row: &str) -> bool
     requires { moment < 2 ^ 53 }
 {
-    let (given, want) = parts(row)?;
-    let (asked, context) = pair(given)?;
-    let (key, kind) = asked.split_once(' ').ok_or("no kind")?;
-    let kind = Kind::named(kind).ok_or("no kind")?;
-    let text = resolved(alloc, Some(flags), key, kind, context.as_bytes(), moment)?;
-    Ok(text.as_str() == want)
+    let (given, want) = parts(row);
+    let (asked, context) = pair(given);
+    let (key, word) = asked.split_once(' ').unwrap_or((asked, "no kind"));
+    match Kind::named(word) {
+        Some(kind) => is_resolved(alloc, Some(flags), key, kind, context, moment, want),
+        None => false,
+    }
 }
 
 const WORKED: &str =
@@ -105,25 +126,17 @@ nope bool | [] -> {"code":"INVALID_CONTEXT","reached":[],"reason":"ERROR","value
 fn worked_resolutions(rt: HostRuntime) -> Result<(), Fail> {
     let flags = read_flags(rt.alloc(), FLAGS)?;
     for row in WORKED.lines() {
-        assert!(rt; is_resolved(rt.alloc(), &flags, 0, row)?, "{row}");
+        assert!(rt; is_row(rt.alloc(), &flags, 0, row), "{row}");
     }
     Ok(())
 }
 
 #[test]
-fn without_flags_the_provider_is_not_ready(rt: HostRuntime) -> Result<(), Fail> {
-    let text = resolved(
-        rt.alloc(),
-        None,
-        "color",
-        Kind::Text,
-        br#"{"key":"test","targetingKey":"st"}"#,
-        0,
-    )?;
+fn without_flags_the_provider_is_not_ready(rt: HostRuntime) {
+    let context = r#"{"key":"test","targetingKey":"st"}"#;
     let want =
         r#"{"code":"PROVIDER_NOT_READY","reached":[],"reason":"ERROR","value":"d","variant":null}"#;
-    assert!(rt; text.as_str() == want);
-    Ok(())
+    assert!(rt; is_resolved(rt.alloc(), None, "color", Kind::Text, context, 0, want));
 }
 
 const MORE: &str =
@@ -140,26 +153,29 @@ fn cases_that_the_worked_ones_leave_out(rt: HostRuntime) -> Result<(), Fail> {
     let flags = read_flags(rt.alloc(), MORE_FLAGS)?;
     for row in MORE.lines() {
         assert!(rt;
-            is_resolved(rt.alloc(), &flags, 9_007_199_254_740_991, row)?,
+            is_row(rt.alloc(), &flags, 9_007_199_254_740_991, row),
             "{row}"
         );
     }
     Ok(())
 }
 
+/// A word, and the kind that it names.
+const KINDS: &[(&str, Option<Kind>)] = &[
+    ("bool", Some(Kind::Bool)),
+    ("text", Some(Kind::Text)),
+    ("whole", Some(Kind::Whole)),
+    ("object", Some(Kind::Object)),
+    ("Bool", None),
+    ("", None),
+];
+
 #[test]
 fn words_of_kinds_reasons_and_codes(rt: HostRuntime) -> Result<(), Fail> {
-    let alloc = rt.alloc();
-    for (word, kind) in [
-        ("bool", Some(Kind::Bool)),
-        ("text", Some(Kind::Text)),
-        ("whole", Some(Kind::Whole)),
-        ("object", Some(Kind::Object)),
-        ("Bool", None),
-        ("", None),
-    ] {
-        assert!(rt; Kind::named(word) == kind, "of {word}");
+    for (word, kind) in KINDS {
+        assert!(rt; Kind::named(word) == *kind, "of {word}");
     }
+    let alloc = rt.alloc();
     let text = format!(in alloc; "{} {}", Reason::TargetingMatch, Code::ProviderNotReady)?;
     assert!(rt; text.as_str() == "TARGETING_MATCH PROVIDER_NOT_READY");
     Ok(())

@@ -1,12 +1,30 @@
 //! Rows of a table, one a line: what is given, in parts between ` | `, and behind ` -> ` what is wanted.
+use std::alloc::Global;
 use std::test::Fail;
 
-/// What stands before the first ` -> ` and behind it.
-pub(crate) fn parts(row: &str) -> Result<(&str, &str), Fail> {
-    Ok(row.split_once(" -> ").ok_or("no row")?)
+/// Whether what is given comes to what is wanted.
+pub(crate) type Holds = fn(Global, &str, &str) -> bool;
+
+/// What stands before the first ` -> ` and behind it; a line that has none wants what nothing comes to.
+pub(crate) fn parts(row: &str) -> (&str, &str) {
+    row.split_once(" -> ")
+        .unwrap_or((row, "a row with no arrow"))
 }
 
-/// What stands before the first ` | ` and behind it.
-pub(crate) fn pair(given: &str) -> Result<(&str, &str), Fail> {
-    Ok(given.split_once(" | ").ok_or("no pair")?)
+/// What stands before the first ` | ` and behind it, which is empty where there is none.
+pub(crate) fn pair(given: &str) -> (&str, &str) {
+    given.split_once(" | ").unwrap_or((given, ""))
+}
+
+/// Fails with the first row that does not hold.
+pub(crate) fn each(alloc: Global, rows: &str, holds: Holds) -> Result<(), Fail>
+    requires { Holds.IsAlwaysCallable holds }
+{
+    for row in rows.lines() {
+        let (given, want) = parts(row);
+        if !holds(alloc, given, want) {
+            return Err(row.into());
+        }
+    }
+    Ok(())
 }
