@@ -1,19 +1,19 @@
 //! What the tests are given: rows, rules, names, inputs, a flag and its book.
-use book_core::{Book, Exposure, Page, read_book};
+use book_core::{Book, BookFileFault, Exposure, Page, read_book};
 use bucket_core::{Rule, read_rule};
 use flag_defs::{Flags, read_flags};
 use flag_text::read_tree;
 use std::alloc::{AllocError, Global};
-use std::test::Fail;
 
-/// What stands in a row before ` -> ` and behind it.
-pub(crate) fn parts(row: &str) -> Result<(&str, &str), Fail> {
-    Ok(row.split_once(" -> ").ok_or("no row")?)
+/// What stands in a row before ` -> ` and behind it; a line that has none wants what nothing comes to.
+pub(crate) fn parts(row: &str) -> (&str, &str) {
+    row.split_once(" -> ")
+        .unwrap_or((row, "a row with no arrow"))
 }
 
-/// What stands before the first ` | ` and behind it.
-pub(crate) fn pair(given: &str) -> Result<(&str, &str), Fail> {
-    Ok(given.split_once(" | ").ok_or("no pair")?)
+/// What stands before the first ` | ` and behind it, which is empty where there is none.
+pub(crate) fn pair(given: &str) -> (&str, &str) {
+    given.split_once(" | ").unwrap_or((given, ""))
 }
 
 /// Seven inputs, which lie on the points 0, 1, 4, 4, 6, 7 and 7 of 10, as a book of the flag `color`.
@@ -30,8 +30,12 @@ pub(crate) const FIVES: &str = r#"["red",5],["blue",5]"#;
 pub(crate) const FREE: &str =
     r#"{"alpha":[["blue",0,0],["blue",1,0],["blue",2,0],["red",0,0],["red",1,0],["red",2,0]],"beta":[["blue",0],["green",0],["red",0]],"cost":0,"plan":1,"rule":[["red",2],["blue",2],["red",1],["blue",5]]}"#;
 
-pub(crate) fn rule(alloc: Global, text: &str) -> Result<Rule, Fail> {
-    Ok(read_rule(alloc, &read_tree(alloc, text.as_bytes(), 1000)?)?)
+/// The rule of a text, none where it is refused.
+pub(crate) fn rule(alloc: Global, text: &str) -> Option<Rule> {
+    match read_tree(alloc, text.as_bytes(), 1000) {
+        Ok(tree) => read_rule(alloc, &tree).ok(),
+        Err(_) => None,
+    }
 }
 
 /// The names of a text, with spaces between them.
@@ -45,35 +49,41 @@ pub(crate) fn names(alloc: Global, text: &str) -> Result<Vec<String>, AllocError
     Ok(names)
 }
 
-/// The inputs of the one page of a book, or none.
-pub(crate) fn exposure(alloc: Global, book: &str) -> Result<Exposure, Fail> {
-    let page = Page {
-        flag: String::from_str(alloc, "color")?,
+/// The page of the flag's site.
+fn page(alloc: Global) -> Result<Page, AllocError> {
+    let flag = String::from_str(alloc, "color")?;
+    let by = String::from_str(alloc, "{\"var\":[\"key\"]}")?;
+    Ok(Page {
+        flag,
         site: 0,
-        by: Some(String::from_str(alloc, "{\"var\":[\"key\"]}")?),
-    };
-    Ok(read_book(alloc, book.as_bytes())?.exposure(alloc, &page)?)
+        by: Some(by),
+    })
+}
+
+/// The inputs of the one page of a book, or none.
+pub(crate) fn exposure(alloc: Global, book: &str) -> Option<Exposure> {
+    match read_book(alloc, book.as_bytes()) {
+        Ok(book) => book.exposure(alloc, &page(alloc).ok()?).ok(),
+        Err(_) => None,
+    }
 }
 
 /// The book of the seven inputs.
-pub(crate) fn book(alloc: Global) -> Result<Book, Fail> {
-    Ok(read_book(alloc, BOOK.as_bytes())?)
+pub(crate) fn book(alloc: Global) -> Result<Book, BookFileFault> {
+    read_book(alloc, BOOK.as_bytes())
 }
 
 /// The flag `color` with these buckets.
-pub(crate) fn color(alloc: Global, buckets: &str) -> Result<Flags, Fail> {
+pub(crate) fn color(alloc: Global, buckets: &str) -> Option<Flags> {
     flag(alloc, r#""red":"r","blue":"b","green":"g""#, "red", buckets)
 }
 
 /// A flag `color` with these variants, this default variant and these buckets.
-pub(crate) fn flag(
-    alloc: Global,
-    variants: &str,
-    first: &str,
-    buckets: &str,
-) -> Result<Flags, Fail> {
-    let text = format!(in alloc;
+pub(crate) fn flag(alloc: Global, variants: &str, first: &str, buckets: &str) -> Option<Flags> {
+    match format!(in alloc;
         "{{\"flags\":{{\"color\":{{\"state\":\"ENABLED\",\"variants\":{{{variants}}},\"defaultVariant\":\"{first}\",\"targeting\":{{\"fractional\":[{{\"var\":\"key\"}},{buckets}]}}}}}}}}"
-    )?;
-    Ok(read_flags(alloc, text.as_bytes())?)
+    ) {
+        Ok(text) => read_flags(alloc, text.as_bytes()).ok(),
+        Err(AllocError) => None,
+    }
 }

@@ -2,12 +2,16 @@
 use crate::given::{FREE, parts};
 use rollout::{PlanFileFault, print_planned, read_planned};
 use std::alloc::Global;
-use std::test::Fail;
 
 /// Whether what is printed of what is read is this.
-fn prints(alloc: Global, text: &str, want: &str) -> Result<bool, PlanFileFault> {
-    let planned = read_planned(alloc, text.as_bytes())?;
-    Ok(print_planned(alloc, &planned)?.as_slice() == want.as_bytes())
+fn prints(alloc: Global, text: &str, want: &str) -> bool {
+    match read_planned(alloc, text.as_bytes()) {
+        Ok(planned) => match print_planned(alloc, &planned) {
+            Ok(bytes) => bytes.as_slice() == want.as_bytes(),
+            Err(_) => false,
+        },
+        Err(_) => false,
+    }
 }
 
 const READ: &str =
@@ -17,13 +21,12 @@ const READ: &str =
 {"none":["green"],"plan":2,"side":"under"} -> {"none":["green"],"plan":2,"side":"under"}"#;
 
 #[test]
-fn prints_what_it_read(rt: HostRuntime) -> Result<(), Fail> {
-    assert!(rt; prints(rt.alloc(), FREE, FREE)?);
+fn prints_what_it_read(rt: HostRuntime) {
+    assert!(rt; prints(rt.alloc(), FREE, FREE));
     for row in READ.lines() {
-        let (text, want) = parts(row)?;
-        assert!(rt; prints(rt.alloc(), text, want)?, "{row}");
+        let (text, want) = parts(row);
+        assert!(rt; prints(rt.alloc(), text, want), "{row}");
     }
-    Ok(())
 }
 
 /// Whether a text is refused as no plan.

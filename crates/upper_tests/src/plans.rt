@@ -1,9 +1,11 @@
 //! What is planned.
-use crate::given::{BOOK, FIVES, book, color, flag, pair, parts};
-use book_core::{Book, read_book};
+ghost use Rattle.std.specs.Prelude.{◌<◌};
+
+use crate::given::{FIVES, book, color, flag, pair, parts};
+use book_core::Book;
 use flag_defs::Flags;
 use rollout::{Planned, plan, plan_refined, print_planned, verify, verify_refined};
-use std::alloc::Global;
+use std::alloc::{AllocError, Global};
 use std::test::Fail;
 use std::thread::Threads;
 
@@ -15,10 +17,18 @@ fn shows(
     book: &Book,
     request: &str,
     want: &str,
-) -> Result<bool, Fail> {
-    let planned = plan(rt, alloc, flags, request.as_bytes(), book)?;
-    verify(rt, alloc, flags, request.as_bytes(), book, &planned)?;
-    Ok(has(print_planned(alloc, &planned)?.as_slice(), want))
+) -> bool {
+    let request = request.as_bytes();
+    match plan(rt, alloc, flags, request, book) {
+        Ok(planned) => match print_planned(alloc, &planned) {
+            Ok(text) => {
+                verify(rt, alloc, flags, request, book, &planned).is_ok()
+                    && has(text.as_slice(), want)
+            }
+            Err(_) => false,
+        },
+        Err(_) => false,
+    }
 }
 
 /// Whether a plan file has a text.
@@ -29,39 +39,32 @@ fn has(bytes: &[u8], want: &str) -> bool {
     }
 }
 
-/// Whether what is planned on a row's buckets for its request has the row's text, or the other one where there are two.
-fn is_planned(
+/// Whether what is planned has this text, or one of the two.
+fn shows_either(
     rt: &(impl Threads + Sync),
     alloc: Global,
-    row: &str,
+    flags: &Flags,
     book: &Book,
-) -> Result<bool, Fail> {
-    let (given, want) = parts(row)?;
-    let (buckets, request) = pair(given)?;
-    let flags = color(alloc, buckets)?;
+    request: &str,
+    want: &str,
+) -> bool {
     match want.split_once(" or ") {
-        Some((one, other)) => Ok(
-            shows(rt, alloc, &flags, book, request, one)?
-                || shows(rt, alloc, &flags, book, request, other)?,
-        ),
-        None => shows(rt, alloc, &flags, book, request, want),
+        Some((one, other)) => {
+            shows(rt, alloc, flags, book, request, one)
+                || shows(rt, alloc, flags, book, request, other)
+        }
+        None => shows(rt, alloc, flags, book, request, want),
     }
 }
 
-/// Whether each row is planned so with a book of this text.
-fn are_planned(
-    rt: &(impl Threads + Sync),
-    alloc: Global,
-    rows: &str,
-    book: &str,
-) -> Result<bool, Fail> {
-    let book = read_book(alloc, book.as_bytes())?;
-    for row in rows.lines() {
-        if !is_planned(rt, alloc, row, &book)? {
-            return Ok(false);
-        }
+/// Whether what is planned on a row's buckets for its request has the row's text.
+fn is_planned(rt: &(impl Threads + Sync), alloc: Global, row: &str, book: &Book) -> bool {
+    let (given, want) = parts(row);
+    let (buckets, request) = pair(given);
+    match color(alloc, buckets) {
+        Some(flags) => shows_either(rt, alloc, &flags, book, request, want),
+        None => false,
     }
-    Ok(true)
 }
 
 const PLANS: &str =
@@ -78,7 +81,10 @@ const PLANS: &str =
 
 #[test]
 fn cheapest_rules(rt: HostRuntime) -> Result<(), Fail> {
-    assert!(rt; are_planned(&rt, rt.alloc(), PLANS, BOOK)?);
+    let book = book(rt.alloc())?;
+    for row in PLANS.lines() {
+        assert!(rt; is_planned(&rt, rt.alloc(), row, &book), "{row}");
+    }
     Ok(())
 }
 
@@ -95,87 +101,144 @@ const UNSEEN: &str =
 #[test]
 fn no_rules(rt: HostRuntime) -> Result<(), Fail> {
     let alloc = rt.alloc();
-    assert!(rt;
-        are_planned(&rt, alloc, CUTS, BOOK)? && are_planned(&rt, alloc, UNSEEN, "{\"book\":1}\n")?
-    );
+    let book = book(alloc)?;
+    for row in CUTS.lines() {
+        assert!(rt; is_planned(&rt, alloc, row, &book), "{row}");
+    }
+    assert!(rt; is_planned(&rt, alloc, UNSEEN, &Book::new(alloc)));
     Ok(())
 }
 
-/// Whether a request on the site's rule refined by m has this answer, which is verified; a rule also without the refinement.
+/// Whether a plan on the rule refined by m is verified, by its own rule too where it has one.
+fn is_verified(
+    rt: &(impl Threads + Sync),
+    alloc: Global,
+    flags: &Flags,
+    book: &Book,
+    request: &[u8],
+    planned: &Planned,
+    m: u32,
+) -> bool
+    requires { 0 < m }
+{
+    let is_rule = matches!(planned, Planned::Emit(_, _));
+    verify_refined(rt, alloc, flags, request, book, planned, m).is_ok()
+        && (!is_rule || verify(rt, alloc, flags, request, book, planned).is_ok())
+}
+
+/// Whether a request on the flags' rule refined by m has this answer, which is verified; a rule also without the refinement.
+fn shows_refined(
+    rt: &(impl Threads + Sync),
+    alloc: Global,
+    flags: &Flags,
+    book: &Book,
+    request: &[u8],
+    m: u32,
+    want: &str,
+) -> bool
+    requires { 0 < m }
+{
+    match plan_refined(rt, alloc, flags, request, book, m) {
+        Ok(planned) => match print_planned(alloc, &planned) {
+            Ok(text) => {
+                is_verified(rt, alloc, flags, book, request, &planned, m)
+                    && has(text.as_slice(), want)
+            }
+            Err(_) => false,
+        },
+        Err(_) => false,
+    }
+}
+
+/// The same on the site's rule and its book.
 fn is_refined(
     rt: &(impl Threads + Sync),
     alloc: Global,
     request: &str,
     m: u32,
     want: &str,
-) -> Result<bool, Fail> {
+) -> bool {
     if m == 0 {
-        return Err("refined by 0".into());
+        return false;
     }
-    let flags = color(alloc, FIVES)?;
-    let book = book(alloc)?;
-    let planned = plan_refined(rt, alloc, &flags, request.as_bytes(), &book, m)?;
-    verify_refined(rt, alloc, &flags, request.as_bytes(), &book, &planned, m)?;
-    if let Planned::Emit(_, _) = planned {
-        verify(rt, alloc, &flags, request.as_bytes(), &book, &planned)?;
+    match color(alloc, FIVES) {
+        Some(flags) => match book(alloc) {
+            Ok(book) => shows_refined(rt, alloc, &flags, &book, request.as_bytes(), m, want),
+            Err(_) => false,
+        },
+        None => false,
     }
-    Ok(has(print_planned(alloc, &planned)?.as_slice(), want))
 }
 
+/// A request, the factor and a text of the answer.
+const REFINED: &[(&str, u32, &str)] = &[
+    (
+        r#"{"plan":1,"flag":"color","totals":{"red":23,"blue":27}}"#,
+        5,
+        r#""cost":0,"plan":1,"rule":["#,
+    ),
+    (
+        r#"{"plan":1,"flag":"color","totals":{"red":15,"blue":5,"green":30},"forbid":[["red","green"]]}"#,
+        5,
+        r#"{"none":["red"],"plan":1}"#,
+    ),
+    (
+        r#"{"plan":1,"flag":"color","totals":{"red":3,"blue":1,"green":6},"forbid":[["red","green"]]}"#,
+        1,
+        r#"{"none":["red"],"plan":1}"#,
+    ),
+];
+
 #[test]
-fn refined_rules(rt: HostRuntime) -> Result<(), Fail> {
-    for (request, m, want) in [
-        (
-            r#"{"plan":1,"flag":"color","totals":{"red":23,"blue":27}}"#,
-            5,
-            r#""cost":0,"plan":1,"rule":["#,
-        ),
-        (
-            r#"{"plan":1,"flag":"color","totals":{"red":15,"blue":5,"green":30},"forbid":[["red","green"]]}"#,
-            5,
-            r#"{"none":["red"],"plan":1}"#,
-        ),
-        (
-            r#"{"plan":1,"flag":"color","totals":{"red":3,"blue":1,"green":6},"forbid":[["red","green"]]}"#,
-            1,
-            r#"{"none":["red"],"plan":1}"#,
-        ),
-    ] {
+fn refined_rules(rt: HostRuntime) {
+    for (request, m, want) in REFINED {
         assert!(rt;
-            is_refined(&rt, rt.alloc(), request, m, want)?,
+            is_refined(&rt, rt.alloc(), request, *m, want),
             "of {m} at {request:?}"
         );
     }
+}
+
+/// Adds a text in which this number stands for `NAME`, behind a comma where it is not the first.
+fn add(alloc: Global, texts: &mut String, number: u32, text: &str) -> Result<(), AllocError> {
+    let name = format!(in alloc; "{number}")?;
+    let named = text.replace(alloc, "NAME", name.as_str())?;
+    if number > 0 {
+        texts.push_str(",")?;
+    }
+    texts.push_str(named.as_str())?;
     Ok(())
 }
 
 /// The text of each number below this end, with commas between them.
-fn each_below(alloc: Global, end: u32, text: &str) -> Result<String, Fail> {
+fn each_below(alloc: Global, end: u32, text: &str) -> Result<String, AllocError> {
     let mut texts = String::new(alloc);
-    for i in 0..end {
-        if i > 0 {
-            texts.push_str(",")?;
-        }
-        let name = format!(in alloc; "{i}")?;
-        texts.push_str(text.replace(alloc, "NAME", name.as_str())?.as_str())?;
+    for number in 0..end {
+        add(alloc, &mut texts, number, text)?;
     }
     Ok(texts)
 }
 
-/// Whether a rule of one name, which has all points, is shared among this many at this cost.
+/// The flag of so many variants, the first of which has all points.
+fn one_of_many(alloc: Global, names: u32, points: u32) -> Option<Flags> {
+    let variants = each_below(alloc, names, r#""NAME":"vNAME""#).ok()?;
+    let buckets = format!(in alloc; "[\"0\",{points}]").ok()?;
+    flag(alloc, variants.as_str(), "0", buckets.as_str())
+}
+
+/// Whether these totals of the flags have this answer.
 fn is_shared(
     rt: &(impl Threads + Sync),
     alloc: Global,
-    names: u32,
-    points: u32,
+    flags: &Flags,
+    book: &Book,
     totals: &str,
     want: &str,
-) -> Result<bool, Fail> {
-    let variants = each_below(alloc, names, r#""NAME":"vNAME""#)?;
-    let buckets = format!(in alloc; "[\"0\",{points}]")?;
-    let request = format!(in alloc; "{{\"plan\":1,\"flag\":\"color\",\"totals\":{{{totals}}}}}")?;
-    let flags = flag(alloc, variants.as_str(), "0", buckets.as_str())?;
-    shows(rt, alloc, &flags, &book(alloc)?, request.as_str(), want)
+) -> bool {
+    match format!(in alloc; "{{\"plan\":1,\"flag\":\"color\",\"totals\":{{{totals}}}}}") {
+        Ok(request) => shows(rt, alloc, flags, book, request.as_str(), want),
+        Err(AllocError) => false,
+    }
 }
 
 // The points that stay are those with the most inputs, of seven inputs on five points of 4 names, one of which may keep 4 of 10,
@@ -183,10 +246,13 @@ fn is_shared(
 #[test]
 fn many_names(rt: HostRuntime) -> Result<(), Fail> {
     let alloc = rt.alloc();
+    let book = book(alloc)?;
+    let four = one_of_many(alloc, 4, 10).ok_or("no flags")?;
     let totals = r#""0":4,"1":2,"2":2,"3":2"#;
-    assert!(rt; is_shared(&rt, alloc, 4, 10, totals, r#""cost":1,"#)?);
+    assert!(rt; is_shared(&rt, alloc, &four, &book, totals, r#""cost":1,"#));
+    let many = one_of_many(alloc, 64, 64).ok_or("no flags")?;
     let totals = each_below(alloc, 64, r#""NAME":1"#)?;
-    assert!(rt; is_shared(&rt, alloc, 64, 64, totals.as_str(), r#""cost":6,"#)?);
+    assert!(rt; is_shared(&rt, alloc, &many, &book, totals.as_str(), r#""cost":6,"#));
     Ok(())
 }
 
@@ -198,35 +264,30 @@ fn is_decided(
     book: &Book,
     red: u32,
     green: u32,
-) -> Result<bool, Fail> {
+) -> bool {
     let blue = 10u32.saturating_sub(red).saturating_sub(green);
-    let request = format!(in alloc;
-        "{{\"plan\":1,\"flag\":\"color\",\"totals\":{{\"red\":{red},\"blue\":{blue},\"green\":{green}}},\"forbid\":[[\"red\",\"green\"]]}}"
-    )?;
     let want = if green <= 5 { "\"rule\"" } else { "\"none\"" };
-    shows(rt, alloc, flags, book, request.as_str(), want)
-}
-
-/// Whether all totals of ten points are decided so.
-fn are_decided(
-    rt: &(impl Threads + Sync),
-    alloc: Global,
-    flags: &Flags,
-    book: &Book,
-) -> Result<bool, Fail> {
-    for code in 0u32..121 {
-        let (red, green) = (code / 11, code % 11);
-        if red + green <= 10 && !is_decided(rt, alloc, flags, book, red, green)? {
-            return Ok(false);
-        }
+    match format!(in alloc;
+        "{{\"plan\":1,\"flag\":\"color\",\"totals\":{{\"red\":{red},\"blue\":{blue},\"green\":{green}}},\"forbid\":[[\"red\",\"green\"]]}}"
+    ) {
+        Ok(request) => shows(rt, alloc, flags, book, request.as_str(), want),
+        Err(AllocError) => false,
     }
-    Ok(true)
 }
 
 #[test]
 fn all_totals(rt: HostRuntime) -> Result<(), Fail> {
     let alloc = rt.alloc();
-    let flags = color(alloc, FIVES)?;
-    assert!(rt; are_decided(&rt, alloc, &flags, &book(alloc)?)?);
+    let book = book(alloc)?;
+    let flags = color(alloc, FIVES).ok_or("no flags")?;
+    for code in 0u32..121 {
+        let (red, green) = (code / 11, code % 11);
+        if red + green <= 10 {
+            assert!(rt;
+                is_decided(&rt, alloc, &flags, &book, red, green),
+                "red {red}, green {green}"
+            );
+        }
+    }
     Ok(())
 }

@@ -3,8 +3,7 @@ use crate::given::{OLD, exposure, names, rule};
 use book_core::Exposure;
 use bucket_core::Rule;
 use price_core::{Request, Totals};
-use std::alloc::Global;
-use std::test::Fail;
+use std::alloc::{AllocError, Global};
 use transport_core::{CheckFault, Instance};
 
 /// A rule, a request with the totals that it asks, and the recorded inputs.
@@ -17,9 +16,14 @@ pub(crate) struct Problem {
 }
 
 /// A request on red 5, blue 5, where the variants are blue, green and red, with the inputs of a book.
-pub(crate) fn posed(alloc: Global, request: &str, book: &str) -> Result<Problem, Fail> {
-    let inputs = exposure(alloc, book)?;
-    posed_on(alloc, OLD, request, "blue green red", inputs)
+pub(crate) fn posed(alloc: Global, request: &str, book: &str) -> Option<Problem> {
+    posed_on(
+        alloc,
+        OLD,
+        request,
+        "blue green red",
+        exposure(alloc, book)?,
+    )
 }
 
 /// A request on a rule, where these are the variants, with these inputs.
@@ -29,10 +33,11 @@ pub(crate) fn posed_on(
     request: &str,
     variants: &str,
     inputs: Exposure,
-) -> Result<Problem, Fail> {
+) -> Option<Problem> {
     let old = rule(alloc, old)?;
-    let (request, totals) = asked(alloc, request, variants)?;
-    Ok(Problem {
+    let request = Request::read(alloc, request.as_bytes()).ok()?;
+    let totals = asked(alloc, &request, variants)?;
+    Some(Problem {
         old,
         request,
         totals,
@@ -40,15 +45,16 @@ pub(crate) fn posed_on(
     })
 }
 
-/// A request, and the totals that it asks of the variants.
-fn asked(alloc: Global, request: &str, variants: &str) -> Result<(Request, Totals), Fail> {
-    let request = Request::read(alloc, request.as_bytes())?;
-    let totals = request.totals(alloc, names(alloc, variants)?.as_slice())?;
-    Ok((request, totals))
+/// The totals that a request asks of the variants.
+fn asked(alloc: Global, request: &Request, variants: &str) -> Option<Totals> {
+    match names(alloc, variants) {
+        Ok(names) => request.totals(alloc, names.as_slice()).ok(),
+        Err(AllocError) => None,
+    }
 }
 
-/// Its instance; nothing where the totals make none.
-pub(crate) fn instance(alloc: Global, posed: &Problem) -> Result<Option<Instance<'_>>, Fail> {
+/// Its instance, or the fault; that of the totals where they make none.
+pub(crate) fn instance(alloc: Global, posed: &Problem) -> Result<Instance<'_>, CheckFault> {
     let Problem {
         old,
         request,
@@ -56,14 +62,10 @@ pub(crate) fn instance(alloc: Global, posed: &Problem) -> Result<Option<Instance
         inputs,
     } = posed;
     if old.total() > 1_000_000 || totals.entries().len() > 64 {
-        return Err("too large".into());
+        return Err(CheckFault::Weight);
     }
     if !Instance::lists(old, totals) {
-        return Err("a name without limits".into());
+        return Err(CheckFault::Weight);
     }
-    match Instance::make(alloc, old, totals, request.prices(), inputs) {
-        Ok(instance) => Ok(Some(instance)),
-        Err(CheckFault::Totals) => Ok(None),
-        Err(fault) => Err(fault.into()),
-    }
+    Instance::make(alloc, old, totals, request.prices(), inputs)
 }

@@ -6,44 +6,57 @@ use bucket_core::Rule;
 use price_core::{Limit, Prices};
 use std::alloc::{AllocError, Global};
 use std::test::Fail;
-use transport_core::{Cut, CutKind};
+use transport_core::{CheckFault, Cut, CutKind};
 use transport_plan::{Solved, solve_uncounted};
 
-/// The kind and the names of a cut.
-fn names_of(alloc: Global, cut: &Cut) -> Result<String, AllocError> {
+/// Whether a cut has this kind and these names, with blanks between.
+fn is_cut(cut: &Cut, want: &str) -> bool {
+    let mut words = want.split(' ');
     let kind = match cut.kind {
         CutKind::Over => "over",
         CutKind::Under => "under",
     };
-    let mut text = String::from_str(alloc, kind)?;
+    if words.next() != Some(kind) {
+        return false;
+    }
     for name in &cut.names {
-        text.push_str(" ")?;
-        text.push_str(name.as_str())?;
+        if words.next() != Some(name.as_str()) {
+            return false;
+        }
     }
-    Ok(text)
+    words.next().is_none()
 }
 
-/// What the planner answers, in words: the cost of the plan, or the kind and the names of the cut.
-fn in_words(alloc: Global, solved: &Solved) -> Result<String, AllocError> {
+/// Whether the planner's answer is this: `cost` and the number, or the kind and the names of the cut.
+fn is_solved(solved: &Solved, want: &str) -> bool {
     match solved {
-        Solved::Plan(_, certificate) => format!(in alloc; "cost {}", certificate.cost),
-        Solved::None(cut) => names_of(alloc, cut),
+        Solved::Plan(_, certificate) => match want.split_once(' ') {
+            Some((word, number)) => {
+                word == "cost" && number.parse::<u64>() == Ok(certificate.cost)
+            }
+            None => false,
+        },
+        Solved::None(cut) => is_cut(cut, want),
     }
 }
 
-/// What the planner answers to a request, in words.
-fn answer(alloc: Global, posed: &Problem) -> Result<String, Fail> {
-    match instance(alloc, posed)? {
-        Some(instance) => Ok(in_words(alloc, &solve_uncounted(alloc, &instance)?)?),
-        None => Ok(String::from_str(alloc, "no instance")?),
+/// Whether the planner answers so to a problem.
+fn is_answer(alloc: Global, posed: &Problem, want: &str) -> bool {
+    match instance(alloc, posed) {
+        Ok(instance) => match solve_uncounted(alloc, &instance) {
+            Ok(solved) => is_solved(&solved, want),
+            Err(_) => false,
+        },
+        Err(_) => false,
     }
 }
 
-/// Whether a row's request is answered as the row says, for the inputs of a book.
-fn is_answered(alloc: Global, row: &str, book: &str) -> Result<bool, Fail> {
-    let (request, want) = parts(row)?;
-    let posed = posed(alloc, request, book)?;
-    Ok(answer(alloc, &posed)?.as_str() == want)
+/// Whether a request is answered so, for the inputs of a book.
+fn is_answered(alloc: Global, request: &str, book: &str, want: &str) -> bool {
+    match posed(alloc, request, book) {
+        Some(posed) => is_answer(alloc, &posed, want),
+        None => false,
+    }
 }
 
 const ANSWERS: &str = r#"{"plan":1,"flag":"color","totals":{"red":3,"blue":7}} -> cost 0
@@ -56,15 +69,15 @@ const ANSWERS: &str = r#"{"plan":1,"flag":"color","totals":{"red":3,"blue":7}} -
 
 /// Points without inputs count as all others do.
 const UNSEEN: &str =
-    r#"{"plan":1,"flag":"color","totals":{"red":3,"blue":1,"green":6},"forbid":[["red","green"]]} -> over red"#;
+    r#"{"plan":1,"flag":"color","totals":{"red":3,"blue":1,"green":6},"forbid":[["red","green"]]}"#;
 
 #[test]
-fn plans_and_cuts(rt: HostRuntime) -> Result<(), Fail> {
+fn plans_and_cuts(rt: HostRuntime) {
     for row in ANSWERS.lines() {
-        assert!(rt; is_answered(rt.alloc(), row, BOOK)?, "{row}");
+        let (request, want) = parts(row);
+        assert!(rt; is_answered(rt.alloc(), request, BOOK, want), "{row}");
     }
-    assert!(rt; is_answered(rt.alloc(), UNSEEN, "{\"book\":1}\n")?);
-    Ok(())
+    assert!(rt; is_answered(rt.alloc(), UNSEEN, "{\"book\":1}\n", "over red"));
 }
 
 /// Numbers that look random, always the same.
@@ -103,43 +116,89 @@ fn drawn_rule(alloc: Global, draws: &mut Draws, width: u64) -> Result<String, Al
     format!(in alloc; "[[\"a\",1]{second}{third}{fourth}]")
 }
 
+/// Adds an item, behind a comma where it is not the first.
+fn add(text: &mut String, item: &str) -> Result<(), AllocError> {
+    if !text.is_empty() {
+        text.push_str(",")?;
+    }
+    text.push_str(item)?;
+    Ok(())
+}
+
+/// A range of totals of a letter.
+fn draw_total(
+    alloc: Global,
+    draws: &mut Draws,
+    letter: &str,
+    totals: &mut String,
+) -> Result<(), AllocError> {
+    let low = draws.below(3).min(2);
+    let high = low + draws.below(4).min(3);
+    let item = format!(in alloc; "\"{letter}\":[{low},{high}]")?;
+    add(totals, item.as_str())
+}
+
+/// The price of a change, which is forbidden once in four times.
+fn draw_change(
+    alloc: Global,
+    draws: &mut Draws,
+    change: (&str, &str),
+    prices: &mut String,
+    forbid: &mut String,
+) -> Result<(), AllocError> {
+    let (letter, other) = change;
+    let price = draws.below(5);
+    let priced = format!(in alloc; "[\"{letter}\",\"{other}\",{price}]")?;
+    add(prices, priced.as_str())?;
+    if draws.below(4) == 0 {
+        let forbidden = format!(in alloc; "[\"{letter}\",\"{other}\"]")?;
+        add(forbid, forbidden.as_str())?;
+    }
+    Ok(())
+}
+
+/// The prices of the changes from a letter to each other one of the first.
+fn draw_changes(
+    alloc: Global,
+    draws: &mut Draws,
+    letter: &str,
+    width: u64,
+    prices: &mut String,
+    forbid: &mut String,
+) -> Result<(), AllocError> {
+    for other in LETTERS.iter().take(width as usize) {
+        if *other != letter {
+            draw_change(alloc, draws, (letter, other), prices, forbid)?;
+        }
+    }
+    Ok(())
+}
+
 /// Ranges of totals for the first of the letters, prices and prohibitions.
 fn drawn_request(alloc: Global, draws: &mut Draws, width: u64) -> Result<String, AllocError> {
     let mut totals = String::new(alloc);
     let mut prices = String::new(alloc);
     let mut forbid = String::new(alloc);
     for letter in LETTERS.iter().take(width as usize) {
-        let low = draws.below(3).min(2);
-        let high = low + draws.below(4).min(3);
-        comma(&mut totals)?;
-        totals.push_str(format!(in alloc; "\"{letter}\":[{low},{high}]")?.as_str())?;
-        for other in LETTERS.iter().take(width as usize) {
-            if other == letter {
-                continue;
-            }
-            let price = draws.below(5);
-            comma(&mut prices)?;
-            prices.push_str(format!(in alloc; "[\"{letter}\",\"{other}\",{price}]")?.as_str())?;
-            if draws.below(4) == 0 {
-                comma(&mut forbid)?;
-                forbid.push_str(format!(in alloc; "[\"{letter}\",\"{other}\"]")?.as_str())?;
-            }
-        }
+        draw_total(alloc, draws, letter, &mut totals)?;
+        draw_changes(alloc, draws, letter, width, &mut prices, &mut forbid)?;
     }
     format!(in alloc;
         "{{\"plan\":2,\"flag\":\"f\",\"totals\":{{{totals}}},\"prices\":[{prices}],\"forbid\":[{forbid}]}}"
     )
 }
 
-fn comma(text: &mut String) -> Result<(), AllocError> {
-    if !text.is_empty() {
-        text.push_str(",")?;
+/// Notes an input that looks random.
+fn note(alloc: Global, draws: &mut Draws, book: &mut Book, page: &Page) -> bool {
+    let number = draws.below(1000);
+    match format!(in alloc; "user-{number}") {
+        Ok(input) => book.note(alloc, page, input.as_str()).is_ok(),
+        Err(AllocError) => false,
     }
-    Ok(())
 }
 
 /// Some inputs on one page, whatever its name.
-fn drawn_inputs(alloc: Global, draws: &mut Draws) -> Result<Exposure, Fail> {
+fn drawn_inputs(alloc: Global, draws: &mut Draws) -> Option<Exposure> {
     let page = Page {
         flag: String::new(alloc),
         site: 0,
@@ -147,10 +206,11 @@ fn drawn_inputs(alloc: Global, draws: &mut Draws) -> Result<Exposure, Fail> {
     };
     let mut book = Book::new(alloc);
     for _ in 0..draws.below(12) {
-        let number = draws.below(1000);
-        book.note(alloc, &page, format!(in alloc; "user-{number}")?.as_str())?;
+        if !note(alloc, draws, &mut book, &page) {
+            return None;
+        }
     }
-    Ok(book.exposure(alloc, &page)?)
+    book.exposure(alloc, &page).ok()
 }
 
 /// The least cost of all rules that fit, each of them tried, where there is one.
@@ -209,19 +269,21 @@ fn points(alloc: Global, rule: &Rule) -> Result<Vec<&str>, AllocError> {
     Ok(points)
 }
 
-/// The cost of a problem as the planner answers it, or that there is none.
-fn planned_cost(alloc: Global, posed: &Problem) -> Result<Option<u64>, Fail> {
-    match instance(alloc, posed)? {
-        Some(instance) => match solve_uncounted(alloc, &instance)? {
-            Solved::Plan(_, certificate) => Ok(Some(certificate.cost)),
-            Solved::None(_) => Ok(None),
+/// Whether the planner answers to a problem with this cost, or that there is no rule.
+fn is_cost(alloc: Global, posed: &Problem, want: Option<u64>) -> bool {
+    match instance(alloc, posed) {
+        Ok(instance) => match solve_uncounted(alloc, &instance) {
+            Ok(Solved::Plan(_, certificate)) => want == Some(certificate.cost),
+            Ok(Solved::None(_)) => want.is_none(),
+            Err(_) => false,
         },
-        None => Ok(None),
+        Err(CheckFault::Totals) => want.is_none(),
+        Err(_) => false,
     }
 }
 
 /// The cost of the cheapest of all rules that fit a problem, or that there is none.
-fn least_cost(alloc: Global, posed: &Problem) -> Result<Option<u64>, Fail> {
+fn least_cost(alloc: Global, posed: &Problem) -> Result<Option<u64>, AllocError> {
     let olds = points(alloc, &posed.old)?;
     let counts = counts(alloc, &posed.inputs, posed.old.total())?;
     let limits = posed.totals.entries();
@@ -234,28 +296,35 @@ fn least_cost(alloc: Global, posed: &Problem) -> Result<Option<u64>, Fail> {
 }
 
 /// A problem of two to four names.
-fn drawn(alloc: Global, draws: &mut Draws) -> Result<Problem, Fail> {
+fn drawn(alloc: Global, draws: &mut Draws) -> Option<Problem> {
     let width = 2 + draws.below(3).min(2);
     let variants = match width {
         2 => "a b",
         3 => "a b c",
         _ => "a b c d",
     };
-    let old = drawn_rule(alloc, draws, width)?;
+    let old = drawn_rule(alloc, draws, width).ok()?;
     let inputs = drawn_inputs(alloc, draws)?;
-    let request = drawn_request(alloc, draws, width)?;
+    let request = drawn_request(alloc, draws, width).ok()?;
     posed_on(alloc, old.as_str(), request.as_str(), variants, inputs)
+}
+
+/// Whether the planner answers with the least cost of all rules; whether there is one.
+fn is_planned(alloc: Global, posed: &Problem) -> Result<bool, Fail> {
+    let least = least_cost(alloc, posed)?;
+    if !is_cost(alloc, posed, least) {
+        return Err("another cost".into());
+    }
+    Ok(least.is_some())
 }
 
 #[test]
 fn against_all_rules(rt: HostRuntime) -> Result<(), Fail> {
     let mut draws = Draws(12345);
     let mut plans = 0u32;
-    for round in 0..300 {
-        let posed = drawn(rt.alloc(), &mut draws)?;
-        let cost = planned_cost(rt.alloc(), &posed)?;
-        assert!(rt; cost == least_cost(rt.alloc(), &posed)?, "round {round}");
-        if cost.is_some() {
+    for _ in 0..300 {
+        let posed = drawn(rt.alloc(), &mut draws).ok_or("no problem")?;
+        if is_planned(rt.alloc(), &posed)? {
             plans = plans.saturating_add(1);
         }
     }

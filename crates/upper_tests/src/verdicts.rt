@@ -1,41 +1,68 @@
 //! What is told of answers.
 use crate::given::{FREE, book, color, pair, parts};
+use book_core::Book;
 use flag_defs::Flags;
-use rollout::{VerifyFault, read_planned, verify, verify_refined};
-use std::alloc::Global;
+use rollout::{Planned, VerifyFault, read_planned, verify, verify_refined};
+use std::alloc::{AllocError, Global};
 use std::test::Fail;
 use std::thread::Threads;
 
-/// What is told of a plan file, with the site's rule refined by m where it is above 0.
+/// What is told of a plan, with the site's rule refined by m where it is above 0.
 fn told(
     rt: &(impl Threads + Sync),
     alloc: Global,
     flags: &Flags,
-    request: &str,
-    plan: &str,
+    book: &Book,
+    request: &[u8],
+    planned: &Planned,
     m: u32,
-) -> Result<Option<VerifyFault>, Fail> {
-    let book = book(alloc)?;
-    let planned = read_planned(alloc, plan.as_bytes())?;
-    let answer = if m > 0 {
-        verify_refined(rt, alloc, flags, request.as_bytes(), &book, &planned, m)
+) -> Result<(), VerifyFault> {
+    if m > 0 {
+        verify_refined(rt, alloc, flags, request, book, planned, m)
     } else {
-        verify(rt, alloc, flags, request.as_bytes(), &book, &planned)
-    };
-    Ok(answer.err())
+        verify(rt, alloc, flags, request, book, planned)
+    }
+}
+
+/// Whether a verdict is this, by its number and name.
+fn is_verdict(verdict: &Result<(), VerifyFault>, want: &str) -> bool {
+    match (verdict, want.split_once(' ')) {
+        (Ok(()), _) => want == "0 valid",
+        (Err(fault), Some((number, name))) => {
+            number.parse::<u32>() == Ok(fault.number()) && name == fault.name()
+        }
+        (Err(_), None) => false,
+    }
+}
+
+/// Whether the plan of a text is told to be so for a request on these buckets.
+fn is_told_on(
+    rt: &(impl Threads + Sync),
+    alloc: Global,
+    flags: &Flags,
+    (request, plan): (&str, &str),
+    m: u32,
+    want: &str,
+) -> bool {
+    match read_planned(alloc, plan.as_bytes()) {
+        Ok(planned) => match book(alloc) {
+            Ok(book) => {
+                let verdict = told(rt, alloc, flags, &book, request.as_bytes(), &planned, m);
+                is_verdict(&verdict, want)
+            }
+            Err(_) => false,
+        },
+        Err(_) => false,
+    }
 }
 
 /// Whether a row's answer to its request on its buckets is told to be as the row says, by its number and name.
-fn is_told(rt: &(impl Threads + Sync), alloc: Global, row: &str, m: u32) -> Result<bool, Fail> {
-    let (given, want) = parts(row)?;
-    let (buckets, given) = pair(given)?;
-    let (request, plan) = pair(given)?;
-    let flags = color(alloc, buckets)?;
-    match told(rt, alloc, &flags, request, plan, m)? {
-        None => Ok(want == "0 valid"),
-        Some(fault) => Ok(
-            format!(in alloc; "{} {}", fault.number(), fault.name())?.as_str() == want,
-        ),
+fn is_told(rt: &(impl Threads + Sync), alloc: Global, row: &str, m: u32) -> bool {
+    let (given, want) = parts(row);
+    let (buckets, given) = pair(given);
+    match color(alloc, buckets) {
+        Some(flags) => is_told_on(rt, alloc, &flags, pair(given), m, want),
+        None => false,
     }
 }
 
@@ -51,25 +78,42 @@ const ANSWERS: &str =
 ["red",5],["blue",5] | {"plan":2,"flag":"color","totals":{"red":[1,2],"blue":[1,8],"green":[6,7]},"forbid":[["red","green"]]} | {"none":["green"],"plan":1} -> 7 NotDeficient"#;
 
 #[test]
-fn answers(rt: HostRuntime) -> Result<(), Fail> {
+fn answers(rt: HostRuntime) {
     for row in ANSWERS.lines() {
-        assert!(rt; is_told(&rt, rt.alloc(), row, 0)?, "{row}");
+        assert!(rt; is_told(&rt, rt.alloc(), row, 0), "{row}");
     }
-    Ok(())
+}
+
+/// Whether a plan for the totals red 3, blue 7 is refused in these words.
+fn is_refused_in_words(
+    rt: &(impl Threads + Sync),
+    alloc: Global,
+    book: &Book,
+    planned: &Planned,
+    want: &str,
+) -> bool {
+    let request = br#"{"plan":1,"flag":"color","totals":{"red":3,"blue":7}}"#;
+    match color(alloc, "[\"red\",5],[\"blue\",5]") {
+        Some(flags) => match told(rt, alloc, &flags, book, request, planned, 0) {
+            Ok(()) => false,
+            Err(fault) => match format!(in alloc; "{fault}") {
+                Ok(text) => text.as_str() == want,
+                Err(AllocError) => false,
+            },
+        },
+        None => false,
+    }
 }
 
 /// The plan, but red points without inputs are priced 1 above what it costs them to become blue.
 #[test]
 fn a_pair_above_its_cost(rt: HostRuntime) -> Result<(), Fail> {
     let alloc = rt.alloc();
-    let plan = FREE.replace(alloc, "[\"red\",0,0]", "[\"red\",0,1]")?;
-    let flags = color(alloc, "[\"red\",5],[\"blue\",5]")?;
-    let request = r#"{"plan":1,"flag":"color","totals":{"red":3,"blue":7}}"#;
-    let Some(fault) = told(&rt, alloc, &flags, request, plan.as_str(), 0)? else {
-        return Err("valid".into());
-    };
+    let book = book(alloc)?;
+    let text = FREE.replace(alloc, "[\"red\",0,0]", "[\"red\",0,1]")?;
+    let planned = read_planned(alloc, text.as_bytes())?;
     let want = "the prices of red with 0 inputs and of blue sum above the cost of the change";
-    assert!(rt; format!(in alloc; "{fault}")?.as_str() == want);
+    assert!(rt; is_refused_in_words(&rt, alloc, &book, &planned, want));
     Ok(())
 }
 
@@ -91,11 +135,10 @@ const REFUSED: &str = r#"["red",5],["blue",5] | { | {"none":["red"],"plan":1} ->
 ["red",500001],["blue",500000] | {"plan":1,"flag":"color","totals":{"red":500000,"blue":500001}} | {"none":["red"],"plan":1} -> 7 TotalTooLarge"#;
 
 #[test]
-fn refused_requests(rt: HostRuntime) -> Result<(), Fail> {
+fn refused_requests(rt: HostRuntime) {
     for row in REFUSED.lines() {
-        assert!(rt; is_told(&rt, rt.alloc(), row, 0)?, "{row}");
+        assert!(rt; is_told(&rt, rt.alloc(), row, 0), "{row}");
     }
-    Ok(())
 }
 
 const BY_0: &str =
@@ -119,18 +162,20 @@ const LARGE: &str =
 const LARGEST: &str =
     r#"["red",5],["blue",5] | {"plan":1,"flag":"color","totals":{"red":500005,"blue":500005}} | {"none":["red"],"plan":1} -> 6 TotalsSum"#;
 
+/// The factor, and the rows.
+const REFINED: &[(u32, &str)] = &[
+    (0, BY_0),
+    (1, BY_1),
+    (5, BY_5),
+    (100001, LARGE),
+    (4294967295, LARGEST),
+];
+
 #[test]
-fn refined(rt: HostRuntime) -> Result<(), Fail> {
-    for (m, rows) in [
-        (0, BY_0),
-        (1, BY_1),
-        (5, BY_5),
-        (100001, LARGE),
-        (4294967295, LARGEST),
-    ] {
+fn refined(rt: HostRuntime) {
+    for (m, rows) in REFINED {
         for row in rows.lines() {
-            assert!(rt; is_told(&rt, rt.alloc(), row, m)?, "of {m}: {row}");
+            assert!(rt; is_told(&rt, rt.alloc(), row, *m), "of {m}: {row}");
         }
     }
-    Ok(())
 }
