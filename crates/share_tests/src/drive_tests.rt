@@ -1,12 +1,12 @@
 //! Asks that workers answer through one book.
-ghost use Rattle.std.specs.Prelude.{◌≡◌, ◌<◌, ◌^◌, true, IfOk};
+ghost use Rattle.std.specs.Prelude.{◌≡◌, ◌<◌, ◌^◌, true, IfSome};
 ghost use Rattle.flag_text.specs.Shape.{is_whole};
 ghost use Rattle.flag_text.specs.View.{view};
 
 use book_core::print_book;
 use book_share::{Ask, DriveFault, Driven, Gate, OpenGate, drive};
 use flag_defs::{Flags, read_flags};
-use flag_resolve::{Code, Kind, Reason};
+use flag_resolve::{Code, Kind, Reason, Resolution};
 use flag_text::{Tree, read_tree};
 use std::alloc::{AllocError, Global};
 use std::sync::Wait;
@@ -40,35 +40,65 @@ const BOOK: &[u8] = b"{\"book\":1}
 \"test\"
 ";
 
-fn tree(alloc: Global, bytes: &[u8]) -> Result<Tree, Fail>
-    ensures { IfOk result (λ t. is_whole (view t) ≡ true) }
+/// The tree of a text, none where it is refused.
+fn tree(alloc: Global, bytes: &[u8]) -> Option<Tree>
+    ensures { IfSome result (λ t. is_whole (view t) ≡ true) }
 {
-    Ok(read_tree(alloc, bytes, 4_194_304)?)
+    match read_tree(alloc, bytes, 4_194_304) {
+        Ok(tree) => Some(tree),
+        Err(_) => None,
+    }
 }
 
-/// What is asked of `color` for a user of this key.
-fn ask(alloc: Global, key: &str) -> Result<Ask, Fail> {
-    let context = format!(in alloc; "{{\"key\":\"{key}\"}}")?;
-    let context = tree(alloc, context.as_bytes())?;
-    let default = tree(alloc, b"\"d\"")?;
-    Ok(Ask {
-        key: String::from_str(alloc, "color")?,
-        want: Kind::Text,
+/// What is asked of a flag, with this default and context.
+fn asked(alloc: Global, key: &str, want: Kind, default: &[u8], context: &[u8]) -> Option<Ask> {
+    let key = String::from_str(alloc, key).ok()?;
+    let default = tree(alloc, default)?;
+    let context = tree(alloc, context)?;
+    Some(Ask {
+        key,
+        want,
         default,
         context,
         moment: 0,
     })
 }
 
+/// What is asked of `color` for a user of this key.
+fn ask(alloc: Global, key: &str) -> Option<Ask> {
+    match format!(in alloc; "{{\"key\":\"{key}\"}}") {
+        Ok(context) => asked(alloc, "color", Kind::Text, b"\"d\"", context.as_bytes()),
+        Err(_) => None,
+    }
+}
+
+/// Flags, and what is asked of them.
+#[derive(Drop)]
+struct Posed {
+    flags: Flags,
+    asks: Vec<Ask>,
+}
+
+/// The flags of a document, and no asks.
+fn unasked(alloc: Global, document: &[u8]) -> Option<Posed> {
+    match read_flags(alloc, document) {
+        Ok(flags) => Some(Posed {
+            flags,
+            asks: Vec::new(alloc),
+        }),
+        Err(_) => None,
+    }
+}
+
 /// Three asks for each of the keys.
-fn asks(alloc: Global) -> Result<Vec<Ask>, Fail> {
-    let mut asks = Vec::new(alloc);
+fn posed_keys(alloc: Global) -> Option<Posed> {
+    let mut posed = unasked(alloc, FLAGS)?;
     for _ in 0..3 {
         for key in KEYS {
-            asks.push(ask(alloc, key)?)?;
+            posed.asks.push(ask(alloc, key)?).ok()?;
         }
     }
-    Ok(asks)
+    Some(posed)
 }
 
 /// Lets an ask start once its neighbour was answered, the one after or the one before.
@@ -150,58 +180,154 @@ fn driven<G: Gate, R: Threads + Wait + Sync>(
     drive(rt, alloc, flags, asks, workers, gate)
 }
 
-/// The answers and the book of the keys' asks.
-fn is_told(alloc: Global, driven: &Driven) -> Result<bool, Fail> {
-    let book = print_book(alloc, &driven.book)?;
-    Ok(
-        driven.answers.len() == 21
-            && driven.answers.iter().all(|answer| answer.reason == Reason::TargetingMatch
-                && answer.reached.len() == 1)
-            && book.as_slice() == BOOK
-            && driven.book.inputs() == 7
-            && driven.calls == 21
-            && driven.news == 7
-            && driven.full == 0
-            && driven.long == 0,
-    )
+type DrivenHolds = fn(Global, &Driven) -> bool;
+
+/// Whether the asks are all answered, and this holds of what comes of them.
+fn is_driven<G: Gate, R: Threads + Wait + Sync>(
+    rt: &R,
+    alloc: Global,
+    posed: &Posed,
+    workers: usize,
+    gate: &G,
+    holds: DrivenHolds,
+) -> bool
+    requires { DrivenHolds.IsAlwaysCallable holds }
+{
+    match driven(
+        rt,
+        alloc,
+        &posed.flags,
+        posed.asks.as_slice(),
+        workers,
+        gate,
+    ) {
+        Ok(driven) => holds(alloc, &driven),
+        Err(_) => false,
+    }
 }
 
-fn fault_of(driven: Result<Driven, DriveFault>) -> Option<DriveFault> {
-    match driven {
-        Ok(_) => None,
-        Err(fault) => Some(fault),
+/// Whether the asks are not answered, for this fault.
+fn is_refused<G: Gate, R: Threads + Wait + Sync>(
+    rt: &R,
+    alloc: Global,
+    posed: &Posed,
+    workers: usize,
+    gate: &G,
+    want: DriveFault,
+) -> bool {
+    match driven(
+        rt,
+        alloc,
+        &posed.flags,
+        posed.asks.as_slice(),
+        workers,
+        gate,
+    ) {
+        Ok(_) => false,
+        Err(fault) => fault == want,
     }
+}
+
+/// Whether the book has so many inputs, and so many notes were accepted, were new, were refused by a full page and were
+/// too long.
+fn has_counts(
+    driven: &Driven,
+    inputs: u128,
+    calls: u128,
+    news: u128,
+    full: u128,
+    long: u128,
+) -> bool {
+    driven.book.inputs() == inputs
+        && driven.calls == calls
+        && driven.news == news
+        && driven.full == full
+        && driven.long == long
+}
+
+/// Whether each answer is that of its targeting, which reached one site.
+fn are_matches(answers: &[Resolution]) -> bool {
+    for answer in answers {
+        if answer.reason != Reason::TargetingMatch || answer.reached.len() != 1 {
+            return false;
+        }
+    }
+    true
+}
+
+/// Whether the book is that of the keys' asks.
+fn is_printed(alloc: Global, driven: &Driven) -> bool {
+    match print_book(alloc, &driven.book) {
+        Ok(book) => book.as_slice() == BOOK,
+        Err(_) => false,
+    }
+}
+
+/// The answers and the book of the keys' asks.
+fn is_told(alloc: Global, driven: &Driven) -> bool {
+    driven.answers.len() == 21
+        && are_matches(driven.answers.as_slice())
+        && is_printed(alloc, driven)
+        && has_counts(driven, 7, 21, 7, 0, 0)
 }
 
 #[test]
 fn workers_share_a_book(rt: HostRuntime) -> Result<(), Fail> {
     let alloc = rt.alloc();
-    let flags = read_flags(alloc, FLAGS)?;
-    let asks = asks(alloc)?;
+    let posed = posed_keys(alloc).ok_or("no asks")?;
     for workers in [1, 2, 8] {
-        let told = driven(&rt, alloc, &flags, asks.as_slice(), workers, &OpenGate)?;
-        assert!(rt; is_told(alloc, &told)?, "{workers} workers");
+        assert!(rt;
+            is_driven(&rt, alloc, &posed, workers, &OpenGate, is_told),
+            "{workers} workers"
+        );
     }
-    for (workers, want) in [(0, DriveFault::NoWorkers), (65, DriveFault::TooManyWorkers)] {
-        let told = driven(&rt, alloc, &flags, asks.as_slice(), workers, &OpenGate);
-        assert_eq!(rt; fault_of(told), Some(want), "{workers} workers");
-    }
+    assert!(rt; is_refused(&rt, alloc, &posed, 0, &OpenGate, DriveFault::NoWorkers));
+    assert!(rt;
+        is_refused(
+            &rt,
+            alloc,
+            &posed,
+            65,
+            &OpenGate,
+            DriveFault::TooManyWorkers
+        )
+    );
     Ok(())
+}
+
+/// Whether workers who wait for one another answer all asks.
+fn is_linked<R: Threads + Wait + Clock + Sync>(
+    rt: &R,
+    alloc: Global,
+    posed: &Posed,
+    workers: usize,
+    forward: bool,
+) -> bool {
+    match linked(rt, alloc, workers, forward) {
+        Ok(gate) => is_driven(rt, alloc, posed, workers, &gate, is_told),
+        Err(_) => false,
+    }
+}
+
+/// Whether one worker alone stalls where the first ask waits for the second.
+fn is_stalled<R: Threads + Wait + Clock + Sync>(rt: &R, alloc: Global, posed: &Posed) -> bool {
+    match linked(rt, alloc, 2, true) {
+        Ok(gate) => is_refused(rt, alloc, posed, 1, &gate, DriveFault::Stalled),
+        Err(_) => false,
+    }
 }
 
 #[test]
 fn workers_wait_for_one_another(rt: HostRuntime) -> Result<(), Fail> {
     let alloc = rt.alloc();
-    let flags = read_flags(alloc, FLAGS)?;
-    let asks = asks(alloc)?;
+    let posed = posed_keys(alloc).ok_or("no asks")?;
     for (workers, forward) in [(2, true), (2, false), (8, true), (8, false)] {
-        let gate = linked(&rt, alloc, workers, forward)?;
-        let told = driven(&rt, alloc, &flags, asks.as_slice(), workers, &gate)?;
-        assert!(rt; is_told(alloc, &told)?, "{workers} workers");
+        assert!(rt;
+            is_linked(&rt, alloc, &posed, workers, forward),
+            "{workers} workers"
+        );
     }
-    let gate = linked(&rt, alloc, 2, true)?;
-    let alone = driven(&rt, alloc, &flags, asks.as_slice(), 1, &gate);
-    assert_eq!(rt; fault_of(alone), Some(DriveFault::Stalled));
+    assert!(rt; is_stalled(&rt, alloc, &posed));
     Ok(())
 }
 
@@ -219,80 +345,99 @@ impl Gate for Barrier {
     fn answered(&self, _ask: usize) {}
 }
 
+/// One ask for a key of 1025 bytes.
+fn posed_long(alloc: Global) -> Option<Posed> {
+    let mut posed = unasked(alloc, FLAGS)?;
+    let key = "k".repeat(alloc, 1025).ok()?;
+    posed.asks.push(ask(alloc, key.as_str())?).ok()?;
+    Some(posed)
+}
+
+/// Whether the one ask was answered by its targeting, and its input counted as too long.
+fn is_long(_: Global, driven: &Driven) -> bool {
+    driven.answers.len() == 1
+        && driven.answers[0].reason == Reason::TargetingMatch
+        && has_counts(driven, 0, 0, 0, 0, 1)
+}
+
 #[test]
 fn long_inputs_are_counted(rt: HostRuntime) -> Result<(), Fail> {
     let alloc = rt.alloc();
-    let flags = read_flags(alloc, FLAGS)?;
-    let mut key = String::new(alloc);
-    for _ in 0..1025 {
-        key.push('k')?;
-    }
-    let asks = [ask(alloc, key.as_str())?];
-    let told = driven(&rt, alloc, &flags, &asks, 1, &OpenGate)?;
-    assert!(rt;
-        told.answers.len() == 1
-            && told.answers[0].reason == Reason::TargetingMatch
-            && told.book.inputs() == 0
-            && told.calls == 0
-            && told.news == 0
-            && told.full == 0
-            && told.long == 1
-    );
+    let posed = posed_long(alloc).ok_or("no ask")?;
+    assert!(rt; is_driven(&rt, alloc, &posed, 1, &OpenGate, is_long));
     Ok(())
 }
 
 #[test]
 fn a_closed_gate_stalls(rt: HostRuntime) -> Result<(), Fail> {
     let alloc = rt.alloc();
-    let flags = read_flags(alloc, FLAGS)?;
-    let mut asks = asks(alloc)?;
-    asks.truncate(4);
+    let mut posed = posed_keys(alloc).ok_or("no asks")?;
+    posed.asks.truncate(4);
     let gate = Barrier { closed: 3 };
-    let told = driven(&rt, alloc, &flags, asks.as_slice(), 2, &gate);
-    assert_eq!(rt; fault_of(told), Some(DriveFault::Stalled));
+    assert!(rt; is_refused(&rt, alloc, &posed, 2, &gate, DriveFault::Stalled));
     Ok(())
 }
 
 const LISTS: &[u8] = br#"{"flags":{"lists":{"state":"ENABLED","variants":{"x":1,"y":2},
 "defaultVariant":"x","targeting":{"map":[{"var":"l"},{"fractional":[{"var":""},["x",5],["y",5]]}]}}}}"#;
 
-/// What is asked of `lists` for 10000 inputs of its own.
-fn ask_of_many(alloc: Global, ask: u64) -> Result<Ask, Fail> {
+/// Adds an input of this ask to a context.
+fn add_input(alloc: Global, context: &mut String, ask: u64, input: u64) -> Result<(), AllocError> {
+    let item = format!(in alloc; ",\"{ask} {input}\"")?;
+    context.push_str(item.as_str())
+}
+
+/// A context with 10000 inputs of this ask's own.
+fn context_of_many(alloc: Global, ask: u64) -> Result<String, AllocError> {
     let mut context = format!(in alloc; "{{\"l\":[\"{ask} 0\"")?;
     for input in 1..10_000 {
-        context.push_str(format!(in alloc; ",\"{ask} {input}\"")?.as_str())?;
+        add_input(alloc, &mut context, ask, input)?;
     }
     context.push_str("]}")?;
-    let context = tree(alloc, context.as_bytes())?;
-    let default = tree(alloc, b"0")?;
-    Ok(Ask {
-        key: String::from_str(alloc, "lists")?,
-        want: Kind::Whole,
-        default,
-        context,
-        moment: 0,
-    })
+    Ok(context)
+}
+
+/// What is asked of `lists` for 10000 inputs of its own.
+fn ask_of_many(alloc: Global, ask: u64) -> Option<Ask> {
+    match context_of_many(alloc, ask) {
+        Ok(context) => asked(alloc, "lists", Kind::Whole, b"0", context.as_bytes()),
+        Err(_) => None,
+    }
+}
+
+/// 101 asks of 10000 inputs each.
+fn posed_many(alloc: Global) -> Option<Posed> {
+    let mut posed = unasked(alloc, LISTS)?;
+    for ask in 0..101 {
+        posed.asks.push(ask_of_many(alloc, ask)?).ok()?;
+    }
+    Some(posed)
+}
+
+/// Whether each answer is a general error that reached 10000 sites.
+fn are_general(answers: &[Resolution]) -> bool {
+    for answer in answers {
+        if answer.code != Some(Code::General) || answer.reached.len() != 10_000 {
+            return false;
+        }
+    }
+    true
+}
+
+/// Whether a million inputs fill the page, and those of the last ask are refused.
+fn is_full(_: Global, driven: &Driven) -> bool {
+    driven.answers.len() == 101
+        && are_general(driven.answers.as_slice())
+        && has_counts(driven, 1_000_000, 1_000_000, 1_000_000, 10_000, 0)
 }
 
 #[test]
 fn full_pages_are_counted(rt: HostRuntime) -> Result<(), Fail> {
     let alloc = rt.alloc();
-    let flags = read_flags(alloc, LISTS)?;
-    let mut asks = Vec::new(alloc);
-    for ask in 0..101 {
-        asks.push(ask_of_many(alloc, ask)?)?;
-    }
+    let posed = posed_many(alloc).ok_or("no asks")?;
     for workers in [1, 8] {
-        let told = driven(&rt, alloc, &flags, asks.as_slice(), workers, &OpenGate)?;
         assert!(rt;
-            told.answers.len() == 101
-                && told.answers.iter().all(|answer| answer.code == Some(Code::General)
-                    && answer.reached.len() == 10_000)
-                && told.book.inputs() == 1_000_000
-                && told.calls == 1_000_000
-                && told.news == 1_000_000
-                && told.full == 10_000
-                && told.long == 0,
+            is_driven(&rt, alloc, &posed, workers, &OpenGate, is_full),
             "{workers} workers"
         );
     }

@@ -2,7 +2,7 @@
 ghost use Rattle.std.specs.Prelude.{◌≡◌};
 
 use book_core::{BookFault, Noted, Page};
-use book_lock::{Blanks, BookName, SealFault, SealRefused, SeatsFault, SharedBook, seal};
+use book_lock::{Blanks, BookName, SealFault, SealRefused, Seat, SeatsFault, SharedBook, seal};
 use std::alloc::{AllocError, Global};
 use std::marker::Brand;
 use std::process::Abort;
@@ -10,24 +10,23 @@ use std::sync::Wait;
 use std::test::Fail;
 use std::thread::Threads;
 
-/// The refusal of blanks, none where there are any.
-fn fault_of(alloc: Global, seats: usize) -> Option<SeatsFault> {
-    match Blanks::new(alloc, seats) {
-        Ok(_) => None,
-        Err(fault) => Some(fault),
-    }
+/// Whether blanks for so many seats are refused so, none where there are any.
+fn is_refused(alloc: Global, seats: usize, want: Option<SeatsFault>) -> bool {
+    Blanks::new(alloc, seats).err() == want
 }
+
+/// Numbers of seats, and the refusal.
+const SEATS: &[(usize, Option<SeatsFault>)] = &[
+    (0, Some(SeatsFault::NoSeats)),
+    (1, None),
+    (64, None),
+    (65, Some(SeatsFault::TooManySeats)),
+];
 
 #[test]
 fn numbers_of_seats(rt: HostRuntime) {
-    let alloc = rt.alloc();
-    for (seats, want) in [
-        (0, Some(SeatsFault::NoSeats)),
-        (1, None),
-        (64, None),
-        (65, Some(SeatsFault::TooManySeats)),
-    ] {
-        assert_eq!(rt; fault_of(alloc, seats), want, "{seats} seats");
+    for (seats, want) in SEATS {
+        assert!(rt; is_refused(rt.alloc(), *seats, *want), "{seats} seats");
     }
 }
 
@@ -40,90 +39,206 @@ fn page(alloc: Global, flag: &str) -> Result<Page, AllocError> {
     })
 }
 
+/// Whether the book with these seats and one more is sealed, and has so many inputs.
+fn seals<L: BookName>(
+    book: SharedBook<L>,
+    seats: Vec<Seat<L>>,
+    seat: Seat<L>,
+    inputs: u128,
+) -> bool {
+    let mut seats = seats;
+    if seats.push(seat).is_err() {
+        return false;
+    }
+    match seal(book, seats) {
+        Ok(sealed) => sealed.inputs() == inputs,
+        Err(_) => false,
+    }
+}
+
 #[test]
 fn two_seats(rt: HostRuntime) -> Result<(), Fail> {
     let alloc = rt.alloc();
-    told_to_two::<Brand, _>(&rt, alloc, Blanks::new(alloc, 2)?)
+    let blanks = Blanks::new(alloc, 2)?;
+    assert!(rt; told_to_two::<Brand, _>(&rt, alloc, blanks));
+    Ok(())
 }
 
 fn told_to_two<L: BookName + Send + Sync, R: Threads + Wait + Abort + Sync>(
     rt: &R,
     alloc: Global,
     blanks: Blanks,
-) -> Result<(), Fail>
+) -> bool
     requires { (blanks.table ≡ L.table) × (blanks.seats ≡ L.seats) }
 {
-    let page = page(alloc, "color")?;
-    let (book, mut seats) = SharedBook::<L>::new(alloc, blanks)?;
-    let mut second = seats.pop().ok_or("two seats")?;
-    let mut first = seats.pop().ok_or("two seats")?;
-    let one = book.note(rt, alloc, &mut first, &page, "a")?;
-    let two = book.note(rt, alloc, &mut second, &page, "a")?;
-    let frozen = book.freeze(rt, alloc, &mut second, &page)?;
-    assert!(rt;
-        one == Noted::New
-            && two == Noted::Again
-            && frozen.inputs().len() == 1
-            && frozen.inputs().iter().all(|input| input.as_str() == "a")
-            && first.calls() == 1
-            && first.news() == 1
-            && second.calls() == 1
-            && second.news() == 0
-    );
-    seats.push(first)?;
-    let Err(refused) = seal(book, seats) else {
-        return Err("a seat is missing")?;
+    match SharedBook::<L>::new(alloc, blanks) {
+        Ok((book, seats)) => are_two(rt, alloc, book, seats),
+        Err(_) => false,
+    }
+}
+
+/// Whether two seats are told what they should be, and the book is sealed once both are back.
+fn are_two<L: BookName, R: Wait>(
+    rt: &R,
+    alloc: Global,
+    book: SharedBook<L>,
+    seats: Vec<Seat<L>>,
+) -> bool {
+    let mut seats = seats;
+    let Some(mut second) = seats.pop() else {
+        return false;
     };
-    let SealRefused {
-        fault,
-        book,
-        mut seats,
-    } = refused;
-    assert!(rt; fault == SealFault::SeatMissing && fault.number() == 1 && seats.len() == 1);
-    seats.push(second)?;
-    let Ok(sealed) = seal(book, seats) else {
-        return Err("all seats are here")?;
+    let Some(mut first) = seats.pop() else {
+        return false;
     };
-    assert!(rt; sealed.inputs() == 1);
-    Ok(())
+    if !are_told(rt, alloc, &book, &mut first, &mut second) {
+        return false;
+    }
+    lacks_the_second(book, seats, first, second)
+}
+
+/// Whether an input is new from the one seat, and known from the other, and stands alone on its page.
+fn are_told<L: BookName, R: Wait>(
+    rt: &R,
+    alloc: Global,
+    book: &SharedBook<L>,
+    first: &mut Seat<L>,
+    second: &mut Seat<L>,
+) -> bool {
+    let Ok(page) = page(alloc, "color") else {
+        return false;
+    };
+    book.note(rt, alloc, first, &page, "a") == Ok(Noted::New)
+        && book.note(rt, alloc, second, &page, "a") == Ok(Noted::Again)
+        && is_frozen(rt, alloc, book, second, &page)
+        && first.calls() == 1
+        && first.news() == 1
+        && second.calls() == 1
+        && second.news() == 0
+}
+
+/// Whether the page that the seat freezes has the input `a` alone.
+fn is_frozen<L: BookName, R: Wait>(
+    rt: &R,
+    alloc: Global,
+    book: &SharedBook<L>,
+    seat: &mut Seat<L>,
+    page: &Page,
+) -> bool {
+    match book.freeze(rt, alloc, seat, page) {
+        Ok(frozen) => frozen.inputs().len() == 1 && frozen.inputs()[0].as_str() == "a",
+        Err(_) => false,
+    }
+}
+
+/// Whether the book is not sealed with the first seat alone, and is sealed with both.
+fn lacks_the_second<L: BookName>(
+    book: SharedBook<L>,
+    seats: Vec<Seat<L>>,
+    first: Seat<L>,
+    second: Seat<L>,
+) -> bool {
+    let mut seats = seats;
+    if seats.push(first).is_err() {
+        return false;
+    }
+    match seal(book, seats) {
+        Ok(_) => false,
+        Err(refused) => {
+            let SealRefused { fault, book, seats } = refused;
+            let is_missing = fault == SealFault::SeatMissing
+                && fault.number() == 1
+                && seats.len() == 1;
+            is_missing && seals(book, seats, second, 1)
+        }
+    }
 }
 
 #[test]
 fn limits(rt: HostRuntime) -> Result<(), Fail> {
     let alloc = rt.alloc();
-    full_page::<Brand, _>(&rt, alloc, Blanks::new(alloc, 1)?)
+    let blanks = Blanks::new(alloc, 1)?;
+    assert!(rt; full_page::<Brand, _>(&rt, alloc, blanks));
+    Ok(())
 }
 
 fn full_page<L: BookName + Send + Sync, R: Wait + Abort>(
     rt: &R,
     alloc: Global,
     blanks: Blanks,
-) -> Result<(), Fail>
+) -> bool
     requires { (blanks.table ≡ L.table) × (blanks.seats ≡ L.seats) }
 {
-    let page = page(alloc, "color")?;
-    let (book, mut seats) = SharedBook::<L>::new(alloc, blanks)?;
-    let mut seat = seats.pop().ok_or("a seat")?;
-    let mut longest = String::new(alloc);
-    for _ in 0..1024 {
-        longest.push('a')?;
-    }
-    assert!(rt; book.note(rt, alloc, &mut seat, &page, longest.as_str())? == Noted::New);
-    longest.push('a')?;
-    assert!(rt;
-        book.note(rt, alloc, &mut seat, &page, longest.as_str()) == Err(BookFault::InputTooLong)
-    );
-    for i in 1..1_000_000 {
-        let input = format!(in alloc; "{i}")?;
-        assert!(rt; book.note(rt, alloc, &mut seat, &page, input.as_str())? == Noted::New);
-    }
-    assert!(rt; book.note(rt, alloc, &mut seat, &page, "1000000") == Err(BookFault::PageFull));
-    assert!(rt; book.note(rt, alloc, &mut seat, &page, "999999")? == Noted::Again);
-    assert!(rt; seat.calls() == 1_000_001 && seat.news() == 1_000_000);
-    seats.push(seat)?;
-    let Ok(sealed) = seal(book, seats) else {
-        return Err("all seats are here")?;
+    let Ok((book, mut seats)) = SharedBook::<L>::new(alloc, blanks) else {
+        return false;
     };
-    assert!(rt; sealed.inputs() == 1_000_000);
-    Ok(())
+    let Some(mut seat) = seats.pop() else {
+        return false;
+    };
+    if !is_filled(rt, alloc, &book, &mut seat) {
+        return false;
+    }
+    seals(book, seats, seat, 1_000_000)
+}
+
+/// Whether a page takes the longest input and 999,999 more, no longer one and no other one.
+fn is_filled<L: BookName, R: Wait>(
+    rt: &R,
+    alloc: Global,
+    book: &SharedBook<L>,
+    seat: &mut Seat<L>,
+) -> bool {
+    let Ok(page) = page(alloc, "color") else {
+        return false;
+    };
+    is_long(rt, alloc, book, seat, &page, 1024, Ok(Noted::New))
+        && is_long(
+            rt,
+            alloc,
+            book,
+            seat,
+            &page,
+            1025,
+            Err(BookFault::InputTooLong),
+        )
+        && are_new(rt, alloc, book, seat, &page)
+        && book.note(rt, alloc, seat, &page, "1000000") == Err(BookFault::PageFull)
+        && book.note(rt, alloc, seat, &page, "999999") == Ok(Noted::Again)
+        && seat.calls() == 1_000_001
+        && seat.news() == 1_000_000
+}
+
+/// Whether the note of an input of so many bytes is answered so.
+fn is_long<L: BookName, R: Wait>(
+    rt: &R,
+    alloc: Global,
+    book: &SharedBook<L>,
+    seat: &mut Seat<L>,
+    page: &Page,
+    bytes: usize,
+    want: Result<Noted, BookFault>,
+) -> bool {
+    match "a".repeat(alloc, bytes) {
+        Ok(input) => book.note(rt, alloc, seat, page, input.as_str()) == want,
+        Err(_) => false,
+    }
+}
+
+/// Whether each number from 1 to 999,999 is new to the page.
+fn are_new<L: BookName, R: Wait>(
+    rt: &R,
+    alloc: Global,
+    book: &SharedBook<L>,
+    seat: &mut Seat<L>,
+    page: &Page,
+) -> bool {
+    for i in 1..1_000_000 {
+        let Ok(input) = format!(in alloc; "{i}") else {
+            return false;
+        };
+        if book.note(rt, alloc, seat, page, input.as_str()) != Ok(Noted::New) {
+            return false;
+        }
+    }
+    true
 }
