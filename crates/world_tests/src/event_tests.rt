@@ -87,24 +87,39 @@ fn events(alloc: Global, rows: &[Row]) -> Result<Vec<Event>, AllocError> {
     Ok(events)
 }
 
-/// What a new service answers to events.
-fn answers(
+type AnswersHold = fn(Global, &[Answer]) -> bool;
+
+/// Whether a new service opens, and this holds of what it answers to events.
+fn is_run(
     alloc: Global,
     sources: &[String],
     seats: u32,
     events: &[Event],
-) -> Result<Vec<Answer>, Fail> {
-    let mut world = World::new(alloc, sources, seats)?;
-    Ok(run_events(alloc, &mut world, events)?)
+    holds: AnswersHold,
+) -> bool
+    requires { AnswersHold.IsAlwaysCallable holds }
+{
+    let Ok(mut world) = World::new(alloc, sources, seats) else {
+        return false;
+    };
+    match run_events(alloc, &mut world, events) {
+        Ok(answers) => holds(alloc, answers.as_slice()),
+        Err(_) => false,
+    }
 }
 
-/// The first event that is not answered as its row says.
-fn first_unlike(answers: &[Answer], rows: &[Row]) -> Option<usize> {
-    answers.iter().zip(rows).position(|(answer, (_, word, number))| told(answer)
-        != (*word, *number))
+/// Whether each event is answered as its row says.
+fn are_told(answers: &[Answer], rows: &[Row]) -> bool {
+    for (answer, (_, word, number)) in answers.iter().zip(rows) {
+        let (found, count) = told(answer);
+        if found != *word || count != *number {
+            return false;
+        }
+    }
+    answers.len() == rows.len()
 }
 
-const DAY: [Row; 17] = [
+const DAY: &[Row] = &[
     (Asked::Publish, "published", 1),
     (Asked::Join, "joined", 0),
     (Asked::Take(0), "taken", 1),
@@ -124,18 +139,21 @@ const DAY: [Row; 17] = [
     (Asked::Seal, "already sealed", 0),
 ];
 
+fn is_day(_: Global, answers: &[Answer]) -> bool {
+    are_told(answers, DAY)
+}
+
 #[test]
 fn a_day_of_a_service(rt: HostRuntime) -> Result<(), Fail> {
     let alloc = rt.alloc();
-    let answers = answers(alloc, &[], 2, events(alloc, &DAY)?.as_slice())?;
-    assert_eq!(rt; first_unlike(answers.as_slice(), &DAY), None);
-    assert!(rt; answers.len() == DAY.len());
+    let events = events(alloc, DAY)?;
+    assert!(rt; is_run(alloc, &[], 2, events.as_slice(), is_day));
     Ok(())
 }
 
 const ONE_FLAG: &[u8] = b"{\"flags\":{\"a\":{}}}";
 
-const SOURCES: [Row; 6] = [
+const SOURCES: &[Row] = &[
     (Asked::Set("base", ONE_FLAG), "done", 0),
     (Asked::Set("base", b"{"), "source", 4),
     (Asked::Clear("none"), "source", 3),
@@ -145,23 +163,33 @@ const SOURCES: [Row; 6] = [
 ];
 
 /// Whether an answer is a snapshot that is printed so.
-fn is_taken(alloc: Global, answer: Option<&Answer>, want: &[u8]) -> Result<bool, Fail> {
+fn is_taken(alloc: Global, answer: Option<&Answer>, want: &[u8]) -> bool {
     match answer {
-        Some(Answer::Taken(Some(snapshot))) => {
-            Ok(print_flags(alloc, &snapshot.flags)?.as_slice() == want)
-        }
-        _ => Ok(false),
+        Some(Answer::Taken(Some(snapshot))) => match print_flags(alloc, &snapshot.flags) {
+            Ok(text) => text.as_slice() == want,
+            Err(_) => false,
+        },
+        _ => false,
     }
+}
+
+fn are_published(alloc: Global, answers: &[Answer]) -> bool {
+    are_told(answers, SOURCES) && is_taken(alloc, answers.last(), ONE_FLAG)
+}
+
+/// The name of the one source.
+fn base(alloc: Global) -> Result<Vec<String>, AllocError> {
+    let mut names = Vec::new(alloc);
+    names.push(String::from_str(alloc, "base")?)?;
+    Ok(names)
 }
 
 #[test]
 fn sources_are_published(rt: HostRuntime) -> Result<(), Fail> {
     let alloc = rt.alloc();
-    let names = vec![in alloc; String::from_str(alloc, "base")?]?;
-    let events = events(alloc, &SOURCES)?;
-    let answers = answers(alloc, names.as_slice(), 1, events.as_slice())?;
-    assert_eq!(rt; first_unlike(answers.as_slice(), &SOURCES), None);
-    assert!(rt; answers.len() == SOURCES.len() && is_taken(alloc, answers.last(), ONE_FLAG)?);
+    let names = base(alloc)?;
+    let events = events(alloc, SOURCES)?;
+    assert!(rt; is_run(alloc, names.as_slice(), 1, events.as_slice(), are_published));
     Ok(())
 }
 
@@ -174,20 +202,30 @@ fn joins(alloc: Global, count: u32) -> Result<Vec<Event>, AllocError> {
     Ok(events)
 }
 
+/// Whether all are answered, and the last is refused.
+fn is_last_refused(_: Global, answers: &[Answer]) -> bool {
+    answers.len() == 257
+        && match answers.last() {
+            Some(Answer::Refused(Refusal::Hub(fault))) => {
+                fault.number() == HubFault::TooManySubs.number()
+            }
+            _ => false,
+        }
+}
+
 #[test]
 fn at_most_256_subscribers(rt: HostRuntime) -> Result<(), Fail> {
     let alloc = rt.alloc();
-    let answers = answers(alloc, &[], 1, joins(alloc, 257)?.as_slice())?;
-    let refused = ("hub", HubFault::TooManySubs.number() as u64);
-    assert!(rt; answers.len() == 257 && answers.last().map(told) == Some(refused));
+    let events = joins(alloc, 257)?;
+    assert!(rt; is_run(alloc, &[], 1, events.as_slice(), is_last_refused));
     Ok(())
 }
 
-/// The refusal of a new service, none where it opens.
-fn refusal(alloc: Global, names: &[String], seats: u32) -> Option<WorldFault> {
+/// Whether a new service is refused so, none where it opens.
+fn is_refused(alloc: Global, names: &[String], seats: u32, want: Option<WorldFault>) -> bool {
     match World::new(alloc, names, seats) {
-        Ok(_) => None,
-        Err(fault) => Some(fault),
+        Ok(_) => want.is_none(),
+        Err(fault) => want == Some(fault),
     }
 }
 
@@ -201,27 +239,28 @@ fn numbers_and(alloc: Global, end: u32, last: &str) -> Result<Vec<String>, Alloc
     Ok(names)
 }
 
+/// Whether a new service with these names of sources is refused so.
+fn is_refused_names(alloc: Global, end: u32, last: &str, want: WorldFault) -> bool {
+    match numbers_and(alloc, end, last) {
+        Ok(names) => is_refused(alloc, names.as_slice(), 0, Some(want)),
+        Err(_) => false,
+    }
+}
+
+/// Numbers of seats, and the refusal.
+const SEATS: &[(u32, Option<WorldFault>)] = &[
+    (0, Some(WorldFault::NoSeats)),
+    (1, None),
+    (64, None),
+    (65, Some(WorldFault::TooManySeats)),
+];
+
 #[test]
-fn services_that_do_not_open(rt: HostRuntime) -> Result<(), Fail> {
+fn services_that_do_not_open(rt: HostRuntime) {
     let alloc = rt.alloc();
-    for (seats, want) in [
-        (0, Some(WorldFault::NoSeats)),
-        (1, None),
-        (64, None),
-        (65, Some(WorldFault::TooManySeats)),
-    ] {
-        assert_eq!(rt; refusal(alloc, &[], seats), want, "{seats} seats");
+    for (seats, want) in SEATS {
+        assert!(rt; is_refused(alloc, &[], *seats, *want), "{seats} seats");
     }
-    for (end, last, want) in [
-        (16, "16", WorldFault::TooMany),
-        (17, "3", WorldFault::Known),
-    ] {
-        let names = numbers_and(alloc, end, last)?;
-        assert_eq!(rt;
-            refusal(alloc, names.as_slice(), 0),
-            Some(want),
-            "{end} and {last}"
-        );
-    }
-    Ok(())
+    assert!(rt; is_refused_names(alloc, 16, "16", WorldFault::TooMany));
+    assert!(rt; is_refused_names(alloc, 17, "3", WorldFault::Known));
 }

@@ -2,7 +2,6 @@
 use flag_defs::{DefFault, print_flags};
 use source_merge::{SourceFault, Sources};
 use std::alloc::{AllocError, Global};
-use std::test::Fail;
 
 const BASE: &[u8] =
     b"{\"flags\":{\"color\":{\"state\":\"ENABLED\",\"variants\":{\"red\":\"r\",\"blue\":\"b\",\"green\":\"g\"},\"defaultVariant\":\"red\",\"targeting\":{\"fractional\":[{\"var\":\"key\"},[\"red\",5],[\"blue\",5]]}}}}";
@@ -40,22 +39,28 @@ fn fault(alloc: Global, sources: &mut Sources, call: &Call) -> Option<SourceFaul
 }
 
 /// Whether the merge is printed so.
-fn is_merged(alloc: Global, sources: &Sources, want: &[u8]) -> Result<bool, Fail> {
-    Ok(print_flags(alloc, &sources.merged(alloc)?)?.as_slice() == want)
+fn is_merged(alloc: Global, sources: &Sources, want: &[u8]) -> bool {
+    match sources.merged(alloc) {
+        Ok(flags) => match print_flags(alloc, &flags) {
+            Ok(text) => text.as_slice() == want,
+            Err(_) => false,
+        },
+        Err(_) => false,
+    }
 }
 
-/// The first row that is not as it says, of calls on sources that are new.
-fn first_unlike(alloc: Global, rows: &[Row]) -> Result<Option<usize>, Fail> {
+/// Whether each row is as it says, of calls on sources that are new.
+fn are_told(alloc: Global, rows: &[Row]) -> bool {
     let mut sources = Sources::new(alloc);
-    for (i, (call, want, merged)) in rows.iter().enumerate() {
-        if fault(alloc, &mut sources, call) != *want || !is_merged(alloc, &sources, merged)? {
-            return Ok(Some(i));
+    for (call, want, merged) in rows {
+        if fault(alloc, &mut sources, call) != *want || !is_merged(alloc, &sources, merged) {
+            return false;
         }
     }
-    Ok(None)
+    true
 }
 
-const HIDDEN: [Row; 9] = [
+const HIDDEN: &[Row] = &[
     (Call::Add("base"), None, NOTHING),
     (Call::Add("team"), None, NOTHING),
     (Call::Set("base", BASE), None, BASE_PRINTED),
@@ -80,12 +85,11 @@ const HIDDEN: [Row; 9] = [
 ];
 
 #[test]
-fn the_latest_source_hides_the_others(rt: HostRuntime) -> Result<(), Fail> {
-    assert_eq!(rt; first_unlike(rt.alloc(), &HIDDEN)?, None);
-    Ok(())
+fn the_latest_source_hides_the_others(rt: HostRuntime) {
+    assert!(rt; are_told(rt.alloc(), HIDDEN));
 }
 
-const ORDERED: [Row; 6] = [
+const ORDERED: &[Row] = &[
     (Call::Add("base"), None, NOTHING),
     (Call::Add("team"), None, NOTHING),
     (Call::Set("team", TEAM), None, TEAM_PRINTED),
@@ -95,9 +99,8 @@ const ORDERED: [Row; 6] = [
 ];
 
 #[test]
-fn sources_keep_their_order(rt: HostRuntime) -> Result<(), Fail> {
-    assert_eq!(rt; first_unlike(rt.alloc(), &ORDERED)?, None);
-    Ok(())
+fn sources_keep_their_order(rt: HostRuntime) {
+    assert!(rt; are_told(rt.alloc(), ORDERED));
 }
 
 /// A document of one flag whose variant has 2,100,000 bytes.
@@ -108,41 +111,62 @@ fn document(alloc: Global, key: &str) -> Result<String, AllocError> {
     )
 }
 
-/// Two sources, each with a large document of its own flag.
-fn large(alloc: Global) -> Result<Sources, Fail> {
+/// Whether a source takes a large document of this flag.
+fn takes(alloc: Global, sources: &mut Sources, name: &str, key: &str) -> bool {
+    match document(alloc, key) {
+        Ok(text) => sources.set(alloc, name, text.as_bytes()).is_ok(),
+        Err(_) => false,
+    }
+}
+
+/// How many flags the merge has, or its fault.
+fn merged(alloc: Global, sources: &Sources) -> Result<usize, SourceFault> {
+    match sources.merged(alloc) {
+        Ok(flags) => Ok(flags.len()),
+        Err(fault) => Err(fault),
+    }
+}
+
+/// Whether two large documents of two flags are refused, and two of one flag are merged.
+fn is_too_large(alloc: Global) -> bool {
     let mut sources = Sources::new(alloc);
-    sources.add(alloc, "base")?;
-    sources.add(alloc, "team")?;
-    sources.set(alloc, "base", document(alloc, "a")?.as_bytes())?;
-    sources.set(alloc, "team", document(alloc, "b")?.as_bytes())?;
-    Ok(sources)
+    sources.add(alloc, "base").is_ok()
+        && sources.add(alloc, "team").is_ok()
+        && takes(alloc, &mut sources, "base", "a")
+        && takes(alloc, &mut sources, "team", "b")
+        && merged(alloc, &sources) == Err(SourceFault::TooLarge)
+        && takes(alloc, &mut sources, "team", "a")
+        && merged(alloc, &sources) == Ok(1)
 }
 
 #[test]
-fn two_documents_are_too_much_together(rt: HostRuntime) -> Result<(), Fail> {
-    let alloc = rt.alloc();
-    let mut sources = large(alloc)?;
-    let refused = sources.merged(alloc).err();
-    sources.set(alloc, "team", document(alloc, "a")?.as_bytes())?;
-    assert!(rt; refused == Some(SourceFault::TooLarge) && sources.merged(alloc)?.len() == 1);
-    Ok(())
+fn two_documents_are_too_much_together(rt: HostRuntime) {
+    assert!(rt; is_too_large(rt.alloc()));
 }
 
-/// The numbers below an end as names of sources.
-fn numbers(alloc: Global, end: u32) -> Result<Sources, Fail> {
-    let mut sources = Sources::new(alloc);
+/// Whether the number is taken as the name of a source.
+fn adds_number(alloc: Global, sources: &mut Sources, number: u32) -> bool {
+    match format!(in alloc; "{number}") {
+        Ok(name) => sources.add(alloc, name.as_str()).is_ok(),
+        Err(_) => false,
+    }
+}
+
+/// Whether the numbers below an end are taken as names of sources.
+fn adds_numbers(alloc: Global, sources: &mut Sources, end: u32) -> bool {
     for i in 0..end {
-        sources.add(alloc, format!(in alloc; "{i}")?.as_str())?;
+        if !adds_number(alloc, sources, i) {
+            return false;
+        }
     }
-    Ok(sources)
+    true
 }
 
 #[test]
-fn at_most_16_sources(rt: HostRuntime) -> Result<(), Fail> {
+fn at_most_16_sources(rt: HostRuntime) {
     let alloc = rt.alloc();
-    let mut sources = numbers(alloc, 16)?;
-    for (name, want) in [("15", SourceFault::Known), ("16", SourceFault::TooMany)] {
-        assert_eq!(rt; sources.add(alloc, name).err(), Some(want), "{name}");
-    }
-    Ok(())
+    let mut sources = Sources::new(alloc);
+    assert!(rt; adds_numbers(alloc, &mut sources, 16));
+    assert!(rt; sources.add(alloc, "15").err() == Some(SourceFault::Known));
+    assert!(rt; sources.add(alloc, "16").err() == Some(SourceFault::TooMany));
 }
