@@ -1,8 +1,8 @@
 //! The command `drive`: its lines, the book that it writes, and its refusals.
 use super::memory::{MemoryFiles, MemoryOutlet};
 use flagops_commands::run;
-use flagops_files::FileSet;
-use std::alloc::Global;
+use flagops_files::{FileSet, StoreFault};
+use std::alloc::{AllocError, Global};
 use std::sync::Wait;
 use std::test::Fail;
 use std::thread::Threads;
@@ -43,30 +43,37 @@ const BOOK: &str = r#"{"book":1}
 "test"
 "#;
 
-/// Whether `drive` of the asks by so many workers prints the report and leaves the book, or none, and tells a refusal in words.
-fn is_driven(
-    rt: &(impl AllocGlobal + Threads + Wait + Sync),
-    workers: &str,
-    asks: &str,
-    is_writable: bool,
-    report: &str,
-    book: Option<&str>,
-) -> Result<bool, Fail> {
-    let alloc = rt.alloc();
+/// The document `d` and the asks `a`, beside which a book may be written or not.
+fn files_of(alloc: Global, asks: &str, is_writable: bool) -> Result<MemoryFiles, StoreFault> {
     let mut files = MemoryFiles::new(alloc, true);
     files.write(alloc, "d", DOCUMENT)?;
     files.write(alloc, "a", asks.as_bytes())?;
     files.allow_writing(is_writable);
+    Ok(files)
+}
+
+/// Whether `drive` over the files prints the report and leaves the book, or none, and tells a refusal in words.
+fn is_driven_over(
+    rt: &(impl AllocGlobal + Threads + Wait + Sync),
+    workers: &str,
+    files: &mut MemoryFiles,
+    report: &str,
+    book: Option<&str>,
+) -> bool {
+    let alloc = rt.alloc();
     let mut out = MemoryOutlet::new(alloc, usize::MAX);
     let mut err = MemoryOutlet::new(alloc, usize::MAX);
-    let words = ["drive", "d", "a", workers, "b"];
-    let status = run(rt, &words, &mut files, &mut out, &mut err);
-    Ok(
-        out.bytes.as_slice() == report.as_bytes()
-            && (status == 0) == book.is_some()
-            && err.bytes.is_empty() == book.is_some()
-            && is_left(alloc, &mut files, book),
-    )
+    let status = run(
+        rt,
+        &["drive", "d", "a", workers, "b"],
+        files,
+        &mut out,
+        &mut err,
+    );
+    out.bytes.as_slice() == report.as_bytes()
+        && (status == 0) == book.is_some()
+        && err.bytes.is_empty() == book.is_some()
+        && is_left(alloc, files, book)
 }
 
 /// Whether the file `b` is this book, or there is none.
@@ -78,35 +85,58 @@ fn is_left(alloc: Global, files: &mut MemoryFiles, book: Option<&str>) -> bool {
     }
 }
 
-/// Whether so many workers answer the seven asks, each asked three times.
-fn is_exact(rt: &(impl AllocGlobal + Threads + Wait + Sync), workers: &str) -> Result<bool, Fail> {
-    let alloc = rt.alloc();
-    let asks = format!(in alloc; "[{ASKS},{ASKS},{ASKS}]")?;
-    let report = format!(in alloc; "{LINES}{LINES}{LINES}{COUNTS}")?;
-    is_driven(
-        rt,
-        workers,
-        asks.as_str(),
-        true,
-        report.as_str(),
-        Some(BOOK),
-    )
+/// Whether `drive` of the asks by so many workers prints the report and leaves the book.
+fn is_driven(
+    rt: &(impl AllocGlobal + Threads + Wait + Sync),
+    workers: &str,
+    asks: &str,
+    report: &str,
+    book: &str,
+) -> bool {
+    match files_of(rt.alloc(), asks, true) {
+        Ok(mut files) => is_driven_over(rt, workers, &mut files, report, Some(book)),
+        Err(_) => false,
+    }
 }
 
-/// Whether the row's asks are refused by the row's line, and no book is left.
-fn is_refused(rt: &(impl AllocGlobal + Threads + Wait + Sync), row: &str) -> Result<bool, Fail> {
-    let (given, fault) = row.split_once(" -> ").ok_or("no row")?;
-    let (workers, asks) = given.split_once(' ').ok_or("no asks")?;
-    let report = format!(in rt.alloc(); "refused {fault}\n")?;
-    is_driven(rt, workers, asks, true, report.as_str(), None)
+/// Whether `drive` of the asks by so many workers is refused by the line and leaves no book.
+fn is_refused(
+    rt: &(impl AllocGlobal + Threads + Wait + Sync),
+    workers: &str,
+    asks: &str,
+    is_writable: bool,
+    line: &str,
+) -> bool {
+    match files_of(rt.alloc(), asks, is_writable) {
+        Ok(mut files) => is_driven_over(rt, workers, &mut files, line, None),
+        Err(_) => false,
+    }
 }
 
 #[test]
 fn any_number_of_workers_gives_the_same(rt: HostRuntime) -> Result<(), Fail> {
+    let alloc = rt.alloc();
+    let asks = format!(in alloc; "[{ASKS},{ASKS},{ASKS}]")?;
+    let report = format!(in alloc; "{LINES}{LINES}{LINES}{COUNTS}")?;
     for workers in ["1", "2", "8"] {
-        assert!(rt; is_exact(&rt, workers)?, "{workers} workers");
+        assert!(rt;
+            is_driven(&rt, workers, asks.as_str(), report.as_str(), BOOK),
+            "{workers} workers"
+        );
     }
     Ok(())
+}
+
+/// Whether the row's asks are refused by the row's line, and no book is left.
+fn is_row(rt: &(impl AllocGlobal + Threads + Wait + Sync), row: &str) -> bool {
+    let (given, fault) = row
+        .split_once(" -> ")
+        .unwrap_or((row, "a row with no arrow"));
+    let (workers, asks) = given.split_once(' ').unwrap_or((given, ""));
+    match format!(in rt.alloc(); "refused {fault}\n") {
+        Ok(line) => is_refused(rt, workers, asks, true, line.as_str()),
+        Err(AllocError) => false,
+    }
 }
 
 const REFUSALS: &str = r#"0 [] -> drive 1 NoWorkers
@@ -123,25 +153,24 @@ const REFUSALS: &str = r#"0 [] -> drive 1 NoWorkers
 1 [ -> read_tree 1 NotJson"#;
 
 #[test]
-fn refusals_leave_no_book(rt: HostRuntime) -> Result<(), Fail> {
+fn refusals_leave_no_book(rt: HostRuntime) {
     for row in REFUSALS.lines() {
-        assert!(rt; is_refused(&rt, row)?, "{row}");
+        assert!(rt; is_row(&rt, row), "{row}");
     }
-    let unwritten = is_driven(&rt, "8", "[]", false, "refused store 1 Unwritable\n", None)?;
-    assert!(rt; unwritten);
-    Ok(())
+    assert!(rt; is_refused(&rt, "8", "[]", false, "refused store 1 Unwritable\n"));
 }
 
-/// A flag that is not there, and a hash input of 1,025 bytes, which is counted and not noted.
-#[test]
-fn counts_long_inputs(rt: HostRuntime) -> Result<(), Fail> {
-    let alloc = rt.alloc();
-    let key = "k".repeat(alloc, 1025)?;
-    let asks = format!(in alloc;
+/// The asks of a flag that is not there, and of one with this key.
+fn asks_of(alloc: Global, key: &str) -> Result<String, AllocError> {
+    format!(in alloc;
         r#"[{{"key":"nope","want":"bool","default":false,"context":{{}},"moment":9007199254740991}},
 {{"key":"color","want":"text","default":"d","context":{{"key":"{key}"}},"moment":0}}]"#
-    )?;
-    let report = format!(in alloc;
+    )
+}
+
+/// What is printed of those asks.
+fn report_of(alloc: Global, key: &str) -> Result<String, AllocError> {
+    format!(in alloc;
         r#"{{"code":"FLAG_NOT_FOUND","reached":[],"reason":"ERROR","value":false,"variant":null}}
 {{"code":null,"reached":[[0,"{key}",10]],"reason":"TARGETING_MATCH","value":"b","variant":"blue"}}
 inputs 0
@@ -150,15 +179,16 @@ news 0
 full 0
 long 1
 "#
-    )?;
-    let is_counted = is_driven(
-        &rt,
-        "2",
-        asks.as_str(),
-        true,
-        report.as_str(),
-        Some("{\"book\":1}\n"),
-    )?;
-    assert!(rt; is_counted);
+    )
+}
+
+/// A flag that is not there, and a hash input of 1,025 bytes, which is counted and not noted.
+#[test]
+fn counts_long_inputs(rt: HostRuntime) -> Result<(), Fail> {
+    let alloc = rt.alloc();
+    let key = "k".repeat(alloc, 1025)?;
+    let asks = asks_of(alloc, key.as_str())?;
+    let report = report_of(alloc, key.as_str())?;
+    assert!(rt; is_driven(&rt, "2", asks.as_str(), report.as_str(), "{\"book\":1}\n"));
     Ok(())
 }

@@ -1,7 +1,31 @@
+//! Files of the system, and files in memory.
 use super::memory::MemoryFiles;
 use flagops_files::{FileSet, LoadFault, StoreFault, SystemFiles};
+use std::alloc::Global;
 use std::test::Fail;
 use std::{env, fs, process};
+
+/// Whether a file that is read up to this number of bytes and one more has these.
+fn reads<F: FileSet>(alloc: Global, files: &mut F, path: &str, max: u64, want: &str) -> bool {
+    match files.read(alloc, path, max) {
+        Ok(bytes) => bytes.as_slice() == want.as_bytes(),
+        Err(_) => false,
+    }
+}
+
+/// Whether a file cannot be read.
+fn is_gone<F: FileSet>(alloc: Global, files: &mut F, path: &str) -> bool {
+    matches!(files.read(alloc, path, 9), Err(LoadFault::Unreadable))
+}
+
+/// The most bytes that are read but one, and what is read of `abcdef`.
+const READS: &[(u64, &str)] = &[
+    (0, "a"),
+    (4, "abcde"),
+    (5, "abcdef"),
+    (6, "abcdef"),
+    (u64::MAX, "abcdef"),
+];
 
 #[test]
 fn of_the_system(rt: HostRuntime) -> Result<(), Fail> {
@@ -12,19 +36,14 @@ fn of_the_system(rt: HostRuntime) -> Result<(), Fail> {
     let path = path.as_str();
     let mut files = SystemFiles::new(&rt);
     files.write(alloc, path, b"abcdef")?;
-    for (max, want) in [
-        (0, "a"),
-        (4, "abcde"),
-        (5, "abcdef"),
-        (6, "abcdef"),
-        (u64::MAX, "abcdef"),
-    ] {
-        let bytes = files.read(alloc, path, max)?;
-        assert!(rt; bytes.as_slice() == want.as_bytes(), "at most {max}");
+    for (max, want) in READS {
+        assert!(rt; reads(alloc, &mut files, path, *max, want), "at most {max}");
     }
     fs::remove_file(&rt, path)?;
-    let is_gone = matches!(files.read(alloc, path, 9), Err(LoadFault::Unreadable));
-    assert!(rt; is_gone && files.write(alloc, "/", b"") == Err(StoreFault::Unwritable));
+    assert!(rt;
+        is_gone(alloc, &mut files, path)
+            && files.write(alloc, "/", b"") == Err(StoreFault::Unwritable)
+    );
     Ok(())
 }
 
@@ -35,12 +54,12 @@ fn in_memory(rt: HostRuntime) -> Result<(), Fail> {
     files.write(alloc, "a", b"old")?;
     files.write(alloc, "b", b"other")?;
     files.write(alloc, "a", b"new")?;
-    for (path, max, want) in [("a", 9, "new"), ("b", 1, "ot")] {
-        let bytes = files.read(alloc, path, max)?;
-        assert!(rt; bytes.as_slice() == want.as_bytes(), "at most {max}");
-    }
-    let is_gone = matches!(files.read(alloc, "c", 9), Err(LoadFault::Unreadable));
+    assert!(rt;
+        reads(alloc, &mut files, "a", 9, "new")
+            && reads(alloc, &mut files, "b", 1, "ot")
+            && is_gone(alloc, &mut files, "c")
+    );
     let mut sealed = MemoryFiles::new(alloc, false);
-    assert!(rt; is_gone && sealed.write(alloc, "a", b"") == Err(StoreFault::Unwritable));
+    assert!(rt; sealed.write(alloc, "a", b"") == Err(StoreFault::Unwritable));
     Ok(())
 }

@@ -181,3 +181,17 @@ pub fn run_over(
         err: err.bytes,
     })
 }
+
+/// Whether a run over files by their names ends with the status and the report, and a refusal was told in words.
+pub fn ends(
+    rt: &(impl AllocGlobal + Threads + Wait + Sync),
+    words: &[&str],
+    files: &[(&str, &[u8])],
+    status: u8,
+    report: &str,
+) -> bool {
+    match run_over(rt, words, files, usize::MAX) {
+        Ok(ran) => ran.ended(status, report),
+        Err(AllocError) => false,
+    }
+}

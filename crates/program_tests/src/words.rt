@@ -1,65 +1,104 @@
-use super::memory::run_over;
-use std::test::Fail;
+//! Words that ask for nothing, and for help.
+use super::memory::{Ran, run_over};
+use std::alloc::AllocError;
+use std::sync::Wait;
+use std::thread::Threads;
 
-#[test]
-fn mistakes(rt: HostRuntime) -> Result<(), Fail> {
-    for (words, told) in [
-        ([].as_slice(), "Usage: flagops <COMMAND>"),
-        (["buckets"].as_slice(), "unrecognized subcommand 'buckets'"),
-        (["bucket"].as_slice(), "Usage: flagops bucket <RULE> <KEY>"),
-        (["bucket", "f"].as_slice(), "<KEY>"),
-        (
-            ["bucket", "f", "k", "l"].as_slice(),
-            "unexpected argument 'l'",
-        ),
-        (
-            ["bucket", "f", "-k"].as_slice(),
-            "to pass '-k' as a value, use '-- -k'",
-        ),
-        (["--verbose"].as_slice(), "unexpected argument '--verbose'"),
-    ] {
-        let ran = run_over(&rt, words, &[], usize::MAX)?;
-        let is_mistake = ran.status == 2 && ran.out.is_empty();
-        let err = String::from_utf8(ran.err)?;
-        assert!(rt; is_mistake && err.contains(told), "{words:?}");
+/// Whether the bytes are a text that has this within.
+fn tells(bytes: &[u8], told: &str) -> bool {
+    match str::from_utf8(bytes) {
+        Ok(text) => text.contains(told),
+        Err(_) => false,
     }
-    Ok(())
 }
 
-#[test]
-fn help(rt: HostRuntime) -> Result<(), Fail> {
-    for (words, told) in [
-        (["--help"].as_slice(), "Usage: flagops <COMMAND>"),
-        (["-h"].as_slice(), "bucket"),
-        (
-            ["bucket", "--help"].as_slice(),
-            "Usage: flagops bucket <RULE> <KEY>",
-        ),
-        (["--version"].as_slice(), "flagops 0.1.0"),
-    ] {
-        let ran = run_over(&rt, words, &[], usize::MAX)?;
-        let is_shown = ran.status == 0 && ran.err.is_empty();
-        let out = String::from_utf8(ran.out)?;
-        let cut = run_over(&rt, words, &[], 3)?;
-        let is_cut = cut.status == 1 && out.as_bytes().starts_with(cut.out.as_slice());
-        assert!(rt;
-            is_shown && out.contains(told) && is_cut && cut.out.len() == 3,
-            "{words:?}"
-        );
+/// Whether the words are a mistake, which is told beside the output.
+fn is_mistake(rt: &(impl AllocGlobal + Threads + Wait + Sync), words: &[&str], told: &str) -> bool {
+    match run_over(rt, words, &[], usize::MAX) {
+        Ok(ran) => ran.status == 2 && ran.out.is_empty() && tells(ran.err.as_slice(), told),
+        Err(AllocError) => false,
     }
-    Ok(())
+}
+
+/// The words, and what is told.
+const MISTAKES: &[(&[&str], &str)] = &[
+    (&[], "Usage: flagops <COMMAND>"),
+    (&["buckets"], "unrecognized subcommand 'buckets'"),
+    (&["bucket"], "Usage: flagops bucket <RULE> <KEY>"),
+    (&["bucket", "f"], "<KEY>"),
+    (&["bucket", "f", "k", "l"], "unexpected argument 'l'"),
+    (
+        &["bucket", "f", "-k"],
+        "to pass '-k' as a value, use '-- -k'",
+    ),
+    (&["--verbose"], "unexpected argument '--verbose'"),
+];
+
+#[test]
+fn mistakes(rt: HostRuntime) {
+    for (words, told) in MISTAKES {
+        assert!(rt; is_mistake(&rt, words, told), "{words:?}");
+    }
+}
+
+/// Whether an output that takes three bytes has the first three of the same run's.
+fn is_cut(rt: &(impl AllocGlobal + Threads + Wait + Sync), words: &[&str], whole: &Ran) -> bool {
+    match run_over(rt, words, &[], 3) {
+        Ok(cut) => {
+            cut.status == 1
+                && cut.out.len() == 3
+                && whole.out.as_slice().starts_with(cut.out.as_slice())
+        }
+        Err(AllocError) => false,
+    }
+}
+
+/// Whether the words ask for help that tells this.
+fn is_help(rt: &(impl AllocGlobal + Threads + Wait + Sync), words: &[&str], told: &str) -> bool {
+    match run_over(rt, words, &[], usize::MAX) {
+        Ok(ran) => {
+            ran.status == 0
+                && ran.err.is_empty()
+                && tells(ran.out.as_slice(), told)
+                && is_cut(rt, words, &ran)
+        }
+        Err(AllocError) => false,
+    }
+}
+
+/// The words, and what is told.
+const HELP: &[(&[&str], &str)] = &[
+    (&["--help"], "Usage: flagops <COMMAND>"),
+    (&["-h"], "bucket"),
+    (&["bucket", "--help"], "Usage: flagops bucket <RULE> <KEY>"),
+    (&["--version"], "flagops 0.1.0"),
+];
+
+#[test]
+fn help(rt: HostRuntime) {
+    for (words, told) in HELP {
+        assert!(rt; is_help(&rt, words, told), "{words:?}");
+    }
 }
 
 /// A word that begins with `-` and is longer follows `--`; `-` alone is a plain word.
-#[test]
-fn words_with_a_minus(rt: HostRuntime) -> Result<(), Fail> {
-    for words in [
-        ["bucket", "f", "--", "-x"].as_slice(),
-        ["bucket", "--", "f", "-x"].as_slice(),
-        ["bucket", "f", "-"].as_slice(),
-    ] {
-        let ran = run_over(&rt, words, &[("f", b"[[\"on\"]]".as_slice())], usize::MAX)?;
-        assert!(rt; ran.status == 0, "{words:?}");
+const WITH_A_MINUS: &[&[&str]] = &[
+    &["bucket", "f", "--", "-x"],
+    &["bucket", "--", "f", "-x"],
+    &["bucket", "f", "-"],
+];
+
+/// Whether a run over a rule `f` is done.
+fn is_done(rt: &(impl AllocGlobal + Threads + Wait + Sync), words: &[&str]) -> bool {
+    match run_over(rt, words, &[("f", b"[[\"on\"]]")], usize::MAX) {
+        Ok(ran) => ran.status == 0,
+        Err(AllocError) => false,
     }
-    Ok(())
+}
+
+#[test]
+fn words_with_a_minus(rt: HostRuntime) {
+    for words in WITH_A_MINUS {
+        assert!(rt; is_done(&rt, words), "{words:?}");
+    }
 }
