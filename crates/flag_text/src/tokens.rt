@@ -57,7 +57,8 @@ fn read_items(alloc: Global, reader: &mut Reader<'_>, depth: usize) -> Result<Ve
         → converted items_from (items (value depth) (length reader.old) reader.old) ≡ None }
     ensures kind { IfErr result (λ e. e ≢ TextFault.WantOfMemory → e ≡ TextFault.NotJson) }
 {
-    let mut found = Vec::new(alloc);
+    // Room for two: most lists of a long rule are a name and a weight, and a vector that grows begins with four.
+    let mut found = Vec::with_capacity(alloc, 2)?;
     'items: while !reader.take_end_array() {
         let item = read(alloc, reader, depth)?;
         found.push(item)?;
