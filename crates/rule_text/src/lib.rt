@@ -1,0 +1,19 @@
+//! Rules straight from the bytes of their files, with no tree in between.
+//!
+//! ```rust
+//! use rule_text::read_rule_text;
+//!
+//! let rule = read_rule_text(alloc, br#"[["red",50],["blue",50]]"#, 1000)?;
+//! assert!(rt; rule.total() == 100 && rule.choose("test") == "blue");
+//! ```
+//!
+//! Proved, over `rule_of_text` of `specs/Reading.antt`: [`read_rule_text`] gives the rule of the tree that `flag_text`
+//! reads of the bytes, and each refusal of the text and of the rule in its order.
+#![tactic(auto)]
+
+mod fault;
+mod listed;
+mod read;
+
+pub use fault::RuleTextFault;
+pub use read::read_rule_text;
