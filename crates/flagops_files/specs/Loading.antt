@@ -3,7 +3,9 @@ use Rattle.std.specs.Prelude.{ℕ, List, Result, Ok, Err}
 use Rattle.flag_text.specs.Shape.{Shape}
 use Rattle.flag_text.specs.Reading.{tree_of}
 use Rattle.bucket_core.specs.Rule.{Entries}
-use Rattle.bucket_core.specs.Reading.{rule_of}
+use Rattle.rule_text.specs.Reading.{rule_of_text}
+use Rattle.rule_text.specs.declared.fault.RuleTextFault.{RuleTextFault}
+use Rattle.rule_text.specs.declared.fault.RuleTextFault.TheVariants.{Text, Rule}
 use Rattle.flagops_files.specs.Files.{Holding, load_of}
 use Rattle.flagops_files.specs.declared.refusal.Refusal.{Refusal}
 use Rattle.flagops_files.specs.declared.refusal.Refusal.TheVariants.{Load, ReadTree, ReadRule}
@@ -33,8 +35,13 @@ tree_at at path limit = do
   bytes ← refused_by Load (load_of at path limit)
   refused_by ReadTree (tree_of bytes limit)
 
+-- a fault of a rule's text, as the refusal of the call that it comes from
+abbrev pub refusal_of : RuleTextFault → Refusal
+refusal_of (Text e) = ReadTree e
+refusal_of (Rule e) = ReadRule e
+
 -- the rule of the rule file at a path
 unfoldable pub rule_at : Holding → List ℕ → Result Entries Refusal
 rule_at at path = do
-  t ← tree_at at path max_rule
-  refused_by ReadRule (rule_of t)
+  bytes ← refused_by Load (load_of at path max_rule)
+  refused_by refusal_of (rule_of_text bytes max_rule)

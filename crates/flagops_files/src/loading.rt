@@ -4,15 +4,16 @@ ghost use Rattle.flag_text.specs.Shape.{is_whole};
 ghost use Rattle.flag_text.specs.View.{view};
 ghost use Rattle.flagops_files.specs.Refusal.{ComesFrom, GivesUnlessWant, is_file_fault, loads_file, loads_rule, loads_tree};
 ghost use Rattle.flagops_files.specs.Files.{load_of};
-ghost use Rattle.flagops_files.specs.Loading.{refused_by, rule_at, tree_at};
+ghost use Rattle.flagops_files.specs.Loading.{refusal_of, refused_by, rule_at, tree_at};
 ghost use Rattle.flagops_files.specs.declared.refusal.Refusal.TheVariants.{Load};
 
 use crate::files::FileSet;
 use crate::refusal::Refusal;
 use crate::refused::{Refused, Remark};
-use bucket_core::{Rule, read_rule};
+use bucket_core::Rule;
 use flag_text::{Tree, read_tree};
 use flagops_remarks::{of_rule, of_text, of_unreadable};
+use rule_text::{RuleTextFault, read_rule_text};
 use std::alloc::Global;
 
 /// The largest rule or plan file, in bytes.
@@ -75,12 +76,34 @@ pub fn load_rule<F: FileSet>(alloc: Global, files: &mut F, path: &str) -> Result
     ensures failed { F.has_failed files.new ≡ (F.has_failed files.old || is_file_fault result) }
     ensures kept { F.holding files.new ≡ F.holding files.old }
 {
-    let tree = load_tree(alloc, files, path, RULE_LIMIT)?;
-    match read_rule(alloc, &tree) {
+    let bytes = load(alloc, files, path, u64::from(RULE_LIMIT))?;
+    match read_rule_text(alloc, bytes.as_slice(), RULE_LIMIT as usize) {
         Ok(rule) => Ok(rule),
         Err(fault) => Err(Refused {
-            refusal: Refusal::ReadRule(fault),
-            remark: Remark::of(of_rule(alloc, path, &tree, fault)),
+            refusal: refusal_of(fault),
+            remark: remark_on(alloc, path, bytes.as_slice(), fault),
         }),
+    }
+}
+
+/// The refusal of a text that is no rule.
+fn refusal_of(fault: RuleTextFault) -> Refusal
+    ensures { result ≡ refusal_of fault }
+{
+    match fault {
+        RuleTextFault::Text(fault) => Refusal::ReadTree(fault),
+        RuleTextFault::Rule(fault) => Refusal::ReadRule(fault),
+    }
+}
+
+/// What a person is told of it. Only then is the tree of the text made.
+fn remark_on(alloc: Global, path: &str, bytes: &[u8], fault: RuleTextFault) -> Remark {
+    let limit = RULE_LIMIT as usize;
+    match fault {
+        RuleTextFault::Text(fault) => Remark::of(of_text(alloc, path, bytes, limit, fault)),
+        RuleTextFault::Rule(fault) => match read_tree(alloc, bytes, limit) {
+            Ok(tree) => Remark::of(of_rule(alloc, path, &tree, fault)),
+            Err(_) => Remark::Short,
+        },
     }
 }
