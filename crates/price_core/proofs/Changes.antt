@@ -1,5 +1,5 @@
 -- The order of pairs of names.
-use Rattle.std.proofs.Common.{◌≡◌, ℕ, List, ◌&&◌, Ordering, refl, ◌∙◌}
+use Rattle.std.proofs.Common.{◌≡◌, List, ◌&&◌, Ordering, refl, ◌∙◌}
 use Rattle.std.specs.BTreeMap.{is_at}
 use Rattle.std.specs.Cmp.{IsTotalOrder}
 use Rattle.std.specs.Cmp.Lexicographic.{slice_cmp}

@@ -60,6 +60,21 @@ pub fn switch_cost(
 ) -> Result<u64, AllocError>
     ensures exact { IfOk result (λ cost. cost ≡ cost_of old.now new.now exposure.now prices.now) }
 {
+    switch_cost_of(rt, alloc, old, new, exposure.inputs(), prices)
+}
+
+/// As [`switch_cost`], for inputs that are lent, 1,000,000 at most. One that stands among them twice is paid for twice.
+pub fn switch_cost_of(
+    rt: &(impl Threads + Sync),
+    alloc: Global,
+    old: &Rule,
+    new: &Rule,
+    inputs: &[String],
+    prices: &Prices,
+) -> Result<u64, AllocError>
+    requires few { length inputs.now ≤ 1000000 }
+    ensures exact { IfOk result (λ cost. cost ≡ cost_of old.now new.now (map string_bytes inputs.now) prices.now) }
+{
     let switching = Switching::of(alloc, old, new, prices)?;
-    Ok(cost_over(rt, &switching, exposure.inputs()))
+    Ok(cost_over(rt, &switching, inputs))
 }

@@ -33,7 +33,7 @@ mod request;
 mod switching;
 mod totals;
 
-pub use cost::{first_forbidden, switch_cost};
+pub use cost::{first_forbidden, switch_cost, switch_cost_of};
 pub use fault::PriceFault;
 pub use prices::Prices;
 pub use request::Request;
