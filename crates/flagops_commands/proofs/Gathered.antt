@@ -8,7 +8,7 @@ use Rattle.std.proofs.lemmas.Bool.{and_parts, cases_Bool, leb-true}
 use Rattle.std.proofs.lemmas.List.{length-map}
 use Rattle.std.proofs.lemmas.List.Elements.{All-cons, All-head, All-nil, All-tail}
 use Rattle.std.proofs.lemmas.Cmp.{nat_list_cmp_total}
-use Rattle.std.proofs.lemmas.List.Sorted.{All-permutation, Contains-permutation, IsPermutation-map, IsPermutation-sym, length_permutation}
+use Rattle.std.proofs.lemmas.List.Sorted.{Contains-permutation, IsPermutation-map, IsPermutation-sym}
 use Rattle.book_core.specs.Book.{Contents, Inputs, inputs_on, is_among, most_bytes, most_inputs, page_reply, reply_to, with_input}
 use Rattle.book_core.specs.Page.{bytes_cmp}
 use Rattle.book_core.proofs.Answered.{inputs_on-with_input}
@@ -31,7 +31,7 @@ abbrev pub gathered : Inputs → Inputs → Inputs
 gathered inputs [] = inputs
 gathered inputs (key ∷ keys) = gathered (insert_key bytes_cmp inputs key) keys
 
-gathered-rise : (inputs keys : Inputs) → IsStrictlySortedBy bytes_cmp inputs → IsStrictlySortedBy bytes_cmp (gathered inputs keys)
+pub gathered-rise : (inputs keys : Inputs) → IsStrictlySortedBy bytes_cmp inputs → IsStrictlySortedBy bytes_cmp (gathered inputs keys)
 gathered-rise inputs [] rise = rise
 gathered-rise inputs (key ∷ keys) rise = gathered-rise (insert_key bytes_cmp inputs key) keys (sorted-insert_key nat_list_cmp_total inputs key rise)
 
@@ -86,14 +86,14 @@ gathered-kept inputs (key ∷ keys) z s = gathered-kept (insert_key bytes_cmp in
 entered_as : (inputs : Inputs) (key z : List ℕ) → key ≡ z → Stands (insert_key bytes_cmp inputs key) z
 entered_as inputs key z same = let s = entered inputs key in (s.0, s.1 ∙ ap Some same)
 
-gathered-entered : (inputs keys : Inputs) (z : List ℕ) → Stands keys z → Stands (gathered inputs keys) z
+pub gathered-entered : (inputs keys : Inputs) (z : List ℕ) → Stands keys z → Stands (gathered inputs keys) z
 gathered-entered inputs [] z (i, is) = cc
 gathered-entered inputs (key ∷ keys) z (zero, is) =
     let here : key ≡ z = cc in
     gathered-kept (insert_key bytes_cmp inputs key) keys z (entered_as inputs key z here)
 gathered-entered inputs (key ∷ keys) z (suc i, is) = gathered-entered (insert_key bytes_cmp inputs key) keys z (i, is)
 
-gathered-came : (inputs keys : Inputs) (z : List ℕ) → Stands (gathered inputs keys) z → Stands inputs z ⊎ Stands keys z
+pub gathered-came : (inputs keys : Inputs) (z : List ℕ) → Stands (gathered inputs keys) z → Stands inputs z ⊎ Stands keys z
 gathered-came inputs [] z s = inl s
 gathered-came inputs (key ∷ keys) z s =
     ⊎_elim
@@ -101,7 +101,7 @@ gathered-came inputs (key ∷ keys) z s =
     (λ (h : Stands keys z). inr (behind key z keys h))
     (gathered-came (insert_key bytes_cmp inputs key) keys z s)
 
-none_stands : {X : Type 0} (z : List ℕ) → Stands [] z → X
+pub none_stands : {X : Type 0} (z : List ℕ) → Stands [] z → X
 none_stands z (i, is) = cc
 
 moved : (keys sorted : Inputs) → IsPermutation keys sorted → (z : List ℕ) → Stands (gathered [] keys) z → Stands (gathered [] sorted) z
@@ -165,17 +165,19 @@ all_short (key ∷ keys) passes =
     let parts = and_parts (nat_le (length (string_bytes key)) most_bytes) (are_short keys) passes in
     All-cons IsShort (string_bytes key) (map string_bytes keys) (leb-true (length (string_bytes key)) most_bytes parts.0) (all_short keys parts.1)
 
--- keys that a page takes are exposed in any order as in theirs
-pub exposed-moved : (keys sorted : List (String Global)) → are_taken keys ≡ true → IsPermutation keys sorted → exposed (map string_bytes sorted) ≡ exposed (map string_bytes keys)
+pub few_taken : (keys : List (String Global)) → are_taken keys ≡ true → length keys ≤ most_inputs
+few_taken keys passes = leb-true (length keys) most_inputs (and_parts (nat_le (length keys) most_inputs) (are_short keys) passes).0
+
+abbrev AreTaken : Inputs → Type 0
+AreTaken keys = All IsShort keys × (length keys ≤ most_inputs)
+
+taken_texts : (keys : List (String Global)) → are_taken keys ≡ true → AreTaken (map string_bytes keys)
+taken_texts keys passes =
+    (all_short keys (and_parts (nat_le (length keys) most_inputs) (are_short keys) passes).1, omega (arith, length-map keys string_bytes, few_taken keys passes))
+
+-- keys that a page takes, in another order: what is gathered of them so
+pub exposed-moved : (keys sorted : List (String Global)) → are_taken keys ≡ true → IsPermutation keys sorted → exposed (map string_bytes keys) ≡ Ok (gathered [] (map string_bytes sorted))
 exposed-moved keys sorted passes same =
-    let parts = and_parts (nat_le (length keys) most_inputs) (are_short keys) passes in
-    let few : length keys ≤ most_inputs = leb-true (length keys) most_inputs parts.0 in
     let texts = map string_bytes keys in
-    let others = map string_bytes sorted in
-    let moved_texts : IsPermutation texts others = IsPermutation-map string_bytes keys sorted same in
-    let short = all_short keys parts.1 in
-    let size : length texts ≡ length keys = length-map keys string_bytes in
-    let other_size : length others ≡ length texts = length_permutation texts others moved_texts in
-    exposed-gathered others (All-permutation IsShort texts others moved_texts short) (omega (arith, size, other_size, few))
-    ∙ ap (λ (s : Inputs). Ok s) (sym (gathered-moved texts others moved_texts))
-    ∙ sym (exposed-gathered texts short (omega (arith, size, few)))
+    let taken = taken_texts keys passes in
+    exposed-gathered texts taken.0 taken.1 ∙ ap Ok (gathered-moved texts (map string_bytes sorted) (IsPermutation-map string_bytes keys sorted same))

@@ -1,6 +1,7 @@
 pub mod AddedUp
 pub mod Checked
 pub mod Driving
+mod Distinct
 mod Gathered
 pub mod Hexadecimal
 pub mod Leaving

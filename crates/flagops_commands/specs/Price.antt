@@ -99,6 +99,10 @@ price_text old new pricing inputs =
 abbrev pub weighed : Entries → Entries → Pricing → Inputs → Result Report Refusal
 weighed old new pricing inputs = if total_weight old == total_weight new then done (price_text old new pricing inputs) else Err (Price Weight)
 
+-- the keys come to these inputs, which are then paid for
+abbrev pub weighed_keys : Entries → Entries → Pricing → Inputs → Result Report Refusal
+weighed_keys old new pricing keys = exposed keys >>= λ inputs. weighed old new pricing inputs
+
 -- what the command reports, its files read in the order of the words
 unfoldable pub price_report : Holding → List ℕ → List ℕ → List ℕ → List ℕ → Result Report Refusal
 price_report at old new request keys = do
@@ -106,5 +110,4 @@ price_report at old new request keys = do
   n ← rule_at at new
   a ← request_at at request
   ks ← keys_at at keys
-  inputs ← exposed ks
-  weighed o n a.prices inputs
+  weighed_keys o n a.prices ks

@@ -1,8 +1,8 @@
 //! The command `price`: what a new rule costs the keys of a file.
-ghost use Rattle.std.specs.Prelude.{◌≡◌, ◌<◌, ◌^◌, ◌++◌, ◌||◌, false, IfOk, IfSome, codes, decimal, map, string_bytes};
+ghost use Rattle.std.specs.Prelude.{◌≡◌, ◌<◌, ◌≤◌, ◌^◌, ◌++◌, ◌||◌, false, length, IfOk, IfSome, codes, decimal, map, string_bytes};
 ghost use Rattle.bucket_core.specs.Rule.{total_weight};
 ghost use Rattle.flag_text.specs.View.{view, items_view};
-ghost use Rattle.flagops_commands.specs.Price.{request_at, keys_at, keys_in, if_keys, texts_of, are_short, are_taken, exposed, price_report, weighed, price_text, total_lines, forbidden_line, cost_line};
+ghost use Rattle.flagops_commands.specs.Price.{request_at, keys_at, keys_in, if_keys, texts_of, are_short, are_taken, exposed, price_report, weighed, weighed_keys, price_text, total_lines, forbidden_line, cost_line};
 ghost use Rattle.flagops_commands.specs.Calls.{loads_keys, loads_request, notes_keys, price_calls, price_itself};
 ghost use Rattle.flagops_files.specs.Refusal.{ComesFrom, GivesUnlessWant, is_file_fault};
 ghost use Rattle.flagops_files.specs.Report.{outcome_view};
@@ -18,7 +18,7 @@ use flagops_files::{
     load_rule, load_tree, quoted,
 };
 use flagops_remarks::{of_keys, of_noted, of_request, of_weights};
-use price_core::{Prices, Request, first_forbidden, switch_cost};
+use price_core::{Prices, Request, first_forbidden, switch_cost_of};
 use std::alloc::{AllocError, AllocFailed, Global};
 use std::thread::Threads;
 
@@ -44,8 +44,7 @@ pub fn price<R: Threads + Sync, F: FileSet>(
     let request = load_request(alloc, files, request)?;
     let path = keys;
     let keys = load_keys(alloc, files, path)?;
-    let exposure = exposed(alloc, path, keys)?;
-    priced(rt, alloc, &old, &new, request.prices(), &exposure)
+    weigh_keys(rt, alloc, path, keys, &old, &new, request.prices())
 }
 
 /// The request of the file at a path.
@@ -120,24 +119,34 @@ fn no_keys(alloc: Global, path: &str, place: Option<usize>, value: &Tree) -> Ref
     }
 }
 
-/// The most keys that a page takes in whatever order they are noted.
+/// The most keys that a page takes.
 const MOST_KEYS: usize = 1_000_000;
 
 /// The most bytes that each of them has.
 const MOST_KEY_BYTES: usize = 1024;
 
-/// The keys of the file at a path as the inputs of a page of their own. Where none can be refused they are noted in rising
-/// order, in which a page finds its place for each at once.
-fn exposed(alloc: Global, path: &str, mut keys: Vec<String>) -> Result<Exposure, Refused>
-    ensures exact { GivesUnlessWant (λ e. e) result (exposed (map string_bytes keys.items)) }
+/// What the change costs the keys of the file at a path, each of which pays once. Where a page would refuse none of them
+/// they are paid for as they lie, sorted, and no page is made.
+fn weigh_keys<R: Threads + Sync>(
+    rt: &R,
+    alloc: Global,
+    path: &str,
+    mut keys: Vec<String>,
+    old: &Rule,
+    new: &Rule,
+    prices: &Prices,
+) -> Result<Outcome, Refused>
+    ensures exact { GivesUnlessWant outcome_view result (weighed_keys old.now new.now prices.now (map string_bytes keys.items)) }
     ensures calls { ComesFrom notes_keys result }
     ensures read { is_file_fault result ≡ false }
 {
-    if !are_taken(keys.as_slice()) {
-        return noted(alloc, path, keys.as_slice());
+    if are_taken(keys.as_slice()) {
+        keys.sort_unstable();
+        keys.dedup();
+        return priced(rt, alloc, old, new, prices, keys.as_slice());
     }
-    keys.sort_unstable();
-    noted(alloc, path, keys.as_slice())
+    let exposure = noted(alloc, path, keys.as_slice())?;
+    priced(rt, alloc, old, new, prices, exposure.inputs())
 }
 
 /// Whether a page takes all these keys in whatever order they are noted.
@@ -194,9 +203,10 @@ fn priced(
     old: &Rule,
     new: &Rule,
     prices: &Prices,
-    exposure: &Exposure,
+    inputs: &[String],
 ) -> Result<Outcome, Refused>
-    ensures exact { GivesUnlessWant outcome_view result (weighed old.now new.now prices.now exposure.now) }
+    requires few { length inputs.now ≤ 1000000 }
+    ensures exact { GivesUnlessWant outcome_view result (weighed old.now new.now prices.now (map string_bytes inputs.now)) }
     ensures calls { ComesFrom price_itself result }
     ensures read { is_file_fault result ≡ false }
 {
@@ -207,7 +217,7 @@ fn priced(
             remark: Remark::of(lines),
         });
     }
-    match lines(rt, alloc, old, new, prices, exposure) {
+    match lines(rt, alloc, old, new, prices, inputs) {
         Ok(text) => Ok(Outcome::plain(text.into_bytes(), Status::Done)),
         Err(AllocError) => Err(Refused {
             refusal: Refusal::WantOfMemory(Call::Price),
@@ -223,16 +233,17 @@ fn lines(
     old: &Rule,
     new: &Rule,
     prices: &Prices,
-    exposure: &Exposure,
+    inputs: &[String],
 ) -> Result<String, AllocError>
+    requires few { length inputs.now ≤ 1000000 }
     requires same { total_weight old.now ≡ total_weight new.now }
     requires small { total_weight new.now < 2 ^ 31 }
-    ensures { IfOk result (λ s. string_bytes s ≡ price_text old.now new.now prices.now exposure.now) }
+    ensures { IfOk result (λ s. string_bytes s ≡ price_text old.now new.now prices.now (map string_bytes inputs.now)) }
 {
     let mut lines = total_lines(alloc, totals_by_name(alloc, new.entries())?.as_slice())?;
     let forbidden = forbidden_line(alloc, first_forbidden(old, new, prices))?;
     lines.push_str(forbidden.as_str())?;
-    let cost = cost_line(alloc, switch_cost(rt, alloc, old, new, exposure, prices)?)?;
+    let cost = cost_line(alloc, switch_cost_of(rt, alloc, old, new, inputs, prices)?)?;
     lines.push_str(cost.as_str())?;
     Ok(lines)
 }
