@@ -1,6 +1,11 @@
-//! The tests of the crates of streams, in a crate of their own, so that those are proved once.
+//! The tests of the crates from sources and snapshots to streams over sockets, in a crate of their own, so that those are
+//! proved once.
 #![tactic(auto)]
 
+#[cfg(test)]
+mod commands;
+#[cfg(test)]
+mod event_tests;
 #[cfg(test)]
 mod frame_tests;
 #[cfg(test)]
@@ -8,8 +13,14 @@ mod memory;
 #[cfg(test)]
 mod read_tests;
 #[cfg(test)]
+mod refused_tests;
+#[cfg(test)]
 mod seat_tests;
 #[cfg(test)]
 mod serve_tests;
+#[cfg(test)]
+mod served_tests;
+#[cfg(test)]
+mod source_tests;
 #[cfg(test)]
 mod thread_tests;

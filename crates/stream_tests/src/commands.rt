@@ -18,8 +18,8 @@ pub fn serves<R>(rt: &R, port: u16, subscribers: usize, texts: &[&[u8]]) -> Prin
 where
     R: AllocGlobal + Net<Listener = TcpListener, Stream = TcpStream> + Threads + Wait + Sync,
 {
-    let mut out = MemoryOutlet::new(rt.alloc());
-    let mut err = MemoryOutlet::new(rt.alloc());
+    let mut out = MemoryOutlet::new(rt.alloc(), usize::MAX, usize::MAX);
+    let mut err = MemoryOutlet::new(rt.alloc(), usize::MAX, usize::MAX);
     let status = match documents_of(rt.alloc(), texts) {
         Some(documents) if documents.len() > 0 => {
             serve_documents(
@@ -66,8 +66,8 @@ pub fn documents_of(alloc: Global, texts: &[&[u8]]) -> Option<Documents> {
 
 /// What `follow` prints of so many turns.
 pub fn follows<R: AllocGlobal + Net + Clock>(rt: &R, port: u16, turns: u64) -> Printed {
-    let mut out = MemoryOutlet::new(rt.alloc());
-    let mut err = MemoryOutlet::new(rt.alloc());
+    let mut out = MemoryOutlet::new(rt.alloc(), usize::MAX, usize::MAX);
+    let mut err = MemoryOutlet::new(rt.alloc(), usize::MAX, usize::MAX);
     let status = follow_port(rt, port, turns, &mut out, &mut err);
     (out.bytes, err.bytes, status)
 }
