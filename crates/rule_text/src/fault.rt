@@ -1,11 +1,10 @@
 ghost use Rattle.std.specs.Prelude.{◌≡◌};
 ghost use Rattle.flag_text.specs.declared.fault.TextFault.TheVariants as texts;
-ghost use Rattle.bucket_core.specs.declared.fault.RuleFault.TheVariants as rules;
 ghost use Rattle.rule_text.specs.declared.fault.RuleTextFault.TheVariants.{Text, Rule};
 
 use bucket_core::RuleFault;
 use flag_text::TextFault;
-use std::alloc::{AllocError, AllocFailed};
+use std::alloc::AllocError;
 use thiserror::Error;
 
 /// Why a text is not read as a rule: first what its bytes are refused for, then what its tree is. Memory that ran out

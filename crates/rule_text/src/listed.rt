@@ -1,5 +1,5 @@
 //! The entries of a text that is a list of literal buckets, token by token.
-ghost use Rattle.std.specs.Prelude.{◌≡◌, ◌<◌, length, Some, IfOk, IfSome, option_and_then};
+ghost use Rattle.std.specs.Prelude.{◌≡◌, ◌<◌, length, Some, IfOk, IfSome};
 ghost use Rattle.json.specs.Json.{value, items};
 ghost use Rattle.serde_json.specs.Read.{converted};
 ghost use Rattle.bucket_core.specs.Rule.{entry_view, entries_view};
