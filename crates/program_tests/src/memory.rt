@@ -30,15 +30,6 @@ impl MemoryFiles {
     }
 }
 
-impl MemoryFiles {
-    /// Whether they may be written from now on.
-    pub fn allow_writing(&mut self, is_writable: bool)
-        ensures { ⟦<MemoryFiles as FileSet>⟧.has_failed self.new ≡ ⟦<MemoryFiles as FileSet>⟧.has_failed self.old }
-    {
-        self.is_writable = is_writable;
-    }
-}
-
 impl FileSet for MemoryFiles {
     ghost holding = { λ s. Some (held_in s.files.items) };
 
@@ -149,15 +140,6 @@ pub struct Ran {
     pub err: Vec<u8>,
 }
 
-impl Ran {
-    /// Whether it ended with the status and the report, and a refusal was told in words.
-    pub fn ended(&self, status: u8, report: &str) -> bool {
-        self.status == status
-            && self.out.as_slice() == report.as_bytes()
-            && (status != 1 || !self.err.is_empty())
-    }
-}
-
 /// A run over files by their names, and an output that takes so many bytes.
 pub fn run_over(
     rt: &(impl AllocGlobal + Threads + Wait + Sync),
@@ -180,18 +162,4 @@ pub fn run_over(
         out: out.bytes,
         err: err.bytes,
     })
-}
-
-/// Whether a run over files by their names ends with the status and the report, and a refusal was told in words.
-pub fn ends(
-    rt: &(impl AllocGlobal + Threads + Wait + Sync),
-    words: &[&str],
-    files: &[(&str, &[u8])],
-    status: u8,
-    report: &str,
-) -> bool {
-    match run_over(rt, words, files, usize::MAX) {
-        Ok(ran) => ran.ended(status, report),
-        Err(AllocError) => false,
-    }
 }

@@ -75,13 +75,8 @@ pub(crate) fn book(alloc: Global) -> Result<Book, BookFileFault> {
 
 /// The flag `color` with these buckets.
 pub(crate) fn color(alloc: Global, buckets: &str) -> Option<Flags> {
-    flag(alloc, r#""red":"r","blue":"b","green":"g""#, "red", buckets)
-}
-
-/// A flag `color` with these variants, this default variant and these buckets.
-pub(crate) fn flag(alloc: Global, variants: &str, first: &str, buckets: &str) -> Option<Flags> {
     match format!(in alloc;
-        "{{\"flags\":{{\"color\":{{\"state\":\"ENABLED\",\"variants\":{{{variants}}},\"defaultVariant\":\"{first}\",\"targeting\":{{\"fractional\":[{{\"var\":\"key\"}},{buckets}]}}}}}}}}"
+        "{{\"flags\":{{\"color\":{{\"state\":\"ENABLED\",\"variants\":{{\"red\":\"r\",\"blue\":\"b\",\"green\":\"g\"}},\"defaultVariant\":\"red\",\"targeting\":{{\"fractional\":[{{\"var\":\"key\"}},{buckets}]}}}}}}}}"
     ) {
         Ok(text) => read_flags(alloc, text.as_bytes()).ok(),
         Err(AllocError) => None,

@@ -19,8 +19,6 @@ mod plans;
 #[cfg(test)]
 mod posed;
 #[cfg(test)]
-mod refused_plans;
-#[cfg(test)]
 mod solutions;
 #[cfg(test)]
 mod verdicts;

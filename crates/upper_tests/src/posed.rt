@@ -17,26 +17,10 @@ pub(crate) struct Problem {
 
 /// A request on red 5, blue 5, where the variants are blue, green and red, with the inputs of a book.
 pub(crate) fn posed(alloc: Global, request: &str, book: &str) -> Option<Problem> {
-    posed_on(
-        alloc,
-        OLD,
-        request,
-        "blue green red",
-        exposure(alloc, book)?,
-    )
-}
-
-/// A request on a rule, where these are the variants, with these inputs.
-pub(crate) fn posed_on(
-    alloc: Global,
-    old: &str,
-    request: &str,
-    variants: &str,
-    inputs: Exposure,
-) -> Option<Problem> {
-    let old = rule(alloc, old)?;
+    let old = rule(alloc, OLD)?;
     let request = Request::read(alloc, request.as_bytes()).ok()?;
-    let totals = asked(alloc, &request, variants)?;
+    let totals = asked(alloc, &request, "blue green red")?;
+    let inputs = exposure(alloc, book)?;
     Some(Problem {
         old,
         request,

@@ -1,0 +1,62 @@
+"""Runs of the program as it is built, each over files in a folder of its own."""
+import os
+import subprocess
+import tempfile
+import unittest
+from typing import NamedTuple
+
+ROOT = os.path.dirname(os.path.dirname(os.path.abspath(__file__)))
+PROGRAM = os.path.join(ROOT, "crates", "flagops", "out", "flagops")
+SECONDS = 120
+
+# The first run builds the program where it is missing or older than a source.
+subprocess.run([os.path.join(ROOT, "flagops"), "--version"], stdout=subprocess.DEVNULL, check=True)
+
+
+class Ran(NamedTuple):
+    """What a run printed, what it told a person, its status, and the files that it left, by their names."""
+
+    out: str
+    err: str
+    status: int
+    files: dict
+
+
+def run(words, files, **how):
+    """A run with these words, in a folder with these files: texts by their names. `how` goes to `subprocess.run`."""
+    with tempfile.TemporaryDirectory() as folder:
+        for name, text in files.items():
+            with open(os.path.join(folder, name), "w", encoding="utf-8", newline="") as file:
+                file.write(text)
+        how = {"stdout": subprocess.PIPE, "stderr": subprocess.PIPE, **how}
+        ended = subprocess.run(
+            [PROGRAM, *words], cwd=folder, encoding="utf-8", timeout=SECONDS, check=False, **how
+        )
+        left = {name: text_of(os.path.join(folder, name)) for name in os.listdir(folder)}
+    return Ran(ended.stdout, ended.stderr, ended.returncode, left)
+
+
+def text_of(path):
+    """The text of a file."""
+    with open(path, encoding="utf-8", newline="") as file:
+        return file.read()
+
+
+class ProgramTest(unittest.TestCase):
+    """Tests of runs."""
+
+    maxDiff = None
+
+    def assert_ends(self, words, files, status, report):
+        """The run ends with this status and prints this; a refusal is told in words, and an answer in none but a note."""
+        ran = run(words, files)
+        self.assertEqual((ran.status, ran.out), (status, report))
+        is_told = ran.err != "" and not ran.err.startswith("note: ")
+        self.assertEqual(is_told, status == 1, ran.err)
+        return ran
+
+    def assert_mistake(self, words, files, told):
+        """The words ask for nothing: that is told beside the output, with this within."""
+        ran = run(words, files)
+        self.assertEqual((ran.status, ran.out), (2, ""))
+        self.assertIn(told, ran.err)

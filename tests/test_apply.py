@@ -1,0 +1,112 @@
+"""The command `apply`."""
+import unittest
+
+from given import FIVES, FREE, document, none_of, plan_of
+from program import ProgramTest, run
+
+APPLIED = (
+    '{"flags":{"color":{"defaultVariant":"red","state":"ENABLED","targeting":{"fractional":[{"var":["key"]},'
+    '["red",2],["blue",2],["red",1],["blue",5]]},"variants":{"blue":"b","green":"g","red":"r"}}}}\n'
+)
+
+PINK = plan_of(rule='[["red",1],["pink",2]]')
+
+# The buckets, a plan, a flag's key, a site, the status and what is printed.
+APPLICATIONS = [
+    (FIVES, FREE, "color", "0", 0, APPLIED),
+    (FIVES, FREE, "colour", "0", 1, "refused apply 2 UnknownFlag\n"),
+    (FIVES, FREE, "color", "1", 1, "refused apply 3 NoSite\n"),
+    (FIVES, none_of("red"), "colour", "7", 3, "none\n"),
+    (FIVES, "{}", "color", "0", 1, "refused read_planned 1 BadPlan\n"),
+    (FIVES, PINK, "nope", "1", 1, "refused apply 2 UnknownFlag\n"),
+    (FIVES, PINK, "color", "1", 1, "refused apply 3 NoSite\n"),
+    (FIVES, PINK, "color", "0", 1, "refused apply 5 UnknownVariant\n"),
+    ('[{"var":"v"},5],["blue",5]', PINK, "color", "0", 1, "refused apply 4 Computed\n"),
+]
+
+# Texts that are no plan: the form, and members of the other form; the names of a set; the groups and the names; the cost; the
+# rule.
+NO_PLANS = [
+    '{"none":["red"]}',
+    '{"none":["red"],"plan":3}',
+    '{"none":["red"],"plan":2}',
+    '{"none":["red"],"plan":2,"side":"over"}',
+    '{"none":["red"],"plan":1,"cost":0}',
+    '{"none":["red"],"plan":1,"rule":null}',
+    '{"none":["red"],"plan":2,"side":"under","alpha":[]}',
+    '{"alpha":[],"beta":[],"cost":0,"plan":2,"rule":[["a",1]],"side":"under"}',
+    '{"alpha":[],"beta":[],"plan":1,"rule":[["a",1]]}',
+    '{"none":["red","blue"],"plan":1}',
+    '{"none":["red","red"],"plan":1}',
+    '{"none":[1],"plan":1}',
+    '{"none":null,"plan":1}',
+    '{"alpha":[["a",1,0],["a",1,0]],"beta":[],"cost":0,"plan":1,"rule":[["a",1]]}',
+    '{"alpha":[["a",2,0],["a",1,0]],"beta":[],"cost":0,"plan":1,"rule":[["a",1]]}',
+    '{"alpha":[["b",0,0],["a",1,0]],"beta":[],"cost":0,"plan":1,"rule":[["a",1]]}',
+    '{"alpha":[["a",4294967296,0]],"beta":[],"cost":0,"plan":1,"rule":[["a",1]]}',
+    '{"alpha":[["a",-1,0]],"beta":[],"cost":0,"plan":1,"rule":[["a",1]]}',
+    '{"alpha":[["a",1]],"beta":[],"cost":0,"plan":1,"rule":[["a",1]]}',
+    '{"alpha":[],"beta":[["a",0],["a",1]],"cost":0,"plan":1,"rule":[["a",1]]}',
+    '{"alpha":[],"beta":[["a",0,0]],"cost":0,"plan":1,"rule":[["a",1]]}',
+    '{"alpha":[],"beta":[["a",1.5]],"cost":0,"plan":1,"rule":[["a",1]]}',
+    '{"alpha":[],"beta":[],"cost":-1,"plan":1,"rule":[["a",1]]}',
+    '{"alpha":[],"beta":[],"cost":9007199254740992,"plan":1,"rule":[["a",1]]}',
+    '{"alpha":[],"beta":[],"cost":0,"plan":1,"rule":[]}',
+    '{"alpha":[],"beta":[],"cost":0,"plan":1,"rule":[["a"]]}',
+    '{"alpha":[],"beta":[],"cost":0,"plan":1,"rule":[["a",0],["b",1]]}',
+    '{"alpha":[],"beta":[],"cost":0,"plan":1,"rule":[["a",1],["a",1]]}',
+    '{"alpha":[],"beta":[],"cost":0,"plan":1,"rule":[["a",2147483648]]}',
+    '{"alpha":[],"beta":[],"cost":0,"plan":1,"rule":[["a",2147483647],["b",1]]}',
+]
+
+# The most bytes of a document, and of what is printed.
+LARGEST = 4_194_304
+
+
+def largest():
+    """A document that is printed as it stands, in as many bytes as there may be."""
+    front = (
+        '{"flags":{"color":{"state":"ENABLED","targeting":{"fractional":[{"var":["key"]},["red",5],["blue",5]]},'
+        '"variants":{"blue":"b","red":"'
+    )
+    return front + "r" * (LARGEST - 5 - len(front)) + '"}}}}'
+
+
+class Apply(ProgramTest):
+    def test_applications(self):
+        for buckets, plan, key, site, status, report in APPLICATIONS:
+            with self.subTest(buckets=buckets, plan=plan, key=key, site=site):
+                ran = run(["apply", "d", "p", key, site], {"d": document(buckets), "p": plan})
+                self.assertEqual((ran.status, ran.out), (status, report))
+                self.assertEqual(ran.err == "", status != 1, ran.err)
+
+    def test_a_site_beyond_32_bits_is_a_mistake(self):
+        files = {"d": document(), "p": FREE}
+        self.assert_mistake(["apply", "d", "p", "color", "4294967296"], files, "4294967296")
+
+    def assert_no_plan(self, text):
+        """A text is refused as no plan."""
+        words = ["apply", "d", "p", "color", "0"]
+        self.assert_ends(words, {"d": document(), "p": text}, 1, "refused read_planned 1 BadPlan\n")
+
+    def test_texts_that_are_no_plan(self):
+        for text in NO_PLANS:
+            with self.subTest(text=text):
+                self.assert_no_plan(text)
+
+    def test_fronts_of_a_plan(self):
+        for taken in range(len(FREE)):
+            with self.subTest(taken=taken):
+                self.assert_no_plan(FREE[:taken])
+
+    def test_large_documents(self):
+        """A rule that is printed as long as the old one is taken, one that is longer is not."""
+        words = ["apply", "d", "p", "color", "0"]
+        ran = run(words, {"d": largest(), "p": plan_of(rule='[["red",1],["blue",9]]')})
+        self.assertEqual((ran.status, len(ran.out)), (0, LARGEST + 1))
+        files = {"d": largest(), "p": plan_of(rule='[["red",10],["blue",5]]')}
+        self.assert_ends(words, files, 1, "refused apply 10 TooLarge\n")
+
+
+if __name__ == "__main__":
+    unittest.main()

@@ -1,0 +1,103 @@
+"""The command `drive`: its lines, the book that it writes, and its refusals."""
+import unittest
+
+from program import ProgramTest
+
+DOCUMENT = """{"flags":{"color":{"state":"ENABLED","variants":{"red":"r","blue":"b","green":"g"},
+"defaultVariant":"red","targeting":{"fractional":[{"var":"key"},["red",5],["blue",5]]}}}}"""
+
+# Each key with its variant: they lie on the points 0, 1, 4, 4, 6, 7 and 7 of 10.
+KEYS = [
+    ("", "red"),
+    ("The quick brown fox jumps over the lazy dog", "red"),
+    ("!", "red"),
+    ("!Ce", "red"),
+    ("!C", "blue"),
+    ("test", "blue"),
+    ("Hello, world!", "blue"),
+]
+
+COUNTS = "inputs 7\ncalls 21\nnews 7\nfull 0\nlong 0\n"
+
+BOOK = r"""{"book":1}
+{"by":"{\"var\":[\"key\"]}","flag":"color","site":0}
+""
+"!"
+"!C"
+"!Ce"
+"Hello, world!"
+"The quick brown fox jumps over the lazy dog"
+"test"
+"""
+
+# Workers, asks and the refusal.
+REFUSALS = [
+    ("0", "[]", "drive 1 NoWorkers"),
+    ("65", "[]", "drive 2 TooManyWorkers"),
+    ("0", '[{"key":"color"}]', "drive 5 BadAsks"),
+    ("1", "{}", "drive 5 BadAsks"),
+    ("1", "[[]]", "drive 5 BadAsks"),
+    ("1", '[{"key":5,"want":"text","default":0,"context":{},"moment":0}]', "drive 5 BadAsks"),
+    ("1", '[{"key":"color","want":"number","default":0,"context":{},"moment":0}]', "drive 5 BadAsks"),
+    ("1", '[{"key":"color","want":"text","context":{},"moment":0}]', "drive 5 BadAsks"),
+    ("1", '[{"key":"color","want":"text","default":0,"context":[],"moment":0}]', "drive 5 BadAsks"),
+    ("1", '[{"key":"color","want":"text","default":0,"context":{},"moment":-1}]', "drive 5 BadAsks"),
+    (
+        "1",
+        '[{"key":"color","want":"text","default":0,"context":{},"moment":9007199254740992}]',
+        "read_tree 2 NotWhole",
+    ),
+    ("1", "[", "read_tree 1 NotJson"),
+]
+
+
+def ask(key):
+    """An ask for the colour of a key."""
+    return f'{{"key":"color","want":"text","default":"d","context":{{"key":"{key}"}},"moment":0}}'
+
+
+def answer(key, variant):
+    """What is printed of it."""
+    reached = f'[[0,"{key}",10]]'
+    return (
+        f'{{"code":null,"reached":{reached},"reason":"TARGETING_MATCH","value":"{variant[0]}","variant":"{variant}"}}\n'
+    )
+
+
+class Drive(ProgramTest):
+    def assert_driven(self, workers, asks, report, book):
+        """The asks are answered by so many workers, and the book is left."""
+        ran = self.assert_ends(["drive", "d", "a", workers, "b"], {"d": DOCUMENT, "a": asks}, 0, report)
+        self.assertEqual(ran.files.get("b"), book)
+
+    def test_any_number_of_workers_gives_the_same(self):
+        asks = "[" + ",\n".join(ask(key) for key, _ in KEYS * 3) + "]"
+        report = "".join(answer(key, variant) for key, variant in KEYS * 3) + COUNTS
+        for workers in ["1", "2", "8"]:
+            with self.subTest(workers=workers):
+                self.assert_driven(workers, asks, report, BOOK)
+
+    def test_a_refusal_leaves_no_book(self):
+        for workers, asks, refusal in REFUSALS:
+            with self.subTest(workers=workers, asks=asks):
+                files = {"d": DOCUMENT, "a": asks}
+                ran = self.assert_ends(["drive", "d", "a", workers, "b"], files, 1, f"refused {refusal}\n")
+                self.assertNotIn("b", ran.files)
+
+    def test_a_book_that_cannot_be_written(self):
+        files = {"d": DOCUMENT, "a": "[]"}
+        self.assert_ends(["drive", "d", "a", "8", "nowhere/b"], files, 1, "refused store 1 Unwritable\n")
+
+    def test_an_input_that_is_too_long_is_counted_and_not_noted(self):
+        key = "k" * 1025
+        lost = '{"key":"nope","want":"bool","default":false,"context":{},"moment":9007199254740991}'
+        report = (
+            '{"code":"FLAG_NOT_FOUND","reached":[],"reason":"ERROR","value":false,"variant":null}\n'
+            + answer(key, "blue")
+            + "inputs 0\ncalls 0\nnews 0\nfull 0\nlong 1\n"
+        )
+        self.assert_driven("2", f"[{lost},\n{ask(key)}]", report, '{"book":1}\n')
+
+
+if __name__ == "__main__":
+    unittest.main()
