@@ -1,9 +1,11 @@
 """Outputs that fail midway, and want of memory."""
+import json
 import resource
 import signal
 import tempfile
 import unittest
 
+from given import document, request
 from program import ProgramTest, run
 
 HALVES = '[["red",50],["blue",50]]'
@@ -16,8 +18,27 @@ REPORTS = [
     (["bucket", "--help"], "", None),
 ]
 
-# The calls of `bucket` that take memory.
-CALLS = ["flagops", "load", "read_tree", "read_rule", "bucket"]
+PAGE = r'{"by":"{\"var\":[\"key\"]}","flag":"color","site":0}'
+
+USERS = sorted(f"user-{number}" for number in range(50_000))
+
+ASKS = [
+    {"key": "color", "want": "text", "default": "d", "context": {"key": user}, "moment": 0} for user in USERS[:5000]
+]
+
+# The words, and large files: a rule, a book, and asks.
+LARGE = [
+    (["bucket", "f", "test"], {"f": '[["red",50],' + '["a",0],' * 200_000 + '["blue",50]]'}),
+    (
+        ["plan", "d", "r", "b"],
+        {
+            "d": document('["red",500000],["blue",500000]'),
+            "r": request('"red":300000,"blue":700000'),
+            "b": '{"book":1}\n' + PAGE + "\n" + "".join(f'"{user}"\n' for user in USERS),
+        },
+    ),
+    (["drive", "d", "a", "4", "b"], {"d": document(), "a": json.dumps(ASKS)}),
+]
 
 
 def at_most(bytes_written):
@@ -48,16 +69,21 @@ class Outputs(ProgramTest):
                     self.assertEqual(ran.err == "", not report.startswith("refused"))
 
     def test_want_of_memory_is_a_refusal_of_its_call(self):
-        """Whatever is free, the answer is the same, or a call of it wants memory."""
-        rule = '[["red",50],' + '["a",0],' * 100_000 + '["blue",50]]'
-        wants = {f"refused {call} 0 WantOfMemory\n" for call in CALLS}
-        seen = set()
-        for free in range(4, 64, 2):
-            ran = run(["bucket", "f", "test"], {"f": rule}, preexec_fn=within(free << 20))
-            with self.subTest(free=free):
-                self.assertIn((ran.status, ran.out), {(0, ANSWER)} | {(1, line) for line in wants})
-                seen.add(ran.status)
-        self.assertEqual(seen, {0, 1})
+        """However much is free, all is as it is where enough is, or a call wants memory and no file is left."""
+        for words, files in LARGE:
+            enough = run(words, files)
+            self.assertEqual(enough.status, 0)
+            statuses = set()
+            for free in [8, 12, 16, 24, 32, 48, 64, 96, 128, 256, 512, 1024, 4096]:
+                ran = run(words, files, preexec_fn=within(free << 20))
+                statuses.add(ran.status)
+                with self.subTest(words=words, free=free):
+                    if ran.status == 0:
+                        self.assertEqual(ran, enough)
+                    else:
+                        self.assertRegex(ran.out, r"^refused [A-Za-z_:]+ 0 WantOfMemory\n$")
+                        self.assertEqual((ran.status, ran.files), (1, files))
+            self.assertEqual(statuses, {0, 1}, words)
 
 
 if __name__ == "__main__":
