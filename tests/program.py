@@ -1,4 +1,4 @@
-"""Runs of the program as it is built, each over files in a folder of its own."""
+"""Runs of the program as `./flagops` built it, each over files in a folder of its own."""
 import os
 import subprocess
 import tempfile
@@ -8,9 +8,6 @@ from typing import NamedTuple
 ROOT = os.path.dirname(os.path.dirname(os.path.abspath(__file__)))
 PROGRAM = os.path.join(ROOT, "crates", "flagops", "out", "flagops")
 SECONDS = 120
-
-# The first run builds the program where it is missing or older than a source.
-subprocess.run([os.path.join(ROOT, "flagops"), "--version"], stdout=subprocess.DEVNULL, check=True)
 
 
 class Ran(NamedTuple):

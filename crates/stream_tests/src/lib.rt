@@ -1,9 +1,6 @@
-//! The tests of the crates from sources and snapshots to streams over sockets, in a crate of their own, so that those are
-//! proved once.
+//! The tests of the crates from sources and snapshots to streams, in a crate of their own, so that those are proved once.
 #![tactic(auto)]
 
-#[cfg(test)]
-mod commands;
 #[cfg(test)]
 mod event_tests;
 #[cfg(test)]
@@ -13,13 +10,9 @@ mod memory;
 #[cfg(test)]
 mod read_tests;
 #[cfg(test)]
-mod refused_tests;
-#[cfg(test)]
 mod seat_tests;
 #[cfg(test)]
 mod serve_tests;
-#[cfg(test)]
-mod served_tests;
 #[cfg(test)]
 mod source_tests;
 #[cfg(test)]

@@ -1,0 +1,162 @@
+"""The commands `serve` and `follow` over the loopback."""
+import json
+import os
+import select
+import socket
+import struct
+import subprocess
+import tempfile
+import unittest
+
+from program import PROGRAM, SECONDS
+
+
+def flags(*keys):
+    """A document of good flags under these keys."""
+    flag = {"state": "ENABLED", "variants": {"on": True}, "defaultVariant": "on"}
+    return json.dumps({"flags": {key: flag for key in keys}})
+
+
+ONE = flags("color")
+TEN = flags("color", *(f"flag-{number}" for number in range(9)))
+
+# What a follower can see of ONE, TEN and ONE: each snapshot at most once, and always the last.
+SEEN = [
+    "snapshot 3 flags 10\nended\n",
+    "snapshot 1 flags 1\nsnapshot 3 flags 10\nended\n",
+    "snapshot 2 flags 10\nsnapshot 3 flags 10\nended\n",
+    "snapshot 1 flags 1\nsnapshot 2 flags 10\nsnapshot 3 flags 10\nended\n",
+]
+
+
+def frame(number, document):
+    """The frame of a snapshot."""
+    return struct.pack(">IQ", 8 + len(document), number) + document
+
+
+# The frame of a snapshot without flags, and behind it the first bytes of another.
+CUT = frame(1, b'{"flags":{}}') + frame(2, b'{"flags":{}}')[:8]
+
+# How many bytes come, the turns, what is printed and the status.
+ENDS = [
+    (len(CUT), "1000", "snapshot 1 flags 0\nstopped EndedInside\n", 1),
+    (24, "1000", "snapshot 1 flags 0\nended\n", 0),
+    (24, "1", "snapshot 1 flags 0\nstopped Limit\n", 0),
+    (0, "1000", "ended\n", 0),
+]
+
+
+def free_port():
+    """A port that nobody listens on."""
+    with socket.socket() as probe:
+        probe.bind(("127.0.0.1", 0))
+        return str(probe.getsockname()[1])
+
+
+def listening():
+    """A socket of this host that one may connect to, and its port."""
+    listener = socket.socket()
+    listener.bind(("127.0.0.1", 0))
+    listener.listen()
+    return listener, str(listener.getsockname()[1])
+
+
+class Streams(unittest.TestCase):
+    def setUp(self):
+        folder = tempfile.TemporaryDirectory()
+        self.addCleanup(folder.cleanup)
+        self.folder = folder.name
+
+    def start(self, *words):
+        """A run with these words that goes on."""
+        how = {"stdout": subprocess.PIPE, "stderr": subprocess.PIPE, "text": True, "cwd": self.folder}
+        child = subprocess.Popen([PROGRAM, *words], **how)
+        self.addCleanup(child.kill)
+        return child
+
+    def serve(self, subscribers, *documents):
+        """A server of these documents, once it listens on the port that it was given, and that port."""
+        names = [f"{place}.json" for place in range(1, len(documents) + 1)]
+        for name, text in zip(names, documents):
+            with open(os.path.join(self.folder, name), "w", encoding="utf-8") as file:
+                file.write(text)
+        port = free_port()
+        server = self.start("serve", port, str(subscribers), *names)
+        self.assertIn(f"127.0.0.1:{port},", server.stderr.readline())
+        return server, port
+
+    def assert_ends(self, child, printed, status):
+        """The run ends so; what it told a person."""
+        out, told = child.communicate(timeout=SECONDS)
+        self.assertEqual((out, child.returncode), (printed, status), told)
+        return told
+
+    def test_every_subscriber_gets_the_last_snapshot(self):
+        server, port = self.serve(2, ONE, TEN, ONE)
+        followers = [self.start("follow", port, "1000") for _ in range(2)]
+        for follower in followers:
+            out, _ = follower.communicate(timeout=SECONDS)
+            self.assertIn(out, SEEN)
+            self.assertEqual(follower.returncode, 0)
+        self.assert_ends(server, "published 3\n", 0)
+
+    def test_one_turn_is_one_read(self):
+        server, port = self.serve(1, ONE, TEN)
+        follower = self.start("follow", port, "1")
+        out, _ = follower.communicate(timeout=SECONDS)
+        lines = out.splitlines()
+        self.assertEqual((lines[-1], follower.returncode), ("stopped Limit", 0))
+        self.assertLessEqual(len(lines), 3)
+        self.assert_ends(server, "published 2\n", 0)
+
+    def test_a_line_comes_with_its_snapshot(self):
+        """Each line is printed before the next frame is sent."""
+        listener, port = listening()
+        with listener:
+            follower = self.start("follow", port, "1000")
+            stream, _ = listener.accept()
+            with stream:
+                for number in (1, 2):
+                    stream.sendall(frame(number, b'{"flags":{}}'))
+                    self.assertTrue(select.select([follower.stdout], [], [], SECONDS)[0])
+                    self.assertEqual(follower.stdout.readline(), f"snapshot {number} flags 0\n")
+            self.assert_ends(follower, "ended\n", 0)
+
+    def test_streams_that_end(self):
+        for count, turns, printed, status in ENDS:
+            listener, port = listening()
+            with self.subTest(count=count, turns=turns), listener:
+                follower = self.start("follow", port, turns)
+                stream, _ = listener.accept()
+                with stream:
+                    stream.sendall(CUT[:count])
+                self.assert_ends(follower, printed, status)
+
+    def test_a_refused_document_ends_the_streams(self):
+        """The subscribers have what was published before it, and a person is told its place and fault."""
+        server, port = self.serve(1, TEN, '{"flags":{},\n', ONE)
+        follower = self.start("follow", port, "1000")
+        self.assert_ends(follower, "snapshot 1 flags 10\nended\n", 0)
+        told = self.assert_ends(server, "refused set 4 Refused 1 NotJson\n", 1)
+        self.assertIn('error: "2.json" is no JSON: ', told)
+        self.assertTrue(told.endswith("  the subscribers have what was published before it\n"), told)
+
+    def test_a_port_in_use(self):
+        listener, port = listening()
+        with listener, open(os.path.join(self.folder, "d"), "w", encoding="utf-8") as file:
+            file.write(ONE)
+            file.flush()
+            self.assert_ends(self.start("serve", port, "1", "d"), "refused bind 1 Unbound\n", 1)
+
+    def test_nobody_listens(self):
+        self.assert_ends(self.start("follow", free_port(), "1000"), "refused connect 1 Unreachable\n", 1)
+
+    def test_no_seventeenth_document(self):
+        with open(os.path.join(self.folder, "d"), "w", encoding="utf-8") as file:
+            file.write(ONE)
+        words = ["serve", free_port(), "1", *["d"] * 17]
+        self.assert_ends(self.start(*words), "refused add 2 TooMany\n", 1)
+
+
+if __name__ == "__main__":
+    unittest.main()
