@@ -1,10 +1,8 @@
 """The command `drive`: its lines, the book that it writes, and its refusals."""
 import unittest
 
+from given import BOOK, EMPTY_BOOK, document
 from program import ProgramTest
-
-DOCUMENT = """{"flags":{"color":{"state":"ENABLED","variants":{"red":"r","blue":"b","green":"g"},
-"defaultVariant":"red","targeting":{"fractional":[{"var":"key"},["red",5],["blue",5]]}}}}"""
 
 # Each key with its variant: they lie on the points 0, 1, 4, 4, 6, 7 and 7 of 10.
 KEYS = [
@@ -18,17 +16,6 @@ KEYS = [
 ]
 
 COUNTS = "inputs 7\ncalls 21\nnews 7\nfull 0\nlong 0\n"
-
-BOOK = r"""{"book":1}
-{"by":"{\"var\":[\"key\"]}","flag":"color","site":0}
-""
-"!"
-"!C"
-"!Ce"
-"Hello, world!"
-"The quick brown fox jumps over the lazy dog"
-"test"
-"""
 
 # Workers, asks and the refusal.
 REFUSALS = [
@@ -67,7 +54,7 @@ def answer(key, variant):
 class Drive(ProgramTest):
     def assert_driven(self, workers, asks, report, book):
         """The asks are answered by so many workers, and the book is left."""
-        ran = self.assert_ends(["drive", "d", "a", workers, "b"], {"d": DOCUMENT, "a": asks}, 0, report)
+        ran = self.assert_ends(["drive", "d", "a", workers, "b"], {"d": document(), "a": asks}, 0, report)
         self.assertEqual(ran.files.get("b"), book)
 
     def test_any_number_of_workers_gives_the_same(self):
@@ -80,12 +67,12 @@ class Drive(ProgramTest):
     def test_a_refusal_leaves_no_book(self):
         for workers, asks, refusal in REFUSALS:
             with self.subTest(workers=workers, asks=asks):
-                files = {"d": DOCUMENT, "a": asks}
+                files = {"d": document(), "a": asks}
                 ran = self.assert_ends(["drive", "d", "a", workers, "b"], files, 1, f"refused {refusal}\n")
                 self.assertNotIn("b", ran.files)
 
     def test_a_book_that_cannot_be_written(self):
-        files = {"d": DOCUMENT, "a": "[]"}
+        files = {"d": document(), "a": "[]"}
         self.assert_ends(["drive", "d", "a", "8", "nowhere/b"], files, 1, "refused store 1 Unwritable\n")
 
     def test_an_input_that_is_too_long_is_counted_and_not_noted(self):
@@ -96,7 +83,7 @@ class Drive(ProgramTest):
             + answer(key, "blue")
             + "inputs 0\ncalls 0\nnews 0\nfull 0\nlong 1\n"
         )
-        self.assert_driven("2", f"[{lost},\n{ask(key)}]", report, '{"book":1}\n')
+        self.assert_driven("2", f"[{lost},\n{ask(key)}]", report, EMPTY_BOOK)
 
 
 if __name__ == "__main__":
