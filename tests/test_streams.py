@@ -56,6 +56,7 @@ def free_port():
 def listening():
     """A socket of this host that one may connect to, and its port."""
     listener = socket.socket()
+    listener.settimeout(SECONDS)
     listener.bind(("127.0.0.1", 0))
     listener.listen()
     return listener, str(listener.getsockname()[1])

@@ -21,13 +21,14 @@ from given import (
 )
 from program import ProgramTest, run
 
-RED_NEXT = '["blue",0,0],["blue",1,0],["blue",2,0],["red",0,{}],["red",1,0],["red",2,0]'
+# The groups of points, with a number for the red points without inputs.
+GROUPS_BY_RED = '["blue",0,0],["blue",1,0],["blue",2,0],["red",0,{}],["red",1,0],["red",2,0]'
 
 # A request, a plan, the status and what is printed.
 VERDICTS = [
     (RED_3, FREE, 0, "valid cost 0\n"),
-    (RED_3, plan_of(RED_NEXT.format(1)), 1, 'refused verify 4 Slack "red" 0 "blue"\n'),
-    (RED_3, plan_of(RED_NEXT.format(-1)), 1, "refused verify 5 Sum\n"),
+    (RED_3, plan_of(GROUPS_BY_RED.format(1)), 1, 'refused verify 4 Slack "red" 0 "blue"\n'),
+    (RED_3, plan_of(GROUPS_BY_RED.format(-1)), 1, "refused verify 5 Sum\n"),
     (RED_3, plan_of(cost=1), 1, "refused verify 5 Sum\n"),
     (RED_3, plan_of(rule='[["red",3],["blue",7]]'), 1, "refused verify 6 Cost\n"),
     (
