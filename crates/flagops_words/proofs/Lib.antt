@@ -1,5 +1,5 @@
-mod Adding
 pub mod Filled
 pub mod Matched
 pub mod Named
 pub mod Spelled
+pub mod Tabled

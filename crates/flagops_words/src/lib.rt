@@ -20,6 +20,7 @@
 
 mod asked;
 mod numbers;
+mod table;
 mod usage;
 mod words;
 

@@ -30,31 +30,17 @@ fn asked_of<'a>(matches: &ArgMatches<'a>) -> Option<Asked<'a>>
     ensures { option_map asked_view result ≡ asked_of (subcommand_rows_of matches.now) }
 {
     let (name, words) = matches.subcommand()?;
-    if name == "resolve" {
-        return resolve_in(words);
+    match name {
+        "resolve" => resolve_in(words),
+        "check" => check_in(words),
+        "price" => price_in(words),
+        "bucket" => bucket_in(words),
+        "verify" => verify_in(words),
+        "apply" => apply_in(words),
+        "plan" => plan_in(words),
+        "drive" => drive_in(words),
+        _ => None,
     }
-    if name == "check" {
-        return check_in(words);
-    }
-    if name == "price" {
-        return price_in(words);
-    }
-    if name == "bucket" {
-        return bucket_in(words);
-    }
-    if name == "verify" {
-        return verify_in(words);
-    }
-    if name == "apply" {
-        return apply_in(words);
-    }
-    if name == "plan" {
-        return plan_in(words);
-    }
-    if name == "drive" {
-        return drive_in(words);
-    }
-    None
 }
 
 #[tactic(auto, using(crate::proofs::Matched::rows))]

@@ -1,0 +1,142 @@
+//! The commands of the program with their words, as its help lists them.
+
+use crate::numbers::{LARGEST_16, LARGEST_32, LATEST_MOMENT};
+
+/// A command with its words.
+pub struct Usage {
+    pub name: &'static str,
+    /// What it does.
+    pub about: &'static str,
+    pub words: &'static [Word],
+}
+
+/// A word of a command: the name by which it is read, and what it is.
+pub enum Word {
+    /// A text that has to be there.
+    Text(&'static str, &'static str),
+    /// A number that has to be there, from 0 to this one.
+    Number(&'static str, &'static str, u64),
+    /// An option with a number, which may be left out: after what it is, its long name and the bounds.
+    Option(&'static str, &'static str, &'static str, u64, u64),
+}
+
+const DOCUMENT: Word = Word::Text("DOC", "The flag document");
+
+const REQUEST: Word = Word::Text("REQUEST", "The file of the rollout request");
+
+const BOOK: Word = Word::Text("BOOK", "The book of the hash inputs that were recorded");
+
+const PLAN_FILE: Word = Word::Text("PLAN", "The plan file");
+
+const REFINE: Word = Word::Option(
+    "M",
+    "Plan in finer points: multiply each weight of the rule by M first, as 10 for tenths of a percent",
+    "refine",
+    1,
+    LARGEST_32,
+);
+
+/// The commands, in the order of the help.
+pub const COMMANDS: &[Usage] = &[BUCKET, PRICE, CHECK, RESOLVE, PLAN, VERIFY, APPLY, DRIVE];
+
+const BUCKET: Usage = Usage {
+    name: "bucket",
+    about: "Prints the hash of a key, its point on a rule and the variant there",
+    words: &[
+        Word::Text("RULE", "The rule file, as [[\"red\",50],[\"blue\",50]]"),
+        Word::Text("KEY", "The hash input, as a targeting key"),
+    ],
+};
+
+const PRICE: Usage = Usage {
+    name: "price",
+    about: "Prints the totals of a new rule and what it costs the keys of a file",
+    words: &[
+        Word::Text("OLD", "The file of the old rule"),
+        Word::Text("NEW", "The file of the new rule, of the same total"),
+        Word::Text("REQUEST", "The file of prices and prohibitions"),
+        Word::Text("KEYS", "The file of hash inputs, a list of texts"),
+    ],
+};
+
+const CHECK: Usage = Usage {
+    name: "check",
+    about: "Prints which flags of a document are good and which are broken",
+    words: &[DOCUMENT],
+};
+
+const RESOLVE: Usage = Usage {
+    name: "resolve",
+    about: RESOLVES,
+    words: QUESTION,
+};
+
+/// The command outside the program, with the program's name before its own.
+pub const RESOLVE_ALONE: Usage = Usage {
+    name: "flagops resolve",
+    about: RESOLVES,
+    words: QUESTION,
+};
+
+const RESOLVES: &str = "Prints what the flag of a key resolves to in a context";
+
+const QUESTION: &[Word] = &[
+    DOCUMENT,
+    Word::Text("KEY", "The flag's key"),
+    Word::Text(
+        "KIND",
+        "bool, text (flagd's string), whole (its integer) or object",
+    ),
+    Word::Text(
+        "DEFAULT",
+        "What is given where the flag gives nothing, as JSON",
+    ),
+    Word::Text("CONTEXT", "The file of the evaluation context"),
+    Word::Number(
+        "MOMENT",
+        "The time of the evaluation, in seconds since 1970",
+        LATEST_MOMENT,
+    ),
+];
+
+const PLAN: Usage = Usage {
+    name: "plan",
+    about: "Prints the rule that a rollout request asks for and that switches the fewest",
+    words: &[DOCUMENT, REQUEST, BOOK, REFINE],
+};
+
+const VERIFY: Usage = Usage {
+    name: "verify",
+    about: "Checks, apart from the planner, that a plan is right and the cheapest for a rollout request",
+    words: &[DOCUMENT, REQUEST, BOOK, PLAN_FILE, REFINE],
+};
+
+const APPLY: Usage = Usage {
+    name: "apply",
+    about: "Prints a document with the rule of a plan at a site of a flag",
+    words: &[
+        DOCUMENT,
+        PLAN_FILE,
+        Word::Text("FLAG", "The flag's key"),
+        Word::Number(
+            "SITE",
+            "The number of the fractional operation, from 0",
+            LARGEST_32,
+        ),
+    ],
+};
+
+const DRIVE: Usage = Usage {
+    name: "drive",
+    about: "Prints what the asks of a file resolve to, and writes the book of what they reach",
+    words: &[
+        DOCUMENT,
+        Word::Text("ASKS", "The file of the asks"),
+        Word::Number(
+            "WORKERS",
+            "How many threads answer the asks, from 1 to 64",
+            LARGEST_16,
+        ),
+        Word::Text("BOOK", "The book file that is written"),
+    ],
+};
