@@ -47,12 +47,12 @@ UNMET_RANGES = request('"red":[1,2],"blue":[1,8],"green":[6,7]', RED_GREEN, plan
 
 CHEAPEST = '[["red",2],["blue",2],["red",1],["blue",5]]'
 GROUPS = '["blue",0,0],["blue",1,0],["blue",2,0],["red",0,0],["red",1,0],["red",2,0]'
+NAMES = '["blue",0],["green",0],["red",0]'
 
 
-def plan_of(alpha=GROUPS, rule=CHEAPEST, cost=0):
-    """A plan of this rule, with these dual prices of the groups of points."""
-    beta = '[["blue",0],["green",0],["red",0]]'
-    return f'{{"alpha":[{alpha}],"beta":{beta},"cost":{cost},"plan":1,"rule":{rule}}}'
+def plan_of(alpha=GROUPS, rule=CHEAPEST, cost=0, beta=NAMES):
+    """A plan of this rule, with these dual prices of the groups of points and of the names."""
+    return f'{{"alpha":[{alpha}],"beta":[{beta}],"cost":{cost},"plan":1,"rule":{rule}}}'
 
 
 # The plan that costs no recorded key a switch, for seven blue of ten.

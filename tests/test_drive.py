@@ -17,10 +17,21 @@ KEYS = [
 
 COUNTS = "inputs 7\ncalls 21\nnews 7\nfull 0\nlong 0\n"
 
+
+def ask(key):
+    """An ask for the colour of a key."""
+    return f'{{"key":"color","want":"text","default":"d","context":{{"key":"{key}"}},"moment":0}}'
+
+
+# Each key three times.
+ASKS = "[" + ",\n".join(ask(key) for key, _ in KEYS * 3) + "]"
+
 # Workers, asks and the refusal.
 REFUSALS = [
     ("0", "[]", "drive 1 NoWorkers"),
     ("65", "[]", "drive 2 TooManyWorkers"),
+    ("0", ASKS, "drive 1 NoWorkers"),
+    ("65", ASKS, "drive 2 TooManyWorkers"),
     ("0", '[{"key":"color"}]', "drive 5 BadAsks"),
     ("1", "{}", "drive 5 BadAsks"),
     ("1", "[[]]", "drive 5 BadAsks"),
@@ -38,11 +49,6 @@ REFUSALS = [
 ]
 
 
-def ask(key):
-    """An ask for the colour of a key."""
-    return f'{{"key":"color","want":"text","default":"d","context":{{"key":"{key}"}},"moment":0}}'
-
-
 def answer(key, variant):
     """What is printed of it."""
     reached = f'[[0,"{key}",10]]'
@@ -58,11 +64,10 @@ class Drive(ProgramTest):
         self.assertEqual(ran.files.get("b"), book)
 
     def test_any_number_of_workers_gives_the_same(self):
-        asks = "[" + ",\n".join(ask(key) for key, _ in KEYS * 3) + "]"
         report = "".join(answer(key, variant) for key, variant in KEYS * 3) + COUNTS
         for workers in ["1", "2", "8"]:
             with self.subTest(workers=workers):
-                self.assert_driven(workers, asks, report, BOOK)
+                self.assert_driven(workers, ASKS, report, BOOK)
 
     def test_a_refusal_leaves_no_book(self):
         for workers, asks, refusal in REFUSALS:
@@ -77,13 +82,11 @@ class Drive(ProgramTest):
 
     def test_an_input_that_is_too_long_is_counted_and_not_noted(self):
         key = "k" * 1025
+        report = answer(key, "blue") + "inputs 0\ncalls 0\nnews 0\nfull 0\nlong 1\n"
+        self.assert_driven("1", f"[{ask(key)}]", report, EMPTY_BOOK)
         lost = '{"key":"nope","want":"bool","default":false,"context":{},"moment":9007199254740991}'
-        report = (
-            '{"code":"FLAG_NOT_FOUND","reached":[],"reason":"ERROR","value":false,"variant":null}\n'
-            + answer(key, "blue")
-            + "inputs 0\ncalls 0\nnews 0\nfull 0\nlong 1\n"
-        )
-        self.assert_driven("2", f"[{lost},\n{ask(key)}]", report, EMPTY_BOOK)
+        not_found = '{"code":"FLAG_NOT_FOUND","reached":[],"reason":"ERROR","value":false,"variant":null}\n'
+        self.assert_driven("2", f"[{lost},\n{ask(key)}]", not_found + report, EMPTY_BOOK)
 
 
 if __name__ == "__main__":

@@ -17,6 +17,13 @@ def flags(*keys):
     return json.dumps({"flags": {key: flag for key in keys}})
 
 
+def large(key):
+    """A document of one flag that is printed in more than half of the bytes that a merge may have."""
+    flag = {"state": "ENABLED", "variants": {"v": "value" * 420_000}}
+    return json.dumps({"flags": {key: flag}})
+
+
+NONE = '{"flags":{}}'
 ONE = flags("color")
 TEN = flags("color", *(f"flag-{number}" for number in range(9)))
 
@@ -34,15 +41,21 @@ def frame(number, document):
     return struct.pack(">IQ", 8 + len(document), number) + document
 
 
-# The frame of a snapshot without flags, and behind it the first bytes of another.
-CUT = frame(1, b'{"flags":{}}') + frame(2, b'{"flags":{}}')[:8]
+# The frame of a snapshot without flags and with the number 1.
+FRAME = bytes.fromhex("00000014 0000000000000001 7b22666c616773223a7b7d7d")
 
-# How many bytes come, the turns, what is printed and the status.
+# The bytes that come, the turns, what is printed and the status.
 ENDS = [
-    (len(CUT), "1000", "snapshot 1 flags 0\nstopped EndedInside\n", 1),
-    (24, "1000", "snapshot 1 flags 0\nended\n", 0),
-    (24, "1", "snapshot 1 flags 0\nstopped Limit\n", 0),
-    (0, "1000", "ended\n", 0),
+    (FRAME + frame(2, NONE.encode())[:8], "1000", "snapshot 1 flags 0\nstopped EndedInside\n", 1),
+    (FRAME, "1000", "snapshot 1 flags 0\nended\n", 0),
+    (FRAME, "1", "snapshot 1 flags 0\nstopped Limit\n", 0),
+    (b"", "1000", "ended\n", 0),
+    *((FRAME[:count], "1000", "stopped EndedInside\n", 1) for count in range(1, len(FRAME))),
+    (FRAME + FRAME, "1000", "snapshot 1 flags 0\nstopped Frame\n", 1),
+    (bytes.fromhex("00400009"), "1000", "stopped Frame\n", 1),
+    (bytes.fromhex("00000007"), "1000", "stopped Frame\n", 1),
+    (frame(0, b"{")[:12], "1000", "stopped Frame\n", 1),
+    (frame(1, b"{"), "1000", "stopped Frame\n", 1),
 ]
 
 
@@ -118,20 +131,36 @@ class Streams(unittest.TestCase):
             stream, _ = listener.accept()
             with stream:
                 for number in (1, 2):
-                    stream.sendall(frame(number, b'{"flags":{}}'))
+                    stream.sendall(frame(number, NONE.encode()))
                     self.assertTrue(select.select([follower.stdout], [], [], SECONDS)[0])
                     self.assertEqual(follower.stdout.readline(), f"snapshot {number} flags 0\n")
             self.assert_ends(follower, "ended\n", 0)
 
     def test_streams_that_end(self):
-        for count, turns, printed, status in ENDS:
+        for sent, turns, printed, status in ENDS:
             listener, port = listening()
-            with self.subTest(count=count, turns=turns), listener:
+            with self.subTest(sent=sent, turns=turns), listener:
                 follower = self.start("follow", port, turns)
                 stream, _ = listener.accept()
                 with stream:
-                    stream.sendall(CUT[:count])
+                    stream.sendall(sent)
                 self.assert_ends(follower, printed, status)
+
+    def test_the_bytes_of_a_frame(self):
+        server, port = self.serve(1, NONE)
+        with socket.create_connection(("127.0.0.1", int(port)), SECONDS) as stream:
+            self.assertEqual(b"".join(iter(lambda: stream.recv(65536), b"")), FRAME)
+        self.assert_ends(server, "published 1\n", 0)
+
+    def test_documents_that_are_too_large_together(self):
+        """Of two flags they are, of one flag the second hides the first."""
+        server, port = self.serve(1, large("a"), large("b"))
+        self.assert_ends(self.start("follow", port, "1000"), "snapshot 1 flags 1\nended\n", 0)
+        self.assert_ends(server, "refused merged 5 TooLarge\n", 1)
+        server, port = self.serve(1, large("a"), large("a"))
+        out, _ = self.start("follow", port, "1000").communicate(timeout=SECONDS)
+        self.assertTrue(out.endswith("snapshot 2 flags 1\nended\n"), out)
+        self.assert_ends(server, "published 2\n", 0)
 
     def test_a_refused_document_ends_the_streams(self):
         """The subscribers have what was published before it, and a person is told its place and fault."""

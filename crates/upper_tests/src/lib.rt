@@ -1,24 +1,20 @@
-//! The tests of `transport_core`, `transport_plan`, `plan_text` and `rollout`, in a crate of their own, so that those are proved
-//! once. The library itself is empty.
+//! The tests of the crates from the planning problem to the program's files: what no command shows of them. They stand in a
+//! crate of their own, so that those are proved once.
 #![tactic(auto)]
 
 #[cfg(test)]
-mod applied;
+mod endings;
 #[cfg(test)]
-mod certificates;
+mod faults;
 #[cfg(test)]
-mod cuts;
+mod files;
 #[cfg(test)]
-mod given;
-#[cfg(test)]
-mod instances;
+mod memory;
 #[cfg(test)]
 mod plan_files;
 #[cfg(test)]
-mod plans;
-#[cfg(test)]
 mod posed;
 #[cfg(test)]
-mod solutions;
+mod problems;
 #[cfg(test)]
-mod verdicts;
+mod rows;

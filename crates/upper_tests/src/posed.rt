@@ -1,7 +1,7 @@
-//! The problem of a request on a rule: what the checks and the planner are asked.
-use crate::given::{OLD, exposure, names, rule};
-use book_core::Exposure;
-use bucket_core::Rule;
+//! The problem of a request on the rule red 5, blue 5: what the checks and the planner are asked.
+use book_core::{Exposure, Page, read_book};
+use bucket_core::{Rule, read_rule};
+use flag_text::read_tree;
 use price_core::{Request, Totals};
 use std::alloc::{AllocError, Global};
 use transport_core::{CheckFault, Instance};
@@ -15,26 +15,62 @@ pub(crate) struct Problem {
     pub(crate) inputs: Exposure,
 }
 
-/// A request on red 5, blue 5, where the variants are blue, green and red, with the inputs of a book.
-pub(crate) fn posed(alloc: Global, request: &str, book: &str) -> Option<Problem> {
-    let old = rule(alloc, OLD)?;
-    let request = Request::read(alloc, request.as_bytes()).ok()?;
-    let totals = asked(alloc, &request, "blue green red")?;
-    let inputs = exposure(alloc, book)?;
+/// Seven inputs, which lie on the points 0, 1, 4, 4, 6, 7 and 7 of 10.
+const BOOK: &[u8] =
+    b"{\"book\":1}\n{\"by\":null,\"flag\":\"\",\"site\":0}\n\"\"\n\"!\"\n\"!C\"\n\"!Ce\"\n\"Hello, world!\"\n\"The quick brown fox jumps over the lazy dog\"\n\"test\"\n";
+
+/// The old rule.
+fn rule(alloc: Global) -> Option<Rule> {
+    match read_tree(alloc, br#"[["red",5],["blue",5]]"#, 1000) {
+        Ok(tree) => read_rule(alloc, &tree).ok(),
+        Err(_) => None,
+    }
+}
+
+/// Names between blanks.
+pub(crate) fn names(alloc: Global, text: &str) -> Result<Vec<String>, AllocError> {
+    let mut names = Vec::new(alloc);
+    for name in text.split_ascii_whitespace() {
+        names.push(String::from_str(alloc, name)?)?;
+    }
+    Ok(names)
+}
+
+/// The inputs of the book's one page.
+fn inputs(alloc: Global) -> Option<Exposure> {
+    match read_book(alloc, BOOK) {
+        Ok(book) => {
+            let page = Page {
+                flag: String::new(alloc),
+                site: 0,
+                by: None,
+            };
+            book.exposure(alloc, &page).ok()
+        }
+        Err(_) => None,
+    }
+}
+
+/// The totals that a request asks of the variants.
+fn totals(alloc: Global, request: &Request) -> Option<Totals> {
+    match names(alloc, "blue green red") {
+        Ok(names) => request.totals(alloc, names.as_slice()).ok(),
+        Err(AllocError) => None,
+    }
+}
+
+/// The problem of a request.
+pub(crate) fn posed(alloc: Global, request: &[u8]) -> Option<Problem> {
+    let old = rule(alloc)?;
+    let request = Request::read(alloc, request).ok()?;
+    let totals = totals(alloc, &request)?;
+    let inputs = inputs(alloc)?;
     Some(Problem {
         old,
         request,
         totals,
         inputs,
     })
-}
-
-/// The totals that a request asks of the variants.
-fn asked(alloc: Global, request: &Request, variants: &str) -> Option<Totals> {
-    match names(alloc, variants) {
-        Ok(names) => request.totals(alloc, names.as_slice()).ok(),
-        Err(AllocError) => None,
-    }
 }
 
 /// Its instance, or the fault; that of the totals where they make none.

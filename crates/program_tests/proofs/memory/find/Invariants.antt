@@ -1,6 +1,0 @@
-use Rattle.std.proofs.Common.{◌≡◌, drop}
-use Rattle.program_tests.specs.Memory.{held_in}
-use Rattle.program_tests.proofs.memory.find.Given as goal
-
-abbrev pub invariant-loop-name : goal.invariant-loop-name
-invariant-loop-name l = held_in (drop l.name-index l.files) l.path ≡ held_in l.files l.path

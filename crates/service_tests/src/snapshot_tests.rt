@@ -1,0 +1,120 @@
+//! Seats that read the current snapshot.
+ghost use Rattle.std.specs.Prelude.{◌≡◌};
+
+use flag_defs::read_flags;
+use snap_share::{Current, History, Publisher, ReadSeat, ShareFault, ShareName, share};
+use std::alloc::Global;
+use std::marker::Brand;
+use std::process::Abort;
+use std::sync::Wait;
+
+/// A document without flags.
+const NONE: &[u8] = b"{\"flags\":{}}";
+
+/// Shares no flags among so many seats, or gives the name of the refusal.
+pub(crate) fn share_among<J: ShareName, R: Wait>(
+    rt: &R,
+    alloc: Global,
+    history: History,
+    seats: usize,
+) -> Result<(Publisher<J>, Vec<ReadSeat<J>>), &'static str>
+    requires { history.seen.book ≡ J.book }
+{
+    match read_flags(alloc, NONE) {
+        Ok(flags) => match share::<J, R>(rt, alloc, history, flags, seats) {
+            Ok(shared) => Ok(shared),
+            Err(fault) => Err(fault.name()),
+        },
+        Err(_) => Err("no flags"),
+    }
+}
+
+/// Publishes no flags, and says whether they have this number.
+pub(crate) fn publishes<J: ShareName, R: Wait>(
+    rt: &R,
+    alloc: Global,
+    publisher: &mut Publisher<J>,
+    number: u64,
+) -> bool {
+    match read_flags(alloc, NONE) {
+        Ok(flags) => publisher.publish(rt, alloc, flags) == Ok(number),
+        Err(_) => false,
+    }
+}
+
+/// Whether each seat reads a snapshot of this number, or has this fault.
+fn read<J: ShareName>(alloc: Global, seats: &mut [ReadSeat<J>], want: Result<u64, ShareFault>) -> bool {
+    for seat in seats.iter_mut() {
+        let number = match seat.current(alloc) {
+            Ok(snapshot) => Ok(snapshot.number),
+            Err(fault) => Err(fault),
+        };
+        if number != want {
+            return false;
+        }
+    }
+    true
+}
+
+/// Whether seats read what is published once they were told of it.
+fn learn<J: ShareName, R: Wait>(
+    rt: &R,
+    alloc: Global,
+    publisher: &mut Publisher<J>,
+    seats: &mut [ReadSeat<J>],
+) -> bool {
+    if !read(alloc, seats, Ok(1)) || !publishes(rt, alloc, publisher, 2) {
+        return false;
+    }
+    let told = publisher.tell();
+    for seat in seats.iter_mut() {
+        seat.learn(told.again());
+    }
+    told.number() == 2 && read(alloc, seats, Ok(2))
+}
+
+/// What comes of sharing flags among so many seats: `closed` where all seats read, learn, and read no more once the
+/// publisher was given up.
+fn outcome<J: ShareName, R: Wait + Abort>(
+    rt: &R,
+    alloc: Global,
+    history: History,
+    seats: usize,
+) -> &'static str
+    requires { history.seen.book ≡ J.book }
+{
+    match share_among::<J, R>(rt, alloc, history, seats) {
+        Ok((publisher, seats)) => {
+            let mut publisher = publisher;
+            let mut seats = seats;
+            let has_learned = learn(rt, alloc, &mut publisher, &mut seats);
+            publisher.close(rt);
+            if has_learned && read(alloc, &mut seats, Err(ShareFault::Closed)) {
+                "closed"
+            } else {
+                "unread"
+            }
+        }
+        Err(name) => name,
+    }
+}
+
+/// The same under a name of its own.
+fn named_outcome<R: Wait + Abort>(rt: &R, alloc: Global, seats: usize) -> &'static str {
+    outcome::<Brand, R>(rt, alloc, History::new(), seats)
+}
+
+/// Numbers of seats, and what comes of them.
+const SEATS: &[(usize, &str)] = &[
+    (2, "closed"),
+    (0, "NoSeats"),
+    (65, "TooManySeats"),
+    (1000, "TooManySeats"),
+];
+
+#[test]
+fn seats_read_learn_and_are_closed(rt: HostRuntime) {
+    for (seats, want) in SEATS {
+        assert!(rt; named_outcome(&rt, rt.alloc(), *seats) == *want, "{seats} seats");
+    }
+}

@@ -1,0 +1,73 @@
+//! Outputs that fail midway, and want of memory.
+use super::memory::{MemoryFiles, MemoryOutlet};
+use flagops_commands::run;
+use flagops_files::{Call, FileSet, want};
+use std::alloc::Global;
+use std::sync::Wait;
+use std::thread::Threads;
+
+/// Whether an output that fails after so many bytes has exactly those, and the status is 1. An answer that is cut is told in no
+/// words, and a refusal is.
+fn is_cut(
+    rt: &(impl AllocGlobal + Threads + Wait + Sync),
+    file: &[u8],
+    report: &[u8],
+    count: usize,
+) -> bool {
+    let mut files = MemoryFiles::new(rt.alloc(), true);
+    if files.write(rt.alloc(), "f", file).is_err() {
+        return false;
+    }
+    let mut out = MemoryOutlet::new(rt.alloc(), count);
+    let mut err = MemoryOutlet::new(rt.alloc(), usize::MAX);
+    let status = run(rt, &["bucket", "f", "test"], &mut files, &mut out, &mut err);
+    status == 1
+        && out.bytes.len() == count
+        && report.starts_with(out.bytes.as_slice())
+        && err.bytes.is_empty() == report.starts_with(b"h")
+}
+
+/// A rule file and the report.
+const REPORTS: &[(&[u8], &[u8])] = &[
+    (
+        b"[[\"red\",50],[\"blue\",50]]",
+        b"hash ba6bd213\npoint 72\nvariant \"blue\"\n",
+    ),
+    (b"[]", b"refused read_rule 1 NoWeight\n"),
+];
+
+/// An output that fails after k bytes has exactly those, and the status is 1.
+#[test]
+fn failing_outputs(rt: HostRuntime) {
+    for (file, report) in REPORTS {
+        for count in 0..report.len() {
+            assert!(rt; is_cut(&rt, file, report, count), "after {count}");
+        }
+    }
+}
+
+/// Whether the line on want of memory is cut after so many bytes, and the status is 1.
+fn is_wanting(alloc: Global, call: Call, line: &[u8], count: usize) -> bool {
+    let mut out = MemoryOutlet::new(alloc, count);
+    let mut err = MemoryOutlet::new(alloc, count);
+    let status = want(&mut out, &mut err, call);
+    status == 1 && out.bytes.len() == count && line.starts_with(out.bytes.as_slice())
+}
+
+/// A call, and the line on its want of memory.
+const WANTS: &[(Call, &[u8])] = &[
+    (Call::Flagops, b"refused flagops 0 WantOfMemory\n"),
+    (Call::Load, b"refused load 0 WantOfMemory\n"),
+    (Call::ReadTree, b"refused read_tree 0 WantOfMemory\n"),
+    (Call::ReadRule, b"refused read_rule 0 WantOfMemory\n"),
+    (Call::Bucket, b"refused bucket 0 WantOfMemory\n"),
+];
+
+#[test]
+fn want_of_memory(rt: HostRuntime) {
+    for (call, line) in WANTS {
+        for count in 0..=line.len() {
+            assert!(rt; is_wanting(rt.alloc(), *call, line, count), "{line:?} after {count}");
+        }
+    }
+}
