@@ -147,23 +147,22 @@ struct Chain<'a, R: Clock + Sync> {
     forward: bool,
 }
 
-impl<R: Clock + Sync> Chain<'_, R> {
-    /// Whether the neighbour was answered that is to be answered before this ask; `None` where there is none to wait for.
-    fn before(&self, ask: usize) -> Option<&AtomicBool> {
-        if ask >= self.links {
-            return None;
-        }
-        if self.forward {
-            if ask + 1 < self.links { self.answered.get(ask + 1) } else { None }
-        } else {
-            self.answered.get(ask.checked_sub(1)?)
-        }
+/// Whether the neighbour was answered that is to be answered before this ask; `None` where there is none to wait for.
+fn before(answered: &[AtomicBool], links: usize, forward: bool, ask: usize) -> Option<&AtomicBool> {
+    if ask >= links {
+        None
+    } else if !forward {
+        answered.get(ask.checked_sub(1)?)
+    } else if ask + 1 < links {
+        answered.get(ask + 1)
+    } else {
+        None
     }
 }
 
 impl<R: Clock + Sync> Gate for Chain<'_, R> {
     fn may_start(&self, ask: usize) -> bool {
-        let Some(before) = self.before(ask) else {
+        let Some(before) = before(&self.answered, self.links, self.forward, ask) else {
             return true;
         };
         for _ in 0..1000 {
@@ -198,7 +197,16 @@ fn is_linked<R: Threads + Wait + Clock + Sync>(
 ) -> bool {
     let gate = Chain {
         rt,
-        answered: [const { AtomicBool::new(false) }; 8],
+        answered: [
+            AtomicBool::new(false),
+            AtomicBool::new(false),
+            AtomicBool::new(false),
+            AtomicBool::new(false),
+            AtomicBool::new(false),
+            AtomicBool::new(false),
+            AtomicBool::new(false),
+            AtomicBool::new(false),
+        ],
         late: AtomicBool::new(false),
         links,
         forward,
