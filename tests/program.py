@@ -20,11 +20,11 @@ class Ran(NamedTuple):
 
 
 def run(words, files, **how):
-    """A run with these words, in a folder with these files: texts by their names. `how` goes to `subprocess.run`."""
+    """A run with these words, in a folder with these files: texts or bytes by their names. `how` goes to `subprocess.run`."""
     with tempfile.TemporaryDirectory() as folder:
         for name, text in files.items():
-            with open(os.path.join(folder, name), "w", encoding="utf-8", newline="") as file:
-                file.write(text)
+            with open(os.path.join(folder, name), "wb") as file:
+                file.write(text.encode() if isinstance(text, str) else text)
         how = {"stdout": subprocess.PIPE, "stderr": subprocess.PIPE, **how}
         ended = subprocess.run(
             [PROGRAM, *words], cwd=folder, encoding="utf-8", timeout=SECONDS, check=False, **how
@@ -34,8 +34,8 @@ def run(words, files, **how):
 
 
 def text_of(path):
-    """The text of a file."""
-    with open(path, encoding="utf-8", newline="") as file:
+    """The text of a file, with marks in place of bytes that are no UTF-8."""
+    with open(path, encoding="utf-8", errors="surrogateescape", newline="") as file:
         return file.read()
 
 

@@ -9,6 +9,10 @@ APPLIED = (
     '["red",2],["blue",2],["red",1],["blue",5]]},"variants":{"blue":"b","green":"g","red":"r"}}}}\n'
 )
 
+# The same flag as it is printed, and with the rule of green alone.
+AS_IT_WAS = APPLIED.replace('["red",2],["blue",2],["red",1],["blue",5]', FIVES)
+GREEN = APPLIED.replace('["red",2],["blue",2],["red",1],["blue",5]', '["green",7]')
+
 PINK = plan_of(rule='[["red",1],["pink",2]]')
 
 # The buckets, a plan, a flag's key, a site, the status and what is printed.
@@ -55,6 +59,8 @@ NO_PLANS = [
     '{"alpha":[],"beta":[],"cost":0,"plan":1,"rule":[["a"]]}',
     '{"alpha":[],"beta":[],"cost":0,"plan":1,"rule":[["a",0],["b",1]]}',
     '{"alpha":[],"beta":[],"cost":0,"plan":1,"rule":[["a",1],["a",1]]}',
+    '{"alpha":[],"beta":[],"cost":0,"plan":1,"rule":[["a",1],["a",2]]}',
+    '{"alpha":[],"beta":[],"cost":0,"plan":1,"rule":[["a",1],["b",0]]}',
     '{"alpha":[],"beta":[],"cost":0,"plan":1,"rule":[["a",2147483648]]}',
     '{"alpha":[],"beta":[],"cost":0,"plan":1,"rule":[["a",2147483647],["b",1]]}',
 ]
@@ -79,6 +85,24 @@ class Apply(ProgramTest):
                 ran = run(["apply", "d", "p", key, site], {"d": document(buckets), "p": plan})
                 self.assertEqual((ran.status, ran.out), (status, report))
                 self.assertEqual(ran.err == "", status != 1, ran.err)
+
+    def assert_applied(self, text, rule, printed):
+        """A document with this rule at the site of the flag `color` is printed so."""
+        self.assert_ends(["apply", "d", "p", "color", "0"], {"d": text, "p": plan_of(rule=rule)}, 0, printed)
+
+    def test_a_document_is_printed_sorted_and_reads_as_itself(self):
+        self.assert_applied(document(), f"[{FIVES}]", AS_IT_WAS)
+        self.assert_applied(AS_IT_WAS, f"[{FIVES}]", AS_IT_WAS)
+
+    def test_a_broken_flag_stays_beside_the_one_that_is_changed(self):
+        text = document().replace('{"flags":{', '{"flags":{"b":1,')
+        self.assert_applied(text, '[["green",7]]', GREEN.replace('{"flags":{', '{"flags":{"b":{},'))
+
+    def test_a_rule_may_have_a_name_twice_where_another_stands_between(self):
+        rule = '[["a",1],["b",2],["a",3]]'
+        text = document('["a",1]', "a", '"a":"A","b":"B"')
+        ran = run(["apply", "d", "p", "color", "0"], {"d": text, "p": plan_of(rule=rule)})
+        self.assertEqual((ran.status, rule[1:-1] in ran.out), (0, True))
 
     def test_a_site_beyond_32_bits_is_a_mistake(self):
         files = {"d": document(), "p": FREE}

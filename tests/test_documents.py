@@ -39,69 +39,79 @@ CHECKS = [
     ('{"flags":[]}', 1, "refused read_flags 2 NoFlags\n"),
 ]
 
+# Flags for what those leave out.
+MORE = r"""{"flags":{
+"bare-plain":{"state":"ENABLED","variants":{"on":{}}},
+"clock":{"state":"ENABLED","variants":{"now":"n","then":"t"},"defaultVariant":"then",
+  "targeting":{"if":[{"==":[{"var":"$flagd.timestamp"},9007199254740991]},"now"]}},
+"list":{"state":"ENABLED","variants":{"on":{"a":[1,"\u00e9\n"]}},"defaultVariant":"on",
+  "targeting":{"map":[["test",""],{"fractional":[{"var":""},["x",5],["y",5]]}]}},
+"named":{"state":"ENABLED","variants":{"red":"r","blue":"b","green":"g"},"defaultVariant":"red","targeting":{"var":"name"}},
+"number":{"state":"ENABLED","variants":{"1":1},"targeting":{"+":[1]}},
+"object":{"state":"ENABLED","variants":{"on":{"a":[1,"\u00e9\n"]}},"targeting":{"if":[true,"on"]}},
+"weightless":{"state":"ENABLED","variants":{"red":"r","blue":"b","green":"g"},"defaultVariant":"red",
+  "targeting":{"fractional":[{"var":"key"},["red",0],["blue",0]]}},
+"wrong":{"state":"ENABLED","variants":{"on":1},"defaultVariant":"on"}}}"""
+
 TEST = '{"key":"test","targetingKey":"st"}'
 
-# A flag's key, a kind, the default, the context, the status and what is printed.
+# The default that is given for a kind.
+DEFAULTS = {"bool": "false", "text": '"d"', "whole": "9", "object": '{"d":null}'}
+
+
+def matched(value, variant, reached=""):
+    """The resolution to the variant that the targeting names."""
+    return f'{{"code":null,"reached":[{reached}],"reason":"TARGETING_MATCH","value":{value},"variant":"{variant}"}}\n'
+
+
+def given(reason, value, variant="null"):
+    """A resolution for this reason, without an error, to a variant or to none."""
+    return f'{{"code":null,"reached":[],"reason":"{reason}","value":{value},"variant":{variant}}}\n'
+
+
+def failed(code, value, reached=""):
+    """The resolution to the default for an error."""
+    return f'{{"code":"{code}","reached":[{reached}],"reason":"ERROR","value":{value},"variant":null}}\n'
+
+
+# A flag's key, a kind, the context and what is printed with the kind's default: of the document at the moment 0, and of the
+# other flags at the last moment.
 RESOLUTIONS = [
-    (
-        "color",
-        "text",
-        '"d"',
-        TEST,
-        0,
-        '{"code":null,"reached":[[0,"test",10]],"reason":"TARGETING_MATCH","value":"b","variant":"blue"}\n',
-    ),
-    (
-        "color",
-        "bool",
-        "false",
-        TEST,
-        0,
-        '{"code":"TYPE_MISMATCH","reached":[[0,"test",10]],"reason":"ERROR","value":false,"variant":null}\n',
-    ),
-    (
-        "half",
-        "whole",
-        "9",
-        TEST,
-        0,
-        '{"code":"PARSE_ERROR","reached":[],"reason":"ERROR","value":9,"variant":null}\n',
-    ),
-    (
-        "off",
-        "bool",
-        "false",
-        TEST,
-        0,
-        '{"code":null,"reached":[],"reason":"DISABLED","value":false,"variant":null}\n',
-    ),
-    (
-        "vip",
-        "bool",
-        "false",
-        '{"key":"x"}',
-        0,
-        '{"code":null,"reached":[],"reason":"DEFAULT","value":false,"variant":"false"}\n',
-    ),
-    (
-        "te",
-        "whole",
-        "9",
-        TEST,
-        0,
-        '{"code":null,"reached":[[0,"test",100]],"reason":"TARGETING_MATCH","value":2,"variant":"blue"}\n',
-    ),
-    (
-        "nope",
-        "bool",
-        "false",
-        "[]",
-        0,
-        '{"code":"INVALID_CONTEXT","reached":[],"reason":"ERROR","value":false,"variant":null}\n',
-    ),
-    ("color", "text", '"d', "{}", 1, "refused read_tree 1 NotJson\n"),
-    ("color", "text", "1.5", "{}", 1, "refused read_tree 2 NotWhole\n"),
-    ("color", "text", '"d"', '{"a":1.5}', 1, "refused read_tree 2 NotWhole\n"),
+    ("color", "text", TEST, matched('"b"', "blue", '[0,"test",10]')),
+    ("color", "bool", TEST, failed("TYPE_MISMATCH", "false", '[0,"test",10]')),
+    ("colour", "text", TEST, failed("FLAG_NOT_FOUND", '"d"')),
+    ("half", "whole", TEST, failed("PARSE_ERROR", "9")),
+    ("loop", "whole", TEST, failed("PARSE_ERROR", "9")),
+    ("zero", "whole", TEST, failed("PARSE_ERROR", "9")),
+    ("off", "bool", TEST, given("DISABLED", "false")),
+    ("plain", "bool", TEST, given("STATIC", "true", '"on"')),
+    ("vip", "bool", TEST, matched("true", "true")),
+    ("vip", "bool", '{"key":"x"}', given("DEFAULT", "false", '"false"')),
+    ("lost", "whole", TEST, failed("GENERAL", "9")),
+    ("bare", "whole", TEST, given("DEFAULT", "9")),
+    ("te", "whole", TEST, matched("2", "blue", '[0,"test",100]')),
+    ("te", "whole", "{}", given("DEFAULT", "1", '"red"')),
+    ("nope", "bool", TEST, failed("FLAG_NOT_FOUND", "false")),
+    ("nope", "bool", "[]", failed("INVALID_CONTEXT", "false")),
+]
+MORE_RESOLUTIONS = [
+    ("bare-plain", "object", TEST, given("DEFAULT", '{"d":null}')),
+    ("clock", "text", TEST, matched('"n"', "now")),
+    ("list", "object", TEST, failed("GENERAL", '{"d":null}', '[0,"test",10],[0,"",10]')),
+    ("named", "text", '{"name":"green"}', matched('"g"', "green")),
+    ("named", "text", '{"name":"gold"}', failed("GENERAL", '"d"')),
+    ("named", "text", "{}", given("DEFAULT", '"r"', '"red"')),
+    ("number", "whole", TEST, failed("GENERAL", "9")),
+    ("object", "object", TEST, matched(r'{"a":[1,"é\n"]}', "on")),
+    ("weightless", "text", TEST, given("DEFAULT", '"r"', '"red"')),
+    ("wrong", "text", TEST, failed("TYPE_MISMATCH", '"d"')),
+]
+
+# A default, a context and the refusal.
+REFUSALS = [
+    ('"d', "{}", "refused read_tree 1 NotJson\n"),
+    ("1.5", "{}", "refused read_tree 2 NotWhole\n"),
+    ('"d"', '{"a":1.5}', "refused read_tree 2 NotWhole\n"),
 ]
 
 # A kind, a moment and the status: a kind is one of four, a moment a number up to 2^53-1.
@@ -131,10 +141,17 @@ class Documents(ProgramTest):
                 self.assertEqual(ran.err == "", status == 0 and "broken" not in report)
 
     def test_resolves(self):
-        for key, kind, default, context, status, report in RESOLUTIONS:
-            with self.subTest(key=key, kind=kind, default=default, context=context):
-                files = {"d": DOCUMENT, "c": context}
-                self.assert_ends(["resolve", "d", key, kind, default, "c", "0"], files, status, report)
+        for document, moment, rows in [(DOCUMENT, "0", RESOLUTIONS), (MORE, "9007199254740991", MORE_RESOLUTIONS)]:
+            for key, kind, context, report in rows:
+                with self.subTest(key=key, kind=kind, context=context):
+                    words = ["resolve", "d", key, kind, DEFAULTS[kind], "c", moment]
+                    self.assert_ends(words, {"d": document, "c": context}, 0, report)
+
+    def test_refusals(self):
+        for default, context, report in REFUSALS:
+            with self.subTest(default=default, context=context):
+                words = ["resolve", "d", "color", "text", default, "c", "0"]
+                self.assert_ends(words, {"d": DOCUMENT, "c": context}, 1, report)
 
     def test_the_words_of_resolve(self):
         for kind, moment, status in WORDS:

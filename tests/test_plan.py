@@ -1,4 +1,5 @@
 """The command `plan`."""
+import json
 import unittest
 
 from given import (
@@ -91,6 +92,10 @@ REFUSED = [
     (FIVES, request('"red":500005,"blue":500005'), 100_001, "7 TotalTooLarge"),
 ]
 
+# What is asked of red, blue and green, and the totals of a rule that meet it.
+LIMITED = request('"red":[1,3],"blue":7', ',"prices":[["red","green",2]]' + forbid(("green", "blue")), plan=2)
+MEETING = range(8, 11)
+
 
 def by(factor):
     """The words that refine a rule, none for the rule as it stands."""
@@ -137,6 +142,27 @@ class Plan(ProgramTest):
             with self.subTest(buckets=buckets, asked=asked, factor=factor):
                 files = {"d": document(buckets), "r": asked, "b": BOOK}
                 self.assert_ends(["plan", "d", "r", "b", *by(factor)], files, 1, f"refused plan {refusal}\n")
+
+    def test_totals_of_all_names(self):
+        """A variant that is not named gets none; the request names no others."""
+        for total in range(7, 12):
+            with self.subTest(total=total):
+                files = {"d": document(f'["red",{total}]'), "r": LIMITED, "b": BOOK}
+                if total in MEETING:
+                    ran = run(["plan", "d", "r", "b"], files)
+                    rule = json.loads(ran.out)["rule"]
+                    totals = {name: sum(weight for other, weight in rule if other == name) for name, _ in rule}
+                    self.assertEqual((ran.status, totals), (0, {"red": total - 7, "blue": 7}))
+                else:
+                    self.assert_ends(["plan", "d", "r", "b"], files, 1, "refused plan 6 TotalsSum\n")
+        for variants in ['"red":"r","green":"g"', '"red":"r","blue":"b"']:
+            with self.subTest(variants=variants):
+                files = {"d": document('["red",8]', variants=variants), "r": LIMITED, "b": BOOK}
+                self.assert_ends(["plan", "d", "r", "b"], files, 1, "refused plan 5 UnknownVariant\n")
+
+    def test_the_variants_are_told_beside_a_name_that_is_none(self):
+        files = {"d": document(), "r": request('"red":3,"blue":6,"pink":0'), "b": BOOK}
+        self.assertIn('there are "blue", "green", "red"\n', run(["plan", "d", "r", "b"], files).err)
 
     def test_many_names(self):
         """The points that stay are those with the most inputs: of seven inputs on five points of 4 names, one of which may

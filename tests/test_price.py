@@ -42,8 +42,91 @@ PRICES = [
     (OLD, '{"plan":1,"flag":"f","totals":{}}', '["' + "k" * 1025 + '"]', 1, "refused note 2 InputTooLong\n"),
 ]
 
+# A request, the least forbidden point and the cost of the change to red 3, blue 7.
+REQUESTS = [
+    ('{"plan":1,"flag":"color","totals":{}}', "none", 2),
+    ('{"plan":1,"flag":"color","totals":{},"price":1000000}', "none", 2_000_000),
+    ('{"plan":1,"flag":"color","totals":{},"price":0,"prices":[["red","blue",7]]}', "none", 14),
+    ('{"plan":1,"flag":"color","totals":{},"prices":[["blue","red",7]]}', "none", 2),
+    ('{"plan":1,"flag":"color","totals":{},"forbid":[["blue","red"]]}', "none", 2),
+    ('{"plan":1,"flag":"color","totals":{},"forbid":[["red","blue"],["a","b"]]}', "3", 2),
+    ('{"plan":1,"flag":"f","totals":{"a":2147483647}}', "none", 2),
+    ('{"plan":2,"flag":"f","totals":{"a":[0,5],"b":7}}', "none", 2),
+    ('{"plan":3,"plan":1,"flag":"f","totals":{}}', "none", 2),
+]
+
+# Texts that are no request, or one with a price or a range that none may have: the first fault in its order.
+REFUSED_REQUESTS = [
+    ('{"plan":1,"flag":"f","totals":{}', "1 BadRequest"),
+    ("[]", "1 BadRequest"),
+    ('{"plan":3,"flag":"f","totals":{}}', "1 BadRequest"),
+    ('{"flag":"f","totals":{}}', "1 BadRequest"),
+    ('{"plan":1,"flag":7,"totals":{}}', "1 BadRequest"),
+    ('{"plan":1,"flag":"f"}', "1 BadRequest"),
+    ('{"plan":1,"flag":"f","totals":{"a":2147483648}}', "1 BadRequest"),
+    ('{"plan":1,"flag":"f","totals":{"a":[0,5]}}', "1 BadRequest"),
+    ('{"plan":2,"flag":"f","totals":{"a":[0,5,6]}}', "1 BadRequest"),
+    ('{"plan":1,"flag":"f","totals":{},"site":null}', "1 BadRequest"),
+    ('{"plan":1,"flag":"f","totals":{},"site":4294967296}', "1 BadRequest"),
+    ('{"plan":1,"flag":"f","totals":{},"price":1.5}', "1 BadRequest"),
+    ('{"plan":1,"flag":"f","totals":{},"prices":[["a","b"]]}', "1 BadRequest"),
+    ('{"plan":1,"flag":"f","totals":{},"forbid":[["a","b"],["c","c"],["a","b"]]}', "1 BadRequest"),
+    ('{"plan":1,"flag":"f","totals":{},"prices":[["a","b",1],["b","a",1],["a","b",1]]}', "1 BadRequest"),
+    ('{"plan":1,"flag":"f","totals":{},"price":-1,"prices":[["a","a",1]]}', "3 SelfPair"),
+    ('{"plan":1,"flag":"f","totals":{},"forbid":[["a","a"]]}', "3 SelfPair"),
+    ('{"plan":1,"flag":"f","totals":{},"price":1000001}', "4 PriceRange"),
+    ('{"plan":2,"flag":"f","totals":{"a":[4,3]},"prices":[["a","b",-1]]}', "4 PriceRange"),
+    ('{"plan":2,"flag":"f","totals":{"a":[4,3]}}', "5 EmptyRange"),
+]
+
+# A rule and its totals.
+TOTALS = [
+    ('[["red",50],["blue",50]]', 'total "blue" 50\ntotal "red" 50\n'),
+    ('[["on"]]', 'total "on" 1\n'),
+    ('[["a",0],["a",2147483647]]', 'total "a" 2147483647\n'),
+    ('[["a",0],["b",3],["c",0],["d",2]]', 'total "a" 0\ntotal "b" 3\ntotal "c" 0\ntotal "d" 2\n'),
+    ('[["red",2],["blue",2],["red",1],["blue",5]]', 'total "blue" 7\ntotal "red" 3\n'),
+]
+
+# How many of the keys lie on each point of 10.
+COUNTS = [1, 1, 0, 0, 2, 0, 1, 2, 0, 0]
+
 
 class Price(ProgramTest):
+    def assert_priced(self, old, new, request, report):
+        """The keys are priced so."""
+        files = {"old": old, "new": new, "request": request, "keys": KEYS}
+        self.assert_ends(["price", "old", "new", "request", "keys"], files, int(report.startswith("refused")), report)
+
+    def test_requests(self):
+        for request, point, cost in REQUESTS:
+            with self.subTest(request=request):
+                report = f'total "blue" 7\ntotal "red" 3\nforbidden {point}\ncost {cost}\n'
+                self.assert_priced(OLD, RED_3, request, report)
+
+    def test_requests_that_are_refused(self):
+        for request, fault in REFUSED_REQUESTS:
+            with self.subTest(request=request):
+                self.assert_priced(OLD, RED_3, request, f"refused Request::read {fault}\n")
+
+    def test_totals_of_a_rule_that_stays(self):
+        for rule, totals in TOTALS:
+            with self.subTest(rule=rule):
+                self.assert_priced(rule, rule, FREE, f"{totals}forbidden none\ncost 0\n")
+
+    def test_one_point_changes(self):
+        for point, count in enumerate(COUNTS):
+            with self.subTest(point=point):
+                new = f'[["red",{point}],["blue",1],["red",{9 - point}]]'
+                report = f'total "blue" 1\ntotal "red" 9\nforbidden none\ncost {count}\n'
+                self.assert_priced('[["red",10]]', new, FREE, report)
+
+    def test_one_price_for_all_changes(self):
+        """The last site is as good as any, and a member that is not named is passed over."""
+        request = '{"plan":2,"flag":"color","site":4294967295,"totals":{},"price":3,"x":0}'
+        self.assert_priced(OLD, OLD, request, 'total "blue" 5\ntotal "red" 5\nforbidden none\ncost 0\n')
+        self.assert_priced(OLD, '[["red",10]]', request, 'total "red" 10\nforbidden none\ncost 9\n')
+
     def test_prices(self):
         for new, request, keys, status, report in PRICES:
             with self.subTest(new=new, request=request, keys=keys):

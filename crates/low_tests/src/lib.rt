@@ -1,13 +1,19 @@
-//! The tests of the low crates, in a crate of their own, so that each of those is proved once: published vectors, worked
-//! rows, and the happy path of each call that takes memory.
+//! The tests of the libraries up to `price_core` by what no command shows, in a crate of their own, so that each of those is
+//! proved once. `tests/` shows all else on the built program.
 #![tactic(auto)]
 
+#[cfg(test)]
+mod book_tests;
 #[cfg(test)]
 mod evaluation_tests;
 #[cfg(test)]
 mod expression_tests;
 #[cfg(test)]
 mod murmur_tests;
+#[cfg(test)]
+mod price_tests;
+#[cfg(test)]
+mod resolution_tests;
 #[cfg(test)]
 mod rows;
 #[cfg(test)]

@@ -1,0 +1,165 @@
+"""Books: what `drive` notes and writes, and what is read of a book file or refused."""
+import json
+import unittest
+
+from given import BOOK, EMPTY_BOOK, FREE, document
+from program import ProgramTest, run
+
+# Inputs, and whether each is new.
+NOTES = [
+    ("test", True),
+    ("!C", True),
+    ("test", False),
+    ("", True),
+    ("!", True),
+    ("Hello, world!", True),
+    ("!Ce", True),
+    ("The quick brown fox jumps over the lazy dog", True),
+    ("", False),
+]
+
+# What stands below the first line of a book file, and its fault.
+LINES = [
+    ("", None),
+    ('"a"\n', "2 Line 2"),
+    ('{"by":null,"flag":"","site":4294967295,"more":0}\n"a"\n', None),
+    ('{"site":0,"flag":"","by":null} \n"b"\n"c"\n', None),
+    ('{"by":null,"flag":"","site":4294967296}\n"a"\n', "2 Line 2"),
+    ('{"by":null,"flag":"","site":-1}\n"a"\n', "2 Line 2"),
+    ('{"by":0,"flag":"","site":0}\n"a"\n', "2 Line 2"),
+    ('{"flag":"","site":0}\n"a"\n', "2 Line 2"),
+    ('{"by":null,"flag":"","site":0}\n"a"\n"a"\n', "3 Order 4"),
+    ('{"by":null,"flag":"","site":0}\n"b"\n"a"\n', "3 Order 4"),
+    ('{"by":null,"flag":"","site":0}\n"a"\n7\n', "2 Line 4"),
+    ('{"by":null,"flag":"","site":0}\n\n', "2 Line 3"),
+    ('{"by":null,"flag":"","site":1}\n"a"\n{"by":"","flag":"","site":0}\n"a"\n', "3 Order 4"),
+    ('{"by":null,"flag":"","site":1}\n"a"\n{"by":"","flag":"","site":0}\n', "2 Line 4"),
+    ('{"by":null,"flag":"","site":1}\n"a"\n{"by":"","flag":"","site":0}\n7\n', "3 Order 4"),
+    ('{"by":null,"flag":"","site":1}\n"a"\n{"by":"","flag":"","site":1}\n"a"', "2 Line 5"),
+    ('{"by":null,"flag":"","site":0}\n"' + "a" * 1024 + '"\n', None),
+    ('{"by":null,"flag":"","site":0}\n"' + "a" * 1025 + '"\n', "4 InputTooLong 3"),
+]
+
+# A book file, and its fault.
+FIRST_LINES = [
+    (' { "book" : 1 } \n', None),
+    ('{"book":1,"more":0}\n', "1 Header"),
+    ('{"book":2}\n', "1 Header"),
+    ('{"book":1.0}\n', "1 Header"),
+    ("\n", "1 Header"),
+]
+
+# The most inputs of a page.
+MOST = 1_000_000
+
+# An evaluation of this flag reaches 100 inputs for each text of the context's list: the text, and one of 100 more behind it.
+# So many pass within its units.
+MANY = {
+    "map": [
+        {"var": "l"},
+        {
+            "reduce": [
+                [f"{number:02}" for number in range(100)],
+                {
+                    "if": [
+                        {"fractional": [{"cat": [{"var": "accumulator"}, {"var": "current"}]}, ["on"]]},
+                        {"var": "accumulator"},
+                        {"var": "accumulator"},
+                    ]
+                },
+                {"var": ""},
+            ]
+        },
+    ]
+}
+
+
+def asks_of(key, contexts):
+    """An ask of a flag for each context."""
+    return json.dumps([{"key": key, "want": "text", "default": "d", "context": at, "moment": 0} for at in contexts])
+
+
+def cut_at(taken):
+    """The fault of the book that is cut behind so many characters. A page needs an input, and each line its line feed."""
+    line = BOOK[:taken].count("\n") + 1
+    if taken < len(EMPTY_BOOK) - 1:
+        return "1 Header"
+    if BOOK[taken - 1] != "\n":
+        return f"2 Line {line}"
+    return "2 Line 2" if line == 3 else None
+
+
+class Books(ProgramTest):
+    def driven(self, document_text, asks):
+        """What one worker is counted to have noted, and the book."""
+        ran = run(["drive", "d", "a", "1", "b"], {"d": document_text, "a": asks})
+        self.assertEqual(ran.status, 0, ran.out[:200])
+        return ran.out.splitlines()[-5:], ran.files["b"]
+
+    def assert_driven(self, document_text, asks, counts):
+        """It has counted so many inputs, calls, new ones, and refusals of a full page and of long inputs."""
+        told, book = self.driven(document_text, asks)
+        names = ["inputs", "calls", "news", "full", "long"]
+        self.assertEqual(told, [f"{name} {count}" for name, count in zip(names, counts)])
+        return book
+
+    def test_notes(self):
+        """Each input of the rows is noted behind those before it."""
+        news = 0
+        for taken in range(len(NOTES) + 1):
+            with self.subTest(taken=taken):
+                news += taken > 0 and NOTES[taken - 1][1]
+                asks = asks_of("color", [{"key": key} for key, _ in NOTES[:taken]])
+                book = self.assert_driven(document(), asks, [news, taken, news, 0, 0])
+                if taken in (0, len(NOTES)):
+                    self.assertEqual(book, BOOK if taken else EMPTY_BOOK)
+
+    def test_inputs_are_printed_as_json(self):
+        asks = asks_of("color", [{"key": 'a"b\né'}, {"key": ""}, {"key": "a" * 1024}])
+        lines = '""\n' + r'"a\"b\né"' + '\n"' + "a" * 1024 + '"\n'
+        page = BOOK[: BOOK.index('""\n')]
+        self.assertEqual(self.driven(document(), asks)[1], page + lines)
+
+    def test_a_page_has_1000000_inputs(self):
+        """Behind them a new input is refused, and one that was noted is not."""
+        prefixes = [[f"{ask * 50 + number:04}" for number in range(50)] for ask in range(200)]
+        text = json.dumps({"flags": {"f": {"state": "ENABLED", "variants": {"on": 1}, "targeting": MANY}}})
+        full = [MOST, MOST + 100, MOST, 100, 0]
+        asks = asks_of("f", [{"l": texts} for texts in [*prefixes, ["new"], ["0000"]]])
+        book = self.assert_driven(text, asks, full)
+        self.assertEqual((book.count("\n"), '"999999"\n' in book), (MOST + 2, True))
+
+    def assert_read(self, book, fault):
+        """A book has this fault, or it is read, and then the request is refused."""
+        files = {"d": document(), "r": "{}", "b": book, "p": FREE}
+        refusal = f"read_book {fault}" if fault else "verify 1 Request 1 BadRequest"
+        self.assert_ends(["verify", "d", "r", "b", "p"], files, 1, f"refused {refusal}\n")
+
+    def test_lines(self):
+        for below, fault in LINES:
+            with self.subTest(below=below):
+                self.assert_read(EMPTY_BOOK + below, fault)
+
+    def test_first_lines(self):
+        for text, fault in FIRST_LINES:
+            with self.subTest(text=text):
+                self.assert_read(text, fault)
+
+    def test_exchanged_lines(self):
+        lines = BOOK.splitlines(keepends=True)
+        self.assert_read("".join([*lines[:-2], lines[-1], lines[-2]]), "3 Order 9")
+
+    def test_a_book_that_is_cut(self):
+        for taken in range(len(BOOK)):
+            with self.subTest(taken=taken):
+                self.assert_read(BOOK[:taken], cut_at(taken))
+
+    def test_a_file_has_1000000_inputs_on_a_page(self):
+        book = EMPTY_BOOK + '{"by":null,"flag":"","site":0}\n'
+        book += "".join(f'"{number:07}"\n' for number in range(MOST))
+        self.assert_read(book, None)
+        self.assert_read(book + '"1000000"\n', f"5 PageFull {MOST + 3}")
+
+
+if __name__ == "__main__":
+    unittest.main()
