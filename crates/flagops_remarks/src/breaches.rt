@@ -1,7 +1,7 @@
 //! What a person is told of the flags of a document that are broken.
-use crate::evaluators::search_referred;
-use crate::search::{Found, Sought, search};
-use crate::words::{listed_members, shown, step};
+use crate::evaluators::first_referred;
+use crate::lines::Lines;
+use crate::search::{Sought, Wrong, first_wrong, put_way};
 use flag_defs::{Breach, breaches};
 use flag_text::{Tree, read_doc};
 use std::alloc::{AllocError, Global};
@@ -16,16 +16,21 @@ pub fn of_breaches(alloc: Global, bytes: &[u8]) -> Result<String, AllocError> {
         return String::from_str(alloc, "error: out of memory\n");
     };
     let found = breaches(alloc, &document)?;
-    let evaluators = members_in(&document, "$evaluators");
-    let mut lines = String::new(alloc);
-    for ((key, definition), breach) in members_in(&document, "flags").iter().zip(found.iter()) {
+    let mut lines = Lines::new(alloc);
+    put_breaches(&mut lines, &document, found.as_slice());
+    lines.finish()
+}
+
+fn put_breaches(lines: &mut Lines, document: &Tree, found: &[Option<Breach>]) {
+    let evaluators = members_in(document, "$evaluators");
+    for ((key, definition), breach) in members_in(document, "flags").iter().zip(found.iter()) {
         if let Some(breach) = breach {
-            let what = sentence(alloc, key.as_str(), definition, evaluators, *breach)?;
-            let line = format!(in alloc; "broken: {what}\n")?;
-            lines.push_str(line.as_str())?;
+            lines.put("broken: flags");
+            lines.put_step(key.as_str());
+            put_breach(lines, definition, evaluators, *breach);
+            lines.put("\n");
         }
     }
-    Ok(lines)
 }
 
 /// The members of the object of this name, none where there is none.
@@ -36,123 +41,121 @@ fn members_in<'a>(tree: &'a Tree, name: &str) -> &'a [(String, Tree)] {
     }
 }
 
-/// The rule that a definition breaks, and where.
-fn sentence(
-    alloc: Global,
-    key: &str,
-    definition: &Tree,
-    evaluators: &[(String, Tree)],
-    breach: Breach,
-) -> Result<String, AllocError> {
-    let key = step(alloc, key)?;
-    let at = format!(in alloc; "flags{key}")?;
+/// The rule that a definition breaks, and where in it.
+fn put_breach(lines: &mut Lines, definition: &Tree, evaluators: &[(String, Tree)], breach: Breach) {
     match breach {
-        Breach::Definition => valued(alloc, &at, "", Some(definition), "no object"),
-        Breach::State => valued(
-            alloc,
-            &at,
-            ".state",
-            definition.member("state"),
+        Breach::Definition => put_instead(lines, definition, "no object"),
+        Breach::State => put_member(
+            lines,
+            definition,
+            "state",
             "neither \"ENABLED\" nor \"DISABLED\"",
         ),
-        Breach::Variants => variants(alloc, &at, definition.member("variants")),
-        Breach::Kinds => kinds(alloc, &at, members_in(definition, "variants")),
-        Breach::VariantNumber => number(
-            alloc,
-            &at,
-            ".variants",
-            definition.member("variants"),
-            &[],
-        ),
-        Breach::VariantLevels => format!(in alloc; "{at}.variants nests deeper than 100 levels"),
-        Breach::DefaultVariant => default_variant(alloc, &at, definition),
-        Breach::Targeting => valued(
-            alloc,
-            &at,
-            ".targeting",
-            definition.member("targeting"),
+        Breach::Variants => put_variants(lines, definition),
+        Breach::Kinds => put_kinds(lines, members_in(definition, "variants")),
+        Breach::VariantNumber => put_first(lines, definition, "variants", &[], Sought::NotWhole),
+        Breach::VariantLevels => lines.put(".variants nests deeper than 100 levels"),
+        Breach::DefaultVariant => put_default_variant(lines, definition),
+        Breach::Targeting => put_member(
+            lines,
+            definition,
+            "targeting",
             "no object, or refers to none",
         ),
-        Breach::Reference => reference(alloc, &at, definition, evaluators),
-        Breach::TargetingSize => {
-            format!(in alloc;
-                "{at}.targeting has more than 10,000 nodes or 100 levels, with its references replaced"
-            )
-        }
-        Breach::TargetingPart => number(
-            alloc,
-            &at,
-            ".targeting",
-            definition.member("targeting"),
+        Breach::Reference => put_first(
+            lines,
+            definition,
+            "targeting",
             evaluators,
+            Sought::Unknown(evaluators),
         ),
-        Breach::Expression => expression(alloc, &at, definition.member("targeting"), evaluators),
+        Breach::TargetingSize => lines.put(
+            ".targeting has more than 10,000 nodes or 100 levels, with its references replaced",
+        ),
+        Breach::TargetingPart => put_first(
+            lines,
+            definition,
+            "targeting",
+            evaluators,
+            Sought::NotWhole,
+        ),
+        Breach::Expression => put_first(
+            lines,
+            definition,
+            "targeting",
+            evaluators,
+            Sought::Operation,
+        ),
     }
 }
 
 /// A member that is not what it has to be.
-fn valued(
-    alloc: Global,
-    at: &String,
-    name: &str,
-    value: Option<&Tree>,
-    what: &str,
-) -> Result<String, AllocError> {
-    match value {
-        Some(tree) => {
-            let shown = shown(alloc, tree)?;
-            format!(in alloc; "{at}{name} is {shown}, {what}")
-        }
-        None => format!(in alloc; "{at}{name} is missing"),
+fn put_member(lines: &mut Lines, definition: &Tree, name: &str, what: &str) {
+    lines.put_all(&[".", name]);
+    match definition.member(name) {
+        Some(value) => put_instead(lines, value, what),
+        None => lines.put(" is missing"),
     }
 }
 
+fn put_instead(lines: &mut Lines, value: &Tree, what: &str) {
+    lines.put(" is ");
+    lines.put_value(value);
+    lines.put_all(&[", ", what]);
+}
+
 /// What is no object of 1 to 64 members.
-fn variants(alloc: Global, at: &String, value: Option<&Tree>) -> Result<String, AllocError> {
-    match value {
+fn put_variants(lines: &mut Lines, definition: &Tree) {
+    match definition.member("variants") {
         Some(Tree::Object(members)) => {
-            let count = members.len();
-            format!(in alloc; "{at}.variants has {count} members, not 1 to 64")
+            lines.put(".variants has ");
+            lines.put_shown(&members.len());
+            lines.put(" members, not 1 to 64");
         }
-        _ => valued(
-            alloc,
-            at,
-            ".variants",
-            value,
+        _ => put_member(
+            lines,
+            definition,
+            "variants",
             "no object of 1 to 64 variants",
         ),
     }
 }
 
 /// The first variant that is of none of the four kinds, or of another kind than the first.
-fn kinds(alloc: Global, at: &String, variants: &[(String, Tree)]) -> Result<String, AllocError> {
+fn put_kinds(lines: &mut Lines, variants: &[(String, Tree)]) {
+    lines.put(".variants");
     let mut first: Option<&'static str> = None;
     for (name, value) in variants {
-        let name = step(alloc, name.as_str())?;
-        let Some(kind) = kind(value) else {
-            return no_kind(alloc, at, name.as_str(), value);
-        };
-        match first {
-            None => first = Some(kind),
-            Some(other) if other == kind => {}
-            Some(other) => {
-                return format!(in alloc;
-                    "{at}.variants{name} is {kind} and the first variant {other}; all are of one kind"
-                );
+        match (kind(value), first) {
+            (Some(kind), None) => first = Some(kind),
+            (Some(kind), Some(other)) if kind == other => {}
+            (kind, other) => {
+                lines.put_step(name.as_str());
+                put_other_kind(lines, value, kind, other);
+                return;
             }
         }
     }
-    format!(in alloc; "{at}.variants are not of one kind")
+    lines.put(" are not of one kind");
 }
 
-/// A variant that is of none of the four kinds.
-fn no_kind(alloc: Global, at: &String, name: &str, value: &Tree) -> Result<String, AllocError> {
-    let shown = shown(alloc, value)?;
-    let takes = match value {
-        Tree::Other => "",
-        _ => ", no boolean, text, whole number or object",
-    };
-    format!(in alloc; "{at}.variants{name} is {shown}{takes}")
+/// A variant that is not of the kind of the first.
+fn put_other_kind(lines: &mut Lines, value: &Tree, kind: Option<&str>, first: Option<&str>) {
+    lines.put(" is ");
+    match (kind, first) {
+        (Some(kind), Some(first)) => lines.put_all(&[
+            kind,
+            " and the first variant ",
+            first,
+            "; all are of one kind",
+        ]),
+        _ => {
+            lines.put_value(value);
+            if !matches!(value, Tree::Other) {
+                lines.put(", no boolean, text, whole number or object");
+            }
+        }
+    }
 }
 
 fn kind(tree: &Tree) -> Option<&'static str> {
@@ -165,113 +168,100 @@ fn kind(tree: &Tree) -> Option<&'static str> {
     }
 }
 
-/// The first number that is not whole.
-fn number(
-    alloc: Global,
-    at: &String,
-    name: &str,
-    tree: Option<&Tree>,
-    evaluators: &[(String, Tree)],
-) -> Result<String, AllocError> {
-    if let Some(tree) = tree {
-        if let Some(found) = search(alloc, tree, Sought::NotWhole)? {
-            let way = &found.way;
-            return format!(in alloc; "{at}{name}{way} is a number that is not whole");
-        }
-        if let Some((key, found)) = search_referred(alloc, tree, evaluators, Sought::NotWhole)? {
-            let way = &found.way;
-            return format!(in alloc;
-                "{at}{name} refers to $evaluators{key}{way}, which is a number that is not whole"
-            );
-        }
+fn put_default_variant(lines: &mut Lines, definition: &Tree) {
+    lines.put(".defaultVariant is ");
+    if let Some(value) = definition.member("defaultVariant") {
+        lines.put_value(value);
     }
-    by_reference(
-        alloc,
-        at,
-        tree,
-        "a number that is not whole, or a $ref that is none",
-    )
+    lines.put(", no variant; there are ");
+    lines.put_members(members_in(definition, "variants"));
 }
 
-fn default_variant(alloc: Global, at: &String, definition: &Tree) -> Result<String, AllocError> {
-    let shown = match definition.member("defaultVariant") {
-        Some(tree) => shown(alloc, tree)?,
-        None => String::new(alloc),
-    };
-    let names = listed_members(alloc, members_in(definition, "variants"))?;
-    format!(in alloc; "{at}.defaultVariant is {shown}, no variant; there are {names}")
-}
-
-/// The first reference to what is no evaluator, in the targeting or in what it refers to; else it is a cycle.
-fn reference(
-    alloc: Global,
-    at: &String,
+/// The first place at which something is wrong in a member, or in the evaluators that it refers to.
+fn put_first(
+    lines: &mut Lines,
     definition: &Tree,
+    name: &str,
     evaluators: &[(String, Tree)],
-) -> Result<String, AllocError> {
-    let targeting = definition.member("targeting");
-    let sought = Sought::Unknown(evaluators);
-    if let Some(tree) = targeting {
-        if let Some(found) = search(alloc, tree, sought)? {
-            let Found { way, what } = found;
-            let names = listed_members(alloc, evaluators)?;
-            return format!(in alloc; "{at}.targeting{way} {what}, no evaluator; there are {names}");
+    sought: Sought<'_>,
+) {
+    lines.put_all(&[".", name]);
+    if let Some(tree) = definition.member(name) {
+        if let Some(wrong) = first_wrong(tree, sought) {
+            put_way(lines, tree, sought);
+            put_wrong(lines, wrong, "", evaluators);
+            return;
         }
-        if let Some((key, found)) = search_referred(alloc, tree, evaluators, sought)? {
-            let Found { way, what } = found;
-            let names = listed_members(alloc, evaluators)?;
-            return format!(in alloc;
-                "{at}.targeting refers to $evaluators{key}{way}, which {what}, no evaluator; there are {names}"
-            );
+        if put_referred(lines, tree, evaluators, sought) {
+            return;
         }
+        put_reference(lines, tree);
     }
-    by_reference(
-        alloc,
-        at,
-        targeting,
-        "a $ref back to itself, or to no evaluator",
-    )
+    lines.put_all(&[" has ", unplaced(sought)]);
 }
 
-/// What is wrong in what a targeting refers to, with the first name that it refers to.
-fn by_reference(
-    alloc: Global,
-    at: &String,
-    targeting: Option<&Tree>,
-    what: &str,
-) -> Result<String, AllocError> {
-    if let Some(tree) = targeting {
-        if let Some(found) = search(alloc, tree, Sought::Reference)? {
-            let name = &found.what;
-            return format!(in alloc;
-                "{at}.targeting, or what it refers to (first {name}), has {what}"
-            );
-        }
-    }
-    format!(in alloc; "{at}.targeting has {what}")
+/// Tells of the first place in the evaluators that a tree refers to, and answers whether there is one.
+fn put_referred(
+    lines: &mut Lines,
+    tree: &Tree,
+    evaluators: &[(String, Tree)],
+    sought: Sought<'_>,
+) -> bool {
+    let Some((key, part, wrong)) = first_referred(lines, tree, evaluators, sought) else {
+        return false;
+    };
+    lines.put(" refers to $evaluators");
+    lines.put_step(key);
+    put_way(lines, part, sought);
+    put_wrong(lines, wrong, ", which", evaluators);
+    true
 }
 
-/// The first operation that is none, in the targeting or in what it refers to.
-fn expression(
-    alloc: Global,
-    at: &String,
-    targeting: Option<&Tree>,
-    evaluators: &[(String, Tree)],
-) -> Result<String, AllocError> {
-    if let Some(tree) = targeting {
-        if let Some(found) = search(alloc, tree, Sought::Operation)? {
-            let Found { way, what } = found;
-            return format!(in alloc; "{at}.targeting{way}: {what}");
+/// What is wrong, behind a word for the place.
+fn put_wrong(lines: &mut Lines, wrong: Wrong<'_>, which: &str, evaluators: &[(String, Tree)]) {
+    match wrong {
+        Wrong::Number => lines.put_all(&[which, " is a number that is not whole"]),
+        Wrong::Reference(name) => {
+            lines.put_all(&[which, " refers to "]);
+            lines.put_name(name);
+            lines.put(", no evaluator; there are ");
+            lines.put_members(evaluators);
         }
-        if let Some((key, found)) = search_referred(alloc, tree, evaluators, Sought::Operation)? {
-            let Found { way, what } = found;
-            return format!(in alloc; "{at}.targeting refers to $evaluators{key}{way}: {what}");
+        Wrong::Operator(name) => {
+            lines.put(": the operator ");
+            lines.put_name(name);
+            lines.put(" is unknown");
+        }
+        Wrong::Arguments(name, count) => {
+            lines.put(": the operator ");
+            lines.put_name(name);
+            lines.put(" does not take ");
+            lines.put_shown(&count);
+            lines.put(" arguments");
+        }
+        Wrong::Bucket(place) => {
+            lines.put(": argument ");
+            lines.put_shown(&place);
+            lines.put(" of \"fractional\" is no bucket [name, weight]");
         }
     }
-    by_reference(
-        alloc,
-        at,
-        targeting,
-        "an operator that is unknown or has wrong arguments",
-    )
+}
+
+/// The first reference of a tree, where there is one: what is wrong is then in what the tree refers to.
+fn put_reference(lines: &mut Lines, tree: &Tree) {
+    if let Some(Wrong::Reference(name)) = first_wrong(tree, Sought::Reference) {
+        lines.put(", or what it refers to (first ");
+        lines.put_name(name);
+        lines.put("),");
+    }
+}
+
+/// What is wrong where no place was found.
+fn unplaced(sought: Sought<'_>) -> &'static str {
+    match sought {
+        Sought::NotWhole => "a number that is not whole, or a $ref that is none",
+        Sought::Unknown(_) => "a $ref back to itself, or to no evaluator",
+        Sought::Operation => "an operator that is unknown or has wrong arguments",
+        Sought::Reference | Sought::Deeper(_) => "what is not taken",
+    }
 }

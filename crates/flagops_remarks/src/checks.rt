@@ -1,10 +1,10 @@
 //! What a person is told of an answer that does not prove what it says.
-use crate::sites::entries;
-use crate::words::{listed, quoted};
+use crate::lines::Lines;
+use crate::sites::Place;
 use bucket_core::{Rule, total_weight};
 use flag_defs::Flags;
 use plan_text::Planned;
-use price_core::{PriceFault, Request};
+use price_core::{Limit, PriceFault, Request};
 use std::alloc::{AllocError, Global};
 use transport_core::CheckFault;
 
@@ -17,107 +17,95 @@ pub fn of_check(
     planned: &Planned,
     fault: &CheckFault,
 ) -> Result<String, AllocError> {
-    let source = quoted(alloc, path)?;
-    let what = match planned {
-        Planned::Emit(rule, certificate) => {
-            match Request::read(alloc, request) {
-                Ok(asked) => rule_fault(alloc, flags, &asked, rule, certificate.cost, fault)?,
-                Err(_) => numbers_fault(alloc, certificate.cost, fault)?,
-            }
-        }
+    let mut lines = Lines::of(alloc, "error: the plan ", path);
+    lines.put(" does not answer this request:\n  ");
+    match planned {
+        Planned::Emit(rule, certificate) => match Request::read(alloc, request) {
+            Ok(asked) => put_rule_fault(&mut lines, flags, &asked, rule, certificate.cost, fault),
+            Err(_) => put_numbers_fault(&mut lines, certificate.cost, fault),
+        },
         Planned::NoneExists(cut) => {
-            let mut names = Vec::new(alloc);
-            for name in &cut.names {
-                names.push(name.as_str())?;
-            }
-            let names = listed(alloc, names.as_slice())?;
-            format!(in alloc; "its set of variants ({names}) does not show that no rule fits")?
+            lines.put("its set of variants (");
+            lines.put_names(cut.names.as_slice());
+            lines.put(") does not show that no rule fits");
         }
-    };
-    format!(in alloc;
-        "error: the plan {source} does not answer this request:\n  {what}\n  plan again with this document, request and book\n"
-    )
+    }
+    lines.put("\n  plan again with this document, request and book\n");
+    lines.finish()
 }
 
 /// What is wrong with a rule, or with the numbers beside it.
-fn rule_fault(
-    alloc: Global,
+fn put_rule_fault(
+    lines: &mut Lines,
     flags: &Flags,
     asked: &Request,
     rule: &Rule,
     cost: u64,
     fault: &CheckFault,
-) -> Result<String, AllocError> {
+) {
+    let place = Place::of(flags, asked);
     match fault {
-        CheckFault::Weight => {
-            let entries = entries(alloc, flags, asked.flag(), asked.site())?;
-            let (new, old) = (rule.total(), total_weight(entries.as_slice()));
-            format!(in alloc;
-                "its rule has {new} points and the rule of the site {old} (with --refine M: M times as many)"
-            )
-        }
-        CheckFault::Totals => totals(alloc, flags, asked, rule),
-        CheckFault::Forbidden(point) => {
-            let entries = entries(alloc, flags, asked.flag(), asked.site())?;
-            forbidden(alloc, entries.as_slice(), rule, *point)
-        }
-        _ => numbers_fault(alloc, cost, fault),
+        CheckFault::Weight => put_weights(lines, place, rule),
+        CheckFault::Totals => put_totals(lines, place, asked, rule),
+        CheckFault::Forbidden(point) => put_forbidden(lines, place, rule, *point),
+        _ => put_numbers_fault(lines, cost, fault),
     }
+}
+
+fn put_weights(lines: &mut Lines, place: Place<'_>, rule: &Rule) {
+    let old = place.total(lines);
+    lines.put("its rule has ");
+    lines.put_shown(&rule.total());
+    lines.put(" points and the rule of the site ");
+    lines.put_shown(&old);
+    lines.put(" (with --refine M: M times as many)");
 }
 
 /// The first variant with fewer or more points than its limits.
-fn totals(
-    alloc: Global,
-    flags: &Flags,
-    asked: &Request,
-    rule: &Rule,
-) -> Result<String, AllocError> {
-    let names = match flags.get(asked.flag()) {
-        Some(flag) => flag.names(alloc)?,
-        None => Vec::new(alloc),
-    };
-    let limits = match asked.totals(alloc, names.as_slice()) {
-        Ok(totals) => totals,
-        Err(PriceFault::WantOfMemory) => return Err(AllocError),
-        Err(_) => return String::from_str(alloc, "the request names what is no variant"),
-    };
-    for limit in limits.entries() {
-        let points = rule.total_of(limit.name.as_str());
-        if points < u64::from(limit.low) || points > u64::from(limit.high) {
-            let name = quoted(alloc, limit.name.as_str())?;
-            let takes = limits_text(alloc, limit.low, limit.high)?;
-            return format!(in alloc;
-                "{name} has {points} points in its rule, and the request takes {takes}"
-            );
-        }
+fn put_totals(lines: &mut Lines, place: Place<'_>, asked: &Request, rule: &Rule) {
+    let names = place.variants(lines);
+    match asked.totals(lines.alloc, names.as_slice()) {
+        Ok(totals) => put_passed_limit(lines, totals.entries(), rule),
+        Err(PriceFault::WantOfMemory) => lines.fall_short(AllocError),
+        Err(_) => lines.put("the request names what is no variant"),
     }
-    String::from_str(alloc, "its rule names what is no variant of the flag")
 }
 
-fn limits_text(alloc: Global, low: u32, high: u32) -> Result<String, AllocError> {
-    if low == high {
-        format!(in alloc; "{low}")
-    } else {
-        format!(in alloc; "{low} to {high}")
+fn put_passed_limit(lines: &mut Lines, limits: &[Limit], rule: &Rule) {
+    for limit in limits {
+        let points = rule.total_of(limit.name.as_str());
+        if points < u64::from(limit.low) || points > u64::from(limit.high) {
+            lines.put_name(limit.name.as_str());
+            lines.put(" has ");
+            lines.put_shown(&points);
+            lines.put(" points in its rule, and the request takes ");
+            lines.put_shown(&limit.low);
+            if limit.low != limit.high {
+                lines.put(" to ");
+                lines.put_shown(&limit.high);
+            }
+            return;
+        }
     }
+    lines.put("its rule names what is no variant of the flag");
 }
 
 /// The change at a point.
-fn forbidden(
-    alloc: Global,
-    entries: &[(String, u64)],
-    rule: &Rule,
-    point: u32,
-) -> Result<String, AllocError> {
-    let total = total_weight(entries);
+fn put_forbidden(lines: &mut Lines, place: Place<'_>, rule: &Rule, point: u32) {
+    let entries = place.entries(lines);
+    let total = total_weight(entries.as_slice());
     let factor = if total == 0 {
         1
     } else {
         u128::from(rule.total()) / total
     };
-    let old = quoted(alloc, name_at(entries, factor, point))?;
-    let new = quoted(alloc, name_at(rule.entries(), 1, point))?;
-    format!(in alloc; "point {point} changes from {old} to {new}, which the request forbids")
+    lines.put("point ");
+    lines.put_shown(&point);
+    lines.put(" changes from ");
+    lines.put_name(name_at(entries.as_slice(), factor, point));
+    lines.put(" to ");
+    lines.put_name(name_at(rule.entries(), 1, point));
+    lines.put(", which the request forbids");
 }
 
 /// The name at a point of entries whose weights are taken so many times.
@@ -133,24 +121,29 @@ fn name_at(entries: &[(String, u64)], factor: u128, point: u32) -> &str {
 }
 
 /// What is wrong with the numbers of a certificate.
-fn numbers_fault(alloc: Global, cost: u64, fault: &CheckFault) -> Result<String, AllocError> {
+fn put_numbers_fault(lines: &mut Lines, cost: u64, fault: &CheckFault) {
     match fault {
         CheckFault::Slack(name, count, variant) => {
-            let name = quoted(alloc, name.as_str())?;
-            let variant = quoted(alloc, variant.as_str())?;
-            let count = *count;
-            format!(in alloc;
-                "its numbers for points of {name} with {count} users and for {variant} sum above that change's cost"
-            )
+            lines.put("its numbers for points of ");
+            lines.put_name(name.as_str());
+            lines.put(" with ");
+            lines.put_shown(count);
+            lines.put(" users and for ");
+            lines.put_name(variant.as_str());
+            lines.put(" sum above that change's cost");
         }
-        CheckFault::Sum => format!(in alloc; "its numbers do not sum to its cost, {cost}"),
-        CheckFault::Cost => format!(in alloc;
-            "its rule does not cost the recorded users {cost}, as it says"
-        ),
-        CheckFault::Groups => String::from_str(
-            alloc,
+        CheckFault::Sum => {
+            lines.put("its numbers do not sum to its cost, ");
+            lines.put_shown(&cost);
+        }
+        CheckFault::Cost => {
+            lines.put("its rule does not cost the recorded users ");
+            lines.put_shown(&cost);
+            lines.put(", as it says");
+        }
+        CheckFault::Groups => lines.put(
             "its numbers are for another book or rule: other groups of points, or other variants",
         ),
-        _ => format!(in alloc; "{fault}"),
+        _ => lines.put_shown(fault),
     }
 }

@@ -1,6 +1,6 @@
 //! What a person is told of bytes that are no flag document.
-use crate::texts::not_json;
-use crate::words::{quoted, shown};
+use crate::lines::Lines;
+use crate::texts::put_not_json;
 use flag_defs::DefFault;
 use flag_text::{Tree, read_doc};
 use std::alloc::{AllocError, Global};
@@ -18,56 +18,72 @@ pub fn of_document(
     bytes: &[u8],
     fault: DefFault,
 ) -> Result<String, AllocError> {
-    let source = quoted(alloc, path)?;
-    match fault {
-        DefFault::WantOfMemory => String::from_str(alloc, "error: out of memory\n"),
-        DefFault::NotJson => not_json(alloc, source.as_str(), bytes),
-        DefFault::NoFlags => {
-            let what = no_flags(alloc, bytes)?;
-            format!(in alloc;
-                "error: {source} is no flag document: {what}\n  it begins as {{\"flags\":{{\"KEY\":{{\"state\":\"ENABLED\",\"variants\":{{..}}}}}}}}\n"
-            )
-        }
-        DefFault::TooLarge => {
-            let what = too_large(alloc, bytes)?;
-            format!(in alloc;
-                "error: {source} is too large: {what}\n  a document has at most 10,000 flags and 4,194,304 bytes, also as \"flagops apply\" prints it\n"
-            )
-        }
+    if fault == DefFault::WantOfMemory {
+        return String::from_str(alloc, "error: out of memory\n");
     }
+    let mut lines = Lines::of(alloc, "error: ", path);
+    match fault {
+        DefFault::WantOfMemory => {}
+        DefFault::NotJson => put_not_json(&mut lines, bytes),
+        DefFault::NoFlags => put_no_flags(&mut lines, bytes),
+        DefFault::TooLarge => put_too_large(&mut lines, bytes),
+    }
+    lines.finish()
 }
 
 /// What stands in the place of the flags.
-fn no_flags(alloc: Global, bytes: &[u8]) -> Result<String, AllocError> {
-    let Ok(document) = read_doc(alloc, bytes, LIMIT) else {
-        return String::from_str(alloc, "it has no \"flags\"");
-    };
-    match (&document, document.member("flags")) {
-        (Tree::Object(_), Some(flags)) => {
-            let shown = shown(alloc, flags)?;
-            format!(in alloc; "\"flags\" is {shown}, no object")
-        }
-        (Tree::Object(_), None) => String::from_str(alloc, "it has no \"flags\""),
-        (other, _) => {
-            let shown = shown(alloc, other)?;
-            format!(in alloc; "it is {shown}, no object")
-        }
+fn put_no_flags(lines: &mut Lines, bytes: &[u8]) {
+    lines.put(" is no flag document: ");
+    match read_doc(lines.alloc, bytes, LIMIT) {
+        Ok(document) => put_other(lines, &document),
+        Err(_) => lines.put("it has no \"flags\""),
     }
+    lines.put("\n  it begins as {\"flags\":{\"KEY\":{\"state\":\"ENABLED\",\"variants\":{..}}}}\n");
+}
+
+fn put_other(lines: &mut Lines, document: &Tree) {
+    let (name, other) = match (document, document.member("flags")) {
+        (Tree::Object(_), Some(flags)) => ("\"flags\"", flags),
+        (Tree::Object(_), None) => {
+            lines.put("it has no \"flags\"");
+            return;
+        }
+        (other, _) => ("it", other),
+    };
+    lines.put_all(&[name, " is "]);
+    lines.put_value(other);
+    lines.put(", no object");
 }
 
 /// Which limit a document passes.
-fn too_large(alloc: Global, bytes: &[u8]) -> Result<String, AllocError> {
+fn put_too_large(lines: &mut Lines, bytes: &[u8]) {
+    lines.put(" is too large: ");
+    let flags = flags_in(lines.alloc, bytes);
     if bytes.len() > LIMIT {
-        let count = bytes.len();
-        return format!(in alloc; "it has {count} bytes");
+        put_count(lines, bytes.len(), " bytes");
+    } else if flags > MOST_FLAGS {
+        put_count(lines, flags, " flags");
+    } else {
+        lines.put("it is too long with its references replaced");
     }
-    if let Ok(document) = read_doc(alloc, bytes, LIMIT) {
-        if let Some(Tree::Object(flags)) = document.member("flags") {
-            if flags.len() > MOST_FLAGS {
-                let count = flags.len();
-                return format!(in alloc; "it has {count} flags");
-            }
-        }
+    lines.put(
+        "\n  a document has at most 10,000 flags and 4,194,304 bytes, also as \"flagops apply\" prints it\n",
+    );
+}
+
+fn put_count(lines: &mut Lines, count: usize, of: &str) {
+    lines.put("it has ");
+    lines.put_shown(&count);
+    lines.put(of);
+}
+
+/// The number of flags in a document.
+fn flags_in(alloc: Global, bytes: &[u8]) -> usize {
+    let Ok(document) = read_doc(alloc, bytes, LIMIT) else {
+        return 0;
+    };
+    match document.member("flags") {
+        Some(Tree::Object(flags)) => flags.len(),
+        _ => 0,
     }
-    String::from_str(alloc, "it is too long with its references replaced")
 }

@@ -1,97 +1,109 @@
 //! The first place at which something is wrong in the evaluators that a targeting refers to.
-use crate::search::{Found, Sought, reference, search};
-use crate::words::step;
+use crate::lines::Lines;
+use crate::search::{Sought, Wrong, first_wrong, position, reference};
 use flag_text::Tree;
-use std::alloc::{AllocError, Global};
+use std::alloc::{AllocError, AllocFailed, Global};
 
-/// The evaluators that were referred to so far, each once, by their places.
+/// The evaluators that were referred to so far, each once.
 #[derive(Drop)]
 struct Referred<'a> {
     evaluators: &'a [(String, Tree)],
     is_known: Vec<bool>,
+    /// Their places.
     places: Vec<usize>,
+    short: Option<AllocError>,
 }
 
-/// What is sought, in the first of the evaluators that the targeting refers to, itself or by others, that has it: the way to
-/// that evaluator, and the place in it.
-pub(crate) fn search_referred(
-    alloc: Global,
-    targeting: &Tree,
-    evaluators: &[(String, Tree)],
-    sought: Sought<'_>,
-) -> Result<Option<(String, Found)>, AllocError> {
-    let mut is_known = Vec::new(alloc);
-    is_known.resize(evaluators.len(), false)?;
-    let places = Vec::new(alloc);
-    let mut referred = Referred {
-        evaluators,
-        is_known,
-        places,
-    };
-    refer(targeting, &mut referred)?;
-    for turn in 0..evaluators.len() {
-        let Some((name, tree)) = place_at(&referred, turn) else {
-            return Ok(None);
+impl<'a> Referred<'a> {
+    /// None so far.
+    fn new(alloc: Global, evaluators: &'a [(String, Tree)]) -> Referred<'a> {
+        let mut referred = Referred {
+            evaluators,
+            is_known: Vec::new(alloc),
+            places: Vec::new(alloc),
+            short: None,
         };
-        if let Some(found) = search(alloc, tree, sought)? {
-            return Ok(Some((step(alloc, name)?, found)));
+        if let Err(want) = referred.is_known.resize(evaluators.len(), false) {
+            referred.short = Some(want);
         }
-        refer(tree, &mut referred)?;
+        referred
     }
-    Ok(None)
+
+    /// The evaluator that was referred to as the n-th.
+    fn get(&self, n: usize) -> Option<&'a (String, Tree)> {
+        let place = self.places.get(n)?;
+        self.evaluators.get(*place)
+    }
+
+    /// Adds the evaluator of a name, where there is one that is not yet known.
+    fn add(&mut self, name: &str) {
+        if let Some(place) = position(self.evaluators, name) {
+            if let Some(is_known) = self.is_known.get_mut(place) {
+                if !*is_known {
+                    *is_known = true;
+                    self.put(place);
+                }
+            }
+        }
+    }
+
+    fn put(&mut self, place: usize) {
+        if let Err(AllocFailed { .. }) = self.places.push(place) {
+            self.short = Some(AllocError);
+        }
+    }
 }
 
-/// The evaluator that was referred to as the n-th.
-fn place_at<'a>(referred: &Referred<'a>, n: usize) -> Option<(&'a str, &'a Tree)> {
-    let place = referred.places.get(n)?;
-    let (name, tree) = referred.evaluators.get(*place)?;
-    Some((name.as_str(), tree))
+/// The first of the evaluators that the targeting refers to, itself or by others, that has what is sought, and what is wrong
+/// in it.
+pub(crate) fn first_referred<'a>(
+    lines: &mut Lines,
+    targeting: &Tree,
+    evaluators: &'a [(String, Tree)],
+    sought: Sought<'_>,
+) -> Option<(&'a str, &'a Tree, Wrong<'a>)> {
+    let mut referred = Referred::new(lines.alloc, evaluators);
+    refer(&mut referred, targeting);
+    let mut found = None;
+    for turn in 0..evaluators.len() {
+        let Some((name, tree)) = referred.get(turn) else {
+            break;
+        };
+        if let Some(wrong) = first_wrong(tree, sought) {
+            found = Some((name.as_str(), tree, wrong));
+            break;
+        }
+        refer(&mut referred, tree);
+    }
+    if let Some(want) = referred.short {
+        lines.fall_short(want);
+    }
+    found
 }
 
 /// Adds the evaluators that a tree refers to.
 #[cycle(refer)]
-fn refer(tree: &Tree, referred: &mut Referred<'_>) -> Result<(), AllocError> {
+fn refer(referred: &mut Referred<'_>, tree: &Tree) {
     match tree {
-        Tree::List(items) => refer_items(items, referred),
+        Tree::List(items) => refer_items(referred, items),
         Tree::Object(members) => match reference(members.as_slice()) {
-            Some(name) => add(referred, name),
-            None => refer_members(members, referred),
+            Some(name) => referred.add(name),
+            None => refer_members(referred, members),
         },
-        _ => Ok(()),
+        _ => {}
     }
 }
 
 #[cycle(refer)]
-fn refer_items(items: &Vec<Tree>, referred: &mut Referred<'_>) -> Result<(), AllocError> {
+fn refer_items(referred: &mut Referred<'_>, items: &Vec<Tree>) {
     for item in items {
-        refer(item, referred)?;
+        refer(referred, item);
     }
-    Ok(())
 }
 
 #[cycle(refer)]
-fn refer_members(
-    members: &Vec<(String, Tree)>,
-    referred: &mut Referred<'_>,
-) -> Result<(), AllocError> {
+fn refer_members(referred: &mut Referred<'_>, members: &Vec<(String, Tree)>) {
     for (_, member) in members {
-        refer(member, referred)?;
+        refer(referred, member);
     }
-    Ok(())
-}
-
-/// Adds the evaluator of a name, where there is one that is not yet known.
-fn add(referred: &mut Referred<'_>, name: &str) -> Result<(), AllocError> {
-    let found = referred
-        .evaluators
-        .binary_search_by(|(key, _)| key.as_str().cmp(name));
-    if let Ok(place) = found {
-        if let Some(known) = referred.is_known.get_mut(place) {
-            if !*known {
-                *known = true;
-                referred.places.push(place)?;
-            }
-        }
-    }
-    Ok(())
 }

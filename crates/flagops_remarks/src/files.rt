@@ -1,5 +1,5 @@
 //! What a person is told of the other files: one that is not read, a rule, keys.
-use crate::words::{quoted, shown};
+use crate::lines::Lines;
 use book_core::BookFault;
 use bucket_core::RuleFault;
 use flag_text::Tree;
@@ -7,10 +7,11 @@ use std::alloc::{AllocError, Global};
 
 /// Of a path whose file is not read.
 pub fn of_unreadable(alloc: Global, path: &str) -> Result<String, AllocError> {
-    let path = quoted(alloc, path)?;
-    format!(in alloc;
-        "error: the file {path} cannot be read\n  it is missing, is a folder, or may not be read; paths are taken from where the program runs\n"
-    )
+    let mut lines = Lines::of(alloc, "error: the file ", path);
+    lines.put(
+        " cannot be read\n  it is missing, is a folder, or may not be read; paths are taken from where the program runs\n",
+    );
+    lines.finish()
 }
 
 /// Of a tree that is no rule.
@@ -20,36 +21,42 @@ pub fn of_rule(
     tree: &Tree,
     fault: RuleFault,
 ) -> Result<String, AllocError> {
-    let source = quoted(alloc, path)?;
-    match fault {
+    let advice = match fault {
         RuleFault::BadRule => {
-            let what = rule_fault(alloc, tree)?;
-            format!(in alloc;
-                "error: {source} is no rule: {what}\n  a rule is a list of buckets [name, weight] with weights from 0 to 2147483647\n"
-            )
+            "a rule is a list of buckets [name, weight] with weights from 0 to 2147483647"
         }
-        RuleFault::NoWeight => {
-            format!(in alloc; "error: {source}: {fault}\n  give one bucket a weight above 0\n")
-        }
-        RuleFault::TooHeavy => {
-            format!(in alloc; "error: {source}: {fault}\n  divide the weights by a common factor\n")
-        }
-        RuleFault::WantOfMemory => String::from_str(alloc, "error: out of memory\n"),
+        RuleFault::NoWeight => "give one bucket a weight above 0",
+        RuleFault::TooHeavy => "divide the weights by a common factor",
+        RuleFault::WantOfMemory => return String::from_str(alloc, "error: out of memory\n"),
+    };
+    let mut lines = Lines::of(alloc, "error: ", path);
+    if fault == RuleFault::BadRule {
+        lines.put(" is no rule: ");
+        put_wrong_bucket(&mut lines, tree);
+    } else {
+        lines.put(": ");
+        lines.put_shown(&fault);
     }
+    lines.put_all(&["\n  ", advice, "\n"]);
+    lines.finish()
 }
 
 /// The first item that is no bucket.
-fn rule_fault(alloc: Global, tree: &Tree) -> Result<String, AllocError> {
+fn put_wrong_bucket(lines: &mut Lines, tree: &Tree) {
     let Tree::List(items) = tree else {
-        let shown = shown(alloc, tree)?;
-        return format!(in alloc; "it is {shown}");
+        lines.put("it is ");
+        lines.put_value(tree);
+        return;
     };
     for i in 0..items.len() {
         if !is_bucket(&items[i]) {
-            return format!(in alloc; "its item [{i}] is no bucket");
+            lines.put("its item ");
+            lines.put_place(i);
+            lines.put(" is no bucket");
+            return;
         }
     }
-    String::from_str(alloc, "its buckets are not sound")
+    lines.put("its buckets are not sound");
 }
 
 fn is_bucket(tree: &Tree) -> bool {
@@ -70,15 +77,19 @@ pub fn of_keys(
     place: Option<usize>,
     value: &Tree,
 ) -> Result<String, AllocError> {
-    let source = quoted(alloc, path)?;
-    let shown = shown(alloc, value)?;
-    let what = match place {
-        Some(i) => format!(in alloc; "its item [{i}] is {shown}")?,
-        None => format!(in alloc; "it is {shown}")?,
-    };
-    format!(in alloc;
-        "error: {source} is no list of keys: {what}\n  keys are a list of texts, the hash inputs of the users\n"
-    )
+    let mut lines = Lines::of(alloc, "error: ", path);
+    lines.put(" is no list of keys: ");
+    match place {
+        Some(place) => {
+            lines.put("its item ");
+            lines.put_place(place);
+        }
+        None => lines.put("it"),
+    }
+    lines.put(" is ");
+    lines.put_value(value);
+    lines.put("\n  keys are a list of texts, the hash inputs of the users\n");
+    lines.finish()
 }
 
 /// Of a key that is not noted, in the file of keys at a path.
@@ -88,16 +99,24 @@ pub fn of_noted(
     key: &str,
     fault: BookFault,
 ) -> Result<String, AllocError> {
-    let source = quoted(alloc, path)?;
-    let key = quoted(alloc, key)?;
-    format!(in alloc;
-        "error: {source}: the key {key} is not taken: {fault}\n  leave it out: keys have at most 1,024 bytes, and at most 1,000,000 of them differ\n"
-    )
+    let mut lines = Lines::of(alloc, "error: ", path);
+    lines.put(": the key ");
+    lines.put_name(key);
+    lines.put(" is not taken: ");
+    lines.put_shown(&fault);
+    lines.put(
+        "\n  leave it out: keys have at most 1,024 bytes, and at most 1,000,000 of them differ\n",
+    );
+    lines.finish()
 }
 
 /// Of two rules that differ in their totals.
 pub fn of_weights(alloc: Global, old: u32, new: u32) -> Result<String, AllocError> {
-    format!(in alloc;
-        "error: the weights of OLD sum to {old} and those of NEW to {new}\n  write both rules with weights of one sum\n"
-    )
+    let mut lines = Lines::new(alloc);
+    lines.put("error: the weights of OLD sum to ");
+    lines.put_shown(&old);
+    lines.put(" and those of NEW to ");
+    lines.put_shown(&new);
+    lines.put("\n  write both rules with weights of one sum\n");
+    lines.finish()
 }

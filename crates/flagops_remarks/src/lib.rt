@@ -24,12 +24,12 @@ mod checks;
 mod documents;
 mod evaluators;
 mod files;
+mod lines;
 mod plans;
 mod requests;
 mod search;
 mod sites;
 mod texts;
-mod words;
 
 pub use asks::{of_asks, of_unwritable, of_workers};
 pub use books::{of_book, of_unrecorded};

@@ -1,7 +1,7 @@
 //! What a person is told of plan files.
+use crate::lines::Lines;
 use crate::requests::pairs;
 use crate::texts::of_text;
-use crate::words::{quoted, shown};
 use flag_text::{Tree, read_tree};
 use plan_text::PlanFileFault;
 use std::alloc::{AllocError, Global};
@@ -16,22 +16,38 @@ pub fn of_plan_file(
     bytes: &[u8],
     fault: PlanFileFault,
 ) -> Result<String, AllocError> {
-    let source = quoted(alloc, path)?;
-    let what = match (fault, read_tree(alloc, bytes, LIMIT)) {
-        (PlanFileFault::BadPlan, Ok(tree)) => misshaped(alloc, &tree)?,
-        (PlanFileFault::BadPlan, Err(fault)) => return of_text(alloc, path, bytes, LIMIT, fault),
-        _ => format!(in alloc; "{fault}")?,
-    };
-    format!(in alloc;
-        "error: {source} is no plan: {what}\n  take a file that \"flagops plan\" printed; it has at most 67,108,864 bytes\n"
-    )
+    if fault != PlanFileFault::BadPlan {
+        return of_fault(alloc, path, None, fault);
+    }
+    match read_tree(alloc, bytes, LIMIT) {
+        Ok(tree) => of_fault(alloc, path, Some(&tree), fault),
+        Err(fault) => of_text(alloc, path, bytes, LIMIT, fault),
+    }
+}
+
+/// Of a fault, or of the tree in which the place of it is.
+fn of_fault(
+    alloc: Global,
+    path: &str,
+    tree: Option<&Tree>,
+    fault: PlanFileFault,
+) -> Result<String, AllocError> {
+    let mut lines = Lines::of(alloc, "error: ", path);
+    lines.put(" is no plan: ");
+    match tree {
+        Some(tree) => put_misshaped(&mut lines, tree),
+        None => lines.put_shown(&fault),
+    }
+    lines.put("\n  take a file that \"flagops plan\" printed; it has at most 67,108,864 bytes\n");
+    lines.finish()
 }
 
 /// The first member that is missing, or of another kind.
-fn misshaped(alloc: Global, tree: &Tree) -> Result<String, AllocError> {
+fn put_misshaped(lines: &mut Lines, tree: &Tree) {
     if tree.as_object().is_none() {
-        let shown = shown(alloc, tree)?;
-        return format!(in alloc; "it is {shown}");
+        lines.put("it is ");
+        lines.put_value(tree);
+        return;
     }
     let names: &[&str] = if tree.member("none").is_some() {
         &["plan", "none"]
@@ -39,32 +55,49 @@ fn misshaped(alloc: Global, tree: &Tree) -> Result<String, AllocError> {
         &["plan", "alpha", "beta", "cost", "rule"]
     };
     for name in names {
-        match tree.member(name) {
-            Some(Tree::Whole(_)) if *name == "plan" || *name == "cost" => {}
-            Some(Tree::List(_)) if *name != "plan" && *name != "cost" => {}
-            Some(other) => {
-                let shown = shown(alloc, other)?;
-                return format!(in alloc; "\"{name}\" is {shown}");
-            }
-            None => return format!(in alloc; "\"{name}\" is missing"),
+        let value = tree.member(name);
+        if !is_sound(name, value) {
+            put_unsound(lines, name, value);
+            return;
         }
     }
-    wrong_list(alloc, tree)
+    put_wrong_list(lines, tree);
+}
+
+/// Whether a member is of its kind: a list, but for two numbers.
+fn is_sound(name: &str, value: Option<&Tree>) -> bool {
+    let is_number = name == "plan" || name == "cost";
+    match value {
+        Some(Tree::Whole(_)) => is_number,
+        Some(Tree::List(_)) => !is_number,
+        _ => false,
+    }
+}
+
+fn put_unsound(lines: &mut Lines, name: &str, value: Option<&Tree>) {
+    lines.put_all(&["\"", name, "\" is "]);
+    match value {
+        Some(value) => lines.put_value(value),
+        None => lines.put("missing"),
+    }
 }
 
 /// The first item of a list that is not of its form; else the order is wrong.
-fn wrong_list(alloc: Global, tree: &Tree) -> Result<String, AllocError> {
+fn put_wrong_list(lines: &mut Lines, tree: &Tree) {
     for (name, takes) in [
         ("none", "name of a variant"),
         ("alpha", "[VARIANT,USERS,n]"),
         ("beta", "[VARIANT,n]"),
         ("rule", "bucket [VARIANT,WEIGHT]"),
     ] {
-        if let Some(i) = wrong_item(pairs(tree, name), name) {
-            return format!(in alloc; "{name}[{i}] is no {takes}");
+        if let Some(place) = wrong_item(pairs(tree, name), name) {
+            lines.put(name);
+            lines.put_place(place);
+            lines.put_all(&[" is no ", takes]);
+            return;
         }
     }
-    String::from_str(alloc, "a list is out of order, or an item misshaped")
+    lines.put("a list is out of order, or an item misshaped");
 }
 
 /// The place of the first item that is not of the form of its list.

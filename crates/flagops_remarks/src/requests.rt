@@ -1,9 +1,9 @@
 //! What a person is told of bytes that are no request.
+use crate::lines::Lines;
 use crate::texts::of_text;
-use crate::words::{quoted, shown, step};
 use flag_text::{Tree, read_tree};
 use price_core::PriceFault;
-use std::alloc::{AllocError, Global};
+use std::alloc::{AllocError, AllocFailed, Global};
 use std::collections::BTreeSet;
 
 /// The most bytes of a request.
@@ -19,48 +19,56 @@ pub fn of_request(
     bytes: &[u8],
     fault: PriceFault,
 ) -> Result<String, AllocError> {
-    let source = quoted(alloc, path)?;
-    let tree = match read_tree(alloc, bytes, LIMIT) {
-        Ok(tree) => tree,
-        Err(fault) => return of_text(alloc, path, bytes, LIMIT, fault),
-    };
-    let what = match fault {
-        PriceFault::BadRequest => shape(alloc, &tree)?,
-        PriceFault::SelfPair => self_pair(alloc, &tree)?,
-        PriceFault::PriceRange => price_range(alloc, &tree)?,
-        PriceFault::EmptyRange => empty_range(alloc, &tree)?,
-        PriceFault::UnknownVariant | PriceFault::WantOfMemory => format!(in alloc; "{fault}")?,
-    };
-    format!(in alloc; "error: the request {source}: {what}\n")
+    match read_tree(alloc, bytes, LIMIT) {
+        Ok(tree) => of_tree(alloc, path, &tree, fault),
+        Err(fault) => of_text(alloc, path, bytes, LIMIT, fault),
+    }
 }
 
-/// The first member that is not of its shape, and what a request looks like.
-fn shape(alloc: Global, tree: &Tree) -> Result<String, AllocError> {
-    let what = match misshaped(alloc, tree)? {
-        Some(what) => what,
-        None => doubled(alloc, tree)?,
-    };
-    format!(in alloc; "{what}\n  it looks like {LOOK}; docs/FORMATS.md has all of it")
+fn of_tree(
+    alloc: Global,
+    path: &str,
+    tree: &Tree,
+    fault: PriceFault,
+) -> Result<String, AllocError> {
+    let mut lines = Lines::of(alloc, "error: the request ", path);
+    lines.put(": ");
+    match fault {
+        PriceFault::BadRequest => put_misshaped(&mut lines, tree),
+        PriceFault::SelfPair => put_self_pair(&mut lines, tree),
+        PriceFault::PriceRange => put_price(&mut lines, tree),
+        PriceFault::EmptyRange => put_empty_range(&mut lines, tree),
+        PriceFault::UnknownVariant | PriceFault::WantOfMemory => lines.put_shown(&fault),
+    }
+    lines.put("\n");
+    lines.finish()
 }
 
-fn misshaped(alloc: Global, tree: &Tree) -> Result<Option<String>, AllocError> {
-    if let Some(what) = misshaped_members(alloc, tree)? {
-        return Ok(Some(what));
+/// The first member that is not of its shape, and what a request looks like. Each function that is asked tells of the first
+/// fault of its kind, and answers whether there is one.
+fn put_misshaped(lines: &mut Lines, tree: &Tree) {
+    let is_told = put_misshaped_member(lines, tree)
+        || put_misshaped_total(lines, tree)
+        || put_misshaped_pair(lines, tree, "prices", "[FROM,TO,n]")
+        || put_misshaped_pair(lines, tree, "forbid", "[FROM,TO]")
+        || put_doubled(lines, tree, "prices")
+        || put_doubled(lines, tree, "forbid");
+    if !is_told {
+        lines.put("a pair of variants stands twice in a list");
     }
-    if let Some(what) = misshaped_total(alloc, tree)? {
-        return Ok(Some(what));
-    }
-    match misshaped_pair(alloc, tree, "prices", "[FROM,TO,n]")? {
-        Some(what) => Ok(Some(what)),
-        None => misshaped_pair(alloc, tree, "forbid", "[FROM,TO]"),
-    }
+    lines.put_all(&[
+        "\n  it looks like ",
+        LOOK,
+        "; docs/FORMATS.md has all of it",
+    ]);
 }
 
 /// The first member that is missing, or of another kind.
-fn misshaped_members(alloc: Global, tree: &Tree) -> Result<Option<String>, AllocError> {
+fn put_misshaped_member(lines: &mut Lines, tree: &Tree) -> bool {
     if tree.as_object().is_none() {
-        let shown = shown(alloc, tree)?;
-        return Ok(Some(format!(in alloc; "it is {shown}")?));
+        lines.put("it is ");
+        lines.put_value(tree);
+        return true;
     }
     for (name, what) in [
         ("plan", "1 or 2"),
@@ -71,11 +79,13 @@ fn misshaped_members(alloc: Global, tree: &Tree) -> Result<Option<String>, Alloc
         ("prices", "a list, or left out"),
         ("forbid", "a list, or left out"),
     ] {
-        if !is_sound(name, tree.member(name)) {
-            return Ok(Some(unsound(alloc, name, tree.member(name), what)?));
+        let value = tree.member(name);
+        if !is_sound(name, value) {
+            put_unsound(lines, name, value, what);
+            return true;
         }
     }
-    Ok(None)
+    false
 }
 
 /// Whether a member is of its kind.
@@ -94,39 +104,35 @@ fn is_sound(name: &str, value: Option<&Tree>) -> bool {
     }
 }
 
-fn unsound(
-    alloc: Global,
-    name: &str,
-    value: Option<&Tree>,
-    what: &str,
-) -> Result<String, AllocError> {
+fn put_unsound(lines: &mut Lines, name: &str, value: Option<&Tree>, what: &str) {
+    lines.put_all(&["\"", name, "\" is "]);
     match value {
-        Some(tree) => {
-            let shown = shown(alloc, tree)?;
-            format!(in alloc; "\"{name}\" is {shown}, and has to be {what}")
+        Some(value) => {
+            lines.put_value(value);
+            lines.put_all(&[", and has to be ", what]);
         }
-        None => format!(in alloc; "\"{name}\" is missing, which is {what}"),
+        None => lines.put_all(&["missing, which is ", what]),
     }
 }
 
 /// The first total that is no number of points, nor a range where these are taken.
-fn misshaped_total(alloc: Global, tree: &Tree) -> Result<Option<String>, AllocError> {
+fn put_misshaped_total(lines: &mut Lines, tree: &Tree) -> bool {
     let takes_ranges = matches!(tree.member("plan"), Some(Tree::Whole(2)));
     for (name, total) in totals(tree) {
         if !is_total(total, takes_ranges) {
-            let name = step(alloc, name.as_str())?;
-            let shown = shown(alloc, total)?;
-            let takes = if takes_ranges {
-                "nor a range [LOW,HIGH]"
+            lines.put("totals");
+            lines.put_step(name.as_str());
+            lines.put(" is ");
+            lines.put_value(total);
+            lines.put(if takes_ranges {
+                ", no number from 0 to 2147483647 nor a range [LOW,HIGH]"
             } else {
-                "(a range [LOW,HIGH] only with \"plan\":2)"
-            };
-            return Ok(Some(format!(in alloc;
-                "totals{name} is {shown}, no number from 0 to 2147483647 {takes}"
-            )?));
+                ", no number from 0 to 2147483647 (a range [LOW,HIGH] only with \"plan\":2)"
+            });
+            return true;
         }
     }
-    Ok(None)
+    false
 }
 
 fn is_total(total: &Tree, takes_ranges: bool) -> bool {
@@ -147,19 +153,17 @@ fn is_points(n: i64) -> bool {
 }
 
 /// The first item of a list of pairs that is none.
-fn misshaped_pair(
-    alloc: Global,
-    tree: &Tree,
-    list: &str,
-    takes: &str,
-) -> Result<Option<String>, AllocError> {
+fn put_misshaped_pair(lines: &mut Lines, tree: &Tree, list: &str, takes: &str) -> bool {
     let items = pairs(tree, list);
     for i in 0..items.len() {
         if !is_pair(&items[i], list == "prices") {
-            return Ok(Some(format!(in alloc; "{list}[{i}] is no {takes}")?));
+            lines.put(list);
+            lines.put_place(i);
+            lines.put_all(&[" is no ", takes]);
+            return true;
         }
     }
-    Ok(None)
+    false
 }
 
 /// Whether an item is a pair of names, with a price where it has to have one.
@@ -191,31 +195,32 @@ pub(crate) fn pairs<'a>(tree: &'a Tree, name: &str) -> &'a [Tree] {
 }
 
 /// The first pair of variants that stands twice in a list.
-fn doubled(alloc: Global, tree: &Tree) -> Result<String, AllocError> {
-    for list in ["prices", "forbid"] {
-        if let Some(what) = doubled_in(alloc, list, pairs(tree, list))? {
-            return Ok(what);
-        }
-    }
-    String::from_str(alloc, "a pair of variants stands twice in a list")
-}
-
-fn doubled_in(alloc: Global, list: &str, items: &[Tree]) -> Result<Option<String>, AllocError> {
-    let mut seen = BTreeSet::new(alloc);
+fn put_doubled(lines: &mut Lines, tree: &Tree, list: &str) -> bool {
+    let items = pairs(tree, list);
+    let mut seen = BTreeSet::new(lines.alloc);
     for i in 0..items.len() {
         if let Some((from, to)) = change(&items[i]) {
-            let length = from.len();
-            let change = format!(in alloc; "{length}:{from}{to}")?;
-            if !seen.insert(change)? {
-                let from = quoted(alloc, from)?;
-                let to = quoted(alloc, to)?;
-                return Ok(Some(format!(in alloc;
-                    "{list}[{i}] is the change from {from} to {to} once more"
-                )?));
+            match seen.insert((from, to)) {
+                Ok(true) => {}
+                Ok(false) => {
+                    put_change(lines, list, i, from, to);
+                    return true;
+                }
+                Err(AllocFailed { .. }) => lines.fall_short(AllocError),
             }
         }
     }
-    Ok(None)
+    false
+}
+
+fn put_change(lines: &mut Lines, list: &str, place: usize, from: &str, to: &str) {
+    lines.put(list);
+    lines.put_place(place);
+    lines.put(" is the change from ");
+    lines.put_name(from);
+    lines.put(" to ");
+    lines.put_name(to);
+    lines.put(" once more");
 }
 
 /// The old and the new variant of an item of a list of pairs.
@@ -229,44 +234,65 @@ fn change(item: &Tree) -> Option<(&str, &str)> {
     }
 }
 
-fn self_pair(alloc: Global, tree: &Tree) -> Result<String, AllocError> {
+fn put_self_pair(lines: &mut Lines, tree: &Tree) {
     for list in ["prices", "forbid"] {
-        let items = pairs(tree, list);
-        for i in 0..items.len() {
-            if let Some((from, to)) = change(&items[i]) {
-                if from == to {
-                    let name = quoted(alloc, from)?;
-                    return format!(in alloc;
-                        "{list}[{i}] is a change from {name} to itself; leave it out: who stays costs nothing"
-                    );
-                }
+        if let Some((place, name)) = self_pair(pairs(tree, list)) {
+            lines.put(list);
+            lines.put_place(place);
+            lines.put(" is a change from ");
+            lines.put_name(name);
+            lines.put(" to itself; leave it out: who stays costs nothing");
+            return;
+        }
+    }
+    lines.put("a pair of equal names");
+}
+
+/// The place of the first pair of equal names, with the name.
+fn self_pair(items: &[Tree]) -> Option<(usize, &str)> {
+    for i in 0..items.len() {
+        if let Some((from, to)) = change(&items[i]) {
+            if from == to {
+                return Some((i, from));
             }
         }
     }
-    String::from_str(alloc, "a pair of equal names")
+    None
 }
 
-fn price_range(alloc: Global, tree: &Tree) -> Result<String, AllocError> {
+fn put_price(lines: &mut Lines, tree: &Tree) {
     if let Some(price) = tree.member("price") {
         if is_out_of_range(price) {
-            let shown = shown(alloc, price)?;
-            return format!(in alloc; "\"price\" is {shown}; prices are from 0 to 1000000");
+            lines.put("\"price\" is ");
+            lines.put_value(price);
+            lines.put("; prices are from 0 to 1000000");
+            return;
         }
     }
-    let items = pairs(tree, "prices");
+    match wrong_price(pairs(tree, "prices")) {
+        Some((place, price)) => {
+            lines.put("prices");
+            lines.put_place(place);
+            lines.put(" has the price ");
+            lines.put_value(price);
+            lines.put("; prices are from 0 to 1000000");
+        }
+        None => lines.put("a price is not from 0 to 1000000"),
+    }
+}
+
+/// The place of the first price that is out of range, with the price.
+fn wrong_price(items: &[Tree]) -> Option<(usize, &Tree)> {
     for i in 0..items.len() {
         if let Tree::List(parts) = &items[i] {
             if let [_, _, price] = parts.as_slice() {
                 if is_out_of_range(price) {
-                    let shown = shown(alloc, price)?;
-                    return format!(in alloc;
-                        "prices[{i}] has the price {shown}; prices are from 0 to 1000000"
-                    );
+                    return Some((i, price));
                 }
             }
         }
     }
-    String::from_str(alloc, "a price is not from 0 to 1000000")
+    None
 }
 
 fn is_out_of_range(price: &Tree) -> bool {
@@ -276,18 +302,22 @@ fn is_out_of_range(price: &Tree) -> bool {
     }
 }
 
-fn empty_range(alloc: Global, tree: &Tree) -> Result<String, AllocError> {
+fn put_empty_range(lines: &mut Lines, tree: &Tree) {
     for (name, total) in totals(tree) {
         if let Some((low, high)) = range(total) {
             if low > high {
-                let name = step(alloc, name.as_str())?;
-                return format!(in alloc;
-                    "totals{name} is [{low},{high}]; the low limit stands first"
-                );
+                lines.put("totals");
+                lines.put_step(name.as_str());
+                lines.put(" is [");
+                lines.put_shown(&low);
+                lines.put(",");
+                lines.put_shown(&high);
+                lines.put("]; the low limit stands first");
+                return;
             }
         }
     }
-    String::from_str(alloc, "a low limit is above its high limit")
+    lines.put("a low limit is above its high limit");
 }
 
 /// The limits that a total of a request gives.

@@ -1,6 +1,6 @@
 //! What a person is told where a rollout is refused: the flag, the site, the names or the sums.
+use crate::lines::Lines;
 use crate::requests::{of_request, pairs, range, totals};
-use crate::words::{listed, names_of, quoted};
 use bucket_core::{Rule, total_weight};
 use flag_defs::{Flag, Flags};
 use flag_text::{Tree, read_tree};
@@ -11,6 +11,68 @@ use std::alloc::{AllocError, Global};
 
 /// The most bytes of a request.
 const LIMIT: usize = 4_194_304;
+
+/// A site of a flag in a document.
+#[derive(Clone, Copy)]
+pub(crate) struct Place<'a> {
+    pub(crate) flags: &'a Flags,
+    pub(crate) key: &'a str,
+    pub(crate) number: u32,
+}
+
+impl<'a> Place<'a> {
+    /// The place that a request is for.
+    pub(crate) fn of(flags: &'a Flags, asked: &'a Request) -> Place<'a> {
+        Place {
+            flags,
+            key: asked.flag(),
+            number: asked.site(),
+        }
+    }
+
+    fn put(&self, lines: &mut Lines) {
+        lines.put("site ");
+        lines.put_shown(&self.number);
+        lines.put(" of ");
+        lines.put_name(self.key);
+    }
+
+    /// The names of the flag's variants, none where there is no flag.
+    pub(crate) fn variants(&self, lines: &mut Lines) -> Vec<String> {
+        let Some(flag) = self.flags.get(self.key) else {
+            return Vec::new(lines.alloc)
+        };
+        match flag.names(lines.alloc) {
+            Ok(names) => names,
+            Err(want) => {
+                lines.fall_short(want);
+                Vec::new(lines.alloc)
+            }
+        }
+    }
+
+    /// The names with their weights at the site, none where there is no such site.
+    pub(crate) fn entries(&self, lines: &mut Lines) -> Vec<(String, u64)> {
+        if let Some(targeting) = self.targeting() {
+            match site(lines.alloc, targeting, self.number) {
+                Ok(site) => return site.entries,
+                Err(LogicFault::WantOfMemory) => lines.fall_short(AllocError),
+                Err(_) => {}
+            }
+        }
+        Vec::new(lines.alloc)
+    }
+
+    /// The points of the rule at the site.
+    pub(crate) fn total(&self, lines: &mut Lines) -> u128 {
+        let entries = self.entries(lines);
+        total_weight(entries.as_slice())
+    }
+
+    fn targeting(&self) -> Option<&'a Expr> {
+        self.flags.get(self.key)?.targeting()
+    }
+}
 
 /// Of a request that is refused over a document, on the site's rule refined by a factor.
 pub fn of_rollout(
@@ -24,17 +86,30 @@ pub fn of_rollout(
     if let RolloutFault::Request(fault) = fault {
         return of_request(alloc, path, request, fault);
     }
-    let source = quoted(alloc, path)?;
-    let Ok(asked) = Request::read(alloc, request) else {
-        return format!(in alloc; "error: the request {source}: {fault}\n");
-    };
-    match fault {
-        RolloutFault::UnknownVariant => unknown_variant(alloc, &source, flags, &asked, request),
-        RolloutFault::TotalsSum => totals_sum(alloc, &source, flags, &asked, request, factor),
-        _ => {
-            let what = place(alloc, flags, asked.flag(), asked.site(), fault)?;
-            format!(in alloc; "error: the request {source}: {what}\n")
+    let mut lines = Lines::of(alloc, "error: the request ", path);
+    lines.put(": ");
+    match Request::read(alloc, request) {
+        Ok(asked) => {
+            let place = Place::of(flags, &asked);
+            put_refused(&mut lines, place, request, factor, fault);
         }
+        Err(_) => lines.put_shown(&fault),
+    }
+    lines.put("\n");
+    lines.finish()
+}
+
+fn put_refused(
+    lines: &mut Lines,
+    place: Place<'_>,
+    request: &[u8],
+    factor: u32,
+    fault: RolloutFault,
+) {
+    match fault {
+        RolloutFault::UnknownVariant => put_unknown_asked(lines, place, request),
+        RolloutFault::TotalsSum => put_sums(lines, place, request, factor),
+        _ => put_place(lines, place, fault),
     }
 }
 
@@ -48,109 +123,173 @@ pub fn of_applied(
     rule: &Rule,
     fault: RolloutFault,
 ) -> Result<String, AllocError> {
-    let source = quoted(alloc, path)?;
-    if fault != RolloutFault::UnknownVariant {
-        let what = place(alloc, flags, key, number, fault)?;
-        return format!(in alloc; "error: the plan {source}: {what}\n");
+    let place = Place { flags, key, number };
+    let mut lines = Lines::of(alloc, "error: the plan ", path);
+    lines.put(": ");
+    if fault == RolloutFault::UnknownVariant && flags.get(key).is_some() {
+        put_unknown_applied(&mut lines, place, rule);
+    } else {
+        put_place(&mut lines, place, fault);
     }
-    let Some(flag) = flags.get(key) else {
-        return format!(in alloc; "error: the plan {source}: {fault}\n");
-    };
-    let mut names = Vec::new(alloc);
-    for (name, _) in rule.entries() {
-        names.push(name.as_str())?;
-    }
-    let what = unknown_among(alloc, flag, key, names.as_slice())?;
-    format!(in alloc; "error: the plan {source}: {what}\n  it may be a plan for another flag\n")
+    lines.put("\n");
+    lines.finish()
 }
 
 /// What is wrong with a flag or its site.
-fn place(
-    alloc: Global,
-    flags: &Flags,
-    key: &str,
-    number: u32,
-    fault: RolloutFault,
-) -> Result<String, AllocError> {
-    let name = quoted(alloc, key)?;
+fn put_place(lines: &mut Lines, place: Place<'_>, fault: RolloutFault) {
     match fault {
-        RolloutFault::UnknownFlag => {
-            let keys = keys_of(alloc, flags)?;
-            let keys = listed(alloc, keys.as_slice())?;
-            format!(in alloc; "the document has no flag {name}\n  there are {keys}")
-        }
-        RolloutFault::NoSite => no_site(alloc, flags.get(key), &name, number),
+        RolloutFault::UnknownFlag => put_unknown_flag(lines, place),
+        RolloutFault::NoSite => put_no_site(lines, place),
         RolloutFault::Computed => {
-            format!(in alloc;
-                "site {number} of {name} has a bucket whose name or weight is computed\n  a plan needs literal buckets [name, weight]"
-            )
+            place.put(lines);
+            lines.put(
+                " has a bucket whose name or weight is computed\n  a plan needs literal buckets [name, weight]",
+            );
         }
-        RolloutFault::TotalTooLarge => {
-            format!(in alloc;
-                "site {number} of {name}: {fault}\n  divide the weights by a common factor, or take a smaller --refine; at most 1,000,000 points"
-            )
-        }
+        RolloutFault::TotalTooLarge => put_weights(
+            lines,
+            place,
+            fault,
+            "divide the weights by a common factor, or take a smaller --refine; at most 1,000,000 points",
+        ),
         RolloutFault::NoWeight => {
-            format!(in alloc;
-                "site {number} of {name}: {fault}\n  give one bucket a weight above 0"
-            )
+            put_weights(lines, place, fault, "give one bucket a weight above 0");
         }
-        _ => format!(in alloc; "{fault}"),
+        _ => lines.put_shown(&fault),
     }
 }
 
-fn keys_of(alloc: Global, flags: &Flags) -> Result<Vec<&str>, AllocError> {
-    let mut keys = Vec::new(alloc);
-    for i in 0..flags.len() {
-        let (key, _) = flags.at(i);
-        keys.push(key)?;
+/// A fault of the weights of a site, and what helps.
+fn put_weights(lines: &mut Lines, place: Place<'_>, fault: RolloutFault, advice: &str) {
+    place.put(lines);
+    lines.put(": ");
+    lines.put_shown(&fault);
+    lines.put_all(&["\n  ", advice]);
+}
+
+fn put_unknown_flag(lines: &mut Lines, place: Place<'_>) {
+    lines.put("the document has no flag ");
+    lines.put_name(place.key);
+    lines.put("\n  there are ");
+    for i in 0..place.flags.len() {
+        let (key, _) = place.flags.at(i);
+        lines.put_listed(i, key);
     }
-    Ok(keys)
+    lines.put_rest(place.flags.len());
 }
 
 /// Why a flag has no site of a number.
-fn no_site(
-    alloc: Global,
-    flag: Option<&Flag>,
-    name: &String,
-    number: u32,
-) -> Result<String, AllocError> {
-    let Some(flag) = flag else {
-        return format!(in alloc; "there is no flag {name}");
-    };
+fn put_no_site(lines: &mut Lines, place: Place<'_>) {
+    match place.flags.get(place.key) {
+        None => {
+            lines.put("there is no flag ");
+            lines.put_name(place.key);
+        }
+        Some(flag) => {
+            lines.put("the flag ");
+            lines.put_name(place.key);
+            put_sites(lines, flag, place.number);
+        }
+    }
+}
+
+/// The sites that a flag has in place of one of a number.
+fn put_sites(lines: &mut Lines, flag: &Flag, number: u32) {
     if flag.is_broken() {
-        return format!(in alloc; "the flag {name} is broken\n  \"flagops check\" tells why");
+        lines.put(" is broken\n  \"flagops check\" tells why");
+        return;
     }
     let count = match flag.targeting() {
         Some(targeting) => sites(targeting),
         None => 0,
     };
-    format!(in alloc;
-        "the flag {name} has no site {number}\n  its targeting has {count} \"fractional\", counted from 0 in the order in which they stand"
-    )
+    lines.put(" has no site ");
+    lines.put_shown(&number);
+    lines.put("\n  its targeting has ");
+    lines.put_shown(&count);
+    lines.put(" \"fractional\", counted from 0 in the order in which they stand");
 }
 
-/// The first of these names that is no variant of a flag.
-fn unknown_among(
-    alloc: Global,
-    flag: &Flag,
-    key: &str,
-    names: &[&str],
-) -> Result<String, AllocError> {
-    let key = quoted(alloc, key)?;
-    let variants = flag.names(alloc)?;
-    let mut known = Vec::new(alloc);
-    for variant in &variants {
-        known.push(variant.as_str())?;
+/// The first name of a request that is no variant, or that the rule of the site names another.
+fn put_unknown_asked(lines: &mut Lines, place: Place<'_>, request: &[u8]) {
+    if place.flags.get(place.key).is_none() {
+        lines.put("there is no such flag");
+        return;
     }
-    let list = listed(alloc, known.as_slice())?;
-    for name in names {
-        if !is_among(variants.as_slice(), name) {
-            let name = quoted(alloc, name)?;
-            return format!(in alloc; "{name} is no variant of {key}\n  there are {list}");
+    match read_tree(lines.alloc, request, LIMIT) {
+        Ok(tree) => {
+            let entries = place.entries(lines);
+            put_unknown(lines, place, &tree, entries.as_slice());
+        }
+        Err(_) => lines.put("a name is none of the variants"),
+    }
+}
+
+/// The first name of a rule that is no variant.
+fn put_unknown_applied(lines: &mut Lines, place: Place<'_>, rule: &Rule) {
+    put_unknown(lines, place, &Tree::Null, rule.entries());
+    lines.put("\n  it may be a plan for another flag");
+}
+
+/// The first name in the tree of a request, or of the entries, that is none of the flag's variants.
+fn put_unknown(lines: &mut Lines, place: Place<'_>, tree: &Tree, entries: &[(String, u64)]) {
+    let variants = place.variants(lines);
+    match unknown_name(variants.as_slice(), tree, entries) {
+        Some(name) => lines.put_name(name),
+        None => lines.put("a name"),
+    }
+    lines.put(" is no variant of ");
+    lines.put_name(place.key);
+    lines.put("\n  there are ");
+    lines.put_names(variants.as_slice());
+}
+
+fn unknown_name<'a>(
+    variants: &[String],
+    tree: &'a Tree,
+    entries: &'a [(String, u64)],
+) -> Option<&'a str> {
+    if let Some(name) = unknown_key(variants, totals(tree)) {
+        return Some(name);
+    }
+    for list in ["prices", "forbid"] {
+        if let Some(name) = unknown_in_pairs(variants, pairs(tree, list)) {
+            return Some(name);
         }
     }
-    format!(in alloc; "a name is no variant of {key}\n  there are {list}")
+    unknown_key(variants, entries)
+}
+
+/// The first of the names of things that is no variant.
+fn unknown_key<'a, T>(variants: &[String], named: &'a [(String, T)]) -> Option<&'a str> {
+    for (name, _) in named {
+        if !is_among(variants, name.as_str()) {
+            return Some(name.as_str());
+        }
+    }
+    None
+}
+
+fn unknown_in_pairs<'a>(variants: &[String], items: &'a [Tree]) -> Option<&'a str> {
+    for item in items {
+        if let Tree::List(parts) = item {
+            if let Some(name) = unknown_text(variants, parts.as_slice()) {
+                return Some(name);
+            }
+        }
+    }
+    None
+}
+
+fn unknown_text<'a>(variants: &[String], parts: &'a [Tree]) -> Option<&'a str> {
+    for part in parts {
+        if let Tree::Text(name) = part {
+            if !is_among(variants, name.as_str()) {
+                return Some(name.as_str());
+            }
+        }
+    }
+    None
 }
 
 fn is_among(variants: &[String], name: &str) -> bool {
@@ -162,83 +301,39 @@ fn is_among(variants: &[String], name: &str) -> bool {
     false
 }
 
-/// The first name of a request that is no variant, or that the rule of the site names another.
-fn unknown_variant(
-    alloc: Global,
-    source: &String,
-    flags: &Flags,
-    asked: &Request,
-    request: &[u8],
-) -> Result<String, AllocError> {
-    let Some(flag) = flags.get(asked.flag()) else {
-        return format!(in alloc; "error: the request {source}: there is no such flag\n");
-    };
-    let Ok(tree) = read_tree(alloc, request, LIMIT) else {
-        return format!(in alloc; "error: the request {source}: a name is none of the variants\n");
-    };
-    let entries = entries(alloc, flags, asked.flag(), asked.site())?;
-    let mut names = names_of(alloc, totals(&tree))?;
-    push_names(&mut names, pairs(&tree, "prices"))?;
-    push_names(&mut names, pairs(&tree, "forbid"))?;
-    for (name, _) in &entries {
-        names.push(name.as_str())?;
-    }
-    let what = unknown_among(alloc, flag, asked.flag(), names.as_slice())?;
-    format!(in alloc; "error: the request {source}: {what}\n")
-}
-
-/// Adds the names of pairs.
-fn push_names<'a>(names: &mut Vec<&'a str>, items: &'a [Tree]) -> Result<(), AllocError> {
-    for item in items {
-        if let Tree::List(parts) = item {
-            push_texts(names, parts.as_slice())?;
-        }
-    }
-    Ok(())
-}
-
-fn push_texts<'a>(names: &mut Vec<&'a str>, parts: &'a [Tree]) -> Result<(), AllocError> {
-    for part in parts {
-        if let Tree::Text(name) = part {
-            names.push(name.as_str())?;
-        }
-    }
-    Ok(())
-}
-
 /// Both sums of the totals, and that of the rule's weights.
-fn totals_sum(
-    alloc: Global,
-    source: &String,
-    flags: &Flags,
-    asked: &Request,
-    request: &[u8],
-    factor: u32,
-) -> Result<String, AllocError> {
-    let (low, high) = match read_tree(alloc, request, LIMIT) {
+fn put_sums(lines: &mut Lines, place: Place<'_>, request: &[u8], factor: u32) {
+    let (low, high) = match read_tree(lines.alloc, request, LIMIT) {
         Ok(tree) => sums(&tree),
         Err(_) => (0, 0),
     };
-    let entries = entries(alloc, flags, asked.flag(), asked.site())?;
-    let total = total_weight(entries.as_slice()).saturating_mul(u128::from(factor));
-    let sums = if low == high {
-        format!(in alloc; "the totals sum to {low}")?
-    } else {
-        format!(in alloc; "the totals sum to {low} at least and {high} at most")?
-    };
-    let name = quoted(alloc, asked.flag())?;
-    let number = asked.site();
-    if u128::from(low) <= total && total <= u128::from(high) {
-        // `verify` without a factor takes the one of the plan's rule
-        return format!(in alloc;
-            "error: the request {source}: {sums},\n  and the rule of the plan has a multiple of the {total} points at site {number} of {name}\n  it was planned with --refine, for a request with totals as many times as large\n"
-        );
+    lines.put("the totals sum to ");
+    lines.put_shown(&low);
+    if low != high {
+        lines.put(" at least and ");
+        lines.put_shown(&high);
+        lines.put(" at most");
     }
-    format!(in alloc;
-        "error: the request {source}: {sums},\n  and the rule at site {number} of {name} has {total} points (a variant that is not named gets none)\n"
-    )
+    let total = place.total(lines).saturating_mul(u128::from(factor));
+    // `verify` without a factor takes the one of the plan's rule
+    if u128::from(low) <= total && total <= u128::from(high) {
+        lines.put(",\n  and the rule of the plan has a multiple of the ");
+        lines.put_shown(&total);
+        lines.put(" points at ");
+        place.put(lines);
+        lines.put(
+            "\n  it was planned with --refine, for a request with totals as many times as large",
+        );
+    } else {
+        lines.put(",\n  and the rule at ");
+        place.put(lines);
+        lines.put(" has ");
+        lines.put_shown(&total);
+        lines.put(" points (a variant that is not named gets none)");
+    }
 }
 
+/// The sums of the low and of the high limits.
 fn sums(tree: &Tree) -> (u64, u64) {
     let mut lows: u64 = 0;
     let mut highs: u64 = 0;
@@ -249,25 +344,4 @@ fn sums(tree: &Tree) -> (u64, u64) {
         }
     }
     (lows, highs)
-}
-
-/// The names with their weights at a site, none where there is no such site.
-pub(crate) fn entries(
-    alloc: Global,
-    flags: &Flags,
-    key: &str,
-    number: u32,
-) -> Result<Vec<(String, u64)>, AllocError> {
-    let Some(targeting) = targeting_of(flags, key) else {
-        return Ok(Vec::new(alloc));
-    };
-    match site(alloc, targeting, number) {
-        Ok(site) => Ok(site.entries),
-        Err(LogicFault::WantOfMemory) => Err(AllocError),
-        Err(_) => Ok(Vec::new(alloc)),
-    }
-}
-
-fn targeting_of<'a>(flags: &'a Flags, key: &str) -> Option<&'a Expr> {
-    flags.get(key)?.targeting()
 }

@@ -1,6 +1,6 @@
 //! What a person is told of a text that is no tree.
-use crate::search::{Sought, search};
-use crate::words::{quoted, step};
+use crate::lines::Lines;
+use crate::search::{Sought, put_step, put_way};
 use flag_text::{TextFault, Tree, read_doc};
 use serde_json::Value;
 use simdutf8::basic;
@@ -12,9 +12,6 @@ const LEVELS: usize = 120;
 /// The bytes of a way into what nests too deep from which on no further step is shown.
 const MOST_OF_WAY: usize = 40;
 
-const WHOLE: &str =
-    "  numbers are from -(2^53-1) to 2^53-1, without fraction or exponent: give cents, or a text\n";
-
 /// Of the text of a file.
 pub fn of_text(
     alloc: Global,
@@ -23,8 +20,12 @@ pub fn of_text(
     limit: usize,
     fault: TextFault,
 ) -> Result<String, AllocError> {
-    let source = quoted(alloc, path)?;
-    text_lines(alloc, source.as_str(), bytes, limit, fault)
+    if fault == TextFault::WantOfMemory {
+        return String::from_str(alloc, "error: out of memory\n");
+    }
+    let mut lines = Lines::of(alloc, "error: ", path);
+    put_fault(&mut lines, bytes, limit, fault);
+    lines.finish()
 }
 
 /// Of a word that is a JSON text.
@@ -35,143 +36,102 @@ pub fn of_word(
     limit: usize,
     fault: TextFault,
 ) -> Result<String, AllocError> {
-    let mut lines = text_lines(alloc, name, bytes, limit, fault)?;
-    if fault == TextFault::NotJson {
-        let hint = format!(in alloc;
-            "  {name} is JSON: a text stands in quotes of its own, as '\"none\"'\n"
-        )?;
-        lines.push_str(hint.as_str())?;
+    if fault == TextFault::WantOfMemory {
+        return String::from_str(alloc, "error: out of memory\n");
     }
-    Ok(lines)
+    let mut lines = Lines::new(alloc);
+    lines.put_all(&["error: ", name]);
+    put_fault(&mut lines, bytes, limit, fault);
+    if fault == TextFault::NotJson {
+        lines.put_all(&[
+            "  ",
+            name,
+            " is JSON: a text stands in quotes of its own, as '\"none\"'\n",
+        ]);
+    }
+    lines.finish()
 }
 
-fn text_lines(
-    alloc: Global,
-    source: &str,
-    bytes: &[u8],
-    limit: usize,
-    fault: TextFault,
-) -> Result<String, AllocError> {
+/// The fault, behind the name of the text.
+fn put_fault(lines: &mut Lines, bytes: &[u8], limit: usize, fault: TextFault) {
     match fault {
-        TextFault::WantOfMemory => String::from_str(alloc, "error: out of memory\n"),
-        TextFault::NotJson => not_json(alloc, source, bytes),
-        TextFault::TooLarge => format!(in alloc; "error: {source} has more than {limit} bytes\n"),
-        TextFault::NotWhole => not_whole(alloc, source, bytes, limit),
-        TextFault::TooDeep => too_deep(alloc, source, bytes, limit),
+        TextFault::WantOfMemory => {}
+        TextFault::NotJson => put_not_json(lines, bytes),
+        TextFault::TooLarge => {
+            lines.put(" has more than ");
+            lines.put_shown(&limit);
+            lines.put(" bytes\n");
+        }
+        TextFault::NotWhole => put_not_whole(lines, bytes, limit),
+        TextFault::TooDeep => put_too_deep(lines, bytes, limit),
     }
 }
 
 /// Of a text that is no JSON: the line and the column at which it goes wrong.
-pub(crate) fn not_json(alloc: Global, source: &str, bytes: &[u8]) -> Result<String, AllocError> {
-    let what = json_fault(alloc, bytes)?;
-    format!(in alloc;
-        "error: {source} is no JSON: {what}\n  no trailing comma, no comment; names and texts stand in double quotes\n"
-    )
+pub(crate) fn put_not_json(lines: &mut Lines, bytes: &[u8]) {
+    lines.put(" is no JSON: ");
+    put_json_fault(lines, bytes);
+    lines.put("\n  no trailing comma, no comment; names and texts stand in double quotes\n");
 }
 
 /// What `serde_json` says of a text that it does not read, with line and column.
-fn json_fault(alloc: Global, bytes: &[u8]) -> Result<String, AllocError> {
+fn put_json_fault(lines: &mut Lines, bytes: &[u8]) {
     let Ok(text) = basic::from_utf8(bytes) else {
-        return String::from_str(alloc, "its bytes are not UTF-8");
+        lines.put("its bytes are not UTF-8");
+        return;
     };
-    match Value::from_str(alloc, text) {
-        Ok(_value) => String::from_str(alloc, "it nests too deep"),
-        Err(e) if e.is_memory() => Err(AllocError),
-        Err(e) => format!(in alloc; "{e}"),
+    match Value::from_str(lines.alloc, text) {
+        Ok(_value) => lines.put("it nests too deep"),
+        Err(e) if e.is_memory() => lines.fall_short(AllocError),
+        Err(e) => lines.put_shown(&e),
     }
 }
 
-fn not_whole(
-    alloc: Global,
-    source: &str,
-    bytes: &[u8],
-    limit: usize,
-) -> Result<String, AllocError> {
-    let way = match read_doc(alloc, bytes, limit) {
-        Ok(tree) => way_to_number(alloc, &tree)?,
-        Err(_) => String::new(alloc),
-    };
-    format!(in alloc; "error: {source}: the number at {way} is not whole\n{WHOLE}")
-}
-
-/// The way to the first number that is not whole.
-fn way_to_number(alloc: Global, tree: &Tree) -> Result<String, AllocError> {
-    match search(alloc, tree, Sought::NotWhole)? {
-        Some(found) => from_root(alloc, &found.way),
-        None => String::from_str(alloc, "the root"),
+fn put_not_whole(lines: &mut Lines, bytes: &[u8], limit: usize) {
+    lines.put(": the number at ");
+    if let Ok(tree) = read_doc(lines.alloc, bytes, limit) {
+        let mut way = Lines::new(lines.alloc);
+        put_way(&mut way, &tree, Sought::NotWhole);
+        put_from_root(lines, way);
     }
+    lines.put(
+        " is not whole\n  numbers are from -(2^53-1) to 2^53-1, without fraction or exponent: give cents, or a text\n",
+    );
 }
 
 /// A way without the point that it begins with.
-pub(crate) fn from_root(alloc: Global, way: &String) -> Result<String, AllocError> {
-    match way.as_str().strip_prefix(".") {
-        Some(rest) => String::from_str(alloc, rest),
-        None if way.is_empty() => String::from_str(alloc, "the root"),
-        None => String::from_str(alloc, way.as_str()),
+fn put_from_root(lines: &mut Lines, way: Lines) {
+    match way.finish() {
+        Ok(way) if way.is_empty() => lines.put("the root"),
+        Ok(way) => match way.as_str().strip_prefix(".") {
+            Some(rest) => lines.put(rest),
+            None => lines.put(way.as_str()),
+        },
+        Err(want) => lines.fall_short(want),
     }
 }
 
-fn too_deep(alloc: Global, source: &str, bytes: &[u8], limit: usize) -> Result<String, AllocError> {
-    let way = match read_doc(alloc, bytes, limit) {
-        Ok(tree) => way_down(alloc, &tree)?,
-        Err(_) => String::new(alloc),
-    };
-    format!(in alloc; "error: {source}: lists and objects nest deeper than 120 levels, at {way}\n")
+fn put_too_deep(lines: &mut Lines, bytes: &[u8], limit: usize) {
+    lines.put(": lists and objects nest deeper than 120 levels, at ");
+    if let Ok(tree) = read_doc(lines.alloc, bytes, limit) {
+        let mut way = Lines::new(lines.alloc);
+        put_way_down(&mut way, &tree);
+        put_from_root(lines, way);
+    }
+    lines.put("\n");
 }
 
 /// The way into what nests too deep: its first steps, with dots behind them where there are more.
-fn way_down(alloc: Global, tree: &Tree) -> Result<String, AllocError> {
-    let mut way = String::new(alloc);
+fn put_way_down(way: &mut Lines, tree: &Tree) {
     let mut part = tree;
     for passed in 0..LEVELS {
         if way.len() > MOST_OF_WAY {
-            way.push_str("..")?;
-            break;
+            way.put("..");
+            return;
         }
-        let Some((step, inner)) = deep_part(alloc, part, LEVELS - 1 - passed)? else {
-            break;
-        };
-        way.push_str(step.as_str())?;
-        part = inner;
-    }
-    from_root(alloc, &way)
-}
-
-/// The first part of a tree that nests deeper than so many levels, and the step to it.
-fn deep_part<'a>(
-    alloc: Global,
-    tree: &'a Tree,
-    levels: usize,
-) -> Result<Option<(String, &'a Tree)>, AllocError> {
-    match tree {
-        Tree::Object(members) => deep_member(alloc, members.as_slice(), levels),
-        Tree::List(items) => deep_item(alloc, items.as_slice(), levels),
-        _ => Ok(None),
-    }
-}
-
-fn deep_member<'a>(
-    alloc: Global,
-    members: &'a [(String, Tree)],
-    levels: usize,
-) -> Result<Option<(String, &'a Tree)>, AllocError> {
-    for (name, member) in members {
-        if !member.fits(levels) {
-            return Ok(Some((step(alloc, name.as_str())?, member)));
+        match put_step(way, part, Sought::Deeper(LEVELS - 1 - passed)) {
+            Some(inner) => part = inner,
+            None => return,
         }
     }
-    Ok(None)
-}
-
-fn deep_item<'a>(
-    alloc: Global,
-    items: &'a [Tree],
-    levels: usize,
-) -> Result<Option<(String, &'a Tree)>, AllocError> {
-    for i in 0..items.len() {
-        if !items[i].fits(levels) {
-            return Ok(Some((format!(in alloc; "[{i}]")?, &items[i])));
-        }
-    }
-    Ok(None)
 }

@@ -1,0 +1,195 @@
+//! The text of a remark as it grows: words, and between them names, steps, values and lists of names.
+use flag_text::{Tree, print_tree};
+use std::alloc::{AllocError, Global};
+use std::fmt::Display;
+
+/// The most names that are listed.
+const MOST_NAMES: usize = 10;
+
+/// The most characters of a name or a value that are shown.
+const MOST_CHARACTERS: usize = 60;
+
+/// The lines of a remark. Once memory ran out they take nothing more, and `finish` gives that in place of the text.
+#[derive(Drop)]
+pub(crate) struct Lines {
+    pub(crate) alloc: Global,
+    text: String,
+    short: Option<AllocError>,
+}
+
+impl Lines {
+    pub(crate) fn new(alloc: Global) -> Lines {
+        let text = String::new(alloc);
+        Lines {
+            alloc,
+            text,
+            short: None,
+        }
+    }
+
+    /// Lines that begin with these words and the path of the file that they tell of.
+    pub(crate) fn of(alloc: Global, words: &str, path: &str) -> Lines {
+        let mut lines = Lines::new(alloc);
+        lines.put(words);
+        lines.put_name(path);
+        lines
+    }
+
+    pub(crate) fn finish(self) -> Result<String, AllocError> {
+        match self.short {
+            Some(want) => Err(want),
+            None => Ok(self.text),
+        }
+    }
+
+    /// The bytes so far.
+    pub(crate) fn len(&self) -> usize {
+        self.text.len()
+    }
+
+    /// Notes that memory ran out.
+    pub(crate) fn fall_short(&mut self, want: AllocError) {
+        self.short = Some(want);
+    }
+
+    pub(crate) fn put(&mut self, text: &str) {
+        if self.short.is_none() {
+            if let Err(want) = self.text.push_str(text) {
+                self.short = Some(want);
+            }
+        }
+    }
+
+    pub(crate) fn put_all(&mut self, parts: &[&str]) {
+        for part in parts {
+            self.put(part);
+        }
+    }
+
+    /// A number, or a fault in its own words.
+    pub(crate) fn put_shown<T: Display>(&mut self, value: &T) {
+        if self.short.is_none() {
+            if let Err(want) = write!(self.text, "{value}") {
+                self.short = Some(want);
+            }
+        }
+    }
+
+    /// The whole of a text as a JSON text.
+    pub(crate) fn put_text(&mut self, text: &str) {
+        self.put_quoted(String::from_str(self.alloc, text));
+    }
+
+    /// A name as a JSON text, cut where it is long.
+    pub(crate) fn put_name(&mut self, name: &str) {
+        self.put_quoted(match front(name) {
+            Some(front) => format!(in self.alloc; "{front}.."),
+            None => String::from_str(self.alloc, name),
+        });
+    }
+
+    fn put_quoted(&mut self, text: Result<String, AllocError>) {
+        match text {
+            Ok(text) => match print_tree(self.alloc, &Tree::Text(text)) {
+                Ok(quoted) => self.put(quoted.as_str()),
+                Err(want) => self.fall_short(want),
+            },
+            Err(want) => self.fall_short(want),
+        }
+    }
+
+    /// The step from an object to its member: `.name`, or the name in brackets where it is no plain word.
+    pub(crate) fn put_step(&mut self, name: &str) {
+        if is_plain(name) {
+            self.put_all(&[".", name]);
+        } else {
+            self.put("[");
+            self.put_name(name);
+            self.put("]");
+        }
+    }
+
+    /// The step from a list to an item.
+    pub(crate) fn put_place(&mut self, place: usize) {
+        self.put("[");
+        self.put_shown(&place);
+        self.put("]");
+    }
+
+    /// What a value is, in words: a scalar itself, else its kind.
+    pub(crate) fn put_value(&mut self, tree: &Tree) {
+        match tree {
+            Tree::Whole(n) => self.put_shown(n),
+            Tree::Text(text) => self.put_name(text.as_str()),
+            _ => self.put(word_of(tree)),
+        }
+    }
+
+    /// The name at a place in a list, of which the first ten are shown.
+    pub(crate) fn put_listed(&mut self, place: usize, name: &str) {
+        if place < MOST_NAMES {
+            if place > 0 {
+                self.put(", ");
+            }
+            self.put_name(name);
+        }
+    }
+
+    /// The end of a list of so many names.
+    pub(crate) fn put_rest(&mut self, count: usize) {
+        if count == 0 {
+            self.put("none");
+        } else if count > MOST_NAMES {
+            self.put(" and ");
+            self.put_shown(&(count - MOST_NAMES));
+            self.put(" more");
+        }
+    }
+
+    /// The names of members, at most ten, or that there are none.
+    pub(crate) fn put_members(&mut self, members: &[(String, Tree)]) {
+        for i in 0..members.len() {
+            self.put_listed(i, members[i].0.as_str());
+        }
+        self.put_rest(members.len());
+    }
+
+    /// Names, at most ten, or that there are none.
+    pub(crate) fn put_names(&mut self, names: &[String]) {
+        for i in 0..names.len() {
+            self.put_listed(i, names[i].as_str());
+        }
+        self.put_rest(names.len());
+    }
+}
+
+/// The word for a value that is no whole number and no text.
+fn word_of(tree: &Tree) -> &'static str {
+    match tree {
+        Tree::Null => "null",
+        Tree::Bool(true) => "true",
+        Tree::Bool(false) => "false",
+        Tree::Whole(_) => "a number",
+        Tree::Other => "a number that is not whole",
+        Tree::Text(_) => "a text",
+        Tree::List(_) => "a list",
+        Tree::Object(_) => "an object",
+    }
+}
+
+/// The first characters of a text that has more.
+fn front(text: &str) -> Option<&str> {
+    let (end, _) = text.char_indices().nth(MOST_CHARACTERS)?;
+    let (front, _) = text.split_at_checked(end)?;
+    Some(front)
+}
+
+/// Whether a name is a word of letters, digits, `_`, `-` and `$`, and is shown whole.
+fn is_plain(name: &str) -> bool {
+    for byte in name.as_bytes() {
+        if !byte.is_ascii_alphanumeric() && !matches!(*byte, b'_' | b'-' | b'$') {
+            return false;
+        }
+    }
+    !name.is_empty() && name.len() <= MOST_CHARACTERS
+}
