@@ -21,8 +21,7 @@ const FLAGS: &[u8] =
 "lists":{"state":"ENABLED","variants":{"x":1,"y":2},"defaultVariant":"x",
 "targeting":{"map":[{"var":"l"},{"fractional":[{"var":""},["x",5],["y",5]]}]}}}}"#;
 
-const FOUR: &str =
-    r#"{"key":"color","want":"text","default":"d","context":{"key":""},"moment":0},
+const FOUR: &str = r#"{"key":"color","want":"text","default":"d","context":{"key":""},"moment":0},
 {"key":"color","want":"text","default":"d","context":{"key":"The quick brown fox jumps over the lazy dog"},"moment":0},
 {"key":"color","want":"text","default":"d","context":{"key":"!"},"moment":0},
 {"key":"color","want":"text","default":"d","context":{"key":"!Ce"},"moment":0}"#;
@@ -229,7 +228,15 @@ fn workers_wait_for_one_another(rt: HostRuntime) -> Result<(), Fail> {
     let text = format!(in rt.alloc(); "[{FOUR},{THREE},{FOUR},{THREE},{FOUR},{THREE}]")?;
     for (links, forward, workers, want) in LINKED {
         assert!(rt;
-            is_linked(&rt, rt.alloc(), text.as_str(), *links, *forward, *workers, want),
+            is_linked(
+                &rt,
+                rt.alloc(),
+                text.as_str(),
+                *links,
+                *forward,
+                *workers,
+                want
+            ),
             "{links} asks by {workers} workers"
         );
     }
@@ -253,15 +260,22 @@ impl Gate for Barrier {
 #[test]
 fn a_closed_gate_stalls(rt: HostRuntime) -> Result<(), Fail> {
     let text = format!(in rt.alloc(); "[{FOUR}]")?;
-    assert!(rt; is_outcome(&rt, rt.alloc(), text.as_str(), 2, &Barrier { closed: 3 }, "Stalled"));
+    assert!(rt;
+        is_outcome(
+            &rt,
+            rt.alloc(),
+            text.as_str(),
+            2,
+            &Barrier { closed: 3 },
+            "Stalled"
+        )
+    );
     Ok(())
 }
 
-const FIRST: &str =
-    r#"[{"key":"lists","want":"whole","default":0,"moment":0,"context":{"l":["#;
+const FIRST: &str = r#"[{"key":"lists","want":"whole","default":0,"moment":0,"context":{"l":["#;
 
-const NEXT: &str =
-    r#"]}},{"key":"lists","want":"whole","default":0,"moment":0,"context":{"l":["#;
+const NEXT: &str = r#"]}},{"key":"lists","want":"whole","default":0,"moment":0,"context":{"l":["#;
 
 /// What stands before the input of a number: every 10000 begin an ask.
 fn front(number: u32) -> &'static str {
@@ -291,7 +305,14 @@ fn full_pages_are_counted(rt: HostRuntime) -> Result<(), Fail> {
     let text = many(rt.alloc())?;
     for workers in [1, 8] {
         assert!(rt;
-            is_outcome(&rt, rt.alloc(), text.as_str(), workers, &OpenGate, "a full page"),
+            is_outcome(
+                &rt,
+                rt.alloc(),
+                text.as_str(),
+                workers,
+                &OpenGate,
+                "a full page"
+            ),
             "{workers} workers"
         );
     }

@@ -60,14 +60,8 @@ fn a_snapshot_comes_with_the_last_byte(rt: HostRuntime) {
 
 // Lengths, a number and a document that are refused; a snapshot before a fault is answered first.
 const FAULTS: &[&[Piece]] = &[
-    &[
-        (b"\x00\x40\x00\x09", 0, 1, false),
-        (b"", 0, 4, false),
-    ],
-    &[
-        (b"\x00\x00\x00\x07", 0, 1, false),
-        (b"", 0, 4, false),
-    ],
+    &[(b"\x00\x40\x00\x09", 0, 1, false), (b"", 0, 4, false)],
+    &[(b"\x00\x00\x00\x07", 0, 1, false), (b"", 0, 4, false)],
     &[
         (
             b"\x00\x00\x00\x09\x00\x00\x00\x00\x00\x00\x00\x00",

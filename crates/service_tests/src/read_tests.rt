@@ -76,7 +76,15 @@ fn streams(rt: HostRuntime) {
 /// Whether each proper front of a frame ends inside it.
 fn end_inside(alloc: Global, most: usize) -> bool {
     for length in 1..24 {
-        if !is_read(alloc, &FRAME[..length], most, ALL, 100, 0, ReadEnd::EndedInside) {
+        if !is_read(
+            alloc,
+            &FRAME[..length],
+            most,
+            ALL,
+            100,
+            0,
+            ReadEnd::EndedInside,
+        ) {
             return false;
         }
     }

@@ -69,12 +69,7 @@ fn is_written<R: Wait + Abort>(rt: &R, alloc: Global, row: &Row) -> bool {
     writes::<Brand, R>(rt, alloc, History::new(), row)
 }
 
-fn writes<J: ShareName, R: Wait + Abort>(
-    rt: &R,
-    alloc: Global,
-    history: History,
-    row: &Row,
-) -> bool
+fn writes<J: ShareName, R: Wait + Abort>(rt: &R, alloc: Global, history: History, row: &Row) -> bool
     requires { history.seen.book ≡ J.book }
 {
     match share_among::<J, R>(rt, alloc, history, 1) {

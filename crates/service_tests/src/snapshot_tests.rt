@@ -43,7 +43,11 @@ pub(crate) fn publishes<J: ShareName, R: Wait>(
 }
 
 /// Whether each seat reads a snapshot of this number, or has this fault.
-fn read<J: ShareName>(alloc: Global, seats: &mut [ReadSeat<J>], want: Result<u64, ShareFault>) -> bool {
+fn read<J: ShareName>(
+    alloc: Global,
+    seats: &mut [ReadSeat<J>],
+    want: Result<u64, ShareFault>,
+) -> bool {
     for seat in seats.iter_mut() {
         let number = match seat.current(alloc) {
             Ok(snapshot) => Ok(snapshot.number),
@@ -73,14 +77,15 @@ fn learn<J: ShareName, R: Wait>(
     told.number() == 2 && read(alloc, seats, Ok(2))
 }
 
-/// What comes of sharing flags among so many seats: `closed` where all seats read, learn, and read no more once the
-/// publisher was given up.
-fn outcome<J: ShareName, R: Wait + Abort>(
+/// Whether this comes of sharing flags among so many seats: the name of the refusal, or `closed` where all seats read, learn,
+/// and read no more once the publisher was given up.
+fn comes_to<J: ShareName, R: Wait + Abort>(
     rt: &R,
     alloc: Global,
     history: History,
     seats: usize,
-) -> &'static str
+    want: &str,
+) -> bool
     requires { history.seen.book ≡ J.book }
 {
     match share_among::<J, R>(rt, alloc, history, seats) {
@@ -89,19 +94,15 @@ fn outcome<J: ShareName, R: Wait + Abort>(
             let mut seats = seats;
             let has_learned = learn(rt, alloc, &mut publisher, &mut seats);
             publisher.close(rt);
-            if has_learned && read(alloc, &mut seats, Err(ShareFault::Closed)) {
-                "closed"
-            } else {
-                "unread"
-            }
+            has_learned && read(alloc, &mut seats, Err(ShareFault::Closed)) && want == "closed"
         }
-        Err(name) => name,
+        Err(name) => name == want,
     }
 }
 
 /// The same under a name of its own.
-fn named_outcome<R: Wait + Abort>(rt: &R, alloc: Global, seats: usize) -> &'static str {
-    outcome::<Brand, R>(rt, alloc, History::new(), seats)
+fn is_shared<R: Wait + Abort>(rt: &R, alloc: Global, seats: usize, want: &str) -> bool {
+    comes_to::<Brand, R>(rt, alloc, History::new(), seats, want)
 }
 
 /// Numbers of seats, and what comes of them.
@@ -115,6 +116,6 @@ const SEATS: &[(usize, &str)] = &[
 #[test]
 fn seats_read_learn_and_are_closed(rt: HostRuntime) {
     for (seats, want) in SEATS {
-        assert!(rt; named_outcome(&rt, rt.alloc(), *seats) == *want, "{seats} seats");
+        assert!(rt; is_shared(&rt, rt.alloc(), *seats, want), "{seats} seats");
     }
 }

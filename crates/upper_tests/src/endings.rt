@@ -67,7 +67,10 @@ const WANTS: &[(Call, &[u8])] = &[
 fn want_of_memory(rt: HostRuntime) {
     for (call, line) in WANTS {
         for count in 0..=line.len() {
-            assert!(rt; is_wanting(rt.alloc(), *call, line, count), "{line:?} after {count}");
+            assert!(rt;
+                is_wanting(rt.alloc(), *call, line, count),
+                "{line:?} after {count}"
+            );
         }
     }
 }

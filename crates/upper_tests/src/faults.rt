@@ -24,13 +24,28 @@ fn slack(alloc: Global) -> Result<CheckFault, AllocError> {
 fn faults_in_words(rt: HostRuntime) -> Result<(), Fail> {
     let alloc = rt.alloc();
     assert!(rt;
-        reads(alloc, CheckFault::Weight, "the rules differ in their totals")
-            && reads(alloc, CheckFault::Totals, "a total is outside its limits")
-            && reads(alloc, CheckFault::Forbidden(2), "the change of point 2 is forbidden")
+        reads(
+            alloc,
+            CheckFault::Weight,
+            "the rules differ in their totals"
+        ) && reads(alloc, CheckFault::Totals, "a total is outside its limits")
+            && reads(
+                alloc,
+                CheckFault::Forbidden(2),
+                "the change of point 2 is forbidden"
+            )
             && reads(alloc, CheckFault::Sum, "the prices do not sum to the cost")
             && reads(alloc, CheckFault::Cost, "the rule has another cost")
-            && reads(alloc, CheckFault::NotDeficient, "the set of names is not deficient")
-            && reads(alloc, CheckFault::Groups, "the prices are not those of exactly the groups and names")
+            && reads(
+                alloc,
+                CheckFault::NotDeficient,
+                "the set of names is not deficient"
+            )
+            && reads(
+                alloc,
+                CheckFault::Groups,
+                "the prices are not those of exactly the groups and names"
+            )
     );
     let want = "the prices of red with 0 inputs and of blue sum above the cost of the change";
     assert!(rt; reads(alloc, slack(alloc)?, want));
