@@ -40,15 +40,21 @@ fn is_priced(rt: &(impl Threads + Sync), alloc: Global, inputs: &Exposure, want:
     }
 }
 
+/// Whether that change costs the inputs of the file this much.
+fn is_priced_in_file(rt: &(impl Threads + Sync), alloc: Global, want: u64) -> bool {
+    match exposure(alloc) {
+        Some(inputs) => is_priced(rt, alloc, &inputs, want),
+        None => false,
+    }
+}
+
 // The inputs on the points 6, 7 and 7 were blue.
 #[test]
 fn rules_of_two_totals(rt: HostRuntime) {
+    let fault = PriceFault::UnknownVariant;
     assert!(rt;
-        PriceFault::UnknownVariant.number() == 2
-            && PriceFault::UnknownVariant.name() == "UnknownVariant"
+        fault.number() == 2
+            && fault.name() == "UnknownVariant"
+            && is_priced_in_file(&rt, rt.alloc(), 9)
     );
-    match exposure(rt.alloc()) {
-        Some(inputs) => assert!(rt; is_priced(&rt, rt.alloc(), &inputs, 9)),
-        None => assert!(rt; false),
-    }
 }

@@ -6,7 +6,6 @@ ghost use Rattle.flag_text.specs.View.{view};
 use flag_resolve::{Code, Kind, Reason, print_resolution, resolve};
 use flag_text::{Tree, read_tree};
 use std::alloc::Global;
-use std::test::Fail;
 
 /// Whether a text resolves so without flags.
 fn is_resolved(alloc: Global, default: &Tree, context: &Tree, want: &str) -> bool
@@ -41,10 +40,23 @@ fn without_flags_the_provider_is_not_ready(rt: HostRuntime) {
     assert!(rt; is_resolved_in(rt.alloc(), b"\"d\"", context, want));
 }
 
+/// Whether a reason and a code are written so.
+fn are_written(alloc: Global, reason: Reason, code: Code, want: &str) -> bool {
+    match format!(in alloc; "{reason} {code}") {
+        Ok(text) => text.as_str() == want,
+        Err(_) => false,
+    }
+}
+
 #[test]
-fn words_of_reasons_and_codes(rt: HostRuntime) -> Result<(), Fail> {
-    let alloc = rt.alloc();
-    let text = format!(in alloc; "{} {}", Reason::TargetingMatch, Code::ProviderNotReady)?;
-    assert!(rt; text.as_str() == "TARGETING_MATCH PROVIDER_NOT_READY");
-    Ok(())
+fn words_of_reasons_and_codes(rt: HostRuntime) {
+    let want = "TARGETING_MATCH PROVIDER_NOT_READY";
+    assert!(rt;
+        are_written(
+            rt.alloc(),
+            Reason::TargetingMatch,
+            Code::ProviderNotReady,
+            want
+        )
+    );
 }

@@ -5,7 +5,6 @@ ghost use Rattle.std.specs.List.{All};
 use bucket_core::{Rule, RuleFault, read_rule};
 use flag_text::read_tree;
 use std::alloc::{AllocError, Global};
-use std::test::Fail;
 
 /// The rule of a text, none where it is refused.
 pub(crate) fn rule_of(alloc: Global, text: &str) -> Option<Rule> {
@@ -128,9 +127,11 @@ fn finds_entries(rt: HostRuntime) {
     );
 }
 
+const KEYS: &[&str] = &["", "!", "!C", "test", "Hello, world!"];
+
 /// Whether both rules choose the same for each key.
 fn choose_alike(rule: &Rule, other: &Rule) -> bool {
-    for key in ["", "!", "!C", "test", "Hello, world!"] {
+    for key in KEYS {
         if rule.choose(key) != other.choose(key) {
             return false;
         }
@@ -160,19 +161,28 @@ fn refines(rt: HostRuntime) {
     assert!(rt; is_rule(alloc, r#"[["a",2147483647]]"#, is_heavy));
 }
 
+/// Whether points that are red at 0 and blue at 1 make a rule of which this holds.
+fn make_rule(alloc: Global, items: &[u32], holds: RuleHolds) -> bool
+    requires { RuleHolds.IsAlwaysCallable holds }
+{
+    if items.is_empty() || items.len() > 1_000_000 || !are_red_or_blue(items) {
+        return false;
+    }
+    match red_and_blue(alloc, items) {
+        Ok(rule) => holds(alloc, &rule),
+        Err(_) => false,
+    }
+}
+
 /// Whether the points of red and blue are merged into runs.
-fn is_merged(rule: &Rule) -> bool {
+fn is_merged(_: Global, rule: &Rule) -> bool {
     has_entries(rule, &[("red", 2), ("blue", 2), ("red", 1), ("blue", 5)]) && rule.is_canonical()
 }
 
 #[test]
-fn merges_points(rt: HostRuntime) -> Result<(), Fail> {
-    let alloc = rt.alloc();
+fn merges_points(rt: HostRuntime) {
     let items = [0, 0, 1, 1, 0, 1, 1, 1, 1, 1];
-    assert!(rt; are_red_or_blue(&items));
-    let rule = red_and_blue(alloc, &items)?;
-    assert!(rt; is_merged(&rule));
-    Ok(())
+    assert!(rt; make_rule(rt.alloc(), &items, is_merged));
 }
 
 /// A million points that are red and blue by turns.
@@ -185,7 +195,7 @@ fn by_turns(alloc: Global) -> Result<Vec<u32>, AllocError> {
 }
 
 /// Whether each of a million points has an entry of its own.
-fn finds_a_million(rule: &Rule) -> bool {
+fn finds_a_million(_: Global, rule: &Rule) -> bool {
     for p in 0..1_000_000u32 {
         if rule.total() <= p || rule.entry_at(p) != p as usize {
             return false;
@@ -196,11 +206,11 @@ fn finds_a_million(rule: &Rule) -> bool {
 
 // A walk over the entries would take minutes here.
 #[test]
-fn finds_points_among_a_million_entries(rt: HostRuntime) -> Result<(), Fail> {
-    let alloc = rt.alloc();
-    let items = by_turns(alloc)?;
-    assert!(rt; items.len() == 1_000_000 && are_red_or_blue(items.as_slice()));
-    let rule = red_and_blue(alloc, items.as_slice())?;
-    assert!(rt; finds_a_million(&rule));
-    Ok(())
+fn finds_points_among_a_million_entries(rt: HostRuntime) {
+    assert!(rt;
+        match by_turns(rt.alloc()) {
+            Ok(items) => make_rule(rt.alloc(), items.as_slice(), finds_a_million),
+            Err(_) => false,
+        }
+    );
 }
