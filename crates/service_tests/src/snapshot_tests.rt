@@ -11,21 +11,21 @@ use std::sync::Wait;
 /// A document without flags.
 const NONE: &[u8] = b"{\"flags\":{}}";
 
-/// Shares no flags among so many seats, or gives the name of the refusal.
+/// Shares no flags among so many seats, or gives the fault; none where there are no flags.
 pub(crate) fn share_among<J: ShareName, R: Wait>(
     rt: &R,
     alloc: Global,
     history: History,
     seats: usize,
-) -> Result<(Publisher<J>, Vec<ReadSeat<J>>), &'static str>
+) -> Result<(Publisher<J>, Vec<ReadSeat<J>>), Option<ShareFault>>
     requires { history.seen.book ≡ J.book }
 {
     match read_flags(alloc, NONE) {
         Ok(flags) => match share::<J, R>(rt, alloc, history, flags, seats) {
             Ok(shared) => Ok(shared),
-            Err(fault) => Err(fault.name()),
+            Err(fault) => Err(Some(fault)),
         },
-        Err(_) => Err("no flags"),
+        Err(_) => Err(None),
     }
 }
 
@@ -77,14 +77,14 @@ fn learn<J: ShareName, R: Wait>(
     told.number() == 2 && read(alloc, seats, Ok(2))
 }
 
-/// Whether this comes of sharing flags among so many seats: the name of the refusal, or `closed` where all seats read, learn,
+/// Whether this fault comes of sharing flags among so many seats: that of the refusal, or Closed where all seats read, learn,
 /// and read no more once the publisher was given up.
 fn comes_to<J: ShareName, R: Wait + Abort>(
     rt: &R,
     alloc: Global,
     history: History,
     seats: usize,
-    want: &str,
+    want: ShareFault,
 ) -> bool
     requires { history.seen.book ≡ J.book }
 {
@@ -94,28 +94,30 @@ fn comes_to<J: ShareName, R: Wait + Abort>(
             let mut seats = seats;
             let has_learned = learn(rt, alloc, &mut publisher, &mut seats);
             publisher.close(rt);
-            has_learned && read(alloc, &mut seats, Err(ShareFault::Closed)) && want == "closed"
+            has_learned
+                && read(alloc, &mut seats, Err(ShareFault::Closed))
+                && want == ShareFault::Closed
         }
-        Err(name) => name == want,
+        Err(fault) => fault == Some(want),
     }
 }
 
 /// The same under a name of its own.
-fn is_shared<R: Wait + Abort>(rt: &R, alloc: Global, seats: usize, want: &str) -> bool {
+fn is_shared<R: Wait + Abort>(rt: &R, alloc: Global, seats: usize, want: ShareFault) -> bool {
     comes_to::<Brand, R>(rt, alloc, History::new(), seats, want)
 }
 
 /// Numbers of seats, and what comes of them.
-const SEATS: &[(usize, &str)] = &[
-    (2, "closed"),
-    (0, "NoSeats"),
-    (65, "TooManySeats"),
-    (1000, "TooManySeats"),
+const SEATS: &[(usize, ShareFault)] = &[
+    (2, ShareFault::Closed),
+    (0, ShareFault::NoSeats),
+    (65, ShareFault::TooManySeats),
+    (1000, ShareFault::TooManySeats),
 ];
 
 #[test]
 fn seats_read_learn_and_are_closed(rt: HostRuntime) {
     for (seats, want) in SEATS {
-        assert!(rt; is_shared(&rt, rt.alloc(), *seats, want), "{seats} seats");
+        assert!(rt; is_shared(&rt, rt.alloc(), *seats, *want), "{seats} seats");
     }
 }
