@@ -11,14 +11,14 @@ use Rattle.std.proofs.lemmas.List.{length-map}
 use Rattle.std.proofs.lemmas.List.FromFn.{get_or-map-range_with_len, length-map-range_with_len}
 use Rattle.std.proofs.lemmas.Map.Keys.{Less-from_sorted}
 use Rattle.std.proofs.lemmas.Option.{slice_get_within, get_or_from_slice_get}
-use Rattle.transport_core.proofs.Keys.{not_below_itself}
-use Rattle.transport_core.proofs.DualSums.{size-some, group_stands}
-use Rattle.transport_core.proofs.Members.{place_from_contains, contains_from_place}
-use Rattle.transport_core.proofs.Points.{get_below}
+use Rattle.transport_instance.proofs.Keys.{not_below_itself}
+use Rattle.transport_instance.proofs.DualSums.{size-some, group_stands}
+use Rattle.transport_instance.proofs.Members.{place_from_contains, contains_from_place}
+use Rattle.transport_instance.proofs.Points.{get_below}
 use Rattle.book_core.specs.Counts.{counts_of}
 use Rattle.bucket_core.specs.Rule.{Entries, total_weight, at}
-use Rattle.transport_core.specs.Dual.{inputs_at}
-use Rattle.transport_core.specs.Groups.{GroupKey, AreSizes, group_at, row_view, rows_view}
+use Rattle.transport_instance.specs.Dual.{inputs_at}
+use Rattle.transport_instance.specs.Groups.{GroupKey, AreSizes, group_at, row_view, rows_view}
 use Rattle.std.specs.Map.{keys_of}
 
 lt_is : (o : Ordering) → is_lt o ≡ true → o ≡ Less

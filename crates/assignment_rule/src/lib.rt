@@ -13,7 +13,7 @@
 //! }
 //! ```
 //!
-//! Proved: [`spread`] gives a canonical rule that has the assignment (`HasAssignment` of `transport_core`): of each group's
+//! Proved: [`spread`] gives a canonical rule that has the assignment (`HasAssignment` of `transport_instance`): of each group's
 //! points each name has just its number. So what is proved of each rule with the assignment is proved of this one.
 #![tactic(auto)]
 

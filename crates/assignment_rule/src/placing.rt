@@ -6,8 +6,8 @@ ghost use Rattle.std.specs.List.Sorted.{IsStrictlySortedBy};
 ghost use Rattle.std.specs.Map.{keys_of};
 ghost use Rattle.std.specs.Ordering.{nat_cmp};
 ghost use Rattle.bucket_core.specs.Rule.{names_view, total_weight};
-ghost use Rattle.transport_core.specs.Groups.{AreSizes, group_at, group_cmp, rows_view};
-ghost use Rattle.transport_core.specs.Instance.{max_planned_total};
+ghost use Rattle.transport_instance.specs.Groups.{AreSizes, group_at, group_cmp, rows_view};
+ghost use Rattle.transport_instance.specs.Instance.{max_planned_total};
 
 use book_core::{Exposure, counts};
 use bucket_core::Rule;

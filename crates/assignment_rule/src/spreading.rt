@@ -8,9 +8,9 @@ ghost use Rattle.std.specs.Ordering.{nat_cmp};
 ghost use Rattle.bucket_core.specs.Canonical.{IsCanonical};
 ghost use Rattle.bucket_core.specs.Rule.{names_view};
 ghost use Rattle.price_core.specs.Limits.{limits_view};
-ghost use Rattle.transport_core.specs.Assignment.{HasAssignment, arc_flows, flows_of, spends_all};
-ghost use Rattle.transport_core.specs.Groups.{AreSizes, rows_view};
-ghost use Rattle.transport_core.specs.Instance.{max_names, max_planned_total};
+ghost use Rattle.transport_instance.specs.Assignment.{HasAssignment, arc_flows, flows_of, spends_all};
+ghost use Rattle.transport_instance.specs.Groups.{AreSizes, rows_view};
+ghost use Rattle.transport_instance.specs.Instance.{max_names, max_planned_total};
 
 use crate::dealing::deal;
 use crate::placing::{groups_of, places_of};
@@ -18,7 +18,7 @@ use book_core::Exposure;
 use bucket_core::Rule;
 use price_core::Limit;
 use std::alloc::{AllocError, Global};
-use transport_core::{Assignment, Instance};
+use transport_instance::{Assignment, Instance};
 
 /// The rule whose points have the names of the assignment, and which has no other rule's shape: no entry has weight 0, and
 /// neighbours have different names. Of each group's points those that stay come first. It takes `O(log n)` steps for each

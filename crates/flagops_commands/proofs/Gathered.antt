@@ -22,9 +22,9 @@ use Rattle.flagops_files.specs.Loading.{◌>>=◌, refused_by}
 use Rattle.flagops_files.specs.declared.refusal.Refusal.{Refusal}
 use Rattle.flagops_files.specs.declared.refusal.Refusal.TheVariants.{Note}
 use Rattle.flagops_commands.specs.Price.{are_short, are_taken, exposed, key_page, noted_from}
-use Rattle.transport_core.proofs.Joined.{rise-nil}
-use Rattle.transport_core.proofs.Members.{Stands, contains_from_place, place_from_contains, sorted_unique}
-use Rattle.transport_core.proofs.Placed.{name_ties}
+use Rattle.transport_instance.proofs.Joined.{rise-nil}
+use Rattle.transport_instance.proofs.Members.{Stands, contains_from_place, place_from_contains, sorted_unique}
+use Rattle.transport_instance.proofs.Placed.{name_ties}
 
 -- the inputs of a page after these
 abbrev pub gathered : Inputs → Inputs → Inputs

@@ -9,8 +9,8 @@ use Rattle.rollout.specs.declared.fault.RolloutFault.{RolloutFault}
 use Rattle.rollout.specs.declared.fault.RolloutFault.TheVariants as rollout
 use Rattle.rollout.specs.declared.verify_fault.VerifyFault.{VerifyFault}
 use Rattle.rollout.specs.declared.verify_fault.VerifyFault.TheVariants.{Request, Check}
-use Rattle.transport_core.specs.declared.fault.CheckFault.{CheckFault}
-use Rattle.transport_core.specs.declared.fault.CheckFault.TheVariants as check
+use Rattle.transport_instance.specs.declared.fault.CheckFault.{CheckFault}
+use Rattle.transport_instance.specs.declared.fault.CheckFault.TheVariants as check
 
 -- a number, behind a blank
 abbrev pub number_item : ℕ → List ℕ

@@ -8,7 +8,7 @@ use crate::refusal::Refusal;
 use book_core::BookFileFault;
 use rollout::{RolloutFault, VerifyFault};
 use std::alloc::{AllocError, Global};
-use transport_core::CheckFault;
+use transport_instance::CheckFault;
 
 /// The items of a refusal's payload, a blank before each: numbers in decimal, names as JSON texts.
 pub fn payload(alloc: Global, refusal: &Refusal) -> Result<String, AllocError>

@@ -6,7 +6,7 @@ use flag_defs::Flags;
 use plan_text::Planned;
 use price_core::{Limit, PriceFault, Request};
 use std::alloc::{AllocError, Global};
-use transport_core::CheckFault;
+use transport_instance::CheckFault;
 
 /// Of the answer of a plan file to a request over a document.
 pub fn of_check(

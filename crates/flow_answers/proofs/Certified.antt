@@ -17,10 +17,10 @@ use Rattle.residual_flow.specs.Flow.{IsFlow, groups_of, total_at}
 use Rattle.residual_flow.specs.declared.flow.Flow.{Flow}
 use Rattle.shortest_path.specs.Found.{potential_of}
 use Rattle.shortest_path.specs.declared.search.Search.{Search}
-use Rattle.transport_core.specs.Assignment.{IsProved}
-use Rattle.transport_core.specs.Certificate.{DualPrices}
-use Rattle.transport_core.specs.Groups.{GroupKey}
-use Rattle.transport_core.specs.Instance.{TransportProblem, IsProblem}
+use Rattle.transport_instance.specs.Assignment.{IsProved}
+use Rattle.transport_instance.specs.Certificate.{DualPrices}
+use Rattle.transport_instance.specs.Groups.{GroupKey}
+use Rattle.transport_instance.specs.Instance.{TransportProblem, IsProblem}
 use Rattle.transport_network.specs.Numbered.{IsNumbered}
 use Rattle.flow_answers.specs.Costs.{all_cost}
 use Rattle.flow_answers.specs.Prices.{IsLeastAt}

@@ -9,7 +9,7 @@ use Rattle.flag_text.proofs.Bools.{both}
 use Rattle.flag_text.specs.Shape.{is_in_range, items_are_whole}
 use Rattle.plan_text.specs.PlanFile.{alpha_written, beta_written, items_by}
 use Rattle.residual_arcs.specs.Offered.{IsPrice}
-use Rattle.transport_core.specs.Groups.{GroupKey}
+use Rattle.transport_instance.specs.Groups.{GroupKey}
 
 -- a number that a plan file can hold
 pub record IsHeld (z : ℤ) : Type 0 where

@@ -13,8 +13,8 @@ use Rattle.residual_arcs.specs.Problem.{cost_at, group_at, is_there, may_take, n
 use Rattle.residual_arcs.specs.declared.problem.FlowProblem.{FlowProblem}
 use Rattle.residual_flow.specs.Flow.{IsFlowAt, cell_at, flows_at, groups_of}
 use Rattle.shortest_path.specs.declared.arc.Arc.{Arc}
-use Rattle.transport_core.specs.Assignment.{spends_all}
-use Rattle.transport_core.specs.Instance.{TransportProblem}
+use Rattle.transport_instance.specs.Assignment.{spends_all}
+use Rattle.transport_instance.specs.Instance.{TransportProblem}
 use Rattle.transport_network.specs.Network.{switch_price}
 use Rattle.transport_network.specs.Numbered.{IsNumbered, name_at, row_at}
 use Rattle.flow_answers.proofs.Listed.{IsOptimalAt, balanced, column_is, optimal_rows, spent_all}

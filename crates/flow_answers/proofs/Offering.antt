@@ -10,8 +10,8 @@ use Rattle.price_core.specs.Pricing.{Pricing, is_forbidden, price_of}
 use Rattle.flow_certificates.specs.Slackness.{AreLeastOffers, IsLeastOffer, charge}
 use Rattle.residual_arcs.specs.Problem.{group_at, names_of, price_at}
 use Rattle.residual_arcs.specs.declared.problem.FlowProblem.{FlowProblem}
-use Rattle.transport_core.specs.Groups.{GroupKey}
-use Rattle.transport_core.specs.Instance.{TransportProblem}
+use Rattle.transport_instance.specs.Groups.{GroupKey}
+use Rattle.transport_instance.specs.Instance.{TransportProblem}
 use Rattle.transport_network.specs.Network.{switch_price}
 use Rattle.transport_network.specs.Numbered.{IsNumbered, name_at, row_at}
 use Rattle.flow_answers.specs.Prices.{IsLeastAt}

@@ -9,8 +9,8 @@ use Rattle.residual_arcs.specs.declared.problem.FlowProblem.{FlowProblem}
 use Rattle.residual_arcs.specs.declared.problem.Group.{Group}
 use Rattle.residual_flow.specs.Flow.{cell_at}
 use Rattle.residual_flow.proofs.Sums.{sum_at_most}
-use Rattle.transport_core.specs.Groups.{GroupKey}
-use Rattle.transport_core.specs.Instance.{TransportProblem}
+use Rattle.transport_instance.specs.Groups.{GroupKey}
+use Rattle.transport_instance.specs.Instance.{TransportProblem}
 use Rattle.transport_network.specs.Numbered.{IsNumbered, row_at}
 use Rattle.transport_network.proofs.Numbering.{sum_to-list}
 use Rattle.flow_answers.specs.Costs.{all_cost, row_cost, unit_of}

@@ -10,8 +10,8 @@ use Rattle.residual_arcs.specs.Problem.{names_of}
 use Rattle.residual_arcs.specs.declared.problem.FlowProblem.{FlowProblem}
 use Rattle.residual_flow.specs.Flow.{IsFlowAt, flows_at, groups_of}
 use Rattle.shortest_path.specs.declared.arc.Arc.{Arc}
-use Rattle.transport_core.specs.Assignment.{IsProved}
-use Rattle.transport_core.specs.Instance.{TransportProblem}
+use Rattle.transport_instance.specs.Assignment.{IsProved}
+use Rattle.transport_instance.specs.Instance.{TransportProblem}
 use Rattle.transport_network.specs.Numbered.{IsNumbered}
 
 -- each name's total is within its limits

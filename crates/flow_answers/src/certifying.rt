@@ -7,9 +7,9 @@ ghost use Rattle.plan_text.specs.PlanFile.{has_whole_numbers};
 ghost use Rattle.price_core.specs.Limits.{limits_view};
 ghost use Rattle.residual_arcs.specs.Problem.{IsFlowProblem};
 ghost use Rattle.residual_flow.specs.Flow.{IsFlow};
-ghost use Rattle.transport_core.specs.Assignment.{IsProved};
-ghost use Rattle.transport_core.specs.Certificate.{alpha_view, beta_view, certificate_view};
-ghost use Rattle.transport_core.specs.Groups.{rows_view};
+ghost use Rattle.transport_instance.specs.Assignment.{IsProved};
+ghost use Rattle.transport_instance.specs.Certificate.{alpha_view, beta_view, certificate_view};
+ghost use Rattle.transport_instance.specs.Groups.{rows_view};
 ghost use Rattle.transport_network.specs.Numbered.{IsNumbered};
 
 use crate::cost::cost_of;
@@ -19,7 +19,7 @@ use residual_arcs::FlowProblem;
 use residual_flow::Flow;
 use shortest_path::Search;
 use std::alloc::{AllocError, Global};
-use transport_core::{Certificate, Instance};
+use transport_instance::{Certificate, Instance};
 
 /// The certificate of a cheapest flow of an instance, with the potentials that the last search left. A plan file can hold its
 /// numbers. It takes `O(groups * k)` steps at k names.

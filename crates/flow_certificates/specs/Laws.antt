@@ -3,10 +3,10 @@ use Rattle.std.specs.Prelude.{◌≡◌, ℕ, ℤ, Bool, List, length}
 use Rattle.std.specs.Map.{keys_of}
 use Rattle.bucket_core.specs.Rule.{Entries}
 use Rattle.price_core.specs.Limits.{AreLimits}
-use Rattle.transport_core.specs.Assignment.{IsProved, flow_cost, flows_of}
-use Rattle.transport_core.specs.Deficient.{IsOver, IsUnder}
-use Rattle.transport_core.specs.Groups.{AreSizes}
-use Rattle.transport_core.specs.Instance.{TransportProblem}
+use Rattle.transport_instance.specs.Assignment.{IsProved, flow_cost, flows_of}
+use Rattle.transport_instance.specs.Deficient.{IsOver, IsUnder}
+use Rattle.transport_instance.specs.Groups.{AreSizes}
+use Rattle.transport_instance.specs.Instance.{TransportProblem}
 use Rattle.flow_certificates.specs.Cuts.{IsStuck, IsUnmet}
 use Rattle.flow_certificates.specs.Slackness.{IsOptimal, AreLeastOffers, certificate_of}
 

@@ -17,10 +17,10 @@ use Rattle.residual_flow.specs.Flow.{IsFlow}
 use Rattle.residual_flow.specs.declared.flow.Flow.{Flow}
 use Rattle.shortest_path.specs.Found.{rank_of}
 use Rattle.shortest_path.specs.declared.search.Search.{Search}
-use Rattle.transport_core.specs.Assignment.{Arc, flows_of, inflow}
-use Rattle.transport_core.specs.Deficient.{IsOver, is_among, may_become}
-use Rattle.transport_core.specs.Groups.{AreSizes}
-use Rattle.transport_core.specs.Instance.{TransportProblem}
+use Rattle.transport_instance.specs.Assignment.{Arc, flows_of, inflow}
+use Rattle.transport_instance.specs.Deficient.{IsOver, is_among, may_become}
+use Rattle.transport_instance.specs.Groups.{AreSizes}
+use Rattle.transport_instance.specs.Instance.{TransportProblem}
 use Rattle.transport_network.specs.Numbered.{IsNumbered, limit_at, name_at, row_at}
 use Rattle.flow_cuts.specs.Chosen.{chosen}
 use Rattle.flow_cuts.specs.Marked.{AreHeld}

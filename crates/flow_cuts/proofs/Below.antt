@@ -18,12 +18,12 @@ use Rattle.residual_arcs.specs.declared.problem.FlowProblem.{FlowProblem}
 use Rattle.residual_flow.specs.declared.flow.Flow.{Flow}
 use Rattle.shortest_path.specs.Found.{rank_of}
 use Rattle.shortest_path.specs.declared.search.Search.{Search}
-use Rattle.transport_core.proofs.Arcs.{no_points, not_barred}
-use Rattle.transport_core.proofs.Plans.{none_over}
-use Rattle.transport_core.specs.Assignment.{Arc, IsPlaced, flows_of, inflow}
-use Rattle.transport_core.specs.Deficient.{IsOver, IsUnder, is_among, may_become}
-use Rattle.transport_core.specs.Groups.{AreSizes}
-use Rattle.transport_core.specs.Instance.{TransportProblem}
+use Rattle.transport_instance.proofs.Arcs.{no_points, not_barred}
+use Rattle.transport_instance.proofs.Plans.{none_over}
+use Rattle.transport_instance.specs.Assignment.{Arc, IsPlaced, flows_of, inflow}
+use Rattle.transport_instance.specs.Deficient.{IsOver, IsUnder, is_among, may_become}
+use Rattle.transport_instance.specs.Groups.{AreSizes}
+use Rattle.transport_instance.specs.Instance.{TransportProblem}
 use Rattle.transport_network.specs.Numbered.{IsNumbered, limit_at, name_at, row_at}
 use Rattle.flow_cuts.specs.Chosen.{chosen}
 use Rattle.flow_cuts.specs.Marked.{AreUnsettled}

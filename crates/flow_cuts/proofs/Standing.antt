@@ -10,9 +10,9 @@ use Rattle.residual_arcs.specs.Problem.{group_at, is_there, may_take, names_of, 
 use Rattle.residual_arcs.specs.declared.problem.FlowProblem.{FlowProblem}
 use Rattle.residual_flow.specs.Flow.{IsFlow, cell_at, groups_of, total_at}
 use Rattle.residual_flow.specs.declared.flow.Flow.{Flow}
-use Rattle.transport_core.specs.Assignment.{flows_of, inflow, spends_all}
-use Rattle.transport_core.specs.Deficient.{may_become}
-use Rattle.transport_core.specs.Instance.{TransportProblem}
+use Rattle.transport_instance.specs.Assignment.{flows_of, inflow, spends_all}
+use Rattle.transport_instance.specs.Deficient.{may_become}
+use Rattle.transport_instance.specs.Instance.{TransportProblem}
 use Rattle.transport_network.specs.Numbered.{IsNumbered, limit_at, name_at, row_at}
 use Rattle.flow_answers.proofs.Listed.{spent_all}
 use Rattle.flow_cuts.proofs.Listing.{inflow_is}

@@ -13,8 +13,8 @@ ghost use Rattle.price_core.specs.Limits.{limits_view};
 ghost use Rattle.residual_arcs.specs.Problem.{IsFlowProblem, names_of};
 ghost use Rattle.residual_flow.specs.Flow.{IsFlow};
 ghost use Rattle.shortest_path.specs.Found.{HasSize};
-ghost use Rattle.transport_core.specs.Deficient.{IsOver, IsUnder};
-ghost use Rattle.transport_core.specs.Groups.{AreSizes};
+ghost use Rattle.transport_instance.specs.Deficient.{IsOver, IsUnder};
+ghost use Rattle.transport_instance.specs.Groups.{AreSizes};
 ghost use Rattle.transport_network.specs.Numbered.{IsNumbered};
 
 use crate::marks::{mark_held, mark_unsettled, marked};
@@ -23,7 +23,7 @@ use residual_arcs::FlowProblem;
 use residual_flow::Flow;
 use shortest_path::Search;
 use std::alloc::{AllocError, Global};
-use transport_core::Instance;
+use transport_instance::Instance;
 
 /// The names of a cut over high limits: the old names of the points that stand at the names that the last search settled. It takes
 /// `O(groups * k)` steps at k names.

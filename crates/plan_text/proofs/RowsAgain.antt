@@ -8,8 +8,8 @@ use Rattle.flag_text.specs.Shape.{Shape, text, item, levels, items_levels}
 use Rattle.flag_text.specs.View.{view, items_of, items_view}
 use Rattle.flag_text.specs.declared.tree.Tree.{Tree}
 use Rattle.bucket_core.specs.Rule.{Entries}
-use Rattle.transport_core.specs.Certificate.{alpha_view}
-use Rattle.transport_core.specs.Groups.{GroupKey}
+use Rattle.transport_instance.specs.Certificate.{alpha_view}
+use Rattle.transport_instance.specs.Groups.{GroupKey}
 use Rattle.plan_text.specs.PlanFile.{items_by, alpha_written, beta_written, entry_written, each, alpha_of, beta_of, entry_of}
 
 items_of-map : {X : Type 0} (f : X → Shape) (xs : List X) → items_of (map f xs) ≡ items_by f xs

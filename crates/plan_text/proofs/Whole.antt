@@ -14,9 +14,9 @@ use Rattle.bucket_core.specs.Reading.{in_weights, weight_of}
 use Rattle.bucket_core.specs.Rule.{Entries, total_weight}
 use Rattle.bucket_core.specs.declared.fault.RuleFault.TheVariants.{NoWeight, TooHeavy}
 use Rattle.price_core.specs.Request.{number_below}
-use Rattle.transport_core.specs.Groups.{GroupKey, group_cmp}
-use Rattle.transport_core.specs.declared.certificate.CutKind.{CutKind}
-use Rattle.transport_core.specs.declared.certificate.CutKind.TheVariants.{Over, Under}
+use Rattle.transport_instance.specs.Groups.{GroupKey, group_cmp}
+use Rattle.transport_instance.specs.declared.certificate.CutKind.{CutKind}
+use Rattle.transport_instance.specs.declared.certificate.CutKind.TheVariants.{Over, Under}
 use Rattle.plan_text.specs.Answer.{Answer, none_exists, planned_view}
 use Rattle.plan_text.specs.declared.fault.PlanFileFault.{PlanFileFault}
 use Rattle.plan_text.specs.declared.fault.PlanFileFault.TheVariants.{WantOfMemory}

@@ -5,7 +5,7 @@ ghost use Rattle.flag_text.specs.Outcome.{GivesUnless};
 ghost use Rattle.flag_text.specs.Shape.{whole, text};
 ghost use Rattle.flag_text.specs.View.{view, items_view};
 ghost use Rattle.bucket_core.specs.Rule.{total_weight, entries_view, names_view};
-ghost use Rattle.transport_core.specs.Certificate.{alpha_row, alpha_view, beta_view, certificate_view};
+ghost use Rattle.transport_instance.specs.Certificate.{alpha_row, alpha_view, beta_view, certificate_view};
 ghost use Rattle.plan_text.specs.Answer.{emit, none_exists, IsOrdered, FitsFile, planned_view};
 ghost use Rattle.plan_text.specs.PlanFile.{items_by, alpha_written, beta_written, entry_written, planned_written, IsWhole, plan_file, answer_of};
 
@@ -15,7 +15,7 @@ use crate::read::MAX_PLAN;
 use bucket_core::Rule;
 use flag_text::{Tree, print_tree};
 use std::alloc::{AllocError, Global};
-use transport_core::{Certificate, Cut, CutKind};
+use transport_instance::{Certificate, Cut, CutKind};
 
 /// The bytes of the plan file of an answer, which read as the answer where it is in order. It refuses more than 67108864
 /// bytes with `TooLarge`. The condition is that its numbers are whole: alpha, beta and the cost within 2^53-1.

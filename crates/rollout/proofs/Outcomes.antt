@@ -1,6 +1,6 @@
 -- What is told of an answer, by what its parts told.
 use Rattle.std.proofs.Common.{◌≡◌, ◌≢◌, Result, Ok, Err, refl, sym, ap, subst}
-use Rattle.transport_core.specs.declared.fault.CheckFault.{CheckFault}
+use Rattle.transport_instance.specs.declared.fault.CheckFault.{CheckFault}
 use Rattle.plan_text.specs.Answer.{Answer}
 use Rattle.rollout.specs.Lawful.{Problem, IsLawful}
 use Rattle.rollout.specs.Verified.{Proves, Shows, Denies, IsOutcome, IsShown}

@@ -3,7 +3,7 @@ use Rattle.std.specs.Prelude.{◌≡◌, ℕ, List, None, Some, Ok}
 use Rattle.flag_defs.specs.Document.{Definitions}
 use Rattle.book_core.specs.Book.{Contents}
 use Rattle.bucket_core.specs.Rule.{Entries}
-use Rattle.transport_core.specs.Certificate.{DualPrices}
+use Rattle.transport_instance.specs.Certificate.{DualPrices}
 use Rattle.plan_text.specs.Answer.{Answer, emit}
 use Rattle.rollout.specs.Lawful.{Problem}
 use Rattle.rollout.specs.Planned.{IsPlan}

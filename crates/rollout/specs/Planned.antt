@@ -1,7 +1,7 @@
 -- What is planned of a rollout request.
 use Rattle.std.specs.Prelude.{◌≡◌, ◌≢◌, ℕ, List, Result, Ok, Err}
-use Rattle.transport_core.specs.Deficient.{IsDeficient}
-use Rattle.transport_core.specs.declared.certificate.CutKind.TheVariants.{Over, Under}
+use Rattle.transport_instance.specs.Deficient.{IsDeficient}
+use Rattle.transport_instance.specs.declared.certificate.CutKind.TheVariants.{Over, Under}
 use Rattle.plan_text.specs.Answer.{Answer, emit, none_exists, planned_view}
 use Rattle.rollout.specs.Lawful.{Problem, IsLawful}
 use Rattle.rollout.specs.Verified.{Proves, Shows}

@@ -1,52 +1,15 @@
-//! Whether a rollout's answer is right, whoever made it: the definitions of a rule that fits and costs the least, and the
-//! checks of a plan with its certificate and of a cut.
+//! Whether a plan is right, whoever made it: the check of a new rule with the certificate of its cost.
 //!
-//! ```rust
-//! use bucket_core::read_rule;
-//! use flag_text::read_tree;
-//! use price_core::Request;
-//! use transport_core::{Cut, CutKind, check_cut};
-//!
-//! let old = read_rule(alloc, &read_tree(alloc, br#"[["red",5],["blue",5]]"#, 1000)?)?;
-//! let request = br#"{"plan":1,"flag":"color","totals":{"red":3,"blue":1,"green":6},"forbid":[["red","green"]]}"#;
-//! let request = Request::read(alloc, request)?;
-//! let [red, blue, green] = ["red", "blue", "green"].map(|name| String::from_str(alloc, name));
-//! let names = vec![in alloc; blue?, green?, red?]?;
-//! let limits = request.totals(alloc, names.as_slice())?;
-//! // The 5 points of red may not become green, and red and blue may have 4 in all.
-//! let names = vec![in alloc; String::from_str(alloc, "red")?]?;
-//! check_cut(alloc, &old, &limits, request.prices(), &Cut { kind: CutKind::Over, names })?;
-//! ```
-//!
-//! Proved, over the definitions of `specs/`: `check_plan` accepts a rule exactly where it fits (`Fits`) and the certificate's
-//! numbers, one for each group and name, are dual prices (`Dual`, `Certificate`) that prove its cost, and then no rule of any
-//! shape that fits costs the inputs less; each refusal comes first in its order (`Refusals`). `check_cut` accepts a set of
-//! names exactly where it is deficient (`Deficient`), and then no rule fits. What both rest on are two laws, `weak_duality` and
-//! `deficient_sets_fit_none`.
-//!
-//! An `Instance` is what a planner is given: groups of points, limits and prices, without the rule or the inputs. Proved of it:
-//! `make` gives the groups of the rule (`Instance`). What shows that an assignment on it costs the least is `IsProved`
-//! (`Assignment`), which planners are proved to reach.
+//! Proved, over the definitions of transport_instance: `check_plan` accepts a rule exactly where it fits (`Fits`) and the
+//! certificate's numbers, one for each group and name, are dual prices (`Dual`, `Certificate`) that prove its cost, and then no
+//! rule of any shape that fits costs the inputs less; each refusal comes first in its order (`Refusals`). The types, the check
+//! of a cut and the laws that both rest on are transport_instance's, and are handed on here.
 #![tactic(auto)]
 
-mod assignment;
-mod certificate;
-mod counted;
-mod cut;
-mod duals;
-mod fault;
-mod groups;
-mod instance;
-mod laws;
 mod plan;
-mod rows;
-mod slack;
-mod totals;
 
-pub use assignment::{Assignment, AssignmentRow};
-pub use certificate::{Certificate, Cut, CutKind};
-pub use cut::check_cut;
-pub use fault::CheckFault;
-pub use instance::Instance;
-pub use laws::{deficient_sets_fit_none, weak_duality};
 pub use plan::check_plan;
+pub use transport_instance::{
+    Assignment, AssignmentRow, Certificate, CheckFault, Cut, CutKind, Instance, check_cut,
+    deficient_sets_fit_none, weak_duality,
+};

@@ -1,21 +1,18 @@
 //! The check of a plan and its certificate.
 ghost use Rattle.std.specs.Prelude.{◌≡◌, ◌≢◌, ◌<◌, ◌^◌, length, map, string_bytes, sum_by, OnOk, IfErr, IsErrOf, MatchResult};
 ghost use Rattle.bucket_core.specs.Rule.{total_weight};
-ghost use Rattle.transport_core.specs.Certificate.{IsCertified, certificate_view};
-ghost use Rattle.transport_core.specs.Fits.{Fits, IsLeast};
-ghost use Rattle.transport_core.specs.Refusals.{Refuses, RefusesRule, ChecksDuals};
+ghost use Rattle.transport_instance.specs.Certificate.{IsCertified, certificate_view};
+ghost use Rattle.transport_instance.specs.Fits.{Fits, IsLeast};
+ghost use Rattle.transport_instance.specs.Refusals.{Refuses, RefusesRule, ChecksDuals};
 
-use crate::certificate::Certificate;
-use crate::duals::{are_groups, are_names, sums_to};
-use crate::fault::CheckFault;
-use crate::groups::groups;
-use crate::slack::first_broken;
-use crate::totals::keeps_limits;
 use book_core::Exposure;
 use bucket_core::Rule;
 use price_core::{Prices, Totals, first_forbidden, switch_cost};
 use std::alloc::Global;
 use std::thread::Threads;
+use transport_instance::{
+    Certificate, CheckFault, are_groups, are_names, first_broken, groups, keeps_limits, sums_to,
+};
 
 /// Checks that a new rule fits the request and that a certificate proves its cost for the inputs, so that no rule which
 /// fits costs less. It refuses, in this order, with `Weight` (the rules differ in their totals), `Totals` (a total is outside

@@ -4,8 +4,8 @@ use Rattle.std.specs.Map.{keys_of}
 use Rattle.residual_arcs.specs.Offered.{IsPrice}
 use Rattle.residual_arcs.specs.Problem.{group_at, names_of, price_at}
 use Rattle.residual_arcs.specs.declared.problem.FlowProblem.{FlowProblem}
-use Rattle.transport_core.specs.Groups.{GroupKey}
-use Rattle.transport_core.specs.Instance.{TransportProblem}
+use Rattle.transport_instance.specs.Groups.{GroupKey}
+use Rattle.transport_instance.specs.Instance.{TransportProblem}
 use Rattle.transport_network.specs.Network.{switch_price}
 
 abbrev pub name_at : TransportProblem → ℕ → List ℕ

@@ -2,7 +2,7 @@
 //!
 //! ```rust
 //! use residual_arcs::FlowProblem;
-//! use transport_core::Instance;
+//! use transport_instance::Instance;
 //! use transport_network::flow_problem;
 //!
 //! /// Whether points of one name may change to another, by the places of the names.

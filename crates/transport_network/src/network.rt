@@ -5,7 +5,7 @@ ghost use Rattle.std.specs.List.Sorted.{IsStrictlySortedBy};
 ghost use Rattle.std.specs.Map.{keys_of};
 ghost use Rattle.std.specs.Ordering.{nat_cmp};
 ghost use Rattle.price_core.specs.Limits.{limits_view};
-ghost use Rattle.transport_core.specs.Groups.{rows_view};
+ghost use Rattle.transport_instance.specs.Groups.{rows_view};
 ghost use Rattle.transport_network.specs.Network.{AreGroups, price_row, switch_price};
 ghost use Rattle.transport_network.specs.Numbered.{IsNumbered, IsPriced};
 ghost use Rattle.residual_arcs.specs.Problem.{IsFlowProblem};
@@ -13,7 +13,7 @@ ghost use Rattle.residual_arcs.specs.Problem.{IsFlowProblem};
 use price_core::{Limit, Prices};
 use residual_arcs::{FlowProblem, Group};
 use std::alloc::{AllocError, Global};
-use transport_core::Instance;
+use transport_instance::Instance;
 
 /// The problem of an instance in numbers: a name is an index of the limits, and groups stand by old variant and then by count.
 pub fn flow_problem(alloc: Global, instance: &Instance<'_>) -> Result<FlowProblem, AllocError>

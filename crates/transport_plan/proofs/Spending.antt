@@ -6,9 +6,9 @@ use Rattle.flow_passes.specs.Effort.{Searches, nodes_of, points_of}
 use Rattle.residual_arcs.specs.Problem.{group_at, names_of, sum_to}
 use Rattle.residual_arcs.specs.declared.problem.FlowProblem.{FlowProblem}
 use Rattle.search_effort.specs.Spent.{Spent}
-use Rattle.transport_core.specs.Groups.{GroupKey}
-use Rattle.transport_core.specs.Instance.{TransportProblem, IsProblem}
-use Rattle.transport_core.specs.Rows.{whole_amount}
+use Rattle.transport_instance.specs.Groups.{GroupKey}
+use Rattle.transport_instance.specs.Instance.{TransportProblem, IsProblem}
+use Rattle.transport_instance.specs.Rows.{whole_amount}
 use Rattle.transport_network.specs.Numbered.{IsNumbered}
 use Rattle.transport_network.proofs.Numbering.{sum_to-list}
 

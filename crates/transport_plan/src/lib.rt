@@ -1,7 +1,7 @@
 //! The planner: a cheapest flow from the groups of an instance's points to the names that they are given.
 //!
 //! ```rust
-//! use transport_core::Instance;
+//! use transport_instance::Instance;
 //! use transport_plan::{Solved, solve_uncounted};
 //!
 //! fn least_cost(alloc: Global, instance: &Instance) -> Result<Option<u64>, Fail> {
@@ -12,7 +12,7 @@
 //! }
 //! ```
 //!
-//! Proved, over the definitions of `specs/Solved` and of `transport_core`: `solve` always decides. It answers a plan with an
+//! Proved, over the definitions of `specs/Solved` and of `transport_instance`: `solve` always decides. It answers a plan with an
 //! assignment and a certificate such that each new rule with this assignment passes the check of the certificate and no rule
 //! that fits costs the recorded inputs less, or a cut that is deficient by its kind, one under the low limits only where no set
 //! of names is over the high ones; want of memory is its only fault. No answer is tested before it is given: the layers below

@@ -9,9 +9,9 @@ ghost use Rattle.flow_passes.specs.Placing.{IsStuckAbove};
 ghost use Rattle.plan_text.specs.PlanFile.{has_whole_numbers};
 ghost use Rattle.residual_arcs.specs.Problem.{IsFlowProblem};
 ghost use Rattle.residual_flow.specs.Flow.{IsFlow};
-ghost use Rattle.transport_core.specs.Assignment.{IsProved};
-ghost use Rattle.transport_core.specs.Certificate.{certificate_view};
-ghost use Rattle.transport_core.specs.Rows.{whole_amount};
+ghost use Rattle.transport_instance.specs.Assignment.{IsProved};
+ghost use Rattle.transport_instance.specs.Certificate.{certificate_view};
+ghost use Rattle.transport_instance.specs.Rows.{whole_amount};
 ghost use Rattle.transport_network.specs.Numbered.{IsNumbered};
 ghost use Rattle.transport_plan.specs.Solved.{IfPlan, IfNone, IsPlan, IsCut, IsNeverOver};
 
@@ -26,7 +26,7 @@ use shortest_path::Search;
 use std::alloc::{AllocError, Global};
 use std::marker::Brand;
 use std::sync::ledger::{Blank, Ledger};
-use transport_core::{Assignment, Certificate, Cut, CutKind, Instance};
+use transport_instance::{Assignment, Certificate, Cut, CutKind, Instance};
 use transport_network::flow_problem;
 
 /// What the planner answers of an instance.

@@ -3,7 +3,7 @@ use Rattle.std.proofs.Common.{◌≡◌, ◌<◌, ℕ, List, length, Some, get_o
 use Rattle.std.specs.List.{Contains, slice_get}
 use Rattle.std.specs.Map.{keys_of}
 use Rattle.bucket_core.specs.Rule.{total_weight}
-use Rattle.transport_core.specs.Groups.{GroupKey, group_at, rows_view}
+use Rattle.transport_instance.specs.Groups.{GroupKey, group_at, rows_view}
 use Rattle.assignment_rule.proofs.Places.{length-counts, group_here, group_listed, at_push}
 use Rattle.assignment_rule.proofs.placing.groups_of.Goals as goal
 

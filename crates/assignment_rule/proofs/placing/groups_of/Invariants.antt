@@ -1,7 +1,7 @@
 use Rattle.std.proofs.Common.{◌≡◌, ℕ, ◌<◌, length, get_or, Some}
 use Rattle.std.specs.List.{slice_get}
 use Rattle.std.specs.Map.{keys_of}
-use Rattle.transport_core.specs.Groups.{group_at, rows_view}
+use Rattle.transport_instance.specs.Groups.{group_at, rows_view}
 use Rattle.assignment_rule.proofs.placing.groups_of.Given as goal
 
 abbrev pub invariant-loop-p : goal.invariant-loop-p

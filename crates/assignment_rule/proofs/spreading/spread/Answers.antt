@@ -3,9 +3,9 @@ use Rattle.std.proofs.Common.{◌<◌, ℕ, List, sym, ap, ◌∙◌, subst, ari
 use Rattle.std.specs.List.{All, Contains}
 use Rattle.std.specs.Map.{keys_of}
 use Rattle.bucket_core.specs.Rule.{names_view}
-use Rattle.transport_core.specs.Groups.{GroupKey, rows_view}
-use Rattle.transport_core.specs.Rows.{whole_amount}
-use Rattle.transport_core.proofs.Plans.{few_groups}
+use Rattle.transport_instance.specs.Groups.{GroupKey, rows_view}
+use Rattle.transport_instance.specs.Rows.{whole_amount}
+use Rattle.transport_instance.proofs.Plans.{few_groups}
 use Rattle.assignment_rule.proofs.spreading.spread.Goals as goal
 
 pub spread_over-requires-clause-few : goal.spread_over-requires-clause-few

@@ -5,9 +5,9 @@ use Rattle.std.specs.Map.{keys_of}
 use Rattle.std.proofs.lemmas.List.{length-map}
 use Rattle.std.proofs.lemmas.Result.{IfOk-weaker}
 use Rattle.bucket_core.specs.Rule.{Entries, points, names_at, names_view}
-use Rattle.transport_core.specs.Assignment.{HasAssignment, arc_flows}
-use Rattle.transport_core.specs.Groups.{row_view, rows_view}
-use Rattle.transport_core.proofs.Plans.{whole-groups}
+use Rattle.transport_instance.specs.Assignment.{HasAssignment, arc_flows}
+use Rattle.transport_instance.specs.Groups.{row_view, rows_view}
+use Rattle.transport_instance.proofs.Plans.{whole-groups}
 use Rattle.assignment_rule.specs.Dealing.{IsDealt}
 use Rattle.assignment_rule.proofs.Assigned.{group_within, group_points, has_assignment}
 use Rattle.assignment_rule.proofs.Names.{apart}

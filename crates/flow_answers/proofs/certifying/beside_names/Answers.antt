@@ -7,9 +7,9 @@ use Rattle.std.specs.List.{zip}
 use Rattle.std.specs.Map.{keys_of}
 use Rattle.price_core.specs.Limits.{limits_view}
 use Rattle.price_core.specs.declared.totals.Limit.{Limit}
-use Rattle.transport_core.specs.Certificate.{beta_row}
-use Rattle.transport_core.proofs.Arcs.{element_here}
-use Rattle.transport_core.proofs.Ranges.{from_here}
+use Rattle.transport_instance.specs.Certificate.{beta_row}
+use Rattle.transport_instance.proofs.Arcs.{element_here}
+use Rattle.transport_instance.proofs.Ranges.{from_here}
 use Rattle.flow_answers.proofs.Pushed.{all_pushed, one_more}
 use Rattle.flow_answers.proofs.certifying.beside_names.Goals as goal
 

@@ -5,9 +5,9 @@ use Rattle.std.specs.Map.{keys_of}
 use Rattle.plan_text.specs.PlanFile.{has_whole_numbers}
 use Rattle.price_core.specs.Limits.{Limits}
 use Rattle.residual_arcs.specs.Problem.{names_of}
-use Rattle.transport_core.specs.Assignment.{IsProved}
-use Rattle.transport_core.specs.Certificate.{DualPrices, alpha_view, beta_view}
-use Rattle.transport_core.specs.Groups.{GroupKey}
+use Rattle.transport_instance.specs.Assignment.{IsProved}
+use Rattle.transport_instance.specs.Certificate.{DualPrices, alpha_view, beta_view}
+use Rattle.transport_instance.specs.Groups.{GroupKey}
 use Rattle.flow_answers.proofs.Certified.{cost_same, is_proved, is_whole, prices_are, same_certificate}
 use Rattle.flow_answers.proofs.certifying.certificate.Goals as goal
 

@@ -4,7 +4,7 @@ use Rattle.std.proofs.lemmas.Grind.{common_steps}
 use Rattle.std.proofs.lemmas.List.{take_all}
 use Rattle.std.proofs.lemmas.List.Elements.{All-more}
 use Rattle.plan_text.proofs.RowsAgain.{items_view-rows, counts_small}
-use Rattle.transport_core.specs.Certificate.{alpha_view}
+use Rattle.transport_instance.specs.Certificate.{alpha_view}
 use Rattle.plan_text.specs.PlanFile.{alpha_written}
 use Rattle.plan_text.proofs.print.alpha_trees.Goals as goal
 

@@ -1,7 +1,7 @@
 use Rattle.std.proofs.Common.{◌≡◌, ◌<◌, ◌^◌, take, map}
 use Rattle.std.specs.List.{All}
 use Rattle.flag_text.specs.View.{view}
-use Rattle.transport_core.specs.Certificate.{alpha_view}
+use Rattle.transport_instance.specs.Certificate.{alpha_view}
 use Rattle.plan_text.specs.PlanFile.{alpha_written}
 use Rattle.plan_text.proofs.print.alpha_trees.Given as goal
 

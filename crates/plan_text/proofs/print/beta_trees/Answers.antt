@@ -1,7 +1,7 @@
 use Rattle.std.proofs.Common.{ap, ◌∙◌, map, arith}
 use Rattle.std.proofs.lemmas.List.{take_all}
 use Rattle.plan_text.proofs.RowsAgain.{items_view-rows}
-use Rattle.transport_core.specs.Certificate.{beta_view}
+use Rattle.transport_instance.specs.Certificate.{beta_view}
 use Rattle.plan_text.specs.PlanFile.{beta_written}
 use Rattle.plan_text.proofs.print.beta_trees.Goals as goal
 

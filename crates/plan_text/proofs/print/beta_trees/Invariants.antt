@@ -1,6 +1,6 @@
 use Rattle.std.proofs.Common.{◌≡◌, take, map}
 use Rattle.flag_text.specs.View.{view}
-use Rattle.transport_core.specs.Certificate.{beta_view}
+use Rattle.transport_instance.specs.Certificate.{beta_view}
 use Rattle.plan_text.specs.PlanFile.{beta_written}
 use Rattle.plan_text.proofs.print.beta_trees.Given as goal
 

@@ -1,10 +1,10 @@
 -- a plan that passes is certified, and one that is refused is not
 use Rattle.std.proofs.Common.{◌≢◌, ℕ, List, sym, ◌∙◌, subst, arith}
-use Rattle.transport_core.specs.Certificate.{certificate_view, IsCertified}
-use Rattle.transport_core.specs.Refusals.{RefusesDuals, AreDuals}
-use Rattle.transport_core.specs.declared.fault.CheckFault.{CheckFault}
-use Rattle.transport_core.specs.declared.fault.CheckFault.TheVariants.{WantOfMemory}
-use Rattle.transport_core.proofs.Certified.{lows-fit, refused_not, refuses_rule, refuses_duals, certified_duals, least_from, err_exit}
+use Rattle.transport_instance.specs.Certificate.{certificate_view, IsCertified}
+use Rattle.transport_instance.specs.Refusals.{RefusesDuals, AreDuals}
+use Rattle.transport_instance.specs.declared.fault.CheckFault.{CheckFault}
+use Rattle.transport_instance.specs.declared.fault.CheckFault.TheVariants.{WantOfMemory}
+use Rattle.transport_instance.proofs.Certified.{lows-fit, refused_not, refuses_rule, refuses_duals, certified_duals, least_from, err_exit}
 use Rattle.transport_core.proofs.plan.check_plan.Goals as goal
 
 pub returns-in_err-check_rule-clause-exact : goal.returns-in_err-check_rule-clause-exact

@@ -1,7 +1,7 @@
 use Rattle.std.proofs.Common.{ℕ, List, sym, arith}
 use Rattle.std.proofs.lemmas.Bool.{MatchBool-at_true}
-use Rattle.transport_core.specs.Refusals.{KeepsLimits, BreaksLimit}
-use Rattle.transport_core.proofs.Certified.{fits_from}
+use Rattle.transport_instance.specs.Refusals.{KeepsLimits, BreaksLimit}
+use Rattle.transport_instance.proofs.Certified.{fits_from}
 use Rattle.transport_core.proofs.plan.check_rule.Goals as goal
 
 pub returns-in-None-clause-exact : goal.returns-in-None-clause-exact

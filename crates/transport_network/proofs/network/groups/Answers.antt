@@ -2,7 +2,7 @@
 use Rattle.std.proofs.Common.{◌++◌, ◌∷◌, ℕ, [], List, take, get_or, Bor, refl, sym, subst}
 use Rattle.std.specs.Map.{keys_of}
 use Rattle.price_core.specs.Limits.{limits_view}
-use Rattle.transport_core.specs.Groups.{GroupKey, row_view, rows_view}
+use Rattle.transport_instance.specs.Groups.{GroupKey, row_view, rows_view}
 use Rattle.transport_network.specs.Network.{AreGroups, IsGroup}
 use Rattle.residual_arcs.specs.declared.problem.Group.{Group}
 use Rattle.transport_network.proofs.Listed.{group_more, rows-more, row-listed}

@@ -3,7 +3,7 @@ use Rattle.std.proofs.Common.{◌≡◌, ◌+◌, ◌<◌, ℕ, List, drop, get_
 use Rattle.std.proofs.lemmas.Bool.{lt-leb}
 use Rattle.book_core.specs.Book.{most_bytes}
 use Rattle.flagops_commands.specs.Price.{are_short}
-use Rattle.transport_core.proofs.Ranges.{from_here}
+use Rattle.transport_instance.proofs.Ranges.{from_here}
 use Rattle.flagops_commands.proofs.rules.price.are_short.Goals as goal
 
 long_here : (keys : List (String Global)) (i : ℕ) (key : String Global) → i < length keys → key ≡ get_or keys i key → most_bytes < length (string_bytes key) → are_short (drop i keys) ≡ false

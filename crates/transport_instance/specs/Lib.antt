@@ -1,0 +1,12 @@
+pub mod Assignment
+pub mod Certificate
+pub mod Deficient
+pub mod Dual
+pub mod Fault
+pub mod Fits
+pub mod Groups
+pub mod Instance
+pub mod Laws
+pub mod Refusals
+pub mod Rows
+pub mod Sum

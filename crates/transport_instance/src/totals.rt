@@ -1,0 +1,101 @@
+//! The totals of a rule's names, and whether they are within their limits.
+ghost use Rattle.std.specs.Prelude.{◌≡◌, ◌≤◌, ◌<◌, ◌^◌, List, ℕ, IfOk, MatchBool};
+ghost use Rattle.std.specs.Cmp.Lexicographic.{slice_cmp};
+ghost use Rattle.std.specs.List.Sorted.{IsStrictlySortedBy};
+ghost use Rattle.std.specs.Map.{keys_of};
+ghost use Rattle.std.specs.Ordering.{nat_cmp};
+ghost use Rattle.bucket_core.specs.Rule.{total_weight, entries_view};
+ghost use Rattle.price_core.specs.Limits.{high_of, limits_view};
+ghost use Rattle.transport_instance.specs.Refusals.{KeepsLimits, BreaksLimit};
+ghost use Rattle.transport_instance.specs.Rows.{AreTotals, BreakHigh, BreakLow, KeepHigh, KeepLow, total_in, totals_view};
+
+use crate::rows::joined;
+use bucket_core::Rule;
+use price_core::{Limit, Totals};
+use std::alloc::{AllocError, Global};
+
+/// Whether the total of each text is within its limits. It takes `O(n log n)` steps at n entries, and `O(k)` for each of
+/// k names.
+pub fn keeps_limits(alloc: Global, rule: &Rule, limits: &Totals) -> Result<bool, AllocError>
+    ensures { IfOk result (λ kept. MatchBool kept (KeepsLimits rule.now limits.now) ((name : List ℕ) × BreaksLimit rule.now limits.now name)) }
+{
+    let totals = totals(alloc, rule)?;
+    let limits = limits.entries();
+    if !keeps_high(totals.as_slice(), limits) {
+        return Ok(false);
+    }
+    Ok(keeps_low(totals.as_slice(), limits))
+}
+
+/// The total of each name of a rule, by name.
+pub(crate) fn totals<'a>(alloc: Global, rule: &'a Rule) -> Result<Vec<(&'a str, u32)>, AllocError>
+    ensures { IfOk result (λ v. AreTotals rule.now (totals_view v.items)) }
+{
+    // Called for what its contract says: no sum of a rule's weights is above 2^31-1.
+    let _total = rule.total();
+    let mut weights = weights(alloc, rule.entries())?;
+    weights.sort_unstable();
+    joined(alloc, weights.as_slice())
+}
+
+/// The entries, with their names lent.
+fn weights(alloc: Global, entries: &[(String, u64)]) -> Result<Vec<(&str, u32)>, AllocError>
+    requires { total_weight (entries_view entries.now) < 2 ^ 31 }
+    ensures { IfOk result (λ v. totals_view v.items ≡ entries_view entries.now) }
+{
+    let mut weights = Vec::new(alloc);
+    for (name, weight) in entries {
+        weights.push((name.as_str(), *weight as u32))?;
+    }
+    Ok(weights)
+}
+
+fn keeps_high(totals: &[(&str, u32)], limits: &[Limit]) -> bool
+    requires { IsStrictlySortedBy (slice_cmp nat_cmp) (keys_of (totals_view totals.now)) }
+    ensures { MatchBool result
+        (KeepHigh (totals_view totals.now) (limits_view limits.now)) (BreakHigh (totals_view totals.now) (limits_view limits.now)) }
+{
+    for (name, total) in totals {
+        if high_of(limits, name) < *total {
+            return false;
+        }
+    }
+    true
+}
+
+fn keeps_low(totals: &[(&str, u32)], limits: &[Limit]) -> bool
+    requires { IsStrictlySortedBy (slice_cmp nat_cmp) (keys_of (limits_view limits.now)) }
+    ensures { MatchBool result
+        (KeepLow (totals_view totals.now) (limits_view limits.now)) (BreakLow (totals_view totals.now) (limits_view limits.now)) }
+{
+    for limit in limits {
+        if total_in(totals, limit.name.as_str()) < limit.low {
+            return false;
+        }
+    }
+    true
+}
+
+/// The high limit of a text, 0 where it is not listed.
+fn high_of(limits: &[Limit], name: &str) -> u32
+    ensures { result ≡ high_of (limits_view limits.now) name.now }
+{
+    for limit in limits {
+        if name == limit.name.as_str() {
+            return limit.high;
+        }
+    }
+    0
+}
+
+/// The total of a text, 0 where it is not listed.
+fn total_in(totals: &[(&str, u32)], name: &str) -> u32
+    ensures { result ≡ total_in (totals_view totals.now) name.now }
+{
+    for (other, total) in totals {
+        if name == *other {
+            return *total;
+        }
+    }
+    0
+}
