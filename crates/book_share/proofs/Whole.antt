@@ -29,7 +29,7 @@ use Rattle.book_core.specs.declared.noted.Noted.TheVariants.{New, Again}
 use Rattle.book_core.specs.declared.fault.BookFault.TheVariants.{PageFull, InputTooLong}
 use Rattle.book_core.proofs.Noting.{exposure_found, is_among-by_order}
 use Rattle.book_core.proofs.Ordered.{length-insert_key, sorted-insert_key}
-use Rattle.logic_eval.specs.Views.{reach_view}
+use Rattle.logic_evaluator.specs.Views.{reach_view}
 use Rattle.flag_resolve.specs.Views.{resolution_view}
 use Rattle.flag_resolve.specs.Resolved.{Resolved}
 use Rattle.flag_resolve.specs.declared.resolution.Resolution.{Resolution}

@@ -2,7 +2,7 @@
 ghost use Rattle.std.specs.Prelude.{◌≡◌, ◌<◌, ◌≤◌, ◌+◌, ◌-◌, ◌^◌, [], ◌∷◌, ◌++◌, map, nat_lt, length, if◌then◌else◌, Some, IfOk, IfSome, option_map, string_bytes};
 ghost use Rattle.flag_defs.specs.Flags.{flags_view};
 ghost use Rattle.logic_ast.specs.Expr.{view};
-ghost use Rattle.logic_eval.specs.Views.{reach_view};
+ghost use Rattle.logic_evaluator.specs.Views.{reach_view};
 ghost use Rattle.book_core.specs.Book.{most_bytes};
 ghost use Rattle.book_lock.specs.Counts.{own};
 ghost use Rattle.book_share.specs.Asked.{by_at, mention, mentions_by, page_of, targeting_of as targeting_named};
@@ -13,7 +13,7 @@ use book_core::{BookFault, Page};
 use book_lock::{BookName, Seat, SharedBook};
 use flag_defs::Flags;
 use logic_ast::{Expr, LogicFault, by_text};
-use logic_eval::Reached;
+use logic_evaluator::Reached;
 use std::alloc::{AllocError, Global};
 use std::sync::Wait;
 

@@ -6,8 +6,8 @@ use Rattle.flag_text.specs.Shape.{Shape, is_whole, items_are_whole}
 use Rattle.flag_text.specs.View.{view, items_view}
 use Rattle.flag_text.specs.declared.tree.Tree.{Tree}
 use Rattle.flag_text.proofs.Bools.{both, left, right}
-use Rattle.logic_eval.specs.Views.{reach_view}
-use Rattle.logic_eval.specs.declared.meter.Reached.{Reached}
+use Rattle.logic_evaluator.specs.Views.{reach_view}
+use Rattle.logic_evaluator.specs.declared.meter.Reached.{Reached}
 use Rattle.flag_resolve.specs.Printing.{details, reach_shape}
 use Rattle.flag_resolve.specs.Views.{reached_shape}
 

@@ -2,7 +2,7 @@
 ghost use Rattle.std.specs.Prelude.{◌≡◌, true, map, option_copied, option_map, string_bytes, IfOk};
 ghost use Rattle.flag_text.specs.Shape.{is_whole, items_are_whole, list};
 ghost use Rattle.flag_text.specs.View.{view, items_of, items_view};
-ghost use Rattle.logic_eval.specs.Views.{reach_view};
+ghost use Rattle.logic_evaluator.specs.Views.{reach_view};
 ghost use Rattle.flag_resolve.specs.Printing.{details, text_or_null, reach_shape, resolution_shape, resolution_text};
 ghost use Rattle.flag_resolve.specs.Views.{reached_shape, resolution_view};
 ghost use Rattle.flag_resolve.specs.Words.{code_word};

@@ -16,38 +16,18 @@
 //! assert!(rt; reached.len() == 2 && reached[0].input.as_str() == "test" && reached[0].total == 10);
 //! ```
 //!
-//! Proved, over the definitions in `specs/`: value, reached list and fault are those of `evaluation_of` (`Evaluation`,
-//! `Operators`, `Run`), for every expression and context; the value is whole; what is reached is of the expression's sites.
-//! [`a_literal_site_chooses`] and [`a_branch_not_taken_is_not_evaluated`] say what the definition amounts to (`Laws`).
+//! Proved, over the definitions in `logic_evaluator`'s `specs/`: value, reached list and fault are those of `evaluation_of`
+//! (`Evaluation`, `Operators`, `Run`), for every expression and context; the value is whole; what is reached is of the
+//! expression's sites. [`a_literal_site_chooses`] and [`a_branch_not_taken_is_not_evaluated`] say what the definition amounts to
+//! (`Laws`). The work is `logic_evaluator`'s, node by node; here stand the start at the root, the budget and the laws.
 #![tactic(auto)]
 
-mod apply;
-mod arithmetic;
-mod choice;
-mod comparison;
-mod context;
-mod evaluate;
 mod evaluation;
-mod fault;
-mod find;
-mod fractional;
 mod laws;
-mod lists;
-mod meter;
-mod missing;
-mod number;
-mod scope;
-mod text;
-mod truth;
-mod value;
-mod variable;
-mod version;
 
-pub use context::Context;
 pub use evaluation::eval;
-pub use fault::EvalFault;
 pub use laws::{
     a_branch_not_taken_is_not_evaluated, a_literal_site_chooses,
     a_rule_that_chooses_alike_changes_nothing_else,
 };
-pub use meter::Reached;
+pub use logic_evaluator::{Context, EvalFault, Reached};

@@ -1,7 +1,7 @@
 use Rattle.std.proofs.Common.{◌≡◌, ◌+◌, ◌≤◌, length, map, take}
 use Rattle.std.specs.Prelude.{IfSome}
 use Rattle.flag_defs.specs.Flags.{flags_view}
-use Rattle.logic_eval.specs.Views.{reach_view}
+use Rattle.logic_evaluator.specs.Views.{reach_view}
 use Rattle.book_lock.specs.Counts.{own}
 use Rattle.book_share.specs.Asked.{mentions_in, page_of, targeting_of}
 use Rattle.book_share.specs.Driven.{AreFull, Notes, noted_by}

@@ -1,7 +1,7 @@
 use Rattle.std.proofs.Common.{ap, ◌∙◌}
 use Rattle.flag_text.specs.Shape.{list}
 use Rattle.flag_text.specs.View.{items_of}
-use Rattle.logic_eval.proofs.Truths.{view_list}
+use Rattle.logic_evaluator.proofs.Truths.{view_list}
 use Rattle.flag_resolve.proofs.Items.{reached_shapes}
 use Rattle.flag_resolve.proofs.print.reached_tree.Goals as goal
 

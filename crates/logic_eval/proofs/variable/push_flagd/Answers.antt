@@ -1,5 +1,0 @@
-use Rattle.logic_eval.proofs.Paths.{before_one_more}
-use Rattle.logic_eval.proofs.variable.push_flagd.Goals as goal
-
-pub returns : goal.returns
-returns c = before_one_more _ _ _ _ _ c.in_ok-push.ensures.items c.in_ok-name.ensures.ok c.in_ok-copy.ensures

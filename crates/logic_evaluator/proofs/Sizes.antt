@@ -1,0 +1,34 @@
+-- Paying for the items and members of a value one after the other.
+use Rattle.std.proofs.Common.{◌≡◌, ℕ, suc, ◌+◌, ◌<◌, List, ◌∷◌, length, get_or, drop, drop-cons, add-one, Ok, Err, String, Global, Vec, rules, sym, ap}
+use Rattle.flag_text.specs.declared.tree.Tree.{Tree, the_lemmas}
+use Rattle.flag_text.specs.declared.tree.Tree.TheVariants as tree
+use Rattle.flag_text.specs.Shape.{object}
+use Rattle.flag_text.specs.View.{view, items_view, members_view}
+use Rattle.logic_evaluator.specs.declared.fault.EvalFault.{EvalFault}
+use Rattle.logic_evaluator.specs.Budget.{Progress, paid}
+use Rattle.logic_evaluator.specs.Run.{spends}
+use Rattle.logic_evaluator.specs.Scope.{size, items_size, members_size}
+use Rattle.logic_evaluator.proofs.Budgets.{spends_ok, spends_err}
+
+pub view_object : (v : Vec (String Global × Tree) Global) → view (tree.Object v) ≡ object (members_view v.items)
+view_object v = search (rules, the_lemmas)
+
+-- the first of what is left, where it is item i
+pub drop_at : {X : Type 0} (xs : List X) (i : ℕ) (x : X) → i < length xs → x ≡ get_or xs i x → drop i xs ≡ x ∷ drop (i + 1) xs
+drop_at xs i x h is = rw (add-one, drop-cons xs i x) (ap (λ y. y ∷ drop (suc i) xs) (sym is))
+
+pub items_ok : (xs : List Tree) (i : ℕ) (x : Tree) (p q : Progress) (u : Unit {0}) → i < length xs → x ≡ get_or xs i x → paid p (spends (size (view x))) ≡ Ok (u, q)
+    → paid p (spends (items_size (items_view (drop i xs)))) ≡ paid q (spends (items_size (items_view (drop (i + 1) xs))))
+items_ok xs i x p q u h is e = rw (drop_at xs i x h is) (spends_ok p _ _ u q e)
+
+pub items_err : (xs : List Tree) (i : ℕ) (x : Tree) (p : Progress) (e : EvalFault) → i < length xs → x ≡ get_or xs i x → paid p (spends (size (view x))) ≡ Err e
+    → paid p (spends (items_size (items_view (drop i xs)))) ≡ Err e
+items_err xs i x p e h is f = rw (drop_at xs i x h is) (spends_err p _ _ e f)
+
+pub members_ok : (xs : List (String Global × Tree)) (i : ℕ) (x : String Global × Tree) (p q : Progress) (u : Unit {0}) → i < length xs → x ≡ get_or xs i x → paid p (spends (size (view x.1))) ≡ Ok (u, q)
+    → paid p (spends (members_size (members_view (drop i xs)))) ≡ paid q (spends (members_size (members_view (drop (i + 1) xs))))
+members_ok xs i x p q u h is e = rw (drop_at xs i x h is) (spends_ok p _ _ u q e)
+
+pub members_err : (xs : List (String Global × Tree)) (i : ℕ) (x : String Global × Tree) (p : Progress) (e : EvalFault) → i < length xs → x ≡ get_or xs i x → paid p (spends (size (view x.1))) ≡ Err e
+    → paid p (spends (members_size (members_view (drop i xs)))) ≡ Err e
+members_err xs i x p e h is f = rw (drop_at xs i x h is) (spends_err p _ _ e f)

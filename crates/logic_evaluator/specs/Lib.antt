@@ -1,0 +1,17 @@
+pub mod Arithmetic
+pub mod Budget
+pub mod Comparison
+pub mod Evaluated
+pub mod Evaluation
+pub mod Fault
+pub mod Fractional
+pub mod Laws
+pub mod Lists
+pub mod Number
+pub mod Operators
+pub mod Run
+pub mod Scope
+pub mod Text
+pub mod Truth
+pub mod Version
+pub mod Views

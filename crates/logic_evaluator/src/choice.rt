@@ -1,0 +1,131 @@
+//! Which name a site gives its input.
+ghost use Rattle.std.specs.Prelude.{◌≡◌, ◌<◌, ◌^◌, map, option_map, option_copied, IfOk, IfSome, Some, string_bytes};
+ghost use Rattle.std.specs.Option.{option_map_or};
+ghost use Rattle.bucket_core.specs.Reading.{weight_of, bucket_with};
+ghost use Rattle.bucket_core.specs.Rule.{Entries, at, total_weight};
+ghost use Rattle.flag_text.specs.Outcome.{GivesUnless};
+ghost use Rattle.flag_text.specs.Shape.{null, text};
+ghost use Rattle.flag_text.specs.View.{view};
+ghost use Rattle.logic_evaluator.specs.declared.fault.EvalFault.TheVariants.{WantOfMemory};
+ghost use Rattle.logic_evaluator.specs.Budget.{Follows};
+ghost use Rattle.logic_evaluator.specs.Fractional.{entries_of, buckets_of, input_result, decided};
+ghost use Rattle.logic_evaluator.specs.Views.{progress, default_view, input_view, share_view};
+
+use crate::fault::EvalFault;
+use crate::fractional::{Input, Share};
+use crate::meter::{Meter, Reached};
+use crate::scope::Subject;
+use crate::text::MOST_BYTES;
+use bucket_core::{point, weight_of};
+use flag_text::Tree;
+use std::alloc::{AllocError, Global};
+
+const MAX_TOTAL: u64 = bucket_core::MAX_TOTAL as u64;
+
+/// What the site gives: the name at the input's point, or null.
+pub(crate) fn decide(
+    meter: &mut Meter,
+    site: u32,
+    input: Input,
+    shares: &[Share],
+    subject: Subject,
+) -> Result<Tree, EvalFault>
+    ensures exact { Follows view (progress meter.old) (progress meter.new) result (decided site (input_view (default_view subject.entry) input.entry) (map share_view shares.now)) }
+{
+    let Some(total) = total_of(shares) else {
+        return Err(EvalFault::BadBuckets);
+    };
+    if total == 0 {
+        return Ok(Tree::Null);
+    }
+    let Some(input) = input_text(meter.alloc, &input, subject)? else {
+        return Ok(Tree::Null);
+    };
+    let name = name_at(shares, point(total, input.as_str()));
+    let chosen = chosen(meter.alloc, name)?;
+    meter.reached.push(Reached { site, input, total })?;
+    Ok(chosen)
+}
+
+fn chosen(alloc: Global, name: Option<&str>) -> Result<Tree, AllocError>
+    ensures { IfOk result (λ t. view t ≡ option_map_or text (option_copied name.entry) null) }
+{
+    match name {
+        Some(name) => Ok(Tree::Text(String::from_str(alloc, name)?)),
+        None => Ok(Tree::Null),
+    }
+}
+
+// The text that is hashed, where there is one.
+fn input_text(alloc: Global, input: &Input, subject: Subject) -> Result<Option<String>, EvalFault>
+    ensures exact { GivesUnless WantOfMemory (option_map string_bytes) result (input_result (input_view (default_view subject.entry) input.now)) }
+{
+    match input {
+        Input::Given(value) => match value.tree() {
+            Tree::Text(text) => Ok(Some(text.clone()?)),
+            _ => Ok(None),
+        },
+        Input::Default => match subject.key {
+            Some(key) => {
+                let mut text = String::from_str(alloc, subject.flag)?;
+                text.push_str(key)?;
+                if text.len() > MOST_BYTES {
+                    return Err(EvalFault::TextTooLong);
+                }
+                Ok(Some(text))
+            }
+            None => Ok(None),
+        },
+    }
+}
+
+// The total weight, where each name is a text, each weight is a whole number from 0 to 2^31-1 and the total is one.
+fn total_of(shares: &[Share]) -> Option<u32>
+    ensures value { result ≡ option_map total_weight (buckets_of (map share_view shares.now)) }
+    ensures small { IfSome result (λ n. n < 2 ^ 31) }
+{
+    let mut total: u64 = 0;
+    for share in shares {
+        let (_, weight) = entry_of(share)?;
+        total += weight;
+        if total > MAX_TOTAL {
+            return None;
+        }
+    }
+    Some(total as u32)
+}
+
+// The name at a point of the entries.
+fn name_at<'a, 'b>(shares: &'a [Share<'b>], point: u32) -> Option<&'a str>
+    ensures { (r : Entries) → entries_of (map share_view shares.now) ≡ Some r → option_copied result ≡ at r point }
+{
+    let mut left = point as u64;
+    for share in shares {
+        let (name, weight) = entry_of(share)?;
+        if left < weight {
+            return Some(name);
+        }
+        left -= weight;
+    }
+    None
+}
+
+// A name that is a text, and a weight.
+fn entry_of<'a, 'b>(share: &'a Share<'b>) -> Option<(&'a str, u64)>
+    ensures value { option_map (λ e. (e.0.now, e.1)) result ≡ bucket_with (weight_of (share_view share.now).1) (share_view share.now).0 }
+    ensures small { IfSome result (λ e. e.1 < 2 ^ 31) }
+{
+    match share {
+        Share::Literal(name, weight) => {
+            if *weight <= MAX_TOTAL {
+                Some((name, *weight))
+            } else {
+                None
+            }
+        }
+        Share::Computed(name, weight) => match (name.tree(), weight_of(weight.tree())) {
+            (Tree::Text(name), Some(weight)) => Some((name.as_str(), weight)),
+            _ => None,
+        },
+    }
+}

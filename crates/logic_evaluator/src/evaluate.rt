@@ -1,0 +1,375 @@
+//! Evaluation, expression by expression.
+ghost use Rattle.std.specs.Prelude.{◌≡◌, map, drop};
+ghost use Rattle.flag_text.specs.View.{view};
+ghost use Rattle.logic_ast.specs.View.{node_view};
+ghost use Rattle.logic_evaluator.specs.Evaluated.{Evaluates, by_meaning_of, bucket_meanings_of, meaning_of, meanings_of};
+ghost use Rattle.logic_evaluator.specs.Evaluation.{input, pairs, part_of};
+ghost use Rattle.logic_evaluator.specs.Operators.{values, operated, conditional, first_of_truth, strict, over, over_items, over_from_start, start, mapped, kept, occurs, reduced};
+ghost use Rattle.logic_evaluator.specs.Views.{value_view, scope_view, default_view, input_view, share_view};
+
+use crate::apply::apply;
+use crate::choice::decide;
+use crate::fault::EvalFault;
+use crate::fractional::{Input, Share};
+use crate::meter::{Meter, pay_for};
+use crate::scope::{Scope, Subject};
+use crate::truth::is_true;
+use crate::value::{Value, items_of, trees_of};
+use crate::variable::variable;
+use flag_text::Tree;
+use logic_ast::{Bucket, Node, Operator};
+use smallvec::SmallVec;
+
+/// The value of a node in a scope, paid from what the meter has left: what is reached is added to what was reached before.
+///
+/// It is `logic_eval`'s `eval` that starts it, at the root of an expression, in the root scope and with the whole budget.
+#[cycle(evaluate)]
+pub fn evaluate_node<'a>(
+    meter: &mut Meter,
+    node: &'a Node,
+    scope: Scope<'a>,
+    subject: Subject<'a>,
+) -> Result<Value<'a>, EvalFault>
+    ensures exact { Evaluates value_view meter.old meter.new result (meaning_of subject.entry node.now (scope_view scope.entry)) }
+{
+    match node {
+        Node::Literal(tree) => {
+            pay_for(meter, tree)?;
+            Ok(Value::Lent(tree))
+        }
+        Node::List(items) => {
+            meter.pay(1)?;
+            let values = evaluate_all(meter, items, scope, subject)?;
+            Ok(Value::Made(Tree::List(trees_of(meter.alloc, values)?)))
+        }
+        Node::Operation(operator, arguments) => {
+            meter.pay(1)?;
+            operate(meter, arguments, *operator, scope, subject)
+        }
+        Node::Fractional { site, by, buckets } => {
+            meter.pay(1)?;
+            let input = input(meter, by, scope, subject)?;
+            let shares = shares(meter, buckets, scope, subject)?;
+            let made = decide(meter, *site, input, shares.as_slice(), subject)?;
+            Ok(Value::Made(made))
+        }
+    }
+}
+
+// The values of all, from the left.
+#[cycle(evaluate)]
+fn evaluate_all<'a>(
+    meter: &mut Meter,
+    nodes: &'a Vec<Node>,
+    scope: Scope<'a>,
+    subject: Subject<'a>,
+) -> Result<SmallVec<Value<'a>, 3>, EvalFault>
+    ensures exact { Evaluates (λ vs. map value_view vs.items) meter.old meter.new result (values (meanings_of subject.entry nodes.now.items) (scope_view scope.entry)) }
+{
+    let mut values = SmallVec::new(meter.alloc);
+    for node in nodes {
+        let value = evaluate_node(meter, node, scope, subject)?;
+        values.push(value)?;
+    }
+    Ok(values)
+}
+
+// An operator on its arguments.
+#[cycle(evaluate)]
+fn operate<'a>(
+    meter: &mut Meter,
+    arguments: &'a Vec<Node>,
+    operator: Operator,
+    scope: Scope<'a>,
+    subject: Subject<'a>,
+) -> Result<Value<'a>, EvalFault>
+    ensures exact { Evaluates value_view meter.old meter.new result (operated operator (meanings_of subject.entry arguments.now.items) (scope_view scope.entry)) }
+{
+    match operator {
+        Operator::If => conditional(meter, arguments, scope, subject),
+        Operator::And => first_of_truth(meter, arguments, false, scope, subject),
+        Operator::Or => first_of_truth(meter, arguments, true, scope, subject),
+        Operator::Map => over(meter, arguments, Operator::Map, scope, subject),
+        Operator::Filter => over(meter, arguments, Operator::Filter, scope, subject),
+        Operator::AllOf => over(meter, arguments, Operator::AllOf, scope, subject),
+        Operator::SomeOf => over(meter, arguments, Operator::SomeOf, scope, subject),
+        Operator::NoneOf => over(meter, arguments, Operator::NoneOf, scope, subject),
+        Operator::Reduce => reduce(meter, arguments, scope, subject),
+        Operator::Var => {
+            let values = evaluate_all(meter, arguments, scope, subject)?;
+            variable(meter, scope, values)
+        }
+        _ => {
+            let values = evaluate_all(meter, arguments, scope, subject)?;
+            Ok(Value::Made(apply(meter.alloc, operator, scope, values.as_slice())?))
+        }
+    }
+}
+
+// `if`: pairs of a test and a result, and a last result.
+#[cycle(evaluate)]
+fn conditional<'a>(
+    meter: &mut Meter,
+    nodes: &'a Vec<Node>,
+    scope: Scope<'a>,
+    subject: Subject<'a>,
+) -> Result<Value<'a>, EvalFault>
+    ensures exact { Evaluates value_view meter.old meter.new result (conditional (meanings_of subject.entry nodes.now.items) (scope_view scope.entry)) }
+{
+    let pairs = nodes.len() / 2;
+    for pair in 0..pairs {
+        let value = evaluate_node(meter, &nodes[2 * pair], scope, subject)?;
+        if is_true(value.tree()) {
+            return evaluate_node(meter, &nodes[2 * pair + 1], scope, subject);
+        }
+    }
+    if nodes.len() % 2 == 1 {
+        return evaluate_node(meter, &nodes[2 * pairs], scope, subject);
+    }
+    Ok(Value::Made(Tree::Null))
+}
+
+// `and` looks for a value that counts as false, `or` for one that counts as true: the first, else the last.
+#[cycle(evaluate)]
+fn first_of_truth<'a>(
+    meter: &mut Meter,
+    nodes: &'a Vec<Node>,
+    wanted: bool,
+    scope: Scope<'a>,
+    subject: Subject<'a>,
+) -> Result<Value<'a>, EvalFault>
+    ensures exact { Evaluates value_view meter.old meter.new result (first_of_truth wanted (meanings_of subject.entry nodes.now.items) (scope_view scope.entry)) }
+{
+    if nodes.is_empty() {
+        return Ok(Value::Made(Tree::Null));
+    }
+    let last = nodes.len() - 1;
+    for place in 0..last {
+        let value = evaluate_node(meter, &nodes[place], scope, subject)?;
+        if is_true(value.tree()) == wanted {
+            return Ok(value);
+        }
+    }
+    evaluate_node(meter, &nodes[last], scope, subject)
+}
+
+// An operator that runs its second argument over the items of the first.
+#[cycle(evaluate)]
+fn over<'a>(
+    meter: &mut Meter,
+    arguments: &'a Vec<Node>,
+    operator: Operator,
+    scope: Scope<'a>,
+    subject: Subject<'a>,
+) -> Result<Value<'a>, EvalFault>
+    ensures exact { Evaluates value_view meter.old meter.new result (over operator (meanings_of subject.entry arguments.now.items) (scope_view scope.entry)) }
+{
+    if arguments.len() < 2 {
+        return Ok(Value::Made(Tree::Null));
+    }
+    let list = evaluate_node(meter, &arguments[0], scope, subject)?;
+    let made = over_items(
+        meter,
+        &arguments[1],
+        operator,
+        items_of(list.tree()),
+        subject,
+    )?;
+    Ok(Value::Made(made))
+}
+
+#[cycle(evaluate)]
+fn over_items<'a>(
+    meter: &mut Meter,
+    body: &'a Node,
+    operator: Operator,
+    items: &'a [Tree],
+    subject: Subject<'a>,
+) -> Result<Tree, EvalFault>
+    ensures exact { Evaluates view meter.old meter.new result (over_items operator (meaning_of subject.entry body.now) (map view items.now)) }
+{
+    match operator {
+        Operator::Map => Ok(Tree::List(mapped(meter, body, items, subject)?)),
+        Operator::Filter => Ok(Tree::List(kept(meter, body, items, subject)?)),
+        Operator::AllOf => {
+            if items.is_empty() {
+                return Ok(Tree::Bool(false));
+            }
+            Ok(Tree::Bool(!occurs(meter, body, false, items, subject)?))
+        }
+        Operator::SomeOf => Ok(Tree::Bool(occurs(meter, body, true, items, subject)?)),
+        Operator::NoneOf => Ok(Tree::Bool(!occurs(meter, body, true, items, subject)?)),
+        _ => Ok(Tree::Null),
+    }
+}
+
+// `map`: the body's value at each item.
+#[cycle(evaluate)]
+fn mapped<'a>(
+    meter: &mut Meter,
+    body: &'a Node,
+    items: &'a [Tree],
+    subject: Subject<'a>,
+) -> Result<Vec<Tree>, EvalFault>
+    ensures exact { Evaluates (λ v. map view v.items) meter.old meter.new result (mapped (meaning_of subject.entry body.now) (map view items.now)) }
+{
+    let mut trees = Vec::new(meter.alloc);
+    for item in items {
+        let value = evaluate_node(meter, body, Scope::Item(item), subject)?;
+        trees.push(value.into_tree(meter.alloc)?)?;
+    }
+    Ok(trees)
+}
+
+// `filter`: the items at which the body counts as true.
+#[cycle(evaluate)]
+fn kept<'a>(
+    meter: &mut Meter,
+    body: &'a Node,
+    items: &'a [Tree],
+    subject: Subject<'a>,
+) -> Result<Vec<Tree>, EvalFault>
+    ensures exact { Evaluates (λ v. map view v.items) meter.old meter.new result (kept (meaning_of subject.entry body.now) (map view items.now)) }
+{
+    let mut trees = Vec::new(meter.alloc);
+    for item in items {
+        let value = evaluate_node(meter, body, Scope::Item(item), subject)?;
+        if is_true(value.tree()) {
+            trees.push(item.copy(meter.alloc)?)?;
+        }
+    }
+    Ok(trees)
+}
+
+// Whether the body counts as true (false) at some item: it stops at the first.
+#[cycle(evaluate)]
+fn occurs<'a>(
+    meter: &mut Meter,
+    body: &'a Node,
+    wanted: bool,
+    items: &'a [Tree],
+    subject: Subject<'a>,
+) -> Result<bool, EvalFault>
+    ensures exact { Evaluates (λ b. b) meter.old meter.new result (occurs wanted (meaning_of subject.entry body.now) (map view items.now)) }
+{
+    for item in items {
+        let value = evaluate_node(meter, body, Scope::Item(item), subject)?;
+        if is_true(value.tree()) == wanted {
+            return Ok(true);
+        }
+    }
+    Ok(false)
+}
+
+// `reduce`: the list, then the start value, then the body from item to item.
+#[cycle(evaluate)]
+fn reduce<'a>(
+    meter: &mut Meter,
+    arguments: &'a Vec<Node>,
+    scope: Scope<'a>,
+    subject: Subject<'a>,
+) -> Result<Value<'a>, EvalFault>
+    ensures exact { Evaluates value_view meter.old meter.new result (over_from_start (meanings_of subject.entry arguments.now.items) (scope_view scope.entry)) }
+{
+    if arguments.len() < 2 {
+        return Ok(Value::Made(Tree::Null));
+    }
+    let list = evaluate_node(meter, &arguments[0], scope, subject)?;
+    let start = start(meter, arguments, scope, subject)?;
+    let made = reduced(meter, &arguments[1], start, items_of(list.tree()), subject)?;
+    Ok(Value::Made(made))
+}
+
+// The start value of `reduce`, null where it is absent.
+#[cycle(evaluate)]
+fn start<'a>(
+    meter: &mut Meter,
+    arguments: &'a Vec<Node>,
+    scope: Scope<'a>,
+    subject: Subject<'a>,
+) -> Result<Tree, EvalFault>
+    ensures exact { Evaluates view meter.old meter.new result (start (meanings_of subject.entry (drop 2 arguments.now.items)) (scope_view scope.entry)) }
+{
+    if arguments.len() < 3 {
+        return Ok(Tree::Null);
+    }
+    let value = evaluate_node(meter, &arguments[2], scope, subject)?;
+    Ok(value.into_tree(meter.alloc)?)
+}
+
+#[cycle(evaluate)]
+fn reduced<'a>(
+    meter: &mut Meter,
+    body: &'a Node,
+    start: Tree,
+    items: &'a [Tree],
+    subject: Subject<'a>,
+) -> Result<Tree, EvalFault>
+    ensures exact { Evaluates view meter.old meter.new result (reduced (meaning_of subject.entry body.now) (view start) (map view items.now)) }
+{
+    let mut so_far = start;
+    for item in items {
+        let value = evaluate_node(meter, body, Scope::Fold(&so_far, item), subject)?;
+        let next = value.into_tree(meter.alloc)?;
+        so_far = next;
+    }
+    Ok(so_far)
+}
+
+// The input of a site: the value of its bucketing expression, where there is one.
+#[cycle(evaluate)]
+fn input<'a>(
+    meter: &mut Meter,
+    by: &'a Option<Box<Node>>,
+    scope: Scope<'a>,
+    subject: Subject<'a>,
+) -> Result<Input<'a>, EvalFault>
+    ensures exact { Evaluates (input_view (default_view subject.entry)) meter.old meter.new result (input (default_view subject.entry) (by_meaning_of subject.entry by.now) (scope_view scope.entry)) }
+{
+    match by {
+        None => Ok(Input::Default),
+        Some(node) => Ok(Input::Given(evaluate_node(meter, node, scope, subject)?)),
+    }
+}
+
+// The names and weights, from the left.
+#[cycle(evaluate)]
+fn shares<'a>(
+    meter: &mut Meter,
+    buckets: &'a Vec<Bucket<Node>>,
+    scope: Scope<'a>,
+    subject: Subject<'a>,
+) -> Result<Vec<Share<'a>>, EvalFault>
+    ensures exact { Evaluates (λ ss. map share_view ss.items) meter.old meter.new result (pairs (bucket_meanings_of subject.entry buckets.now.items) (scope_view scope.entry)) }
+{
+    let mut shares = Vec::with_capacity(meter.alloc, buckets.len())?;
+    for bucket in buckets {
+        match bucket {
+            Bucket::Literal(name, weight) => {
+                shares.push(Share::Literal(name.as_str(), *weight as u64))?;
+            }
+            Bucket::Computed(name, weight) => {
+                let name = part(meter, name, scope, subject)?;
+                let weight = part(meter, weight, scope, subject)?;
+                shares.push(Share::Computed(name, weight))?;
+            }
+        }
+    }
+    Ok(shares)
+}
+
+// A name or a weight: a literal is taken as it stands, for no units.
+#[cycle(evaluate)]
+fn part<'a>(
+    meter: &mut Meter,
+    node: &'a Node,
+    scope: Scope<'a>,
+    subject: Subject<'a>,
+) -> Result<Value<'a>, EvalFault>
+    ensures exact { Evaluates value_view meter.old meter.new result (part_of (node_view node.now) (meaning_of subject.entry node.now) (scope_view scope.entry)) }
+{
+    match node {
+        Node::Literal(tree) => Ok(Value::Lent(tree)),
+        _ => evaluate_node(meter, node, scope, subject),
+    }
+}

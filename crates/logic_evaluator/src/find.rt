@@ -1,0 +1,143 @@
+//! What a path finds in a scope.
+ghost use Rattle.std.specs.Prelude.{◌≡◌, IfOk, map, option_map, option_and_then, slice_get, ◌∷◌, ◌<◌, length, IfSome};
+ghost use Rattle.flag_text.specs.Shape.{object};
+ghost use Rattle.flag_text.specs.View.{view, members_view};
+ghost use Rattle.logic_evaluator.specs.Number.{below};
+ghost use Rattle.logic_evaluator.specs.Operators.{reduce_scope};
+ghost use Rattle.logic_evaluator.specs.Scope.{step, follow, index_of, find_text, find, is_dot, with_flagd};
+ghost use Rattle.logic_evaluator.specs.Views.{scope_view, found_view, names_after};
+ghost use Rattle.std.specs.List.{slice_split};
+
+use crate::number::digits_value;
+use crate::scope::{Root, Scope};
+use flag_text::{Tree, member_by_halving};
+use std::alloc::{AllocError, Global};
+
+/// What a path finds.
+#[derive(Clone, Copy)]
+pub(crate) enum Found<'a> {
+    /// The whole scope.
+    Whole,
+    /// A part of it.
+    Part(&'a Tree),
+}
+
+// A number without leading zeros, where it is below the largest `usize`.
+fn index_of(name: &str) -> Option<usize>
+    ensures { result ≡ option_and_then (below usize.MAX) (index_of name.now) }
+{
+    match name.as_bytes() {
+        [b'0', _, ..] => None,
+        digits => Some(digits_value(digits, u64::MAX)? as usize),
+    }
+}
+
+// The item at an index.
+fn item_at<'a>(items: &'a [Tree], name: &str) -> Option<&'a Tree>
+    ensures { option_map (λ t. view t.now) result ≡ option_and_then (slice_get (map view items.now)) (index_of name.now) }
+{
+    let length = items.len();
+    match index_of(name) {
+        Some(index) if index < length => Some(&items[index]),
+        _ => None,
+    }
+}
+
+// One step of a path: an object's member, or a list's item by its index.
+fn step<'a>(tree: &'a Tree, name: &str) -> Option<&'a Tree>
+    ensures { option_map (λ t. view t.now) result ≡ step (view tree.now) name.now }
+{
+    match tree {
+        Tree::Object(_) => tree.member(name),
+        Tree::List(items) => item_at(items.as_slice(), name),
+        _ => None,
+    }
+}
+
+// The first name of a path, and what follows its dot.
+fn first_name(path: &str) -> (&str, Option<&str>)
+    ensures names { slice_split is_dot path.now ≡ result.0.now ∷ names_after result.1 }
+    ensures shorter { IfSome result.1 (λ rest. length rest.now < length path.now) }
+{
+    match path.split_once('.') {
+        None => (path, None),
+        Some((name, rest)) => (name, Some(rest)),
+    }
+}
+
+// The steps of a path one after the other.
+fn follow<'a>(tree: &'a Tree, path: &str) -> Option<&'a Tree>
+    ensures { option_map (λ t. view t.now) result ≡ follow (view tree.now) (slice_split is_dot path.now) }
+{
+    match first_name(path) {
+        (name, None) => step(tree, name),
+        (name, Some(rest)) => follow(step(tree, name)?, rest),
+    }
+}
+
+// The first step of a path, from the scope.
+fn enter<'a>(scope: Scope<'a>, name: &str) -> Option<&'a Tree>
+    ensures { option_map (λ t. view t.now) result ≡ step (scope_view scope.entry) name.now }
+{
+    match scope {
+        Scope::Root(root) => at_root(root, name),
+        Scope::Item(tree) => step(tree, name),
+        Scope::Fold(so_far, current) => in_fold(so_far, current, name),
+    }
+}
+
+// A member of the context, with `$flagd` in its place.
+fn at_root<'a>(root: Root<'a>, name: &str) -> Option<&'a Tree>
+    ensures { option_map (λ t. view t.now) result ≡ step (with_flagd (view root.entry.flagd.now) (object (members_view root.entry.members.now))) name.now }
+{
+    if name == "$flagd" {
+        Some(root.flagd)
+    } else {
+        member_by_halving(root.members, name)
+    }
+}
+
+// The value so far or the item of a `reduce`.
+fn in_fold<'a>(so_far: &'a Tree, current: &'a Tree, name: &str) -> Option<&'a Tree>
+    ensures { option_map (λ t. view t.now) result ≡ step (reduce_scope (view so_far.now) (view current.now)) name.now }
+{
+    if name == "accumulator" {
+        Some(so_far)
+    } else if name == "current" {
+        Some(current)
+    } else {
+        None
+    }
+}
+
+// What a text finds: the whole scope where it is empty, else its steps.
+fn find_text<'a>(scope: Scope<'a>, path: &str) -> Option<Found<'a>>
+    ensures { option_map (found_view (scope_view scope.entry)) result ≡ find_text (scope_view scope.entry) path.now }
+{
+    if path.is_empty() {
+        return Some(Found::Whole);
+    }
+    match first_name(path) {
+        (name, None) => Some(Found::Part(enter(scope, name)?)),
+        (name, Some(rest)) => Some(Found::Part(follow(enter(scope, name)?, rest)?)),
+    }
+}
+
+/// What a path finds: null is the whole scope, a whole number its decimal text.
+pub(crate) fn find<'a>(
+    alloc: Global,
+    scope: Scope<'a>,
+    path: &Tree,
+) -> Result<Option<Found<'a>>, AllocError>
+    ensures { IfOk result (λ f. option_map (found_view (scope_view scope.entry)) f ≡ find (scope_view scope.entry) (view path.now)) }
+{
+    match path {
+        Tree::Null => Ok(Some(Found::Whole)),
+        Tree::Text(text) => Ok(find_text(scope, text.as_str())),
+        Tree::Whole(n) => {
+            let text = format!(in alloc; "{n}")?;
+            Ok(find_text(scope, text.as_str()))
+        }
+        _ => Ok(None),
+    }
+}
