@@ -8,9 +8,9 @@ use Rattle.bucket_core.specs.Rule.{Entries, total_weight, choice}
 use Rattle.flag_text.specs.Readers.{as_object}
 use Rattle.flag_text.specs.Shape.{Shape, null, boolean, whole, other, text, list, object}
 use Rattle.flag_text.specs.View.{items_of}
-use Rattle.flag_defs.specs.Definition.{Definition}
-use Rattle.flag_defs.specs.Document.{Definitions}
-use Rattle.flag_defs.specs.Flag.{is_broken, is_enabled, targeting_in}
+use Rattle.flag_documents.specs.Definition.{Definition}
+use Rattle.flag_documents.specs.Document.{Definitions}
+use Rattle.flag_documents.specs.Flag.{is_broken, is_enabled, targeting_in}
 use Rattle.logic_ast.specs.Expression.{Expression, literal, operation, fractional, Expressions, no_expressions, expression, By, no_by, by, Buckets, no_buckets, bucket, Bucket, literal_bucket, computed_bucket}
 use Rattle.logic_ast.specs.Expression as ast
 use Rattle.logic_ast.specs.declared.operator.Operator.{Operator}

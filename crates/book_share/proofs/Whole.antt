@@ -20,7 +20,7 @@ use Rattle.std.proofs.lemmas.List.Sums.{sum_by-cons}
 use Rattle.std.proofs.lemmas.Map.Keys.{IsDistinct-from_sorted}
 use Rattle.std.proofs.lemmas.Map.Made.{length-le_from_is_member, length-from_keys}
 use Rattle.std.proofs.lemmas.Map.Text.{is_eq-slice_cmp}
-use Rattle.flag_defs.specs.Document.{Definitions}
+use Rattle.flag_documents.specs.Document.{Definitions}
 use Rattle.book_core.specs.Book.{Inputs, Contents, most_bytes, most_inputs, is_among, inputs_on, input_count, reply_to, IsBook}
 use Rattle.book_core.specs.Calls.{Call, stands}
 use Rattle.book_core.specs.Page.{PageName, page_cmp, page_eq, bytes_cmp}

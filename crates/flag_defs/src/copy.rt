@@ -1,30 +1,10 @@
-//! Copies of flags.
-ghost use Rattle.std.specs.Prelude.{◌≡◌, true, IfOk, IsOk, option_map, string_bytes};
-ghost use Rattle.logic_ast.specs.Expr.{view};
-ghost use Rattle.flag_defs.specs.Flag.{entries_view, flag_view, is_broken, rules_view};
+//! Copies of flags together.
+ghost use Rattle.std.specs.Prelude.{◌≡◌, IfOk};
 ghost use Rattle.flag_defs.specs.Flags.{flags_view};
 
-use crate::flag::Flag;
 use crate::flags::Flags;
-use crate::members::copy_members;
-use crate::rules::Rules;
-use logic_ast::Expr;
+use flag_documents::copy_entries;
 use std::alloc::{AllocError, Global};
-
-impl Flag {
-    /// An equal flag. That of a broken one takes no memory.
-    pub fn copy(&self, alloc: Global) -> Result<Flag, AllocError>
-        ensures value { IfOk result (λ f. flag_view f ≡ flag_view self.now) }
-        ensures broken { is_broken (flag_view self.now) ≡ true → IsOk result }
-    {
-        match &self.rules {
-            Some(rules) => Ok(Flag {
-                rules: Some(copy_rules(alloc, rules)?),
-            }),
-            None => Ok(Flag { rules: None }),
-        }
-    }
-}
 
 impl Flags {
     /// Equal flags.
@@ -34,47 +14,4 @@ impl Flags {
         let flags = copy_entries(alloc, self.flags.as_slice())?;
         Ok(Flags { flags })
     }
-}
-
-fn copy_rules(alloc: Global, rules: &Rules) -> Result<Rules, AllocError>
-    ensures { IfOk result (λ r. rules_view r ≡ rules_view rules.now) }
-{
-    let variants = copy_members(alloc, rules.variants.as_slice())?;
-    let default_variant = copy_name(&rules.default_variant)?;
-    let targeting = copy_targeting(alloc, &rules.targeting)?;
-    Ok(Rules {
-        enabled: rules.enabled,
-        variants,
-        default_variant,
-        targeting,
-    })
-}
-
-pub(crate) fn copy_name(name: &Option<String>) -> Result<Option<String>, AllocError>
-    ensures { IfOk result (λ n. option_map string_bytes n ≡ option_map string_bytes name.now) }
-{
-    match name {
-        Some(name) => Ok(Some(name.clone()?)),
-        None => Ok(None),
-    }
-}
-
-fn copy_targeting(alloc: Global, targeting: &Option<Expr>) -> Result<Option<Expr>, AllocError>
-    ensures { IfOk result (λ e. option_map view e ≡ option_map view targeting.now) }
-{
-    match targeting {
-        Some(expr) => Ok(Some(expr.copy(alloc)?)),
-        None => Ok(None),
-    }
-}
-
-fn copy_entries(alloc: Global, flags: &[(String, Flag)]) -> Result<Vec<(String, Flag)>, AllocError>
-    ensures { IfOk result (λ v. entries_view v.items ≡ entries_view flags.now) }
-{
-    let mut copies = Vec::with_capacity(alloc, flags.len())?;
-    for (key, flag) in flags {
-        let key = key.clone()?;
-        copies.push((key, flag.copy(alloc)?))?;
-    }
-    Ok(copies)
 }

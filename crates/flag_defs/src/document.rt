@@ -1,24 +1,13 @@
 //! From the bytes of a document to its flags.
-ghost use Rattle.std.specs.Prelude.{◌≡◌, ◌<◌, ◌≤◌, true, false, length, Some, option_map, option_and_then, IfOk, IsErrOf};
+ghost use Rattle.std.specs.Prelude.{◌≡◌, ◌<◌, ◌≤◌, false, length, IsErrOf};
 ghost use Rattle.std.specs.Str.{is_utf8};
-ghost use Rattle.flag_text.specs.Readers.{as_object, member_of};
-ghost use Rattle.flag_text.specs.Shape.{is_tidy, members_are_tidy};
-ghost use Rattle.flag_text.specs.View.{view, members_view};
-ghost use Rattle.flag_defs.specs.Document.{AllMean, DocumentMeans, FlagsMean, evaluators_in, flags_in, max_bytes};
-ghost use Rattle.flag_defs.specs.Fault.{of_text};
-ghost use Rattle.flag_defs.specs.Flag.{entries_view};
 ghost use Rattle.flag_defs.specs.Flags.{HoldsUnless};
-ghost use Rattle.flag_defs.specs.Weighing.{AllTake, AreLight};
+ghost use Rattle.flag_documents.specs.Document.{DocumentMeans, max_bytes};
 
-use crate::definition::{least_bytes, read_flag};
-use crate::fault::DefFault;
-use crate::flag::Flag;
 use crate::flags::Flags;
-use crate::limits::{MAX_BYTES, MAX_FLAGS, limited};
-use crate::measure::plus;
-use crate::table::Evaluators;
-use flag_text::{TextFault, Tree, read_doc};
-use std::alloc::{AllocError, Global};
+use crate::limits::limited;
+use flag_documents::{DefFault, read_entries};
+use std::alloc::Global;
 
 /// The flags of a document: a JSON object with the member `flags`, an object from key to definition, and perhaps
 /// `$evaluators`, to which targetings refer. A definition that breaks a rule makes a broken flag.
@@ -32,104 +21,6 @@ pub fn read_flags(alloc: Global, bytes: &[u8]) -> Result<Flags, DefFault>
     ensures large { max_bytes < length bytes.now → IsErrOf result DefFault.TooLarge }
     ensures no_text { length bytes.now ≤ max_bytes → is_utf8 bytes.now ≡ false → IsErrOf result DefFault.NotJson }
 {
-    match read_doc(alloc, bytes, MAX_BYTES) {
-        Ok(document) => read_document(alloc, &document),
-        Err(fault) => Err(of_text(fault)),
-    }
-}
-
-/// The fault of a document whose text is refused.
-fn of_text(fault: TextFault) -> DefFault
-    ensures { result ≡ of_text fault }
-{
-    match fault {
-        TextFault::WantOfMemory => DefFault::WantOfMemory,
-        TextFault::TooLarge => DefFault::TooLarge,
-        TextFault::NotJson | TextFault::NotWhole | TextFault::TooDeep => DefFault::NotJson,
-    }
-}
-
-fn read_document(alloc: Global, document: &Tree) -> Result<Flags, DefFault>
-    requires { is_tidy (view document.now) ≡ true }
-    ensures { HoldsUnless (FlagsMean (evaluators_in (view document.now)) (flags_in (view document.now))) result }
-{
-    match members_of(document, "flags") {
-        Some(definitions) => {
-            let evaluators = Evaluators::read(alloc, evaluators_in(document))?;
-            read_definitions(alloc, definitions, &evaluators)
-        }
-        None => Err(DefFault::NoFlags),
-    }
-}
-
-/// The members of the object of this name.
-pub(crate) fn members_of<'a>(document: &'a Tree, name: &str) -> Option<&'a [(String, Tree)]>
-    ensures { option_map (λ ms. members_view ms.now) result ≡ option_and_then as_object (member_of name.now (view document.now)) }
-{
-    match document.member(name) {
-        Some(tree) => tree.as_object(),
-        None => None,
-    }
-}
-
-pub(crate) fn evaluators_in(document: &Tree) -> &[(String, Tree)]
-    ensures { members_view result.now ≡ evaluators_in (view document.now) }
-{
-    match members_of(document, "$evaluators") {
-        Some(evaluators) => evaluators,
-        None => &[],
-    }
-}
-
-fn read_definitions(
-    alloc: Global,
-    definitions: &[(String, Tree)],
-    evaluators: &Evaluators<'_>,
-) -> Result<Flags, DefFault>
-    requires { members_are_tidy (members_view definitions.now) ≡ true }
-    ensures { HoldsUnless (FlagsMean (members_view evaluators.now) (Some (members_view definitions.now))) result }
-{
-    let least = least_of_all(definitions, evaluators);
-    if definitions.len() > MAX_FLAGS {
-        return Err(DefFault::TooLarge);
-    }
-    if least as usize > MAX_BYTES {
-        return Err(DefFault::TooLarge);
-    }
-    let flags = read_all(alloc, definitions, evaluators)?;
+    let flags = read_entries(alloc, bytes)?;
     limited(alloc, flags)
-}
-
-/// In how many bytes the inlined forms of all targetings together are printed at least, up to the most that is counted.
-fn least_of_all(definitions: &[(String, Tree)], evaluators: &Evaluators<'_>) -> u32
-    requires { members_are_tidy (members_view definitions.now) ≡ true }
-    ensures { AllTake (members_view evaluators.now) (members_view definitions.now) result }
-{
-    let mut least = 0;
-    let mut left = definitions.len();
-    while left > 0 {
-        left -= 1;
-        let bytes = least_bytes(&definitions[left].1, evaluators);
-        least = plus(bytes, least);
-    }
-    least
-}
-
-/// The flags of all definitions, under their keys. The condition is that they are few, and that what their targetings take
-/// when they are expanded was added up and found small.
-fn read_all(
-    alloc: Global,
-    definitions: &[(String, Tree)],
-    evaluators: &Evaluators<'_>,
-) -> Result<Vec<(String, Flag)>, AllocError>
-    requires tidy { members_are_tidy (members_view definitions.now) ≡ true }
-    requires light { AreLight (members_view evaluators.now) (members_view definitions.now) }
-    ensures { IfOk result (λ v. AllMean (members_view evaluators.now) (members_view definitions.now) (entries_view v.items)) }
-{
-    let mut flags = Vec::with_capacity(alloc, definitions.len())?;
-    for (key, definition) in definitions {
-        let flag = read_flag(alloc, definition, evaluators)?;
-        flags.push((key.clone()?, flag))?;
-    }
-    Ok(flags)
 }

@@ -4,9 +4,9 @@ use Rattle.std.specs.Map.{lookup}
 use Rattle.std.specs.Str.{bytes_eq}
 use Rattle.flag_text.specs.Readers.{as_object}
 use Rattle.flag_text.specs.Shape.{Shape, null, boolean, whole, other, text, list, object}
-use Rattle.flag_defs.specs.Definition.{Definition}
-use Rattle.flag_defs.specs.Document.{Definitions}
-use Rattle.flag_defs.specs.Flag.{is_broken, is_enabled, targeting_in}
+use Rattle.flag_documents.specs.Definition.{Definition}
+use Rattle.flag_documents.specs.Document.{Definitions}
+use Rattle.flag_documents.specs.Flag.{is_broken, is_enabled, targeting_in}
 use Rattle.logic_ast.specs.Expression.{Expression}
 use Rattle.logic_evaluator.specs.Evaluation.{evaluation_of}
 use Rattle.logic_evaluator.specs.Run.{Reach}

@@ -4,9 +4,9 @@ use Rattle.std.proofs.lemmas.List.{append_assoc}
 use Rattle.std.specs.List.{slice_get}
 use Rattle.flag_text.specs.Printing.{text_of}
 use Rattle.flag_text.specs.Shape.{text}
-use Rattle.flag_defs.specs.Definition.{Definition}
-use Rattle.flag_defs.specs.Document.{Definitions}
-use Rattle.flag_defs.specs.Flag.{is_broken}
+use Rattle.flag_documents.specs.Definition.{Definition}
+use Rattle.flag_documents.specs.Document.{Definitions}
+use Rattle.flag_documents.specs.Flag.{is_broken}
 use Rattle.flagops_commands.specs.Check.{check_text, good_or_broken, has_broken}
 
 drop_suc : {X : Type 0} (xs : List X) (i : ℕ) (x : X) → slice_get xs i ≡ Some x → drop i xs ≡ x ∷ drop (suc i) xs

@@ -2,9 +2,9 @@
 use Rattle.std.specs.Prelude.{◌≡◌, ℕ, Bool, false, ◌||◌, List, [], ◌∷◌, ◌++◌, codes, if◌then◌else◌, Result}
 use Rattle.flag_text.specs.Shape.{text}
 use Rattle.flag_text.specs.Printing.{text_of}
-use Rattle.flag_defs.specs.Definition.{Definition}
-use Rattle.flag_defs.specs.Document.{Definitions}
-use Rattle.flag_defs.specs.Flag.{is_broken}
+use Rattle.flag_documents.specs.Definition.{Definition}
+use Rattle.flag_documents.specs.Document.{Definitions}
+use Rattle.flag_documents.specs.Flag.{is_broken}
 use Rattle.flagops_files.specs.Documents.{IsDocumentAt}
 use Rattle.flagops_files.specs.Files.{Holding}
 use Rattle.flagops_files.specs.Loading.{◌>>=◌}

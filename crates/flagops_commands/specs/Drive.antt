@@ -1,6 +1,6 @@
 -- What the command `drive` answers, and the book that it writes.
 use Rattle.std.specs.Prelude.{◌≡◌, ◌≢◌, ◌⊎◌, ℕ, List, true, false, Option, Some, None, is_some, IfSome, Result, Ok, Err, IfErr, IsErrAnd}
-use Rattle.flag_defs.specs.Document.{Definitions}
+use Rattle.flag_documents.specs.Document.{Definitions}
 use Rattle.flag_text.specs.Shape.{Shape}
 use Rattle.flagops_drive.specs.Asks.{asks_of}
 use Rattle.flagops_drive.specs.Driven.{Drove, IsDriveOf, workers_refusal}

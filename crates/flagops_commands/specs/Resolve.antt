@@ -2,7 +2,7 @@
 use Rattle.std.specs.Prelude.{◌≡◌, ℕ, List, ◌++◌, codes, Some, Result}
 use Rattle.flag_text.specs.Reading.{tree_of}
 use Rattle.flag_text.specs.Shape.{Shape}
-use Rattle.flag_defs.specs.Document.{Definitions}
+use Rattle.flag_documents.specs.Document.{Definitions}
 use Rattle.flag_resolve.specs.Printing.{resolution_text}
 use Rattle.flag_resolve.specs.Resolution.{resolution_of}
 use Rattle.flag_resolve.specs.declared.kind.Kind.{Kind}

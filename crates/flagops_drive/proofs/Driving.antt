@@ -1,7 +1,7 @@
 -- What was driven and what was refused, as what the command comes to.
 use Rattle.std.proofs.Common.{◌≡◌, ◌≢◌, ℕ, List, Option, Some, None, true, map, refl, sym, ap, subst}
 use Rattle.std.specs.Prelude.{Ok, Err}
-use Rattle.flag_defs.specs.Document.{Definitions}
+use Rattle.flag_documents.specs.Document.{Definitions}
 use Rattle.flag_resolve.specs.Views.{resolution_view}
 use Rattle.book_core.specs.Book.{Contents, input_count}
 use Rattle.book_core.specs.Printing.{book_text}

@@ -1,6 +1,6 @@
 -- What the command `drive` comes to.
 use Rattle.std.specs.Prelude.{◌≡◌, ◌≢◌, ℕ, List, map, Option, Some, None, option_map, Result, Ok, Err}
-use Rattle.flag_defs.specs.Document.{Definitions}
+use Rattle.flag_documents.specs.Document.{Definitions}
 use Rattle.book_core.specs.Book.{Contents, input_count}
 use Rattle.book_core.specs.Printing.{book_text}
 use Rattle.book_core.specs.Reading.{book_of}

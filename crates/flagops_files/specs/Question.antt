@@ -2,7 +2,7 @@
 use Rattle.std.specs.Prelude.{◌≡◌, ℕ, nat_lt, List, length, if◌then◌else◌, Result, Ok, Err}
 use Rattle.book_core.specs.Book.{Contents}
 use Rattle.book_core.specs.Reading.{book_of}
-use Rattle.flag_defs.specs.Document.{Definitions}
+use Rattle.flag_documents.specs.Document.{Definitions}
 use Rattle.flag_defs.specs.Flags.{flags_view}
 use Rattle.flagops_files.specs.Documents.{IsDocumentAt}
 use Rattle.flagops_files.specs.Files.{Holding, load_of}

@@ -1,6 +1,6 @@
 -- What the law of planned answers says: each is told as valid, unless memory ran out.
 use Rattle.std.specs.Prelude.{◌≡◌, ℕ, List, None, Some, Ok}
-use Rattle.flag_defs.specs.Document.{Definitions}
+use Rattle.flag_documents.specs.Document.{Definitions}
 use Rattle.book_core.specs.Book.{Contents}
 use Rattle.bucket_core.specs.Rule.{Entries}
 use Rattle.transport_instance.specs.Certificate.{DualPrices}

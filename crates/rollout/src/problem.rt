@@ -2,7 +2,7 @@
 ghost use Rattle.std.specs.Prelude.{◌≡◌, ◌≤◌, ◌<◌, ◌*◌, false, Ok};
 ghost use Rattle.flag_text.specs.Outcome.{GivesUnless};
 ghost use Rattle.bucket_core.specs.Rule.{total_weight, refinement, entries_view};
-ghost use Rattle.flag_defs.specs.Flag.{flag_view, is_broken};
+ghost use Rattle.flag_documents.specs.Flag.{flag_view, is_broken};
 ghost use Rattle.flag_defs.specs.Flags.{flags_view};
 ghost use Rattle.rollout.specs.Lawful.{IsRefining, max_planned, problem_of, problem_at, sized, place_view, problem_view};
 

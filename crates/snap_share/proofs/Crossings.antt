@@ -14,7 +14,7 @@ use Rattle.logic_ast.specs.contracts.node.Bucket as Bucket
 use Rattle.logic_ast.specs.contracts.node.Node as Node
 use Rattle.logic_ast.specs.contracts.operator.Operator as Operator
 use Rattle.logic_ast.specs.contracts.expr.Expr as Expr
-use Rattle.flag_defs.specs.contracts.flag.Flag as Flag
+use Rattle.flag_documents.specs.contracts.flag.Flag as Flag
 use Rattle.flag_defs.specs.contracts.flags.Flags as Flags
 use Rattle.snap_share.specs.declared.history.ShareName as ShareName
 use Rattle.snap_share.specs.contracts.front.Front as Front

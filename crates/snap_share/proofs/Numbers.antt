@@ -2,7 +2,7 @@
 use Rattle.std.proofs.Common.{◌≡◌, ℕ, ◌+◌, ◌<◌, List, [], ◌∷◌, ◌++◌, length, Contains, refl, ap, ap₂, sym, subst, ◌∙◌, arith, length-append, Some, Result, Ok, Err, IfOk}
 use Rattle.std.proofs.lemmas.List.Elements.{Contains-append_right}
 use mathlib.Core.List.{IsPrefix}
-use Rattle.flag_defs.specs.Document.{Definitions}
+use Rattle.flag_documents.specs.Document.{Definitions}
 use Rattle.flag_defs.specs.Flags.{flags_view}
 use Rattle.flag_defs.specs.declared.flags.Flags.{Flags}
 use Rattle.snap_core.specs.Hub.{Numbered}

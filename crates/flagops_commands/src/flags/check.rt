@@ -1,6 +1,6 @@
 //! The command `check`: which flags of a document are good.
 ghost use Rattle.std.specs.Prelude.{◌≡◌, ◌++◌, ◌||◌, false, drop, is_some, IfOk, IfSome, string_bytes};
-ghost use Rattle.flag_defs.specs.Flag.{flag_view};
+ghost use Rattle.flag_documents.specs.Flag.{flag_view};
 ghost use Rattle.flag_defs.specs.Flags.{flags_view};
 ghost use Rattle.flagops_commands.specs.Check.{IsCheckReport, check_report, check_text, good_or_broken, has_broken};
 ghost use Rattle.flagops_commands.specs.Calls.{check_calls, check_itself};

@@ -1,7 +1,7 @@
 //! Whether the book has no input for a request, which a person is told.
 ghost use Rattle.std.specs.Prelude.{◌≡◌, Some, is_some, option_map, IfOk};
 ghost use Rattle.logic_ast.specs.Expr.{view};
-ghost use Rattle.flag_defs.specs.Flag.{flag_view};
+ghost use Rattle.flag_documents.specs.Flag.{flag_view};
 ghost use Rattle.flag_defs.specs.Flags.{flags_view};
 ghost use Rattle.flagops_commands.specs.Unrecorded.{is_bare, is_unrecorded, page_asked, page_in};
 ghost use Rattle.flagops_files.specs.Question.{question_view};

@@ -2,10 +2,10 @@ use Rattle.std.proofs.Common.{◌≡◌, [], drop, ◌+◌, ap, ap₂, sym, ◌�
 use Rattle.std.proofs.lemmas.List.{drop_all}
 use Rattle.flag_text.specs.Shape.{member}
 use Rattle.logic_ast.proofs.Readings.{dropped}
-use Rattle.flag_defs.specs.Document.{definitions_written}
-use Rattle.flag_defs.specs.Flag.{entries_view}
-use Rattle.flag_defs.specs.Members.{followed_by}
-use Rattle.flag_defs.proofs.Followed.{followed_end, followed_push}
+use Rattle.flag_documents.specs.Document.{definitions_written}
+use Rattle.flag_documents.specs.Flag.{entries_view}
+use Rattle.flag_documents.specs.Members.{followed_by}
+use Rattle.flag_documents.proofs.Followed.{followed_end, followed_push}
 use Rattle.flag_defs.proofs.write.write_entries.Goals as goal
 
 pub returns : goal.returns
@@ -23,5 +23,5 @@ loop-key-preserved c =
     let rest = definitions_written (entries_view (drop (i + 1) fs)) in
     ap (λ xs. followed_by xs rest) c.in_ok-push.ensures.items
     ∙ (followed_push ms (c.in_ok-clone.field-0, c.in_ok-definition.definition) rest
-    ∙ (ap₂ (λ k t. followed_by ms (member k t rest)) c.in_ok-clone.ensures.cases c.in_ok-definition.ensures
+    ∙ (ap₂ (λ k t. followed_by ms (member k t rest)) c.in_ok-clone.ensures.cases c.in_ok-definition.ensures.definition
     ∙ (ap (λ gs. followed_by ms (definitions_written (entries_view gs))) (sym (dropped fs i c.loop-key-item.result c.loop-key-test.true c.loop-key-item.is)) ∙ c.loop-key.invariant)))

@@ -1,5 +1,5 @@
 use Rattle.std.proofs.Common.{arith, take, ◌∙◌}
-use Rattle.flag_defs.specs.Document.{printed}
+use Rattle.flag_documents.specs.Document.{printed}
 use Rattle.flag_defs.specs.Flags.{flags_view}
 use Rattle.snap_core.specs.HubView.{snapshot_view}
 use Rattle.sync_server.proofs.Serving.{begins}

@@ -1,5 +1,5 @@
 use Rattle.std.proofs.Common.{sym, ◌∙◌}
-use Rattle.flag_defs.specs.Flag.{flag_view}
+use Rattle.flag_documents.specs.Flag.{flag_view}
 use Rattle.flag_defs.specs.Flags.{flags_view}
 use Rattle.flagops_commands.proofs.Checked.{broken_found, broken_next}
 use Rattle.flagops_commands.proofs.flags.check.has_broken.Goals as goal

@@ -1,5 +1,5 @@
 use Rattle.std.proofs.Common.{rules, string_bytes}
-use Rattle.flag_defs.specs.Flag.{flag_view}
+use Rattle.flag_documents.specs.Flag.{flag_view}
 use Rattle.flag_defs.specs.Flags.{flags_view}
 use Rattle.flagops_commands.proofs.Checked.{line_pushed}
 use Rattle.flagops_commands.proofs.flags.check.lines.Goals as goal

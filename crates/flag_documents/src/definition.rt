@@ -1,0 +1,111 @@
+//! From a definition to a flag.
+ghost use Rattle.std.specs.Prelude.{◌≡◌, true, Option, Some, option_map, option_copied, string_bytes, IfOk};
+ghost use Rattle.flag_text.specs.Shape.{object, is_tidy, members_are_tidy};
+ghost use Rattle.flag_text.specs.View.{view as tree_view, members_view};
+ghost use Rattle.logic_ast.specs.Expr.{view};
+ghost use Rattle.flag_documents.specs.Definition.{Means, good};
+ghost use Rattle.flag_documents.specs.Flag.{flag_view};
+ghost use Rattle.flag_documents.specs.Outline.{outline_view, rules_with};
+ghost use Rattle.flag_documents.specs.Rules.{are_rules};
+ghost use Rattle.flag_documents.specs.Weighing.{DefinitionTakes, IsWeighed};
+
+use crate::flag::Flag;
+use crate::forecast::{Forecast, targeting_forecast};
+use crate::members::copy_members;
+use crate::outline::{Outline, outline_of};
+use crate::rules::Rules;
+use crate::table::Evaluators;
+use crate::targeting::read_targeting;
+use flag_text::{Tree, member_by_halving};
+use logic_ast::Expr;
+use std::alloc::{AllocError, Global};
+
+/// In how many bytes the inlined form of a definition's targeting is printed at least. Nothing is expanded.
+pub(crate) fn least_bytes(definition: &Tree, evaluators: &Evaluators<'_>) -> u32
+    requires { is_tidy (tree_view definition.now) ≡ true }
+    ensures { DefinitionTakes (members_view evaluators.now) (tree_view definition.now) result }
+{
+    match definition.as_object() {
+        Some(members) => least_of_members(members, evaluators),
+        None => 0,
+    }
+}
+
+fn least_of_members(members: &[(String, Tree)], evaluators: &Evaluators<'_>) -> u32
+    requires { members_are_tidy (members_view members.now) ≡ true }
+    ensures { DefinitionTakes (members_view evaluators.now) (object (members_view members.now)) result }
+{
+    let Some(_outline) = outline_of(members) else {
+        return 0;
+    };
+    match targeting_forecast(member_by_halving(members, "targeting"), evaluators) {
+        Forecast::With(bytes) => bytes,
+        Forecast::Broken => 0,
+        Forecast::Without => 0,
+    }
+}
+
+/// The flag of a definition. The condition is that it was weighed with all others of its document.
+pub(crate) fn read_flag(
+    alloc: Global,
+    definition: &Tree,
+    evaluators: &Evaluators<'_>,
+) -> Result<Flag, AllocError>
+    requires tidy { is_tidy (tree_view definition.now) ≡ true }
+    requires weighed { IsWeighed (members_view evaluators.now) (tree_view definition.now) }
+    ensures { IfOk result (λ f. Means (members_view evaluators.now) (tree_view definition.now) (flag_view f)) }
+{
+    match definition.as_object() {
+        Some(members) => read_members(alloc, members, evaluators),
+        None => Ok(Flag { rules: None }),
+    }
+}
+
+fn read_members(
+    alloc: Global,
+    members: &[(String, Tree)],
+    evaluators: &Evaluators<'_>,
+) -> Result<Flag, AllocError>
+    requires tidy { members_are_tidy (members_view members.now) ≡ true }
+    requires weighed { IsWeighed (members_view evaluators.now) (object (members_view members.now)) }
+    ensures { IfOk result (λ f. Means (members_view evaluators.now) (object (members_view members.now)) (flag_view f)) }
+{
+    let Some(outline) = outline_of(members) else {
+        return Ok(Flag { rules: None });
+    };
+    let targeting = member_by_halving(members, "targeting");
+    if let Forecast::Broken = targeting_forecast(targeting, evaluators) {
+        return Ok(Flag { rules: None });
+    }
+    let targeting = read_targeting(alloc, targeting, evaluators)?;
+    good_flag(alloc, outline, targeting)
+}
+
+/// The good flag with this targeting.
+fn good_flag(
+    alloc: Global,
+    outline: Outline<'_>,
+    targeting: Option<Expr>,
+) -> Result<Flag, AllocError>
+    requires { are_rules (rules_with (outline_view outline) (option_map view targeting)) ≡ true }
+    ensures { IfOk result (λ f. flag_view f ≡ good (rules_with (outline_view outline.entry) (option_map view targeting))) }
+{
+    let variants = copy_members(alloc, outline.variants)?;
+    let default_variant = own_name(alloc, outline.default_variant)?;
+    let rules = Rules {
+        enabled: outline.enabled,
+        variants,
+        default_variant,
+        targeting,
+    };
+    Ok(Flag { rules: Some(rules) })
+}
+
+fn own_name(alloc: Global, name: Option<&str>) -> Result<Option<String>, AllocError>
+    ensures { IfOk result (λ n. option_map string_bytes n ≡ option_copied name.entry) }
+{
+    match name {
+        Some(name) => Ok(Some(String::from_str(alloc, name)?)),
+        None => Ok(None),
+    }
+}
