@@ -11,14 +11,14 @@ use Rattle.price_core.specs.Request.{Asked, asked_of}
 use Rattle.plan_text.specs.Answer.{Answer, emit, none_exists, planned_view}
 use Rattle.transport_instance.specs.Certificate.{DualPrices}
 use Rattle.plan_text.specs.declared.planned.Planned.{Planned}
-use Rattle.rollout.specs.Lawful.{Place, Problem, and_then, by_price, factor, limits_for, place_of, problem_at, sized, weighed}
+use Rattle.rollout_checks.specs.Lawful.{Place, Problem, and_then, by_price, factor, limits_for, place_of, problem_at, sized, weighed}
 use Rattle.rollout.specs.Planned.{IsPlanned}
-use Rattle.rollout.specs.Refined.{problem_checked, problem_refined}
-use Rattle.rollout.specs.Verified.{IsOutcome, Proves, refining_for}
-use Rattle.rollout.specs.declared.fault.RolloutFault.{RolloutFault}
-use Rattle.rollout.specs.declared.fault.RolloutFault.TheVariants.{NoWeight}
-use Rattle.rollout.specs.declared.verify_fault.VerifyFault.{VerifyFault}
-use Rattle.rollout.specs.declared.verify_fault.VerifyFault.TheVariants.{Request, Check}
+use Rattle.rollout_checks.specs.Refined.{problem_checked, problem_refined}
+use Rattle.rollout_checks.specs.Verified.{IsOutcome, Proves, refining_for}
+use Rattle.rollout_checks.specs.declared.fault.RolloutFault.{RolloutFault}
+use Rattle.rollout_checks.specs.declared.fault.RolloutFault.TheVariants.{NoWeight}
+use Rattle.rollout_checks.specs.declared.verify_fault.VerifyFault.{VerifyFault}
+use Rattle.rollout_checks.specs.declared.verify_fault.VerifyFault.TheVariants.{Request, Check}
 use Rattle.transport_instance.specs.declared.fault.CheckFault.TheVariants as check
 use Rattle.flagops_commands.specs.Plan.{Holds, IsPlanOf, MayBePlanned, ReadsBack, report_planned}
 use Rattle.flagops_commands.specs.Valid.{IsValid, IsValidPlan}

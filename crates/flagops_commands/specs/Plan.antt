@@ -3,8 +3,8 @@ use Rattle.std.specs.Prelude.{◌≡◌, ℕ, false, List, ◌++◌, codes, unwr
 use Rattle.plan_text.specs.Answer.{Answer, emit, none_exists, IsOrdered, planned_view}
 use Rattle.plan_text.specs.PlanFile.{IsWhole, answer_of, plan_file}
 use Rattle.rollout.specs.Planned.{IsPlanned}
-use Rattle.rollout.specs.Refined.{problem_refined}
-use Rattle.rollout.specs.declared.fault.RolloutFault.{RolloutFault}
+use Rattle.rollout_checks.specs.Refined.{problem_refined}
+use Rattle.rollout_checks.specs.declared.fault.RolloutFault.{RolloutFault}
 use Rattle.plan_text.specs.declared.planned.Planned.{Planned}
 use Rattle.flagops_files.specs.Files.{Holding}
 use Rattle.flagops_files.specs.Loading.{◌>>=◌, refused_by}

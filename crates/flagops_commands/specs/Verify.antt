@@ -1,9 +1,9 @@
 -- What the command `verify` answers.
 use Rattle.std.specs.Prelude.{◌≡◌, ℕ, List, ◌++◌, codes, decimal, OnOk, Option, Result, Ok, Err}
 use Rattle.plan_text.specs.Answer.{Answer, emit, none_exists}
-use Rattle.rollout.specs.Refined.{problem_checked}
-use Rattle.rollout.specs.Verified.{IsOutcome, IsShown}
-use Rattle.rollout.specs.declared.verify_fault.VerifyFault.{VerifyFault}
+use Rattle.rollout_checks.specs.Refined.{problem_checked}
+use Rattle.rollout_checks.specs.Verified.{IsOutcome, IsShown}
+use Rattle.rollout_checks.specs.declared.verify_fault.VerifyFault.{VerifyFault}
 use Rattle.flagops_files.specs.Files.{Holding}
 use Rattle.flagops_files.specs.Loading.{◌>>=◌, refused_by}
 use Rattle.flagops_files.specs.PlanFile.{plan_at}

@@ -5,10 +5,10 @@ use Rattle.flag_text.specs.Shape.{text}
 use Rattle.book_core.specs.declared.fault.BookFileFault.{BookFileFault}
 use Rattle.book_core.specs.declared.fault.BookFileFault.TheVariants as book
 use Rattle.price_core.specs.Fault as requests
-use Rattle.rollout.specs.declared.fault.RolloutFault.{RolloutFault}
-use Rattle.rollout.specs.declared.fault.RolloutFault.TheVariants as rollout
-use Rattle.rollout.specs.declared.verify_fault.VerifyFault.{VerifyFault}
-use Rattle.rollout.specs.declared.verify_fault.VerifyFault.TheVariants.{Request, Check}
+use Rattle.rollout_checks.specs.declared.fault.RolloutFault.{RolloutFault}
+use Rattle.rollout_checks.specs.declared.fault.RolloutFault.TheVariants as rollout
+use Rattle.rollout_checks.specs.declared.verify_fault.VerifyFault.{VerifyFault}
+use Rattle.rollout_checks.specs.declared.verify_fault.VerifyFault.TheVariants.{Request, Check}
 use Rattle.transport_instance.specs.declared.fault.CheckFault.{CheckFault}
 use Rattle.transport_instance.specs.declared.fault.CheckFault.TheVariants as check
 

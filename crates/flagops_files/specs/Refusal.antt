@@ -5,9 +5,9 @@ use Rattle.bucket_core.specs.Fault as rules
 use Rattle.book_core.specs.Fault as books
 use Rattle.price_core.specs.Fault as requests
 use Rattle.flag_documents.specs.Fault as documents
-use Rattle.rollout.specs.Fault as rollouts
+use Rattle.rollout_checks.specs.Fault as rollouts
 use Rattle.plan_text.specs.Fault as plan_files
-use Rattle.rollout.specs.VerifyFault as verdicts
+use Rattle.rollout_checks.specs.VerifyFault as verdicts
 use Rattle.flagops_drive.specs.Fault as drives
 use Rattle.flagops_files.specs.Files.{load_number, load_name, store_number, store_name}
 use Rattle.flagops_files.specs.Payload.{file_items, rollout_items, verify_items}

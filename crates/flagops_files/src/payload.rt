@@ -6,7 +6,7 @@ ghost use Rattle.flagops_files.specs.Refusal.{payload_of};
 use crate::quoting::quoted;
 use crate::refusal::Refusal;
 use book_core::BookFileFault;
-use rollout::{RolloutFault, VerifyFault};
+use rollout_checks::{RolloutFault, VerifyFault};
 use std::alloc::{AllocError, Global};
 use transport_instance::CheckFault;
 

@@ -11,7 +11,7 @@ use flag_text::TextFault;
 use flagops_drive::DriveRefusal;
 use plan_text::PlanFileFault;
 use price_core::PriceFault;
-use rollout::{RolloutFault, VerifyFault};
+use rollout_checks::{RolloutFault, VerifyFault};
 use std::alloc::{AllocError, Global};
 
 /// A call that can refuse, by the name that a refusal's line has.

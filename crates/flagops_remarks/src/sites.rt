@@ -6,7 +6,7 @@ use flag_defs::{Flag, Flags};
 use flag_text::{Tree, read_tree};
 use logic_ast::{Expr, LogicFault, site, sites};
 use price_core::Request;
-use rollout::RolloutFault;
+use rollout_checks::RolloutFault;
 use std::alloc::{AllocError, Global};
 
 /// The most bytes of a request.

@@ -1,10 +1,6 @@
-pub mod Bounded
 pub mod Changed
 pub mod Copies
-pub mod Outcomes
 pub mod Plans
-pub mod Refines
 pub mod Resolved
 pub mod Sites
-pub mod Variants
 pub mod Verifies

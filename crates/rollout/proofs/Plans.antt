@@ -27,13 +27,13 @@ use Rattle.transport_instance.proofs.Deficits.{deficient_fits_none}
 use Rattle.transport_plan.specs.Solved.{IsCut, IsNeverOver}
 use Rattle.transport_plan.specs.Solved.{IsPlan as IsSolved}
 use Rattle.plan_text.specs.Answer.{emit, none_exists, IsOrdered, planned_view}
-use Rattle.rollout.specs.Lawful.{Problem, IsLawful}
+use Rattle.rollout_checks.specs.Lawful.{Problem, IsLawful}
 use Rattle.plan_text.specs.PlanFile.{rises}
 use Rattle.rollout.specs.Planned.{IsUnderLast, IsPlan, IsPlanned}
-use Rattle.rollout.specs.declared.fault.RolloutFault.{RolloutFault}
-use Rattle.rollout.specs.declared.fault.RolloutFault.TheVariants.{WantOfMemory}
+use Rattle.rollout_checks.specs.declared.fault.RolloutFault.{RolloutFault}
+use Rattle.rollout_checks.specs.declared.fault.RolloutFault.TheVariants.{WantOfMemory}
 use Rattle.plan_text.specs.declared.planned.Planned.{Planned}
-use Rattle.rollout.proofs.Outcomes.{only_want}
+use Rattle.rollout_checks.proofs.Outcomes.{only_want}
 
 -- ---- plans
 

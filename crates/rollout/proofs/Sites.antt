@@ -8,7 +8,7 @@ use Rattle.flag_documents.specs.Definition.{Definition, broken, good}
 use Rattle.flag_documents.specs.Document.{Definitions, limited}
 use Rattle.flag_documents.specs.Flag.{is_broken}
 use Rattle.rollout.specs.Applied.{applied, by_document}
-use Rattle.rollout.specs.Lawful.{has_names_of}
+use Rattle.rollout_checks.specs.Lawful.{has_names_of}
 
 -- the flag is not broken
 pub site_good : (n : ℕ) (r : Entries) (flag changed : Definition) → with_site n r flag ≡ Ok changed → is_broken flag ≡ false

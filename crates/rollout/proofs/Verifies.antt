@@ -11,20 +11,20 @@ use Rattle.transport_instance.specs.Certificate.{DualPrices}
 use Rattle.transport_instance.specs.declared.fault.CheckFault.{CheckFault}
 use Rattle.transport_instance.specs.declared.fault.CheckFault.TheVariants as check
 use Rattle.plan_text.specs.Answer.{Answer, emit, none_exists}
-use Rattle.rollout.specs.Lawful.{Problem, Place, and_then, by_price, place_of, limits_for, factor, sized, weighed, problem_at, problem_of}
+use Rattle.rollout_checks.specs.Lawful.{Problem, Place, and_then, by_price, place_of, limits_for, factor, sized, weighed, problem_at, problem_of}
 use Rattle.rollout.specs.Planned.{IsPlan}
-use Rattle.rollout.specs.Refined.{problem_refined, problem_checked}
-use Rattle.rollout.specs.Verified.{Proves, Denies, IsOutcome, IsValid}
-use Rattle.rollout.specs.declared.fault.RolloutFault.{RolloutFault}
-use Rattle.rollout.specs.declared.fault.RolloutFault.TheVariants as rollout
-use Rattle.rollout.specs.declared.refining.Refining.{Refining}
-use Rattle.rollout.specs.declared.refining.Refining.TheVariants.{Times, ToTotal}
-use Rattle.rollout.specs.declared.verify_fault.VerifyFault.{VerifyFault}
-use Rattle.rollout.specs.declared.verify_fault.VerifyFault.TheVariants.{Request, Check}
-use Rattle.rollout.specs.VerifyFault.{number_of}
-use Rattle.rollout.proofs.Bounded.{Came, came}
+use Rattle.rollout_checks.specs.Refined.{problem_refined, problem_checked}
+use Rattle.rollout_checks.specs.Verified.{Proves, Denies, IsOutcome, IsValid}
+use Rattle.rollout_checks.specs.declared.fault.RolloutFault.{RolloutFault}
+use Rattle.rollout_checks.specs.declared.fault.RolloutFault.TheVariants as rollout
+use Rattle.rollout_checks.specs.declared.refining.Refining.{Refining}
+use Rattle.rollout_checks.specs.declared.refining.Refining.TheVariants.{Times, ToTotal}
+use Rattle.rollout_checks.specs.declared.verify_fault.VerifyFault.{VerifyFault}
+use Rattle.rollout_checks.specs.declared.verify_fault.VerifyFault.TheVariants.{Request, Check}
+use Rattle.rollout_checks.specs.VerifyFault.{number_of}
+use Rattle.rollout_checks.proofs.Bounded.{Came, came}
 use Rattle.transport_instance.specs.Fault as check_numbers
-use Rattle.rollout.specs.Fault as rollout_numbers
+use Rattle.rollout_checks.specs.Fault as rollout_numbers
 
 -- ---- an answer that proves itself is told as valid
 

@@ -5,10 +5,10 @@ use Rattle.book_core.specs.Book.{Contents}
 use Rattle.bucket_core.specs.Rule.{Entries}
 use Rattle.transport_instance.specs.Certificate.{DualPrices}
 use Rattle.plan_text.specs.Answer.{Answer, emit}
-use Rattle.rollout.specs.Lawful.{Problem}
+use Rattle.rollout_checks.specs.Lawful.{Problem}
 use Rattle.rollout.specs.Planned.{IsPlan}
-use Rattle.rollout.specs.Refined.{problem_refined, problem_checked}
-use Rattle.rollout.specs.Verified.{IsOutcome, IsValid, Told}
+use Rattle.rollout_checks.specs.Refined.{problem_refined, problem_checked}
+use Rattle.rollout_checks.specs.Verified.{IsOutcome, IsValid, Told}
 
 -- what is planned on the rule itself
 abbrev pub PlansAreValid : Type 0

@@ -1,9 +1,9 @@
+pub use Rattle.rollout_checks.specs.Fault
+pub use Rattle.rollout_checks.specs.Lawful
+pub use Rattle.rollout_checks.specs.Refined
+pub use Rattle.rollout_checks.specs.Verified
+pub use Rattle.rollout_checks.specs.VerifyFault
 pub mod Applied
 pub mod Change
-pub mod Fault
-pub mod Lawful
 pub mod Laws
 pub mod Planned
-pub mod Refined
-pub mod Verified
-pub mod VerifyFault

@@ -3,10 +3,10 @@ use Rattle.std.specs.Prelude.{◌≡◌, ◌≢◌, ℕ, List, Result, Ok, Err}
 use Rattle.transport_instance.specs.Deficient.{IsDeficient}
 use Rattle.transport_instance.specs.declared.certificate.CutKind.TheVariants.{Over, Under}
 use Rattle.plan_text.specs.Answer.{Answer, emit, none_exists, planned_view}
-use Rattle.rollout.specs.Lawful.{Problem, IsLawful}
-use Rattle.rollout.specs.Verified.{Proves, Shows}
-use Rattle.rollout.specs.declared.fault.RolloutFault.{RolloutFault}
-use Rattle.rollout.specs.declared.fault.RolloutFault.TheVariants.{WantOfMemory}
+use Rattle.rollout_checks.specs.Lawful.{Problem, IsLawful}
+use Rattle.rollout_checks.specs.Verified.{Proves, Shows}
+use Rattle.rollout_checks.specs.declared.fault.RolloutFault.{RolloutFault}
+use Rattle.rollout_checks.specs.declared.fault.RolloutFault.TheVariants.{WantOfMemory}
 use Rattle.plan_text.specs.declared.planned.Planned.{Planned}
 
 -- a set is told as under its low limits only where no set is over its high ones

@@ -11,11 +11,10 @@ ghost use Rattle.flag_defs.specs.Flags.{flags_view};
 ghost use Rattle.rollout.specs.Applied.{applied};
 ghost use Rattle.rollout.specs.Change.{IsChanged, OthersStay, ResolveAsBefore};
 
-use crate::fault::RolloutFault;
-use crate::place::has_names_of;
 use bucket_core::Rule;
 use flag_defs::{DefFault, Flag, Flags};
 use logic_ast::LogicFault;
+use rollout_checks::{RolloutFault, has_names_of};
 use std::alloc::{AllocError, Global};
 
 /// The flags with the entries of the rule as the buckets of a site. The bucketing expression stays, and so do all other

@@ -21,10 +21,7 @@
 //! }
 //! ```
 //!
-//! Proved, over the definitions of `specs/`:
-//! - [`verify`] and [`verify_refined`] accept an answer exactly where the request is lawful (`Lawful`) and the checks accept
-//!   the answer (`Verified`): then the rule costs the recorded inputs the least of all rules that fit, or none fits. Each
-//!   refusal comes first in its order.
+//! Proved, over the definitions of `specs/` and of rollout_checks, which has [`verify`] and [`verify_refined`]:
 //! - [`apply`] gives the flags with a rule at a site, or its first refusal (`Applied`): one flag changes, all others stay, and
 //!   what chooses alike under both rules resolves as before (`Change`).
 //! - [`plan`] and [`plan_refined`] answer a lawful request with a canonical rule that costs the recorded inputs the least of
@@ -35,19 +32,11 @@
 #![tactic(auto)]
 
 mod application;
-mod fault;
 mod laws;
-mod place;
 mod planner;
-mod problem;
-mod refining;
-mod verification;
-mod verify_fault;
 
 pub use application::apply;
-pub use fault::RolloutFault;
 pub use laws::plans_are_valid;
 pub use plan_text::{PlanFileFault, Planned, print_planned, read_planned};
 pub use planner::{plan, plan_refined};
-pub use verification::{verify, verify_refined};
-pub use verify_fault::VerifyFault;
+pub use rollout_checks::{RolloutFault, VerifyFault, verify, verify_refined};

@@ -4,7 +4,7 @@ ghost use Rattle.book_core.specs.Book.{IsBook};
 ghost use Rattle.flag_defs.specs.Flags.{flags_view};
 ghost use Rattle.plan_text.specs.Answer.{planned_view};
 ghost use Rattle.rollout.specs.Planned.{IsPlanned};
-ghost use Rattle.rollout.specs.Refined.{problem_refined};
+ghost use Rattle.rollout_checks.specs.Refined.{problem_refined};
 ghost use Rattle.sealed_plans.specs.Recorded.{HoldsOf, told_to};
 
 use book_core::Book;

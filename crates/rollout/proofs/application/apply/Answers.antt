@@ -3,7 +3,7 @@ use Rattle.bucket_core.specs.Rule.{IsRuleTotal}
 use Rattle.flag_documents.specs.Flag.{flag_view}
 use Rattle.flag_defs.specs.Flags.{flags_view}
 use Rattle.rollout.specs.Applied.{by_document}
-use Rattle.rollout.specs.Lawful.{has_names_of}
+use Rattle.rollout_checks.specs.Lawful.{has_names_of}
 use Rattle.rollout.proofs.Changed.{changed, others}
 use Rattle.rollout.proofs.Resolved.{as_before}
 use Rattle.rollout.proofs.Sites.{site_good, applied_with}

@@ -1,6 +1,6 @@
 use Rattle.flag_defs.specs.Flags.{flags_view}
-use Rattle.rollout.specs.Lawful.{problem_view}
-use Rattle.rollout.proofs.Bounded.{lawful_small}
+use Rattle.rollout_checks.specs.Lawful.{problem_view}
+use Rattle.rollout_checks.proofs.Bounded.{lawful_small}
 use Rattle.rollout.proofs.planner.plan_by.Goals as goal
 
 pub plan_on-requires-clause-small : goal.plan_on-requires-clause-small

@@ -12,8 +12,8 @@ use Rattle.transport_instance.specs.declared.fault.CheckFault.{CheckFault}
 use Rattle.transport_instance.specs.declared.fault.CheckFault.TheVariants as check
 use Rattle.transport_plan.specs.declared.fault.PlanFault.{PlanFault}
 use Rattle.transport_plan.specs.declared.fault.PlanFault.TheVariants as plan
-use Rattle.rollout.specs.declared.fault.RolloutFault.{RolloutFault}
-use Rattle.rollout.specs.declared.fault.RolloutFault.TheVariants.{WantOfMemory, Request, UnknownFlag, NoSite, Computed, UnknownVariant, TotalsSum, TotalTooLarge, NoWeight, TooLarge}
+use Rattle.rollout_checks.specs.declared.fault.RolloutFault.{RolloutFault}
+use Rattle.rollout_checks.specs.declared.fault.RolloutFault.TheVariants.{WantOfMemory, Request, UnknownFlag, NoSite, Computed, UnknownVariant, TotalsSum, TotalTooLarge, NoWeight, TooLarge}
 
 -- want of memory is 0
 abbrev pub number_of : RolloutFault → ℕ

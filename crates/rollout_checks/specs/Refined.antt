@@ -3,10 +3,10 @@ use Rattle.std.specs.Prelude.{ℕ, List, Option, Some, None, Result}
 use Rattle.book_core.specs.Book.{Contents}
 use Rattle.flag_documents.specs.Document.{Definitions}
 use Rattle.plan_text.specs.Answer.{Answer}
-use Rattle.rollout.specs.Lawful.{Problem, problem_of}
-use Rattle.rollout.specs.Verified.{refining_for}
-use Rattle.rollout.specs.declared.fault.RolloutFault.{RolloutFault}
-use Rattle.rollout.specs.declared.refining.Refining.TheVariants.{Times}
+use Rattle.rollout_checks.specs.Lawful.{Problem, problem_of}
+use Rattle.rollout_checks.specs.Verified.{refining_for}
+use Rattle.rollout_checks.specs.declared.fault.RolloutFault.{RolloutFault}
+use Rattle.rollout_checks.specs.declared.refining.Refining.TheVariants.{Times}
 
 -- on the site's rule refined by a factor
 abbrev pub problem_refined : ℕ → Definitions → List ℕ → Contents → Result Problem RolloutFault

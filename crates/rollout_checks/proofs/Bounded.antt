@@ -23,11 +23,11 @@ use Rattle.price_core.specs.Limits.{Limits, limits_of}
 use Rattle.price_core.specs.Request.{Asked, asked_of, limits_on, all_known}
 use Rattle.price_core.specs.declared.fault.PriceFault.TheVariants as price
 use Rattle.transport_instance.specs.Instance.{AreListed, MissTotal, max_planned_total, max_names}
-use Rattle.rollout.proofs.Variants.{names_limited}
-use Rattle.rollout.specs.Lawful.{Problem, Place, and_then, by_price, by_logic, or_refuse, place_in, place_of, has_names_of, limits_for, is_unmet, max_planned, factor, sized, weighed, problem_at, problem_of}
-use Rattle.rollout.specs.declared.fault.RolloutFault.{RolloutFault}
-use Rattle.rollout.specs.declared.fault.RolloutFault.TheVariants.{UnknownFlag, NoSite, UnknownVariant, TotalsSum, TotalTooLarge}
-use Rattle.rollout.specs.declared.refining.Refining.{Refining}
+use Rattle.rollout_checks.proofs.Variants.{names_limited}
+use Rattle.rollout_checks.specs.Lawful.{Problem, Place, and_then, by_price, by_logic, or_refuse, place_in, place_of, has_names_of, limits_for, is_unmet, max_planned, factor, sized, weighed, problem_at, problem_of}
+use Rattle.rollout_checks.specs.declared.fault.RolloutFault.{RolloutFault}
+use Rattle.rollout_checks.specs.declared.fault.RolloutFault.TheVariants.{UnknownFlag, NoSite, UnknownVariant, TotalsSum, TotalTooLarge}
+use Rattle.rollout_checks.specs.declared.refining.Refining.{Refining}
 
 -- what a result came of
 pub record Came {A B : Type 0} (r : Result A RolloutFault) (f : A → Result B RolloutFault) (b : B) : Type 0 where

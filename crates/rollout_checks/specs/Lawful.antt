@@ -17,13 +17,13 @@ use Rattle.price_core.specs.Limits.{Limits, AreLimits}
 use Rattle.price_core.specs.Pricing.{Pricing}
 use Rattle.price_core.specs.Request.{Asked, asked_of, totals_of}
 use Rattle.price_core.specs.declared.fault.PriceFault.{PriceFault}
-use Rattle.rollout.specs.declared.place.Place as program
-use Rattle.rollout.specs.declared.problem.Problem as program_problem
-use Rattle.rollout.specs.Fault.{of_logic, of_price}
-use Rattle.rollout.specs.declared.fault.RolloutFault.{RolloutFault}
-use Rattle.rollout.specs.declared.fault.RolloutFault.TheVariants.{UnknownFlag, NoSite, UnknownVariant, TotalsSum, TotalTooLarge, NoWeight}
-use Rattle.rollout.specs.declared.refining.Refining.{Refining}
-use Rattle.rollout.specs.declared.refining.Refining.TheVariants.{Times, ToTotal}
+use Rattle.rollout_checks.specs.declared.place.Place as program
+use Rattle.rollout_checks.specs.declared.problem.Problem as program_problem
+use Rattle.rollout_checks.specs.Fault.{of_logic, of_price}
+use Rattle.rollout_checks.specs.declared.fault.RolloutFault.{RolloutFault}
+use Rattle.rollout_checks.specs.declared.fault.RolloutFault.TheVariants.{UnknownFlag, NoSite, UnknownVariant, TotalsSum, TotalTooLarge, NoWeight}
+use Rattle.rollout_checks.specs.declared.refining.Refining.{Refining}
+use Rattle.rollout_checks.specs.declared.refining.Refining.TheVariants.{Times, ToTotal}
 
 -- what a lawful request asks
 pub record Problem : Type 0 where

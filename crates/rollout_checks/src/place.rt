@@ -4,7 +4,7 @@ ghost use Rattle.flag_text.specs.Outcome.{GivesUnless};
 ghost use Rattle.bucket_core.specs.Rule.{entries_view};
 ghost use Rattle.flag_documents.specs.Flag.{flag_view, is_broken};
 ghost use Rattle.flag_defs.specs.Flags.{flags_view};
-ghost use Rattle.rollout.specs.Lawful.{place_of, place_view, has_names_of, limits_for};
+ghost use Rattle.rollout_checks.specs.Lawful.{place_of, place_view, has_names_of, limits_for};
 
 use crate::fault::RolloutFault;
 use book_core::Page;
@@ -63,7 +63,7 @@ pub(crate) fn limits_for(
 }
 
 /// Whether each name of the entries is a variant of the flag.
-pub(crate) fn has_names_of(flag: &Flag, entries: &[(String, u64)]) -> bool
+pub fn has_names_of(flag: &Flag, entries: &[(String, u64)]) -> bool
     requires { is_broken (flag_view flag.now) ≡ false }
     ensures { result ≡ has_names_of (flag_view flag.now) (entries_view entries.now) }
 {

@@ -8,14 +8,14 @@ use Rattle.transport_instance.specs.Refusals.{Refuses}
 use Rattle.transport_instance.specs.declared.fault.CheckFault.{CheckFault}
 use Rattle.transport_instance.specs.declared.fault.CheckFault.TheVariants as fault
 use Rattle.plan_text.specs.Answer.{Answer, emit, none_exists}
-use Rattle.rollout.specs.Lawful.{Problem, IsLawful}
-use Rattle.rollout.specs.declared.fault.RolloutFault.{RolloutFault}
-use Rattle.rollout.specs.declared.fault.RolloutFault.TheVariants.{WantOfMemory}
-use Rattle.rollout.specs.declared.refining.Refining.{Refining}
-use Rattle.rollout.specs.declared.refining.Refining.TheVariants.{Times, ToTotal}
-use Rattle.rollout.specs.VerifyFault.{number_of}
-use Rattle.rollout.specs.declared.verify_fault.VerifyFault.{VerifyFault}
-use Rattle.rollout.specs.declared.verify_fault.VerifyFault.TheVariants.{Request, Check}
+use Rattle.rollout_checks.specs.Lawful.{Problem, IsLawful}
+use Rattle.rollout_checks.specs.declared.fault.RolloutFault.{RolloutFault}
+use Rattle.rollout_checks.specs.declared.fault.RolloutFault.TheVariants.{WantOfMemory}
+use Rattle.rollout_checks.specs.declared.refining.Refining.{Refining}
+use Rattle.rollout_checks.specs.declared.refining.Refining.TheVariants.{Times, ToTotal}
+use Rattle.rollout_checks.specs.VerifyFault.{number_of}
+use Rattle.rollout_checks.specs.declared.verify_fault.VerifyFault.{VerifyFault}
+use Rattle.rollout_checks.specs.declared.verify_fault.VerifyFault.TheVariants.{Request, Check}
 
 -- A rule is checked against the site's rule refined to its total, a set of names against the site's rule itself.
 abbrev pub refining_for : Answer → Refining

@@ -1,6 +1,6 @@
 ghost use Rattle.std.specs.Prelude.{◌≡◌};
-ghost use Rattle.rollout.specs.Fault.{number_of, name_of, of_check, of_document, of_logic, of_plan, of_price, of_rule};
-ghost use Rattle.rollout.specs.declared.fault.RolloutFault.TheVariants.{WantOfMemory};
+ghost use Rattle.rollout_checks.specs.Fault.{number_of, name_of, of_check, of_document, of_logic, of_plan, of_price, of_rule};
+ghost use Rattle.rollout_checks.specs.declared.fault.RolloutFault.TheVariants.{WantOfMemory};
 
 use bucket_core::RuleFault;
 use flag_defs::DefFault;

@@ -2,8 +2,8 @@ use Rattle.std.proofs.Common.{sym, ap}
 use Rattle.std.proofs.lemmas.Result.{err_from_is_err_and}
 use Rattle.bucket_core.specs.Reading.{rule_of_entries}
 use Rattle.bucket_core.specs.Rule.{refinement, entries_view}
-use Rattle.rollout.proofs.Refines.{refinement_refused}
-use Rattle.rollout.proofs.problem.refined.Goals as goal
+use Rattle.rollout_checks.proofs.Refines.{refinement_refused}
+use Rattle.rollout_checks.proofs.problem.refined.Goals as goal
 
 pub returns-in_err-refine : goal.returns-in_err-refine
 returns-in_err-refine c =

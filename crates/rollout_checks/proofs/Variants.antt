@@ -18,7 +18,7 @@ use Rattle.flag_documents.specs.Flag.{member_names, variant_names, variant_of, v
 use Rattle.price_core.specs.Limits.{Limits, limits_of}
 use Rattle.price_core.specs.Request.{limits_on}
 use Rattle.transport_instance.proofs.Placed.{name_ties}
-use Rattle.rollout.specs.Lawful.{has_names_of}
+use Rattle.rollout_checks.specs.Lawful.{has_names_of}
 
 contains_first : (x : List ℕ) (xs : List (List ℕ)) → Contains (x ∷ xs) x
 contains_first x xs = (0, omega arith, refl)

@@ -2,9 +2,9 @@
 ghost use Rattle.std.specs.Prelude.{◌≡◌, ◌<◌, OnOk, MatchResult};
 ghost use Rattle.flag_defs.specs.Flags.{flags_view};
 ghost use Rattle.plan_text.specs.Answer.{planned_view};
-ghost use Rattle.rollout.specs.Lawful.{IsLawful, IsRefining, problem_of, problem_view};
-ghost use Rattle.rollout.specs.Verified.{IsOutcome, Proves, Shows, Denies, IsShown, refining_for};
-ghost use Rattle.rollout.specs.declared.refining.Refining.TheVariants.{Times};
+ghost use Rattle.rollout_checks.specs.Lawful.{IsLawful, IsRefining, problem_of, problem_view};
+ghost use Rattle.rollout_checks.specs.Verified.{IsOutcome, Proves, Shows, Denies, IsShown, refining_for};
+ghost use Rattle.rollout_checks.specs.declared.refining.Refining.TheVariants.{Times};
 
 use crate::problem::{Problem, problem_of};
 use crate::refining::Refining;

@@ -1,6 +1,6 @@
 ghost use Rattle.std.specs.Prelude.{◌≡◌};
-ghost use Rattle.rollout.specs.VerifyFault.{number_of, name_of};
-ghost use Rattle.rollout.specs.declared.verify_fault.VerifyFault.TheVariants.{Request, Check};
+ghost use Rattle.rollout_checks.specs.VerifyFault.{number_of, name_of};
+ghost use Rattle.rollout_checks.specs.declared.verify_fault.VerifyFault.TheVariants.{Request, Check};
 
 use crate::fault::RolloutFault;
 use thiserror::Error;

@@ -4,7 +4,7 @@ ghost use Rattle.flag_text.specs.Outcome.{GivesUnless};
 ghost use Rattle.bucket_core.specs.Rule.{total_weight, refinement, entries_view};
 ghost use Rattle.flag_documents.specs.Flag.{flag_view, is_broken};
 ghost use Rattle.flag_defs.specs.Flags.{flags_view};
-ghost use Rattle.rollout.specs.Lawful.{IsRefining, max_planned, problem_of, problem_at, sized, place_view, problem_view};
+ghost use Rattle.rollout_checks.specs.Lawful.{IsRefining, max_planned, problem_of, problem_at, sized, place_view, problem_view};
 
 use crate::fault::RolloutFault;
 use crate::place::{Place, limits_for, place_of};
@@ -18,18 +18,24 @@ use std::alloc::Global;
 /// The largest total that is planned on.
 const MAX_PLANNED: u128 = 1_000_000;
 
-/// The rule that is planned on, the limits on the totals of the flag's variants, the request with its prices, and the
-/// inputs that count.
+/// What a lawful request asks: what is planned on, or an answer is checked against.
 #[derive(Drop)]
-pub(crate) struct Problem {
-    pub(crate) old: Rule,
-    pub(crate) totals: Totals,
-    pub(crate) request: Request,
-    pub(crate) exposure: Exposure,
+pub struct Problem {
+    /// The site's rule, refined.
+    pub old: Rule,
+    /// The limits on the totals of the flag's variants.
+    pub totals: Totals,
+    /// What is asked, with its prices.
+    pub request: Request,
+    /// The inputs that count.
+    pub exposure: Exposure,
 }
 
-/// What the bytes of a request ask, where it is lawful.
-pub(crate) fn problem_of(
+/// What the bytes of a request ask of the flags and the book, where it is lawful. The condition is a factor from 1.
+///
+/// It refuses an unlawful request, in this order, with `Request`, `UnknownFlag`, `NoSite`, `Computed`, `NoWeight`,
+/// `UnknownVariant`, `TotalsSum` and `TotalTooLarge`.
+pub fn problem_of(
     alloc: Global,
     refining: Refining,
     flags: &Flags,

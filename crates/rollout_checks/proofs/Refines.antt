@@ -6,9 +6,9 @@ use Rattle.bucket_core.specs.Rule.{Entries, IsRuleTotal, total_weight, refinemen
 use Rattle.bucket_core.specs.declared.fault.RuleFault.{RuleFault}
 use Rattle.bucket_core.specs.declared.fault.RuleFault.TheVariants as rule
 use Rattle.bucket_core.proofs.Refined.{total_weight-refinement}
-use Rattle.rollout.specs.Fault.{of_rule}
-use Rattle.rollout.specs.Lawful.{max_planned}
-use Rattle.rollout.specs.declared.fault.RolloutFault.TheVariants.{WantOfMemory}
+use Rattle.rollout_checks.specs.Fault.{of_rule}
+use Rattle.rollout_checks.specs.Lawful.{max_planned}
+use Rattle.rollout_checks.specs.declared.fault.RolloutFault.TheVariants.{WantOfMemory}
 use Rattle.plan_text.proofs.Orders.{rule_of-total}
 
 pub refinement_made : (m : ℕ) (r : Entries) → 0 < total_weight r → 0 < m → total_weight r * m ≤ max_planned → rule_of_entries (refinement m r) ≡ Ok (refinement m r)

@@ -1,10 +1,10 @@
 //! How the rule of a site is refined before it is planned on.
 ghost use Rattle.std.specs.Prelude.{◌≡◌, ◌<◌};
-ghost use Rattle.rollout.specs.Lawful.{IsRefining, factor};
+ghost use Rattle.rollout_checks.specs.Lawful.{IsRefining, factor};
 
 /// What each weight of the site's rule is multiplied by.
-#[derive(Clone, Copy, Debug, PartialEq, Eq)]
-pub(crate) enum Refining {
+#[derive(Clone, Copy, Debug)]
+pub enum Refining {
     /// This number.
     Times(u32),
     /// The number that makes this total of the site's, and 1 where there is none.

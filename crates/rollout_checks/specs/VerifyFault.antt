@@ -1,9 +1,9 @@
 -- The number and the name that a refusal of an answer is printed with: those of the fault that it carries.
 use Rattle.std.specs.Prelude.{ℕ, List}
 use Rattle.transport_instance.specs.Fault as check
-use Rattle.rollout.specs.Fault as rollout
-use Rattle.rollout.specs.declared.verify_fault.VerifyFault.{VerifyFault}
-use Rattle.rollout.specs.declared.verify_fault.VerifyFault.TheVariants.{Request, Check}
+use Rattle.rollout_checks.specs.Fault as rollout
+use Rattle.rollout_checks.specs.declared.verify_fault.VerifyFault.{VerifyFault}
+use Rattle.rollout_checks.specs.declared.verify_fault.VerifyFault.TheVariants.{Request, Check}
 
 abbrev pub number_of : VerifyFault → ℕ
 number_of (Request fault) = rollout.number_of fault

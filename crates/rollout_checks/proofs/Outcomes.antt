@@ -2,11 +2,11 @@
 use Rattle.std.proofs.Common.{◌≡◌, ◌≢◌, Result, Ok, Err, refl, sym, ap, subst}
 use Rattle.transport_instance.specs.declared.fault.CheckFault.{CheckFault}
 use Rattle.plan_text.specs.Answer.{Answer}
-use Rattle.rollout.specs.Lawful.{Problem, IsLawful}
-use Rattle.rollout.specs.Verified.{Proves, Shows, Denies, IsOutcome, IsShown}
-use Rattle.rollout.specs.declared.fault.RolloutFault.{RolloutFault}
-use Rattle.rollout.specs.declared.fault.RolloutFault.TheVariants as fault
-use Rattle.rollout.specs.declared.verify_fault.VerifyFault.TheVariants.{Request, Check}
+use Rattle.rollout_checks.specs.Lawful.{Problem, IsLawful}
+use Rattle.rollout_checks.specs.Verified.{Proves, Shows, Denies, IsOutcome, IsShown}
+use Rattle.rollout_checks.specs.declared.fault.RolloutFault.{RolloutFault}
+use Rattle.rollout_checks.specs.declared.fault.RolloutFault.TheVariants as fault
+use Rattle.rollout_checks.specs.declared.verify_fault.VerifyFault.TheVariants.{Request, Check}
 
 pub only_want : (e : RolloutFault) → (e ≢ fault.WantOfMemory → ⊥) → e ≡ fault.WantOfMemory
 only_want fault.WantOfMemory h = refl

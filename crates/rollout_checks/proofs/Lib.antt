@@ -1,0 +1,4 @@
+pub mod Bounded
+pub mod Outcomes
+pub mod Refines
+pub mod Variants

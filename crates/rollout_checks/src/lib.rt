@@ -1,0 +1,26 @@
+//! What a rollout request asks of a flag document and a book, and whether an answer to it is right, whoever made it.
+//!
+//! [`problem_of`] looks up the flag, its site and the page of its inputs, and refuses what is no lawful request; [`verify`] and
+//! [`verify_refined`] check an answer on it. The planner, and what puts a rule at a site, stand above, in the crate rollout.
+//!
+//! Proved, over the definitions of `specs/`:
+//! - [`verify`] and [`verify_refined`] accept an answer exactly where the request is lawful (`Lawful`) and the checks accept
+//!   the answer (`Verified`): then the rule costs the recorded inputs the least of all rules that fit, or none fits. Each
+//!   refusal comes first in its order.
+//! - [`problem_of`] gives what a lawful request asks, or its first refusal (`Lawful`, `Refined`); [`has_names_of`] tells whether
+//!   each name of a rule's entries is a variant of the flag.
+#![tactic(auto)]
+
+mod fault;
+mod place;
+mod problem;
+mod refining;
+mod verification;
+mod verify_fault;
+
+pub use fault::RolloutFault;
+pub use place::has_names_of;
+pub use problem::{Problem, problem_of};
+pub use refining::Refining;
+pub use verification::{verify, verify_refined};
+pub use verify_fault::VerifyFault;
