@@ -1,7 +1,8 @@
 //! What a person is told of the flags of a document that are broken.
 use crate::evaluators::first_referred;
 use crate::lines::Lines;
-use crate::search::{Sought, Wrong, first_wrong, put_way};
+use crate::search::{Sought, Wrong, first_wrong};
+use crate::way::Way;
 use flag_defs::{Breach, breaches};
 use flag_text::{Tree, read_doc};
 use std::alloc::{AllocError, Global};
@@ -187,8 +188,9 @@ fn put_first(
 ) {
     lines.put_all(&[".", name]);
     if let Some(tree) = definition.member(name) {
-        if let Some(wrong) = first_wrong(tree, sought) {
-            put_way(lines, tree, sought);
+        let mut way = Way::new();
+        if let Some(wrong) = first_wrong(tree, sought, &mut way) {
+            way.put(lines, usize::MAX);
             put_wrong(lines, wrong, "", evaluators);
             return;
         }
@@ -207,12 +209,13 @@ fn put_referred(
     evaluators: &[(String, Tree)],
     sought: Sought<'_>,
 ) -> bool {
-    let Some((key, part, wrong)) = first_referred(lines, tree, evaluators, sought) else {
+    let mut way = Way::new();
+    let Some((key, wrong)) = first_referred(lines, tree, evaluators, sought, &mut way) else {
         return false;
     };
     lines.put(" refers to $evaluators");
     lines.put_step(key);
-    put_way(lines, part, sought);
+    way.put(lines, usize::MAX);
     put_wrong(lines, wrong, ", which", evaluators);
     true
 }
@@ -244,12 +247,14 @@ fn put_wrong(lines: &mut Lines, wrong: Wrong<'_>, which: &str, evaluators: &[(St
             lines.put_shown(&place);
             lines.put(" of \"fractional\" is no bucket [name, weight]");
         }
+        Wrong::Levels => lines.put_all(&[which, " nests too deep"]),
     }
 }
 
 /// The first reference of a tree, where there is one: what is wrong is then in what the tree refers to.
 fn put_reference(lines: &mut Lines, tree: &Tree) {
-    if let Some(Wrong::Reference(name)) = first_wrong(tree, Sought::Reference) {
+    let mut way = Way::new();
+    if let Some(Wrong::Reference(name)) = first_wrong(tree, Sought::Reference, &mut way) {
         lines.put(", or what it refers to (first ");
         lines.put_name(name);
         lines.put("),");
@@ -262,6 +267,6 @@ fn unplaced(sought: Sought<'_>) -> &'static str {
         Sought::NotWhole => "a number that is not whole, or a $ref that is none",
         Sought::Unknown(_) => "a $ref back to itself, or to no evaluator",
         Sought::Operation => "an operator that is unknown or has wrong arguments",
-        Sought::Reference | Sought::Deeper(_) => "what is not taken",
+        Sought::Reference | Sought::Within(_) => "what is not taken",
     }
 }

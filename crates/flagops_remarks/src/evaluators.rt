@@ -1,6 +1,7 @@
 //! The first place at which something is wrong in the evaluators that a targeting refers to.
 use crate::lines::Lines;
 use crate::search::{Sought, Wrong, first_wrong, position, reference};
+use crate::way::Way;
 use flag_text::Tree;
 use std::alloc::{AllocError, AllocFailed, Global};
 
@@ -55,13 +56,14 @@ impl<'a> Referred<'a> {
 }
 
 /// The first of the evaluators that the targeting refers to, itself or by others, that has what is sought, and what is wrong
-/// in it.
+/// in it, at the place the way to which is noted.
 pub(crate) fn first_referred<'a>(
     lines: &mut Lines,
     targeting: &Tree,
     evaluators: &'a [(String, Tree)],
     sought: Sought<'_>,
-) -> Option<(&'a str, &'a Tree, Wrong<'a>)> {
+    way: &mut Way<'a>,
+) -> Option<(&'a str, Wrong<'a>)> {
     let mut referred = Referred::new(lines.alloc, evaluators);
     refer(&mut referred, targeting);
     let mut found = None;
@@ -69,8 +71,8 @@ pub(crate) fn first_referred<'a>(
         let Some((name, tree)) = referred.get(turn) else {
             break;
         };
-        if let Some(wrong) = first_wrong(tree, sought) {
-            found = Some((name.as_str(), tree, wrong));
+        if let Some(wrong) = first_wrong(tree, sought, way) {
+            found = Some((name.as_str(), wrong));
             break;
         }
         refer(&mut referred, tree);

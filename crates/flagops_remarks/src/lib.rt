@@ -30,6 +30,7 @@ mod requests;
 mod search;
 mod sites;
 mod texts;
+mod way;
 
 pub use asks::{of_asks, of_unwritable, of_workers};
 pub use books::{of_book, of_unrecorded};

@@ -1,12 +1,9 @@
 //! The first place in a tree at which something is wrong, in preorder, and the way to it.
 //!
-//! The way is found from the root, by another search in each part on it, so that nothing has to be kept.
-use crate::lines::Lines;
+//! One search finds both: where a part has the place, the step to the part is noted before those that lie in it.
+use crate::way::{Step, Way};
 use flag_text::Tree;
 use logic_ast::{Operator, is_fractional};
-
-/// The most steps to a place: no text that is read nests deeper.
-const MOST_STEPS: usize = 127;
 
 /// What is looked for.
 #[derive(Clone, Copy)]
@@ -19,8 +16,18 @@ pub(crate) enum Sought<'a> {
     Reference,
     /// An operation that is none: its operator is unknown, or it has arguments that it does not take.
     Operation,
-    /// What nests deeper than so many levels.
-    Deeper(usize),
+    /// A list or an object that lies in so many levels of others.
+    Within(usize),
+}
+
+impl<'a> Sought<'a> {
+    /// What is sought in the parts of a list or an object.
+    fn inside(self) -> Sought<'a> {
+        match self {
+            Sought::Within(levels) => Sought::Within(levels.saturating_sub(1)),
+            _ => self,
+        }
+    }
 }
 
 /// What is wrong at a place.
@@ -36,25 +43,36 @@ pub(crate) enum Wrong<'a> {
     Arguments(&'a str, usize),
     /// The argument of a `fractional` at this place is no bucket.
     Bucket(usize),
+    /// It nests too deep.
+    Levels,
 }
 
-/// What is wrong at the first place.
+/// What is wrong at the first place, the way to which is noted. Nothing is noted where there is no such place.
 #[cycle(first_wrong)]
-pub(crate) fn first_wrong<'a>(tree: &'a Tree, sought: Sought<'_>) -> Option<Wrong<'a>> {
+pub(crate) fn first_wrong<'a>(
+    tree: &'a Tree,
+    sought: Sought<'_>,
+    way: &mut Way<'a>,
+) -> Option<Wrong<'a>> {
     if let Some(wrong) = wrong_at(tree, sought) {
         return Some(wrong);
     }
     match tree {
-        Tree::List(items) => first_in_items(items, sought),
-        Tree::Object(members) => first_in_members(members, sought),
+        Tree::List(items) => first_in_items(items, sought.inside(), way),
+        Tree::Object(members) => first_in_members(members, sought.inside(), way),
         _ => None,
     }
 }
 
 #[cycle(first_wrong)]
-fn first_in_items<'a>(items: &'a Vec<Tree>, sought: Sought<'_>) -> Option<Wrong<'a>> {
-    for item in items {
-        if let Some(wrong) = first_wrong(item, sought) {
+fn first_in_items<'a>(
+    items: &'a Vec<Tree>,
+    sought: Sought<'_>,
+    way: &mut Way<'a>,
+) -> Option<Wrong<'a>> {
+    for (place, item) in items.iter().enumerate() {
+        if let Some(wrong) = first_wrong(item, sought, way) {
+            way.begin_with(Step::Item(place));
             return Some(wrong);
         }
     }
@@ -62,12 +80,17 @@ fn first_in_items<'a>(items: &'a Vec<Tree>, sought: Sought<'_>) -> Option<Wrong<
 }
 
 #[cycle(first_wrong)]
-fn first_in_members<'a>(members: &'a Vec<(String, Tree)>, sought: Sought<'_>) -> Option<Wrong<'a>> {
+fn first_in_members<'a>(
+    members: &'a Vec<(String, Tree)>,
+    sought: Sought<'_>,
+    way: &mut Way<'a>,
+) -> Option<Wrong<'a>> {
     if is_passed_over(members.as_slice(), sought) {
         return None;
     }
-    for (_, member) in members {
-        if let Some(wrong) = first_wrong(member, sought) {
+    for (name, member) in members {
+        if let Some(wrong) = first_wrong(member, sought, way) {
+            way.begin_with(Step::Member(name.as_str()));
             return Some(wrong);
         }
     }
@@ -77,65 +100,6 @@ fn first_in_members<'a>(members: &'a Vec<(String, Tree)>, sought: Sought<'_>) ->
 /// Whether no expression stands in the members: those of a literal object, and of a reference.
 fn is_passed_over(members: &[(String, Tree)], sought: Sought<'_>) -> bool {
     matches!(sought, Sought::Operation) && (members.len() != 1 || reference(members).is_some())
-}
-
-/// Whether what is sought is in a tree.
-pub(crate) fn has(tree: &Tree, sought: Sought<'_>) -> bool {
-    match sought {
-        Sought::Deeper(levels) => !tree.fits(levels),
-        _ => first_wrong(tree, sought).is_some(),
-    }
-}
-
-/// Writes the way to the first place in a tree, which has one.
-pub(crate) fn put_way(lines: &mut Lines, tree: &Tree, sought: Sought<'_>) {
-    let mut place = tree;
-    for _ in 0..MOST_STEPS {
-        if wrong_at(place, sought).is_some() {
-            return;
-        }
-        match put_step(lines, place, sought) {
-            Some(part) => place = part,
-            None => return,
-        }
-    }
-}
-
-/// Writes the step to the first part of a tree that has what is sought, and gives the part.
-pub(crate) fn put_step<'a>(
-    lines: &mut Lines,
-    tree: &'a Tree,
-    sought: Sought<'_>,
-) -> Option<&'a Tree> {
-    match tree {
-        Tree::List(items) => put_item(lines, items.as_slice(), sought),
-        Tree::Object(members) => put_member(lines, members.as_slice(), sought),
-        _ => None,
-    }
-}
-
-fn put_item<'a>(lines: &mut Lines, items: &'a [Tree], sought: Sought<'_>) -> Option<&'a Tree> {
-    for i in 0..items.len() {
-        if has(&items[i], sought) {
-            lines.put_place(i);
-            return Some(&items[i]);
-        }
-    }
-    None
-}
-
-fn put_member<'a>(
-    lines: &mut Lines,
-    members: &'a [(String, Tree)],
-    sought: Sought<'_>,
-) -> Option<&'a Tree> {
-    for (name, member) in members {
-        if has(member, sought) {
-            lines.put_step(name.as_str());
-            return Some(member);
-        }
-    }
-    None
 }
 
 /// What is wrong with a tree itself.
@@ -150,6 +114,7 @@ fn wrong_at<'a>(tree: &'a Tree, sought: Sought<'_>) -> Option<Wrong<'a>> {
             None => None,
         },
         (Sought::Operation, Tree::Object(members)) => wrong_operation(members.as_slice()),
+        (Sought::Within(0), Tree::List(_) | Tree::Object(_)) => Some(Wrong::Levels),
         _ => None,
     }
 }

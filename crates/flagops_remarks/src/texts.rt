@@ -1,7 +1,8 @@
 //! What a person is told of a text that is no tree.
 use crate::lines::Lines;
-use crate::search::{Sought, put_step, put_way};
-use flag_text::{TextFault, Tree, read_doc};
+use crate::search::{Sought, first_wrong};
+use crate::way::Way;
+use flag_text::{TextFault, read_doc};
 use serde_json::Value;
 use simdutf8::basic;
 use std::alloc::{AllocError, Global};
@@ -89,14 +90,27 @@ fn put_json_fault(lines: &mut Lines, bytes: &[u8]) {
 
 fn put_not_whole(lines: &mut Lines, bytes: &[u8], limit: usize) {
     lines.put(": the number at ");
-    if let Ok(tree) = read_doc(lines.alloc, bytes, limit) {
-        let mut way = Lines::new(lines.alloc);
-        put_way(&mut way, &tree, Sought::NotWhole);
-        put_from_root(lines, way);
-    }
+    put_place(lines, bytes, limit, Sought::NotWhole, usize::MAX);
     lines.put(
         " is not whole\n  numbers are from -(2^53-1) to 2^53-1, without fraction or exponent: give cents, or a text\n",
     );
+}
+
+fn put_too_deep(lines: &mut Lines, bytes: &[u8], limit: usize) {
+    lines.put(": lists and objects nest deeper than 120 levels, at ");
+    put_place(lines, bytes, limit, Sought::Within(LEVELS), MOST_OF_WAY);
+    lines.put("\n");
+}
+
+/// The first place in a text that has what is sought. No further step is shown behind the most bytes.
+fn put_place(lines: &mut Lines, bytes: &[u8], limit: usize, sought: Sought<'_>, most: usize) {
+    if let Ok(tree) = read_doc(lines.alloc, bytes, limit) {
+        let mut way = Way::new();
+        let _wrong = first_wrong(&tree, sought, &mut way);
+        let mut shown = Lines::new(lines.alloc);
+        way.put(&mut shown, most);
+        put_from_root(lines, shown);
+    }
 }
 
 /// A way without the point that it begins with.
@@ -108,30 +122,5 @@ fn put_from_root(lines: &mut Lines, way: Lines) {
             None => lines.put(way.as_str()),
         },
         Err(want) => lines.fall_short(want),
-    }
-}
-
-fn put_too_deep(lines: &mut Lines, bytes: &[u8], limit: usize) {
-    lines.put(": lists and objects nest deeper than 120 levels, at ");
-    if let Ok(tree) = read_doc(lines.alloc, bytes, limit) {
-        let mut way = Lines::new(lines.alloc);
-        put_way_down(&mut way, &tree);
-        put_from_root(lines, way);
-    }
-    lines.put("\n");
-}
-
-/// The way into what nests too deep: its first steps, with dots behind them where there are more.
-fn put_way_down(way: &mut Lines, tree: &Tree) {
-    let mut part = tree;
-    for passed in 0..LEVELS {
-        if way.len() > MOST_OF_WAY {
-            way.put("..");
-            return;
-        }
-        match put_step(way, part, Sought::Deeper(LEVELS - 1 - passed)) {
-            Some(inner) => part = inner,
-            None => return,
-        }
     }
 }
