@@ -10,7 +10,7 @@ use crate::table::Evaluators;
 use flag_text::Tree;
 
 /// A targeting, before its references are replaced.
-#[derive(Clone, Copy, Debug, PartialEq, Eq)]
+#[derive(Clone, Copy)]
 pub(crate) enum Forecast {
     /// It breaks the flag.
     Broken,

@@ -6,7 +6,7 @@ ghost use Rattle.flag_documents.specs.Definition.{all_values, are_of_one_kind};
 use flag_text::Tree;
 
 /// What all variants of a flag are.
-#[derive(Clone, Copy, Debug, PartialEq, Eq)]
+#[derive(Clone, Copy)]
 pub(crate) enum Kind {
     Bool,
     Text,

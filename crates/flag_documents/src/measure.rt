@@ -13,7 +13,7 @@ const MAX_NODES: u32 = 10_000;
 const MAX_LEVELS: u32 = 100;
 
 /// How large a tree is in one way of reading it, and whether nothing is wrong with it.
-#[derive(Clone, Copy, Debug, PartialEq, Eq)]
+#[derive(Clone, Copy)]
 pub(crate) struct Reading {
     pub(crate) nodes: u32,
     pub(crate) levels: u32,
@@ -21,7 +21,7 @@ pub(crate) struct Reading {
 }
 
 /// A tree by each way of reading it.
-#[derive(Clone, Copy, Debug, PartialEq, Eq)]
+#[derive(Clone, Copy)]
 pub(crate) struct Measure {
     /// As a part of a literal: each scalar, list and object counts. It is sound where each number is whole and no
     /// reference is left.
@@ -43,7 +43,7 @@ pub(crate) struct Measure {
 }
 
 /// The items of a list, together.
-#[derive(Clone, Copy, Debug, PartialEq, Eq)]
+#[derive(Clone, Copy)]
 pub(crate) struct Parts {
     pub(crate) full: Reading,
     pub(crate) expressions: Reading,

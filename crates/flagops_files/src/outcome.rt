@@ -4,7 +4,7 @@ ghost use Rattle.flagops_files.specs.Report.{outcome_view, status_number};
 use crate::refused::Remark;
 
 /// How a run ended.
-#[derive(Clone, Copy, Debug, PartialEq, Eq)]
+#[derive(Clone, Copy, Debug)]
 pub enum Status {
     /// The command did what it was asked.
     Done,

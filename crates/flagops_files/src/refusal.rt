@@ -15,7 +15,7 @@ use rollout_checks::{RolloutFault, VerifyFault};
 use std::alloc::{AllocError, Global};
 
 /// A call that can refuse, by the name that a refusal's line has.
-#[derive(Clone, Copy, Debug, PartialEq, Eq)]
+#[derive(Clone, Copy, Debug)]
 pub enum Call {
     /// The program, while it reads its words.
     Flagops,
@@ -87,7 +87,7 @@ impl Call {
 }
 
 /// Why the command `price` refuses what it read.
-#[derive(Clone, Copy, Debug, PartialEq, Eq)]
+#[derive(Clone, Copy, Debug)]
 pub enum PriceMismatch {
     /// The totals of the two rules differ.
     Weight,
@@ -118,7 +118,7 @@ impl PriceMismatch {
 }
 
 /// Why a command was refused: the call that refused, with its fault.
-#[derive(Debug, PartialEq, Eq, Drop)]
+#[derive(Debug, Drop)]
 pub enum Refusal {
     /// The program or a command ran out of memory between its calls.
     WantOfMemory(Call),

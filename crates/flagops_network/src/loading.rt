@@ -9,7 +9,7 @@ use flagops_streams::{Documents, Refusal};
 use std::alloc::Global;
 
 /// Why the documents were not loaded, and the path of the one where that was seen.
-#[derive(Clone, Copy, Debug)]
+#[derive(Clone, Copy)]
 pub(crate) struct Unloaded<'a> {
     pub(crate) refusal: Refusal,
     pub(crate) path: &'a str,

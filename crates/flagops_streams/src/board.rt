@@ -8,7 +8,7 @@ use std::sync::{Condvar, Mutex, Wait};
 use sync_server::{NextNumber, StreamEnd};
 
 /// How a subscriber's stream ended.
-#[derive(Clone, Copy, Debug)]
+#[derive(Clone, Copy)]
 pub(crate) struct Gone {
     pub(crate) end: StreamEnd,
     pub(crate) frames: u64,

@@ -8,7 +8,7 @@ use source_merge::SourceFault;
 use std::alloc::{AllocError, AllocFailed, Global};
 
 /// Why a command of streams is refused: the call that refused, with its fault.
-#[derive(Clone, Copy, Debug, PartialEq, Eq)]
+#[derive(Clone, Copy, Debug)]
 pub enum Refusal {
     /// There are more documents than sources.
     Add(SourceFault),

@@ -2,7 +2,7 @@ use crate::numbers::{Factor, Moment};
 use flag_resolve::Kind;
 
 /// A command with its words.
-#[derive(Clone, Copy, Debug, PartialEq, Eq)]
+#[derive(Clone, Copy, Debug)]
 pub enum Asked<'a> {
     /// Which variant a rule file gives to a key.
     Bucket {
