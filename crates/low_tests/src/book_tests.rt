@@ -3,7 +3,7 @@ use book_core::{Book, BookFault, Page, a_book_is_its_calls, print_book, read_boo
 use std::alloc::{AllocError, Global};
 use std::test::Fail;
 
-pub(crate) const FILE: &[u8] = b"{\"book\":1}
+const FILE: &[u8] = b"{\"book\":1}
 {\"by\":\"{\\\"var\\\":[\\\"key\\\"]}\",\"flag\":\"color\",\"site\":0}
 \"\"
 \"!\"
@@ -15,7 +15,7 @@ pub(crate) const FILE: &[u8] = b"{\"book\":1}
 ";
 
 /// The page of the file.
-pub(crate) fn color(alloc: Global) -> Result<Page, AllocError> {
+fn color(alloc: Global) -> Result<Page, AllocError> {
     let flag = String::from_str(alloc, "color")?;
     let by = String::from_str(alloc, "{\"var\":[\"key\"]}")?;
     Ok(Page {

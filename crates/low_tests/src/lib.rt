@@ -1,4 +1,4 @@
-//! The tests of the libraries up to `price_core` by what no command shows, in a crate of their own, so that each of those is
+//! The tests of the libraries up to `book_core` and `flag_resolve` by what no command shows, in a crate of their own, so that each of those is
 //! proved once. `tests/` shows all else on the built program.
 #![tactic(auto)]
 
@@ -10,8 +10,6 @@ mod evaluation_tests;
 mod expression_tests;
 #[cfg(test)]
 mod murmur_tests;
-#[cfg(test)]
-mod price_tests;
 #[cfg(test)]
 mod resolution_tests;
 #[cfg(test)]

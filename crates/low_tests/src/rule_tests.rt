@@ -7,7 +7,7 @@ use flag_text::read_tree;
 use std::alloc::{AllocError, Global};
 
 /// The rule of a text, none where it is refused.
-pub(crate) fn rule_of(alloc: Global, text: &str) -> Option<Rule> {
+fn rule_of(alloc: Global, text: &str) -> Option<Rule> {
     match read_tree(alloc, text.as_bytes(), 1000) {
         Ok(tree) => read_rule(alloc, &tree).ok(),
         Err(_) => None,

@@ -15,6 +15,8 @@ mod plan_files;
 #[cfg(test)]
 mod posed;
 #[cfg(test)]
+mod prices;
+#[cfg(test)]
 mod problems;
 #[cfg(test)]
 mod rows;

@@ -19,9 +19,9 @@ pub(crate) struct Problem {
 const BOOK: &[u8] =
     b"{\"book\":1}\n{\"by\":null,\"flag\":\"\",\"site\":0}\n\"\"\n\"!\"\n\"!C\"\n\"!Ce\"\n\"Hello, world!\"\n\"The quick brown fox jumps over the lazy dog\"\n\"test\"\n";
 
-/// The old rule.
-fn rule(alloc: Global) -> Option<Rule> {
-    match read_tree(alloc, br#"[["red",5],["blue",5]]"#, 1000) {
+/// The rule of a text.
+pub(crate) fn rule_of(alloc: Global, text: &str) -> Option<Rule> {
+    match read_tree(alloc, text.as_bytes(), 1000) {
         Ok(tree) => read_rule(alloc, &tree).ok(),
         Err(_) => None,
     }
@@ -61,7 +61,7 @@ fn totals(alloc: Global, request: &Request) -> Option<Totals> {
 
 /// The problem of a request.
 pub(crate) fn posed(alloc: Global, request: &[u8]) -> Option<Problem> {
-    let old = rule(alloc)?;
+    let old = rule_of(alloc, r#"[["red",5],["blue",5]]"#)?;
     let request = Request::read(alloc, request).ok()?;
     let totals = totals(alloc, &request)?;
     let inputs = inputs(alloc)?;
