@@ -4,3 +4,4 @@ pub mod Nearest
 pub mod Rounds
 pub mod Lowering
 pub mod Finding
+mod Counted

@@ -1,5 +1,5 @@
 -- What a search of a residual network leaves: shortest paths and potentials, or a set of nodes that no arc leaves.
-use Rattle.std.specs.Prelude.{◌≡◌, ℕ, ◌<◌, ◌≤◌, ◌*◌, ◌⊎◌, ℤ, pos, ◌+ℤ◌, ◌-ℤ◌, ◌≤ℤ◌, Bool, true, List, length, MatchOption, Option, Some, slice_get, slice_index, slice_index_or}
+use Rattle.std.specs.Prelude.{◌≡◌, ℕ, ◌<◌, ◌≤◌, ◌+◌, ◌*◌, nat_lt, count_by, is_some, if◌then◌else◌, ◌⊎◌, ℤ, pos, ◌+ℤ◌, ◌-ℤ◌, ◌≤ℤ◌, Bool, true, List, length, MatchOption, Option, Some, slice_get, slice_index, slice_index_or}
 use Rattle.shortest_path.specs.Network.{IsReduced, arc_at, max_cost}
 use Rattle.shortest_path.specs.Searched.{IsTight}
 use Rattle.shortest_path.specs.declared.arc.Arc.{Arc}
@@ -11,6 +11,10 @@ pub record HasSize (nodes : ℕ) (s : Search) : Type 0 where
   pub lengths : length s.lengths.items ≡ nodes
   pub parents : length s.parents.items ≡ nodes
   pub ranks : length s.ranks.items ≡ nodes
+
+-- how many nodes a search has settled: those of a rank below the number of nodes, and the one that it found
+abbrev pub settled_nodes : {X : Type 0} → ℕ → List ℕ → Option X → ℕ
+settled_nodes nodes ranks found = count_by (λ rank. nat_lt rank nodes) ranks + (if is_some found then 1 else 0)
 
 abbrev pub potential_of : Search → ℕ → ℤ
 potential_of s v = slice_index_or s.potentials.items v (pos 0)

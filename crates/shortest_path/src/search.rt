@@ -1,8 +1,8 @@
 ghost use Rattle.std.specs.Prelude.{IfOk, MatchBool, MatchOption, ◌≡◌, ◌≤◌, ◌<◌, ◌+◌, ◌*◌, ℕ, ℤ, pos, Some, None, ◌≤ℤ◌, ◌+ℤ◌, ◌-ℤ◌, length, slice_index, slice_index_or, slice_get, true, ◌≢◌};
 ghost use Rattle.shortest_path.specs.Network.{IsShort, IsReduced, IsWithin, arc_at, max_cost, max_nodes};
-ghost use Rattle.shortest_path.specs.Found.{HasSize, Finds, potential_of, parent_of, rank_of};
+ghost use Rattle.shortest_path.specs.Found.{HasSize, Finds, settled_nodes, potential_of, parent_of, rank_of};
 ghost use Rattle.shortest_path.specs.Searched.{RelaxesTo, AreSearched, IsNearestOf, HaveNone, Lowers, length_in, potential_in};
-ghost use Rattle.search_effort.specs.Spent.{Settles};
+ghost use Rattle.search_effort.specs.Spent.{Settled, Settles};
 
 use crate::arc::Arc;
 use search_effort::Effort;
@@ -36,7 +36,7 @@ impl Search {
     }
 
     /// Searches for the nearest node that is wanted, and lowers potentials where it finds one. Each node that it settles is
-    /// counted. It takes `O(n^2)` steps at n nodes.
+    /// counted, the one that it finds among them. It takes `O(n^2)` steps at n nodes.
     pub fn find<L: Ledger>(
         &mut self,
         arcs: &[Option<Arc>],
@@ -54,6 +54,7 @@ impl Search {
         ensures size { HasSize (length wanted.now) self.new }
         ensures found { Finds (length wanted.now) arcs.now wanted.now source
             (potential_of self.old) (potential_of self.new) (parent_of self.new) (rank_of self.new) result }
+        ensures settled { Settled (settled_nodes (length wanted.now) self.new.ranks.items result) effort.old effort.new }
         ensures effort { Settles (length wanted.now) effort.old effort.new }
     {
         search_from(
@@ -92,6 +93,7 @@ fn search_from<L: Ledger>(
     requires reduced { IsReduced (length ranks.old) (arc_at arcs.now (length ranks.old)) (potential_in potentials.old) }
     ensures found { Finds (length ranks.old) arcs.now wanted.now source
         (potential_in potentials.old) (potential_in potentials.new) (slice_index parents.new) (slice_index ranks.new) result }
+    ensures settled { Settled (settled_nodes (length ranks.old) ranks.new result) effort.old effort.new }
     ensures effort { Settles (length ranks.old) effort.old effort.new }
 {
     begin(lengths, ranks, source);
@@ -137,16 +139,17 @@ fn settle<L: Ledger>(
     ensures unwanted { (v : ℕ) → v < length ranks.old → slice_index ranks.new v < length ranks.old → slice_get wanted.now v ≡ Some true → ⊥ }
     ensures found { MatchOption result (HaveNone lengths.new ranks.new (length ranks.old))
         (λ r. IsNearestOf potentials.now lengths.new ranks.new (length ranks.old) r × (slice_get wanted.now r.0 ≡ Some true)) }
+    ensures settled { Settled (settled_nodes (length ranks.old) ranks.new result) effort.old effort.new }
     ensures effort { Settles (length ranks.old) effort.old effort.new }
 {
     let nodes = ranks.len();
     let mut count = 0;
     while let Some((node, so_far)) = nearest(lengths, potentials, ranks) {
+        effort.count_settling();
         if wanted[node] {
             return Some((node, so_far));
         }
         ranks[node] = count;
-        effort.count_settling();
         let first = node * nodes;
         relax(
             lengths,

@@ -5,6 +5,8 @@ use Rattle.std.specs.Int.{w64}
 use Rattle.shortest_path.specs.Network.{IsShort, arc_at, max_cost, max_nodes}
 use Rattle.shortest_path.specs.Searched.{IsSearched, IsNearest, HasNone, Lowers}
 use Rattle.shortest_path.specs.declared.arc.Arc.{Arc}
+use Rattle.search_effort.specs.Spent.{Settled}
+use Rattle.shortest_path.specs.Found.{settled_nodes}
 use Rattle.shortest_path.proofs.Rounds.{short_after}
 use Rattle.shortest_path.proofs.Finding.{begun, stuck, found}
 use Rattle.shortest_path.proofs.search.search_from.Goals as goal
@@ -79,3 +81,11 @@ returns-in-None-clause-found g c =
     let search : IsSearched n (arc_at arcs n) pot c.args.source max_cost n len parent rank = subst (λ k. IsSearched k (arc_at arcs k) pot c.args.source max_cost k len parent rank) many s.searched in
     let none : HasNone n len rank = subst (λ k. HasNone k len rank) many s.found in
     stuck n (arc_at arcs n) c.args.wanted.now c.args.source n pot len parent rank c.requires.source search none (λ v within settled. s.unwanted v (omega (arith, many, within)) (omega (arith, many, settled)))
+
+pub returns-in-Some-clause-settled : goal.returns-in-Some-clause-settled
+returns-in-Some-clause-settled g c =
+    subst (λ n. Settled (settled_nodes n c.settle.new.ranks (Some c.in-Some.node)) c.args.effort.now c.settle.new.effort) c.begin.ensures.ranks c.in-Some.ensures.settled
+
+pub returns-in-None-clause-settled : goal.returns-in-None-clause-settled
+returns-in-None-clause-settled g c =
+    subst (λ n. Settled (settled_nodes {X = ℕ} n c.settle.new.ranks None) c.args.effort.now c.settle.new.effort) c.begin.ensures.ranks c.in-None.ensures.settled

@@ -1,13 +1,14 @@
 -- Each round settles one more node.
-use Rattle.std.proofs.Common.{◌≡◌, ◌<◌, ℕ, ℤ, pos, true, false, Option, Some, None, length, get_or, to_z, of_z, arith, refl, sym, ap, ◌∙◌, subst}
+use Rattle.std.proofs.Common.{◌≡◌, ◌<◌, ◌+◌, ℕ, ℤ, pos, true, false, Option, Some, None, length, get_or, to_z, of_z, arith, refl, sym, ap, ◌∙◌, subst}
 use Rattle.std.proofs.lemmas.Int.{ints}
 use Rattle.std.specs.Int.{w64}
 use Rattle.std.proofs.lemmas.Option.{slice_get-get_or, get_or_from_slice_get}
 use Rattle.std.proofs.lemmas.Bool.{false≢true}
 use Rattle.shortest_path.specs.Network.{IsShort}
 use Rattle.shortest_path.specs.Searched.{IsNearest}
-use Rattle.shortest_path.proofs.Rounds.{all_left, short_lengths, next, widened, row_of, row_length, row_at, row_short}
-use Rattle.search_effort.proofs.Counting.{settles_none, settles_one}
+use Rattle.shortest_path.proofs.Rounds.{all_left, short_lengths, small, next, widened, row_of, row_length, row_at, row_short}
+use Rattle.search_effort.proofs.Counting.{settled_none, settled_one, settled_within}
+use Rattle.shortest_path.proofs.Counted.{settled_all, settled_found}
 use Rattle.shortest_path.proofs.search.settle.Goals as goal
 
 pub loop-node-init : goal.loop-node-init
@@ -20,7 +21,7 @@ loop-node-init g c = record {
     searched = c.requires.start;
     unwanted = λ v within settled. absurd (omega (arith, c.requires.unsettled v within));
   };
-  effort = settles_none c.args.effort.now;
+  effort = settled_none c.args.effort.now;
 }
 
 pub nearest-requires-clause-short_lengths : goal.nearest-requires-clause-short_lengths
@@ -79,8 +80,34 @@ loop-node-preserved g c =
           c.relax.new.lengths c.relax.new.parents (row_of n node arcs c.requires.arcs within) (to_z w64 (of_z w64 so_far)) (row_length n node arcs c.requires.arcs within) (row_at n node arcs c.requires.arcs within) shown c.requires.source
           (λ is. false≢true (sym c.if-wanted-node.false ∙ get_or_from_slice_get c.args.wanted.now node true false is))
           (omega (arith, c.relax.auto.lengths, round.lengths)) (omega (arith, c.relax.auto.parents, round.sizes)) c.requires.reduced c.requires.costs c.relax.ensures.each;
-      effort = settles_one c.loop-node.count c.args.effort.now c.loop-node.effort c.count_settling.new.self c.loop-node.invariant.effort c.count_settling.ensures.augmentations c.count_settling.ensures.settlings;
+      effort = settled_one c.loop-node.count c.args.effort.now c.loop-node.effort c.count_settling.new.self c.loop-node.invariant.effort c.count_settling.ensures.augmentations c.count_settling.ensures.settlings;
     }
 
 pub returns-clause-searched : goal.returns-clause-searched
 returns-clause-searched g c = widened (length c.args.ranks.now) c.args.arcs.now c.args.potentials.now c.args.wanted.now c.args.source c.loop-node.count c.loop-node.lengths c.loop-node.parents c.loop-node.ranks c.loop-node.invariant.round
+
+-- ---- what is counted
+
+pub returns-then-wanted-node-clause-settled : goal.returns-then-wanted-node-clause-settled
+returns-then-wanted-node-clause-settled g c =
+    let round = c.loop-node.invariant.round in
+    settled_found (ℕ × ℤ) (length c.args.ranks.now) c.loop-node.count c.loop-node.ranks round.many round.left c.args.effort.now c.count_settling.new.self (c.in-Some.node, c.in-Some.so_far)
+    (settled_one c.loop-node.count c.args.effort.now c.loop-node.effort c.count_settling.new.self c.loop-node.invariant.effort c.count_settling.ensures.augmentations c.count_settling.ensures.settlings)
+
+pub returns-then-wanted-node-clause-effort : goal.returns-then-wanted-node-clause-effort
+returns-then-wanted-node-clause-effort g c =
+    let n : ℕ = length c.args.ranks.now in
+    let near : IsNearest n (λ v. get_or c.args.potentials.now v (pos 0)) (λ v. get_or c.loop-node.lengths v None) (λ v. get_or c.loop-node.ranks v 0) c.in-Some.node c.in-Some.so_far =
+    subst (λ k. IsNearest k (λ v. get_or c.args.potentials.now v (pos 0)) (λ v. get_or c.loop-node.lengths v None) (λ v. get_or c.loop-node.ranks v 0) c.in-Some.node c.in-Some.so_far) c.loop-node.auto.ranks c.in-Some.ensures in
+    let room = small n c.args.arcs.now c.args.potentials.now c.args.wanted.now c.args.source c.loop-node.count c.loop-node.lengths c.loop-node.parents c.loop-node.ranks c.loop-node.invariant.round c.in-Some.node c.in-Some.so_far near in
+    settled_within (c.loop-node.count + 1) n c.args.effort.now c.count_settling.new.self (omega (arith, room))
+    (settled_one c.loop-node.count c.args.effort.now c.loop-node.effort c.count_settling.new.self c.loop-node.invariant.effort c.count_settling.ensures.augmentations c.count_settling.ensures.settlings)
+
+pub returns-clause-settled : goal.returns-clause-settled
+returns-clause-settled g c =
+    let round = c.loop-node.invariant.round in
+    settled_all (ℕ × ℤ) (length c.args.ranks.now) c.loop-node.count c.loop-node.ranks round.many round.left c.args.effort.now c.loop-node.effort c.loop-node.invariant.effort
+
+pub returns-clause-effort : goal.returns-clause-effort
+returns-clause-effort g c =
+    settled_within c.loop-node.count (length c.args.ranks.now) c.args.effort.now c.loop-node.effort (omega (arith, c.loop-node.invariant.round.left)) c.loop-node.invariant.effort

@@ -1,12 +1,12 @@
 use Rattle.std.proofs.Common.{length}
-use Rattle.search_effort.specs.Spent.{Settles}
+use Rattle.search_effort.specs.Spent.{Settled}
 use Rattle.shortest_path.proofs.Rounds.{IsRound, unsettled}
 use Rattle.shortest_path.proofs.search.settle.Given as goal
 
 abbrev pub invariant-loop-node : goal.invariant-loop-node
 invariant-loop-node g l = record {
   round : IsRound (length l.initial.ranks) l.arcs l.potentials l.wanted l.source l.count l.lengths l.parents l.ranks;
-  effort : Settles l.count l.initial.effort l.effort;
+  effort : Settled l.count l.initial.effort l.effort;
 }
 
 abbrev pub decreases-loop-node : goal.decreases-loop-node

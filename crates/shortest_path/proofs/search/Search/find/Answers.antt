@@ -3,7 +3,8 @@ use Rattle.std.proofs.Common.{◌≡◌, ℕ, ℤ, pos, Bool, Option, List, leng
 use Rattle.std.specs.Vec.{with_items}
 use Rattle.std.proofs.lemmas.List.{with_items_is}
 use Rattle.shortest_path.specs.Network.{arc_at}
-use Rattle.shortest_path.specs.Found.{HasFound, IsStuck}
+use Rattle.search_effort.specs.Spent.{Settled}
+use Rattle.shortest_path.specs.Found.{HasFound, IsStuck, settled_nodes}
 use Rattle.shortest_path.specs.declared.arc.Arc.{Arc}
 use Rattle.shortest_path.proofs.search.Search.find.Goals as goal
 
@@ -35,3 +36,11 @@ returns-clause-found g c =
     (sym (with_items_is s.parents t.new.parents (t.auto.parents ∙ (ap length c.deref_mut-3.ensures.value ∙ sym s.parents.ok.0))))
     (sym (with_items_is s.ranks t.new.ranks (t.auto.ranks ∙ (ap length c.deref_mut-4.ensures.value ∙ sym s.ranks.ok.0))))
     t.ensures.found
+
+pub returns-clause-settled : goal.returns-clause-settled
+returns-clause-settled g c =
+    let s = c.args.self.now in
+    let t = c.search_from in
+    let ranks : t.new.ranks ≡ (with_items s.ranks t.new.ranks).items = sym (with_items_is s.ranks t.new.ranks (t.auto.ranks ∙ (ap length c.deref_mut-4.ensures.value ∙ sym s.ranks.ok.0))) in
+    subst (λ (rs : List ℕ). Settled (settled_nodes (length c.args.wanted.now) rs t.result) c.args.effort.now t.new.effort) ranks
+    (subst (λ n. Settled (settled_nodes n t.new.ranks t.result) c.args.effort.now t.new.effort) (ap length c.deref_mut-4.ensures.value ∙ c.requires.size.ranks) t.ensures.settled)
