@@ -1,5 +1,7 @@
 pub mod Lengths
+mod LineEnds
 pub mod Orders
+mod PlanLines
 pub mod ReadBack
 pub mod RowsAgain
 pub mod Whole

@@ -1,5 +1,5 @@
 -- The file of a plan: how an answer is written as JSON, and which text is read as one.
-use Rattle.std.specs.Prelude.{◌≡◌, ℕ, ◌^◌, ◌==◌, nat_lt, ℤ, pos, negsuc, Bool, true, false, not, ◌&&◌, ◌||◌, List, [], ◌∷◌, length, if◌then◌else◌, Option, Some, None, is_some, option_map, option_and_then, Result, Ok, Err, codes}
+use Rattle.std.specs.Prelude.{◌≡◌, ℕ, ◌^◌, ◌==◌, nat_lt, ℤ, pos, negsuc, Bool, true, false, not, ◌&&◌, ◌||◌, List, [], ◌∷◌, ◌++◌, length, if◌then◌else◌, Option, Some, None, is_some, option_map, option_and_then, Result, Ok, Err, codes}
 use Rattle.std.specs.Cmp.Lexicographic.{slice_cmp}
 use Rattle.std.specs.Map.{keys_of}
 use Rattle.std.specs.Ordering.{nat_cmp, is_lt}
@@ -74,6 +74,10 @@ if_small bytes = if nat_lt max_plan (length bytes) then Err TooLarge else Ok byt
 
 abbrev pub plan_file : Answer → Result (List ℕ) PlanFileFault
 plan_file answer = if_small (text_of (planned_written answer))
+
+-- the same as a line, whose end counts
+abbrev pub plan_line : Answer → Result (List ℕ) PlanFileFault
+plan_line answer = if_small (text_of (planned_written answer) ++ codes "\n")
 
 -- ---- what is in order
 

@@ -11,9 +11,10 @@
 //! assert!(rt; print_planned(alloc, &planned)?.as_slice() == file.as_slice());
 //! ```
 //!
-//! Proved, over the definitions of `specs/`: [`print_planned`] writes the text of `PlanFile`, [`read_planned`] reads exactly the
-//! files that `PlanFile` says, with each refusal in its order, what is printed of an answer in order (`IsOrdered`) reads as
-//! the answer, and what is read is in order and may be printed (`IsWhole`).
+//! Proved, over the definitions of `specs/`: [`print_planned`] writes the text of `PlanFile` and [`print_planned_line`] the same
+//! with a line end, [`read_planned`] reads exactly the files that `PlanFile` says, with each refusal in its order, what is
+//! printed of an answer in order (`IsOrdered`), alone or as a line, reads as the answer, and what is read is in order and may
+//! be printed (`IsWhole`).
 #![tactic(auto)]
 
 mod fault;
@@ -26,5 +27,5 @@ mod rows;
 
 pub use fault::PlanFileFault;
 pub use planned::Planned;
-pub use print::print_planned;
+pub use print::{print_planned, print_planned_line};
 pub use read::read_planned;

@@ -7,7 +7,7 @@ ghost use Rattle.flag_text.specs.View.{view, items_view};
 ghost use Rattle.bucket_core.specs.Rule.{total_weight, entries_view, names_view};
 ghost use Rattle.transport_instance.specs.Certificate.{alpha_row, alpha_view, beta_view, certificate_view};
 ghost use Rattle.plan_text.specs.Answer.{emit, none_exists, IsOrdered, FitsFile, planned_view};
-ghost use Rattle.plan_text.specs.PlanFile.{items_by, alpha_written, beta_written, entry_written, planned_written, IsWhole, plan_file, answer_of};
+ghost use Rattle.plan_text.specs.PlanFile.{items_by, alpha_written, beta_written, entry_written, planned_written, IsWhole, plan_file, plan_line, answer_of};
 
 use crate::fault::PlanFileFault;
 use crate::planned::Planned;
@@ -30,6 +30,22 @@ pub fn print_planned(alloc: Global, planned: &Planned) -> Result<Vec<u8>, PlanFi
         return Err(PlanFileFault::TooLarge);
     }
     Ok(text.into_bytes())
+}
+
+/// The plan file of an answer as a line: the bytes of [`print_planned`] and a line end, which together read as the answer
+/// where it is in order. It refuses more than 67108864 bytes, the line end among them, with `TooLarge`. The condition is that
+/// of [`print_planned`].
+pub fn print_planned_line(alloc: Global, planned: &Planned) -> Result<Vec<u8>, PlanFileFault>
+    requires whole { IsWhole (planned_view planned.now) }
+    ensures exact { GivesUnless PlanFileFault.WantOfMemory (λ v. v.items) result (plan_line (planned_view planned.now)) }
+    ensures reads_back { IfOk result (λ v. IsOrdered (planned_view planned.now) → answer_of v.items ≡ Ok (planned_view planned.now)) }
+{
+    let mut line = print_planned(alloc, planned)?;
+    if line.len() == MAX_PLAN {
+        return Err(PlanFileFault::TooLarge);
+    }
+    line.push(b'\n')?;
+    Ok(line)
 }
 
 fn planned_tree(alloc: Global, planned: &Planned) -> Result<Tree, AllocError>

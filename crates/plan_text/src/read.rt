@@ -1,5 +1,6 @@
 //! From the bytes of a plan file to the answer that it holds.
-ghost use Rattle.std.specs.Prelude.{◌≡◌, ◌<◌, ◌↔◌, ◌^◌, IfOk, IsErrOf, length, option_map};
+ghost use Rattle.std.specs.Prelude.{◌≡◌, ◌<◌, ◌≤◌, ◌↔◌, ◌^◌, false, IfOk, IsErrOf, length, option_map};
+ghost use Rattle.std.specs.Str.{is_utf8};
 ghost use Rattle.flag_text.specs.Outcome.{GivesUnless};
 ghost use Rattle.flag_text.specs.View.{view, items_view};
 ghost use Rattle.bucket_core.specs.Rule.{entries_view, names_view};
@@ -23,11 +24,14 @@ pub(crate) const MAX_PLAN: usize = 64 << 20;
 const COSTS: i64 = 1 << 53;
 
 /// The answer that the bytes of a plan file hold: a canonical rule with its certificate, whose groups and names rise
-/// strictly, or a set of names that rise strictly. What is read may be printed. It refuses more than 67108864 bytes with `TooLarge`, before it reads
-/// them, and then all else with `BadPlan`. It takes time linear in the bytes.
+/// strictly, or a set of names that rise strictly. What is read may be printed. It takes time linear in the bytes.
+///
+/// It refuses more than 67108864 bytes with `TooLarge`, and then all else with `BadPlan`. The first, and the second of bytes
+/// that are not UTF-8, take no memory.
 pub fn read_planned(alloc: Global, bytes: &[u8]) -> Result<Planned, PlanFileFault>
     ensures exact { GivesUnless PlanFileFault.WantOfMemory planned_view result (answer_of bytes.now) }
     ensures large { IsErrOf result PlanFileFault.TooLarge ↔ (max_plan < length bytes.now) }
+    ensures no_text { length bytes.now ≤ max_plan → is_utf8 bytes.now ≡ false → IsErrOf result PlanFileFault.BadPlan }
     ensures whole { IfOk result (λ p. IsWhole (planned_view p)) }
 {
     let tree = read_tree(alloc, bytes, MAX_PLAN)?;
