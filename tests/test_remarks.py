@@ -1,4 +1,5 @@
 """What a person is told of a file that is refused, or of a flag that is broken: the place in it, and what stands there."""
+import time
 import unittest
 
 from program import ProgramTest, run
@@ -119,11 +120,35 @@ BROKEN = [
     ),
 ]
 
+# What the last of a chain of evaluators is, and what is told of each flag that refers to the first.
+CHAINS = [
+    ('{"$ref":"0"}', ', or what it refers to (first "0"), has a $ref back to itself, or to no evaluator'),
+    (
+        '{"$ref":"lost"}',
+        ' refers to $evaluators.99999, which refers to "lost", no evaluator; there are "0", "1", "10", "100", "1000", '
+        '"10000", "10001", "10002", "10003", "10004" and 99990 more',
+    ),
+    ('{"nand":[1]}', ' refers to $evaluators.99999: the operator "nand" is unknown'),
+]
+
+LINKS = 100_000
+FLAGS = 10_000
+SOON = 20
+
 
 def referring(evaluators):
     """A document with these evaluators, whose one flag refers to `e`."""
     flag = '{"state":"ENABLED","variants":{"on":1},"targeting":{"if":[{"$ref":"e"},"on"]}}'
     return f'{{"$evaluators":{evaluators},"flags":{{"a":{flag}}}}}'
+
+
+def chained(last):
+    """A document of 3.3 MB with a chain of evaluators, and flags that each refer to the first."""
+    follows = [f'"{place}":{{"$ref":"{place + 1}"}}' for place in range(LINKS - 1)]
+    evaluators = ",".join([*follows, f'"{LINKS - 1}":{last}'])
+    flag = '{"state":"ENABLED","variants":{"on":1},"targeting":{"if":[{"$ref":"0"},"on"]}}'
+    flags = ",".join(f'"{place:04}":{flag}' for place in range(FLAGS))
+    return f'{{"$evaluators":{{{evaluators}}},"flags":{{{flags}}}}}'
 
 
 class Remarks(ProgramTest):
@@ -144,6 +169,15 @@ class Remarks(ProgramTest):
                 ran = run(["check", "f"], {"f": referring(evaluators)})
                 self.assertEqual((ran.status, ran.out), (0, '"a" broken\n'))
                 self.assert_told(ran, told)
+
+    def test_of_many_flags_behind_a_long_chain(self):
+        for last, told in CHAINS:
+            with self.subTest(last=last):
+                began = time.monotonic()
+                ran = run(["check", "f"], {"f": chained(last)})
+                self.assertLess(time.monotonic() - began, SOON)
+                wanted = [f"broken: flags.{place:04}.targeting{told}" for place in range(FLAGS)]
+                self.assertEqual((ran.status, ran.err.splitlines() == wanted), (0, True), ran.err[:300])
 
 
 if __name__ == "__main__":

@@ -1,8 +1,9 @@
 //! What a person is told of the flags of a document that are broken.
-use crate::evaluators::first_referred;
 use crate::lines::Lines;
+use crate::referred::Referred;
 use crate::search::{Sought, Wrong, first_wrong};
 use crate::way::Way;
+use crate::wrongs::{put_wrong, unplaced};
 use flag_defs::{Breach, breaches};
 use flag_text::{Tree, read_doc};
 use std::alloc::{AllocError, Global};
@@ -17,18 +18,65 @@ pub fn of_breaches(alloc: Global, bytes: &[u8]) -> Result<String, AllocError> {
         return String::from_str(alloc, "error: out of memory\n");
     };
     let found = breaches(alloc, &document)?;
+    let evaluators = members_in(&document, "$evaluators");
+    let mut causes = Causes::find(alloc, evaluators, found.as_slice())?;
     let mut lines = Lines::new(alloc);
-    put_breaches(&mut lines, &document, found.as_slice());
+    put_breaches(&mut lines, &document, &mut causes, found.as_slice());
     lines.finish()
 }
 
-fn put_breaches(lines: &mut Lines, document: &Tree, found: &[Option<Breach>]) {
-    let evaluators = members_in(document, "$evaluators");
+/// What is sought where a flag is broken by something that lies deeper, for each rule that speaks of such.
+#[derive(Drop)]
+struct Causes<'a> {
+    numbers: Referred<'a>,
+    unknown: Referred<'a>,
+    parts: Referred<'a>,
+    operations: Referred<'a>,
+}
+
+impl<'a> Causes<'a> {
+    /// Looks through the evaluators for what breaks one of the flags.
+    fn find(
+        alloc: Global,
+        evaluators: &'a [(String, Tree)],
+        found: &[Option<Breach>],
+    ) -> Result<Causes<'a>, AllocError> {
+        let unknown = where_broken(evaluators, found, Breach::Reference);
+        let parts = where_broken(evaluators, found, Breach::TargetingPart);
+        let operations = where_broken(evaluators, found, Breach::Expression);
+        Ok(Causes {
+            numbers: Referred::find(alloc, &[], Sought::NotWhole)?,
+            unknown: Referred::find(alloc, unknown, Sought::Unknown(evaluators))?,
+            parts: Referred::find(alloc, parts, Sought::NotWhole)?,
+            operations: Referred::find(alloc, operations, Sought::Operation)?,
+        })
+    }
+}
+
+/// The evaluators where a flag breaks this rule, and none where they need not be looked through.
+fn where_broken<'a>(
+    evaluators: &'a [(String, Tree)],
+    found: &[Option<Breach>],
+    breach: Breach,
+) -> &'a [(String, Tree)] {
+    if found.contains(&Some(breach)) {
+        evaluators
+    } else {
+        &[]
+    }
+}
+
+fn put_breaches(
+    lines: &mut Lines,
+    document: &Tree,
+    causes: &mut Causes<'_>,
+    found: &[Option<Breach>],
+) {
     for ((key, definition), breach) in members_in(document, "flags").iter().zip(found.iter()) {
         if let Some(breach) = breach {
             lines.put("broken: flags");
             lines.put_step(key.as_str());
-            put_breach(lines, definition, evaluators, *breach);
+            put_breach(lines, definition, causes, *breach);
             lines.put("\n");
         }
     }
@@ -43,7 +91,7 @@ fn members_in<'a>(tree: &'a Tree, name: &str) -> &'a [(String, Tree)] {
 }
 
 /// The rule that a definition breaks, and where in it.
-fn put_breach(lines: &mut Lines, definition: &Tree, evaluators: &[(String, Tree)], breach: Breach) {
+fn put_breach(lines: &mut Lines, definition: &Tree, causes: &mut Causes<'_>, breach: Breach) {
     match breach {
         Breach::Definition => put_instead(lines, definition, "no object"),
         Breach::State => put_member(
@@ -54,7 +102,7 @@ fn put_breach(lines: &mut Lines, definition: &Tree, evaluators: &[(String, Tree)
         ),
         Breach::Variants => put_variants(lines, definition),
         Breach::Kinds => put_kinds(lines, members_in(definition, "variants")),
-        Breach::VariantNumber => put_first(lines, definition, "variants", &[], Sought::NotWhole),
+        Breach::VariantNumber => put_first(lines, definition, "variants", &mut causes.numbers),
         Breach::VariantLevels => lines.put(".variants nests deeper than 100 levels"),
         Breach::DefaultVariant => put_default_variant(lines, definition),
         Breach::Targeting => put_member(
@@ -63,30 +111,12 @@ fn put_breach(lines: &mut Lines, definition: &Tree, evaluators: &[(String, Tree)
             "targeting",
             "no object, or refers to none",
         ),
-        Breach::Reference => put_first(
-            lines,
-            definition,
-            "targeting",
-            evaluators,
-            Sought::Unknown(evaluators),
-        ),
+        Breach::Reference => put_first(lines, definition, "targeting", &mut causes.unknown),
         Breach::TargetingSize => lines.put(
             ".targeting has more than 10,000 nodes or 100 levels, with its references replaced",
         ),
-        Breach::TargetingPart => put_first(
-            lines,
-            definition,
-            "targeting",
-            evaluators,
-            Sought::NotWhole,
-        ),
-        Breach::Expression => put_first(
-            lines,
-            definition,
-            "targeting",
-            evaluators,
-            Sought::Operation,
-        ),
+        Breach::TargetingPart => put_first(lines, definition, "targeting", &mut causes.parts),
+        Breach::Expression => { put_first(lines, definition, "targeting", &mut causes.operations) }
     }
 }
 
@@ -179,76 +209,21 @@ fn put_default_variant(lines: &mut Lines, definition: &Tree) {
 }
 
 /// The first place at which something is wrong in a member, or in the evaluators that it refers to.
-fn put_first(
-    lines: &mut Lines,
-    definition: &Tree,
-    name: &str,
-    evaluators: &[(String, Tree)],
-    sought: Sought<'_>,
-) {
+fn put_first(lines: &mut Lines, definition: &Tree, name: &str, referred: &mut Referred<'_>) {
     lines.put_all(&[".", name]);
     if let Some(tree) = definition.member(name) {
         let mut way = Way::new();
-        if let Some(wrong) = first_wrong(tree, sought, &mut way) {
+        if let Some(wrong) = first_wrong(tree, referred.sought, &mut way) {
             way.put(lines, usize::MAX);
-            put_wrong(lines, wrong, "", evaluators);
+            put_wrong(lines, wrong, "", referred.evaluators);
             return;
         }
-        if put_referred(lines, tree, evaluators, sought) {
+        if referred.put(lines, tree) {
             return;
         }
         put_reference(lines, tree);
     }
-    lines.put_all(&[" has ", unplaced(sought)]);
-}
-
-/// Tells of the first place in the evaluators that a tree refers to, and answers whether there is one.
-fn put_referred(
-    lines: &mut Lines,
-    tree: &Tree,
-    evaluators: &[(String, Tree)],
-    sought: Sought<'_>,
-) -> bool {
-    let mut way = Way::new();
-    let Some((key, wrong)) = first_referred(lines, tree, evaluators, sought, &mut way) else {
-        return false;
-    };
-    lines.put(" refers to $evaluators");
-    lines.put_step(key);
-    way.put(lines, usize::MAX);
-    put_wrong(lines, wrong, ", which", evaluators);
-    true
-}
-
-/// What is wrong, behind a word for the place.
-fn put_wrong(lines: &mut Lines, wrong: Wrong<'_>, which: &str, evaluators: &[(String, Tree)]) {
-    match wrong {
-        Wrong::Number => lines.put_all(&[which, " is a number that is not whole"]),
-        Wrong::Reference(name) => {
-            lines.put_all(&[which, " refers to "]);
-            lines.put_name(name);
-            lines.put(", no evaluator; there are ");
-            lines.put_members(evaluators);
-        }
-        Wrong::Operator(name) => {
-            lines.put(": the operator ");
-            lines.put_name(name);
-            lines.put(" is unknown");
-        }
-        Wrong::Arguments(name, count) => {
-            lines.put(": the operator ");
-            lines.put_name(name);
-            lines.put(" does not take ");
-            lines.put_shown(&count);
-            lines.put(" arguments");
-        }
-        Wrong::Bucket(place) => {
-            lines.put(": argument ");
-            lines.put_shown(&place);
-            lines.put(" of \"fractional\" is no bucket [name, weight]");
-        }
-        Wrong::Levels => lines.put_all(&[which, " nests too deep"]),
-    }
+    lines.put_all(&[" has ", unplaced(referred.sought)]);
 }
 
 /// The first reference of a tree, where there is one: what is wrong is then in what the tree refers to.
@@ -258,15 +233,5 @@ fn put_reference(lines: &mut Lines, tree: &Tree) {
         lines.put(", or what it refers to (first ");
         lines.put_name(name);
         lines.put("),");
-    }
-}
-
-/// What is wrong where no place was found.
-fn unplaced(sought: Sought<'_>) -> &'static str {
-    match sought {
-        Sought::NotWhole => "a number that is not whole, or a $ref that is none",
-        Sought::Unknown(_) => "a $ref back to itself, or to no evaluator",
-        Sought::Operation => "an operator that is unknown or has wrong arguments",
-        Sought::Reference | Sought::Within(_) => "what is not taken",
     }
 }

@@ -26,11 +26,13 @@ mod evaluators;
 mod files;
 mod lines;
 mod plans;
+mod referred;
 mod requests;
 mod search;
 mod sites;
 mod texts;
 mod way;
+mod wrongs;
 
 pub use asks::{of_asks, of_unwritable, of_workers};
 pub use books::{of_book, of_unrecorded};

@@ -148,7 +148,7 @@ impl Lines {
 
     /// The names of members, at most ten, or that there are none.
     pub(crate) fn put_members(&mut self, members: &[(String, Tree)]) {
-        for i in 0..members.len() {
+        for i in 0..members.len().min(MOST_NAMES) {
             self.put_listed(i, members[i].0.as_str());
         }
         self.put_rest(members.len());
@@ -156,7 +156,7 @@ impl Lines {
 
     /// Names, at most ten, or that there are none.
     pub(crate) fn put_names(&mut self, names: &[String]) {
-        for i in 0..names.len() {
+        for i in 0..names.len().min(MOST_NAMES) {
             self.put_listed(i, names[i].as_str());
         }
         self.put_rest(names.len());
