@@ -1,13 +1,19 @@
 """Lists each expression of the sources that makes a want of memory and is no conversion of one that came from below.
 
 No contract can force an allocation to succeed, so a body that answers want of memory in place of another answer would be
-proved. That none does is read here, off the sources of all crates but those of tests. A want is an `AllocError`, a fault's
-`WantOfMemory`, an `OutOfMemory` of std, a `Short` of a run of events, and a call of `want`, which writes the line of one. It
-may be made
+proved. That none does is read here, off the sources of all crates but those of tests. A want is made by
+- an `AllocError`, an `AllocFailed` with its value, an `OutOfMemory` of std, a fault's `WantOfMemory`, the `Unloaded` of a
+  refusal, the `Short` of a run of events or of a remark,
+- a call of `want`, which writes the line of one, and a field `wants` that is set, which has one written later,
+- a text with the words of one,
+- a request for memory that none can meet, as `Vec::with_capacity(alloc, usize::MAX)`,
+- another name for one of these, by `use .. as ..`.
+
+It may be made
 - in `fn from` of an `impl From<AllocError>` or `From<AllocFailed<..>>`,
 - on the right of a match arm, or in the block of an `if let`, each of whose patterns names a want or whose guard tests for one,
 - in a closure or a block behind a condition that takes or tests for one, as `|AllocError| ..`,
-- where a line below says why.
+- where a line below says why, and as often as it says.
 All else is printed with its line, and the status is 1. With the word `self-test` the check is tried on planted sources.
 """
 import glob
@@ -15,20 +21,36 @@ import os
 import re
 import sys
 
-# The file, the line and the reason of each expression that is taken although none of the forms above fits.
+# The file and the line of each expression that is taken although none of the forms above fits; how often it stands there, and
+# the reason. A line may move within its file; one that is added or taken away changes the number.
 TAKEN = {
-    ("crates/book_lock/src/blanks.rt", "Err(Refused { slots: _ }) => Err(SeatsFault::WantOfMemory),"): "a table is refused only where there is no memory for its words or its slots",
-    ("crates/snap_share/src/publisher.rt", "return Err(ShareFault::WantOfMemory);"): "`append` hands an operation back only where there is no memory",
-    ("crates/sync_server/src/follow.rt", "return Some(ReadEnd::WantOfMemory);"): "`vec!` answers no vector only where memory ran out",
-    ("crates/sync_server/src/read.rt", "None => (collected.snapshots, ReadEnd::WantOfMemory),"): "the sink there is a list, which takes a snapshot unless memory ran out",
-    ("crates/sync_server/src/serve.rt", "return Err(StreamEnd::WantOfMemory);"): "`write_frame` fails only where memory runs out",
-    ("crates/flagops_streams/src/follow.rt", "None if wants => finish(out, ReadEnd::WantOfMemory),"): "the printer sets `wants` only where there was no memory for a line",
-    ("crates/flagops_commands/src/program.rt", "Err(call) => want(out, err, call),"): "`answer` gives a call there only where that call ran out of memory",
-    ("crates/snap_core/src/names.rt", "Err(_) => return Err(WorldFault::WantOfMemory),"): "of the faults of `add`, whose clause `exact` has Known and TooMany alone, only want of memory is left there",
+    ("crates/book_lock/src/blanks.rt", "Err(Refused { slots: _ }) => Err(SeatsFault::WantOfMemory),"): (1, "a table is refused only where there is no memory for its words or its slots"),
+    ("crates/snap_share/src/publisher.rt", "return Err(ShareFault::WantOfMemory);"): (1, "`append` hands an operation back only where there is no memory"),
+    ("crates/sync_server/src/follow.rt", "return Some(ReadEnd::WantOfMemory);"): (1, "`vec!` answers no vector only where memory ran out"),
+    ("crates/sync_server/src/read.rt", "None => (collected.snapshots, ReadEnd::WantOfMemory),"): (1, "the sink there is a list, which takes a snapshot unless memory ran out"),
+    ("crates/sync_server/src/serve.rt", "return Err(StreamEnd::WantOfMemory);"): (1, "`write_frame` fails only where memory runs out"),
+    ("crates/flagops_streams/src/follow.rt", "None if wants => finish(out, ReadEnd::WantOfMemory),"): (1, "the printer sets `wants` only where there was no memory for a line"),
+    ("crates/flagops_streams/src/report.rt", 'if write_three(out, b"refused ", call.as_bytes(), b" 0 WantOfMemory\\n") {'): (1, "`want` writes the line; its calls are looked for"),
+    ("crates/flagops_files/src/reports.rt", 'b" 0 WantOfMemory\\n",'): (1, "`want` writes the line; its calls are looked for"),
+    ("crates/flagops_files/src/reports.rt", "tell(err, Remark::Short.text());"): (1, "`want` tells it; its calls are looked for"),
+    ("crates/flagops_files/src/loading.rt", "Err(_) => Remark::Short,"): (1, "the rule was refused, so its text is a tree, and is read again"),
+    ("crates/flagops_remarks/src/breaches.rt", 'return String::from_str(alloc, "error: out of memory\\n");'): (1, "the document was read as flags, so it is a tree, and is read again"),
+    ("crates/flagops_commands/src/program.rt", "Err(call) => want(out, err, call),"): (1, "`answer` gives a call there only where that call ran out of memory"),
+    ("crates/snap_core/src/names.rt", "Err(_) => return Err(WorldFault::WantOfMemory),"): (1, "of the faults of `add`, whose clause `exact` has Known and TooMany alone, only want of memory is left there"),
 }
 
-MADE = re.compile(r"\b(?:AllocError|WantOfMemory|OutOfMemory)\b|(?<!struct )\bShort(?=\s*\{)|(?<![\w.])(?<!fn )want(?=\s*\()")
-NAMED = re.compile(r"\b(?:AllocError|AllocFailed|WantOfMemory|OutOfMemory)\b|\.is_memory\(\)|\.is_want\(\)")
+# The name of a text that has the words of a want, in place of it.
+WORDS = "WordsOfWant"
+NAMES = r"AllocError|AllocFailed|WantOfMemory|OutOfMemory|Unloaded|Short"
+MADE = re.compile(
+    r"\b(?:AllocError|WantOfMemory|OutOfMemory|" + WORDS + r")\b|\bAllocFailed(?=\s*\{)"
+    r"|(?<!struct )\bShort(?=\s*\{)|\bRemark::Short\b|(?<!struct )(?<!&)\bUnloaded\b(?!\s*[<{])"
+    r"|(?<![\w.])(?<!fn )want(?=\s*\()|\bwants\b(?=\s*(?:\|?=(?!=)|:)(?!\s*(?:false|bool)\b))"
+)
+NAMED = re.compile(r"\b(?:AllocError|AllocFailed|WantOfMemory|OutOfMemory)\b|\b(?:Refusal::Unloaded|Remark::Short)\b|\.is_memory\(\)|\.is_want\(\)")
+RENAMED = re.compile(r"\b(?:" + NAMES + r"|want)\s+as\s+\w")
+ASKS = re.compile(r"\b(?:with_capacity|\w*reserve\w*|repeat)\s*\(|\bvec!\s*\[")
+TOO_MUCH = re.compile(r"\bMAX\b|<<|\d(?:_?\d){9}")
 OPEN, CLOSE = "([{", ")]}"
 
 
@@ -47,9 +69,21 @@ def closing(text, at):
     return len(text)
 
 
+def without_texts(source):
+    """The source without comments and texts, but for a name in the place of each text that has the words of a want."""
+
+    def blanked(found):
+        space = re.sub(r"[^\n]", " ", found.group())
+        is_want = found.group()[0] != "/" and re.search(r"out of memory|WantOfMemory", found.group())
+        return WORDS + space[len(WORDS) :] if is_want else space
+
+    text = blank(source, r'#\[error\("[^\n]*"\)\]')
+    return re.sub(r'//[^\n]*|b?"(?:[^"\\]|\\.)*"|b?\'(?:[^\'\\\n]|\\.)\'', blanked, text, flags=re.S)
+
+
 def code_of(source):
     """The source without comments, texts, contracts, imports, generic arguments and declared variants."""
-    text = blank(source, r'//[^\n]*|b?"(?:[^"\\]|\\.)*"|b?\'(?:[^\'\\\n]|\\.)\'', re.S)
+    text = without_texts(source)
     for head in list(re.finditer(r"\b(?:requires|ensures)\b[^{\n]*\{", text)) + list(re.finditer(r"\bghost \w+[ =:]*\{", text)):
         end = closing(text, head.end() - 1)
         text = text[: head.start()] + re.sub(r"[^\n]", " ", text[head.start() : end + 1]) + text[end + 1 :]
@@ -173,38 +207,58 @@ def is_passed_on(text, types, at, levels):
     return False
 
 
+def asked_too_much(text):
+    """The places of the requests for memory that none can meet."""
+    return [asks.start() for asks in ASKS.finditer(text) if TOO_MUCH.search(text[asks.end() : closing(text, asks.end() - 1)])]
+
+
 def wants_made(source):
-    """The lines on which a want of memory is made that did not come from below."""
+    """The lines on which a want of memory is made that did not come from below, in their order."""
+    plain = without_texts(source)
     types = code_of(source)
     text = without_types(types)
-    found = []
+    imports = blank(plain, r"\bghost use [^;]*;", re.S)
+    found = [renamed.start() for renamed in RENAMED.finditer(imports)] + asked_too_much(plain)
     for made in MADE.finditer(text):
         levels = around(text, made.start())
-        if not is_pattern(text, made.start(), levels) and not is_passed_on(text, types, made.start(), levels):
-            found.append(source.count("\n", 0, made.start()) + 1)
+        is_made = made.group() == WORDS or not is_pattern(text, made.start(), levels)
+        if is_made and not is_passed_on(text, types, made.start(), levels):
+            found.append(made.start())
+    return sorted(source.count("\n", 0, place) + 1 for place in found)
+
+
+def is_of_tests(name):
+    return name.split("/")[1].endswith("_tests") or "/tests/" in name or name.endswith("/tests.rt")
+
+
+def faults(sources, taken):
+    """What is wrong with these sources, of which these lines are taken, each so often."""
+    lines = {}
+    for name, source in sources:
+        for number in wants_made(source):
+            line = source.split("\n")[number - 1].strip()
+            lines.setdefault((name, line), []).append(number)
+    found = []
+    for name, line in sorted(set(lines) | set(taken)):
+        numbers = lines.get((name, line), [])
+        times = taken.get((name, line), (0, ""))[0]
+        if times and len(numbers) != times:
+            found.append(f"{name}: stands there {len(numbers)} times {numbers}, and is taken {times} times by the list: {line}")
+        elif not times:
+            found += [f"{name}:{number}: makes a want of memory: {line}" for number in numbers]
     return found
 
 
 def check(top):
-    failed = 0
-    taken = set()
+    sources = []
     for path in sorted(glob.glob(os.path.join(top, "crates", "*", "src", "**", "*.rt"), recursive=True)):
         name = os.path.relpath(path, top)
-        if name.split("/")[1].endswith("_tests") or "/tests/" in name or name.endswith("/tests.rt"):
-            continue
-        with open(path, encoding="utf-8") as file:
-            source = file.read()
-        for number in wants_made(source):
-            line = source.split("\n")[number - 1].strip()
-            if (name, line) in TAKEN:
-                taken.add((name, line))
-                continue
-            failed += 1
-            print(f"{name}:{number}: makes a want of memory: {line}")
-    for name, line in sorted(set(TAKEN) - taken):
-        failed += 1
-        print(f"{name}: is taken by the list and stands there no longer: {line}")
-    return failed
+        if not is_of_tests(name):
+            with open(path, encoding="utf-8") as file:
+                sources.append((name, file.read()))
+    found = faults(sources, TAKEN)
+    print("\n".join(found), end="\n" if found else "")
+    return len(found)
 
 
 PLANTED = [
@@ -217,6 +271,14 @@ PLANTED = [
     ("the line of a want", "fn f(out: &mut O) -> u8 {\n    want(out, Call::Plan)\n}\n", [2]),
     ("a run cut short", "pub struct Short {\n    pub done: usize,\n}\nfn f() -> Result<u8, Short> {\n    match g() {\n        Ok(n) => Ok(n),\n        Err(_) => Err(Short { done: 0 }),\n    }\n}\n", [7]),
     ("a block behind an arm", "fn f() -> R {\n    match g() {\n        Ok(n) => {\n            Err(Fault::WantOfMemory)\n        }\n        Err(AllocError) => Err(Fault::WantOfMemory),\n    }\n}\n", [4]),
+    ("the variant of a refusal", "fn f() -> Result<u8, Refusal> {\n    if g() {\n        return Err(Refusal::Unloaded);\n    }\n    match h() {\n        Ok(n) => Ok(n),\n        Err(_) => Err(Refusal::Unloaded),\n    }\n}\n", [3, 7]),
+    ("a mark that has one written later", "fn take(&mut self, n: u64) -> bool {\n    if n > 5 {\n        self.wants = true;\n        return false;\n    }\n    self.wants |= n == 4;\n    true\n}\n", [3, 6]),
+    ("a mark from the beginning", "fn f() -> Printer {\n    Printer { line: 0, wants: is_late() }\n}\n", [2]),
+    ("a request that none can meet", "fn f(alloc: Global) -> Result<u8, AllocError> {\n    let _ = Vec::<u8>::with_capacity(alloc, usize::MAX)?;\n    let _ = vec![in alloc; 0u8; 1 << 60]?;\n    text.try_reserve(9_000_000_000_000_000_000)?;\n    Ok(1)\n}\n", [2, 3, 4]),
+    ("another name", "use std::alloc::AllocError as Full;\nfn f() -> Result<u8, Full> {\n    Err(Full)\n}\n", [1]),
+    ("the value of a failed request", "fn f(n: u8) -> Result<u8, AllocFailed<u8>> {\n    Err(AllocFailed { value: n })\n}\n", [2]),
+    ("its words", "fn f(out: &mut O) -> u8 {\n    if write_three(out, b\"refused \", b\"publish\", b\" 0 WantOfMemory\\n\") {\n        tell(out, \"error: out of memory\\n\");\n    }\n    1\n}\n", [2, 3]),
+    ("its words, as a remark", "fn f() -> Remark {\n    match g() {\n        Ok(n) => Remark::of(n),\n        Err(_) => Remark::Short,\n    }\n}\n", [4]),
     ("after an arm that passes one on", "fn f() -> R {\n    match g() {\n        Err(AllocError) => return Err(Fault::WantOfMemory),\n        Ok(n) => h(n),\n    }\n    Err(Fault::WantOfMemory)\n}\n", [6]),
 ]
 
@@ -228,12 +290,37 @@ KEPT = [
     ("a closure", "fn f() -> R {\n    g().map_err(|AllocError| Refusal::WantOfMemory(Call::Plan))?;\n    h().map_err(|_e: AllocError| Fault::WantOfMemory)\n}\n"),
     ("an if let", "fn f() -> R {\n    if let Err(AllocFailed { .. }) = g() {\n        return Err(Fault::WantOfMemory);\n    }\n    Ok(1)\n}\n"),
     ("a condition", "fn f() -> u8 {\n    if e.kind() == clap::error::ErrorKind::OutOfMemory {\n        return want(out, Call::Flagops);\n    }\n    2\n}\n"),
+    ("a mark", "struct Printer {\n    /// Memory ran out.\n    wants: bool,\n}\nfn f() -> R {\n    let mut printer = Printer { wants: false };\n    match g() {\n        Ok(n) => Ok(n),\n        Err(AllocError) => {\n            self.wants = true;\n            Err(Refusal::Unloaded)\n        }\n    }\n}\n"),
+    ("a variant", "fn f() -> R {\n    match g() {\n        Err(LoadFault::WantOfMemory) => return Err(Refusal::Unloaded),\n        Err(Refusal::Unloaded | Refusal::WantOfMemory) => tell(\"out of memory\"),\n        Err(Refusal::Late) => h(),\n    }\n}\nstruct Unloaded<'a> {\n    path: &'a str,\n}\n"),
+    ("a request that fits", "fn f(alloc: Global) -> Result<Vec<u8>, AllocError> {\n    Vec::with_capacity(alloc, 12 + document.len())\n}\n"),
     ("words of it", "/// WantOfMemory\nenum Fault {\n    WantOfMemory,\n}\nfn name(self) -> &str\n    ensures { result ≡ AllocError }\n{\n    match self {\n        Fault::WantOfMemory => \"WantOfMemory\",\n        Fault::Other => \"Other\",\n    }\n}\n"),
 ]
 
 
+# How often each of two lines is taken, and sources with what is wrong with them.
+LISTED = {("crates/a/src/a.rt", "return Err(StreamEnd::WantOfMemory);"): (1, "a frame fails only there"), ("crates/a/src/b.rt", "self.wants = true;"): (2, "two ways")}
+FRAME = "fn f() -> R {\n    let Ok(frame) = write_frame() else {\n        return Err(StreamEnd::WantOfMemory);\n    };\n    g(frame)\n}\n"
+SECOND = "fn g(snapshot: Snapshot) -> R {\n    if snapshot.number > 5 {\n        return Err(StreamEnd::WantOfMemory);\n    }\n    Ok(1)\n}\n"
+MARKS = "fn f(&mut self) {\n    if self.n > 5 {\n        self.wants = true;\n    }\n    self.wants = true;\n}\n"
+ONE_LINE = "fn g(snapshot: Snapshot) -> R {\n    if snapshot.number > 5 { return Err(StreamEnd::WantOfMemory); }\n    Ok(1)\n}\n"
+COUNTED = [
+    ("the lines that are taken", FRAME, MARKS, 0),
+    ("moved", "fn e() {}\n" + FRAME, "\n" + MARKS, 0),
+    ("a second one", FRAME + SECOND, MARKS, 1),
+    ("a second one on one line", FRAME + ONE_LINE, MARKS, 1),
+    ("another file's", FRAME, MARKS + SECOND, 1),
+    ("one too few", FRAME, MARKS.replace("self.wants = true", "self.wants = false", 1), 1),
+    ("none", "", "", 2),
+]
+
+
 def self_test():
-    wrong = [f"{name}: found {wants_made(source)}, wanted {lines}" for name, source, lines in PLANTED if wants_made(source) != lines]
+    wrong = []
+    for name, first, second, count in COUNTED:
+        found = faults([("crates/a/src/a.rt", first), ("crates/a/src/b.rt", second)], LISTED)
+        if len(found) != count:
+            wrong.append(f"{name}: found {found}, wanted {count}")
+    wrong += [f"{name}: found {wants_made(source)}, wanted {lines}" for name, source, lines in PLANTED if wants_made(source) != lines]
     wrong += [f"{name}: found {wants_made(source)}" for name, source in KEPT if wants_made(source)]
     print("\n".join(wrong), end="\n" if wrong else "")
     return len(wrong)
