@@ -1,40 +1,23 @@
 -- What a drive noted, from what its seats were told and what full pages refused.
-use Rattle.std.proofs.Common.{◌≡◌, ℕ, suc, ◌+◌, ◌-◌, ◌<◌, ◌≤◌, Bool, true, false, ◌||◌, ◌&&◌, ◌==◌, cond, List, [], ◌∷◌, ◌++◌, map, length, length-append, nat_lt, Ordering, Ok, Err, is_ok, refl, sym, ap, ap₂, ◌∙◌, subst, arith}
-use borrow.Author.Tests.{lt-ltb, ltb-false}
-use Rattle.std.specs.Prelude.{All, count_by, sum_by, string_bytes}
-use Rattle.std.specs.Cmp.{IsEquivalence, IsTotalOrder, alike_right}
-use Rattle.std.specs.declared.cmp.Ordering.TheVariants.{Less, Equal, Greater}
-use Rattle.std.specs.Ordering.{is_eq, match_ordering}
-use Rattle.std.specs.Cmp.Lexicographic.{nat_list_cmp_total}
-use Rattle.std.specs.List.{list_any, IsDistinct, AllByRecursion}
-use Rattle.std.specs.List.Sorted.{IsStrictlySortedBy}
-use Rattle.std.specs.Set.{distinct_count}
-use Rattle.std.specs.BTreeSet.{insert_key}
-use Rattle.std.specs.BTreeMap.{is_at}
-use Rattle.std.specs.Ordering.{eq_by_cmp}
+use Rattle.std.proofs.Common.{◌≡◌, ℕ, suc, ◌+◌, ◌-◌, ◌<◌, Bool, true, false, ◌||◌, ◌&&◌, ◌==◌, cond, List, [], ◌∷◌, ◌++◌, map, length, length-append, nat_lt, is_ok, refl, sym, ap, ◌∙◌, subst, arith, not}
+use borrow.Author.Tests.{lt-ltb}
+use Rattle.std.specs.Prelude.{All, count_by, sum_by}
+use Rattle.std.specs.List.{list_any}
 use Rattle.std.specs.Str.{bytes_eq}
-use Rattle.std.proofs.lemmas.Cmp.{nat_list_eq_equiv}
-use Rattle.std.proofs.lemmas.List.Elements.{All-head}
+use Rattle.std.proofs.lemmas.List.Elements.{All-head, All-tail}
 use Rattle.std.proofs.lemmas.List.Folds.{list_any-append}
 use Rattle.std.proofs.lemmas.List.Sums.{sum_by-cons}
-use Rattle.std.proofs.lemmas.Map.Keys.{IsDistinct-from_sorted}
-use Rattle.std.proofs.lemmas.Map.Made.{length-le_from_is_member, length-from_keys}
-use Rattle.std.proofs.lemmas.Map.Text.{is_eq-slice_cmp}
 use Rattle.flag_documents.specs.Document.{Definitions}
-use Rattle.book_core.specs.Book.{Inputs, Contents, most_bytes, most_inputs, is_among, inputs_on, input_count, reply_to, IsBook}
+use Rattle.book_core.specs.Book.{Contents, is_among, inputs_on, input_count, IsBook}
 use Rattle.book_core.specs.Calls.{Call, stands}
-use Rattle.book_core.specs.Page.{PageName, page_cmp, page_eq, bytes_cmp}
+use Rattle.book_core.specs.Page.{PageName, page_eq}
 use Rattle.book_core.specs.PageOrder.{pages_equal}
-use Rattle.book_core.specs.declared.noted.Noted.TheVariants.{New, Again}
-use Rattle.book_core.specs.declared.fault.BookFault.TheVariants.{PageFull, InputTooLong}
-use Rattle.book_core.proofs.Noting.{exposure_found, is_among-by_order}
-use Rattle.book_core.proofs.Ordered.{length-insert_key, sorted-insert_key}
 use Rattle.logic_evaluator.specs.Views.{reach_view}
 use Rattle.flag_resolve.specs.Views.{resolution_view}
 use Rattle.flag_resolve.specs.Resolved.{Resolved}
 use Rattle.flag_resolve.specs.declared.resolution.Resolution.{Resolution}
-use Rattle.book_share.specs.Asked.{Mention, mentions, mentions_of, is_mention, mentioned_on, long_inputs, long_of, resolved}
-use Rattle.book_share.specs.Driven.{AreNoted, AreWorks, noted_by, called_mention, refused_mention, mentions_to_all}
+use Rattle.book_share.specs.Asked.{Mention, mentions, mentions_of, is_mention, long_inputs, long_of, resolved}
+use Rattle.book_share.specs.Driven.{AreNoted, AreWorks, noted_by, called_mention, refused_mention, mentions_to_all, is_noted}
 use Rattle.book_share.specs.declared.ask.Ask.{Ask}
 use Rattle.book_share.specs.declared.reach.Refusal.{Refusal}
 use Rattle.book_core.proofs.Answered.{shows_its_calls}
@@ -46,6 +29,7 @@ use Rattle.book_lock.specs.declared.call.Sight.{Sight}
 use Rattle.book_share.proofs.Full.{IsFull, sealed_full}
 use Rattle.book_share.proofs.Reaching.{count-append}
 use Rattle.book_share.proofs.Turns.{Line, to_all}
+use Rattle.book_share.proofs.Pages.{AreKept, bytes_laws, full_page, none_full, or_first, or_last, page_contents, page_filled}
 
 -- ---- counts
 
@@ -120,153 +104,52 @@ any_noted page input calls refused ok =
     list_any-append (is_mention page input) (map called_mention calls) (map refused_mention refused)
     ∙ ap (λ b. b || list_any (is_mention page input) (map refused_mention refused)) (any_called page input calls ok)
 
--- the inputs that are mentioned for a page
-any_on : (page : PageName) (q : List ℕ) (ms : List Mention) → list_any (is_mention page q) ms ≡ list_any (bytes_eq q) (mentioned_on page ms)
-any_on page q [] = refl
-any_on page q (m ∷ ms) = by (page_eq page m.page) (any_on page q ms)
-  where
-    by : (b : Bool) → list_any (is_mention page q) ms ≡ list_any (bytes_eq q) (mentioned_on page ms)
-        → ((b && bytes_eq q m.input) || list_any (is_mention page q) ms) ≡ list_any (bytes_eq q) (cond b (m.input ∷ mentioned_on page ms) (mentioned_on page ms))
-    by true l = ap (λ c. bytes_eq q m.input || c) l
-    by false l = l
-
--- ---- one more input
-
-or_swap : (a b c : Bool) → (a || (b || c)) ≡ (b || (a || c))
-or_swap true true c = refl
-or_swap true false c = refl
-or_swap false b c = refl
-
-or_same : (a b : Bool) → (a || b) ≡ (a || (a || b))
-or_same true b = refl
-or_same false b = refl
-
-any-insert_key : {K : Type 0} {R : K → K → Ordering} → IsTotalOrder R → (ks : List K) (k q : K) → list_any (is_at (R q)) (insert_key R ks k) ≡ (is_eq (R q k) || list_any (is_at (R q)) ks)
-any-insert_key o [] k q = refl
-any-insert_key {R = R} o (x ∷ xs) k q =
-    let later = any-insert_key o xs k q in
-    let alike : R k x ≡ Equal → is_eq (R q k) ≡ is_eq (R q x) = λ e. ap is_eq (alike_right o k x q e) in
-    elim (R k x) as (λ r. (r ≡ Equal → is_eq (R q k) ≡ is_eq (R q x)) → list_any (is_at (R q)) (match_ordering r (k ∷ x ∷ xs) (x ∷ xs) (x ∷ insert_key R xs k)) ≡ (is_eq (R q k) || (is_eq (R q x) || list_any (is_at (R q)) xs))) [
-      | Less ↦ λ _. refl
-      | Equal ↦ λ same. rw (same refl) (or_same (is_eq (R q x)) (list_any (is_at (R q)) xs))
-      | Greater ↦ λ _. ap (λ b. is_eq (R q x) || b) later ∙ or_swap (is_eq (R q x)) (is_eq (R q k)) (list_any (is_at (R q)) xs)
-    ] alike
-
-is_among-insert : (inputs : Inputs) (input other : List ℕ) → is_among other (insert_key bytes_cmp inputs input) ≡ (bytes_eq other input || is_among other inputs)
-is_among-insert inputs input other =
-    sym (is_among-by_order other (insert_key bytes_cmp inputs input)) ∙ any-insert_key nat_list_cmp_total inputs input other ∙ ap₂ (λ a b. a || b) (is_eq-slice_cmp other input) (is_among-by_order other inputs)
-
--- ---- different inputs
-
-bytes_laws : IsEquivalence bytes_eq
-bytes_laws = nat_list_eq_equiv
-
-All-same : {K : Type 0} (P Q : K → Type 0) → ((k : K) → P k → Q k) → (ks : List K) → AllByRecursion P ks → AllByRecursion Q ks
-All-same P Q f [] all = tt
-All-same P Q f (k ∷ ks) all = (f k all.0, All-same P Q f ks all.1)
-
-distinct_by_bytes : (xs : Inputs) → IsDistinct (eq_by_cmp bytes_cmp) xs → IsDistinct bytes_eq xs
-unfolding IsDistinct
-distinct_by_bytes [] d = tt
-distinct_by_bytes (x ∷ xs) d = (All-same (λ y. eq_by_cmp bytes_cmp x y ≡ false) (λ y. bytes_eq x y ≡ false) (λ y e. sym (is_eq-slice_cmp x y) ∙ e) xs d.0, distinct_by_bytes xs d.1)
-
-pub rising_distinct : (xs : Inputs) → IsStrictlySortedBy bytes_cmp xs → IsDistinct bytes_eq xs
-rising_distinct xs rising = distinct_by_bytes xs (IsDistinct-from_sorted bytes_cmp xs rising)
-
--- inputs in order, each once
-in_rising : Inputs → Inputs
-in_rising [] = []
-in_rising (x ∷ xs) = insert_key bytes_cmp (in_rising xs) x
-
-rising-in_rising : (xs : Inputs) → IsStrictlySortedBy bytes_cmp (in_rising xs)
-unfolding IsStrictlySortedBy in_rising
-rising-in_rising [] = tt
-rising-in_rising (x ∷ xs) = sorted-insert_key nat_list_cmp_total (in_rising xs) x (rising-in_rising xs)
-
-among-in_rising : (q : List ℕ) (xs : Inputs) → is_among q (in_rising xs) ≡ is_among q xs
-unfolding in_rising
-among-in_rising q [] = refl
-among-in_rising q (x ∷ xs) = is_among-insert (in_rising xs) x q ∙ ap (λ b. bytes_eq q x || b) (among-in_rising q xs)
-
--- inputs in rising order that are all among others are no more than these have different ones
-few_among : (xs others : Inputs) → IsStrictlySortedBy bytes_cmp xs → ((q : List ℕ) → is_among q xs ≡ true → is_among q others ≡ true) → length xs ≤ distinct_count bytes_eq others
-few_among xs others rising within =
-    let less = length-le_from_is_member bytes_laws xs (in_rising others) (rising_distinct xs rising) (λ q e. among-in_rising q others ∙ within q e) in
-    let same = length-from_keys bytes_laws (in_rising others) others (rising_distinct (in_rising others) (rising-in_rising others)) (λ q. among-in_rising q others) in
-    omega (arith, less, same)
-
--- ---- full pages
-
-full_parts : (long among room : Bool) → cond long (Err InputTooLong) (cond among (Ok Again) (cond room (Ok New) (Err PageFull))) ≡ Err PageFull → (among ≡ false) × (room ≡ false)
-full_parts true among room e = cc
-full_parts false true room e = cc
-full_parts false false true e = cc
-full_parts false false false e = (refl, refl)
-
-full_page : (book : Contents) (r : Refusal) → IsFull book r → (is_among (string_bytes r.input) (inputs_on book r.page) ≡ false) × (most_inputs ≤ length (inputs_on book r.page))
-unfolding reply_to
-full_page book r full =
-    let input = string_bytes r.input in
-    let parts = full_parts (nat_lt most_bytes (length input)) (is_among input (inputs_on book r.page)) (nat_lt (length (inputs_on book r.page)) most_inputs) full in
-    (parts.0, ltb-false _ _ parts.1)
-
-pub rising_page : (book : Contents) (page : PageName) → IsBook book → IsStrictlySortedBy bytes_cmp (inputs_on book page)
-unfolding inputs_on
-rising_page book page is_book = (exposure_found (is_at (page_cmp page)) book is_book.filled).rising
-
-few_on_page : (book : Contents) (page : PageName) → IsBook book → length (inputs_on book page) ≤ most_inputs
-unfolding inputs_on
-few_on_page book page is_book = (exposure_found (is_at (page_cmp page)) book is_book.filled).few
-
-or_first : (a b : Bool) → a ≡ true → (a || b) ≡ true
-or_first true b e = refl
-or_first false b e = cc
-
-or_last : (a b : Bool) → b ≡ true → (a || b) ≡ true
-or_last true b e = refl
-or_last false b e = e
-
 or_empty : (a : Bool) → (a || false) ≡ a
 or_empty true = refl
 or_empty false = refl
 
-either : {P : Type 0} (a b : Bool) → (a || b) ≡ true → (a ≡ true → P) → (b ≡ true → P) → P
-either true b e f g = f refl
-either false b e f g = g e
+-- ---- how many notes were accepted
 
-refused_here : (r : Refusal) (rest : List Refusal) (q : List ℕ) → bytes_eq q (string_bytes r.input) ≡ true → list_any (is_mention r.page q) (map refused_mention (r ∷ rest)) ≡ true
-refused_here r rest q same =
-    let here : page_eq r.page r.page ≡ true = pages_equal.refl r.page in
-    or_first (page_eq r.page r.page && bytes_eq q (string_bytes r.input)) (list_any (is_mention r.page q) (map refused_mention rest)) (rw (here, same) refl)
+count_both : {X : Type 0} (p : X → Bool) (xs : List X) → count_by p xs + count_by (λ x. not (p x)) xs ≡ length xs
+count_both p [] = refl
+count_both p (x ∷ xs) = by (p x) (count_both p xs) (sum_by-cons (λ y. cond (p y) 1 0) x xs) (sum_by-cons (λ y. cond (not (p y)) 1 0) x xs)
+  where
+    by : (b : Bool) → count_by p xs + count_by (λ y. not (p y)) xs ≡ length xs → count_by p (x ∷ xs) ≡ cond b 1 0 + count_by p xs
+        → count_by (λ y. not (p y)) (x ∷ xs) ≡ cond (not b) 1 0 + count_by (λ y. not (p y)) xs → count_by p (x ∷ xs) + count_by (λ y. not (p y)) (x ∷ xs) ≡ length (x ∷ xs)
+    by true later m n = omega (arith, later, m, n)
+    by false later m n = omega (arith, later, m, n)
 
--- where no page has too many inputs mentioned, no page was full
-none_refused : (ms : List Mention) (book : Contents) (calls : List Call) (refused : List Refusal) → IsBook book
-    → ((page : PageName) (q : List ℕ) → list_any (is_mention page q) (noted_by calls refused) ≡ list_any (is_mention page q) ms) → all_ok calls ≡ true
-    → ((page : PageName) (q : List ℕ) → is_among q (inputs_on book page) ≡ stands calls page q)
-    → All (IsFull book) refused → ((page : PageName) → distinct_count bytes_eq (mentioned_on page ms) ≤ most_inputs) → length refused ≡ 0
-none_refused ms book calls [] is_book same ok union full few = refl
-none_refused ms book calls (r ∷ rest) is_book same ok union full few =
-    let page = r.page in
-    let input = string_bytes r.input in
-    let inputs = inputs_on book page in
-    let parts = full_page book r (All-head (IsFull book) r rest full) in
-    let absent = parts.0 in
-    let many = parts.1 in
-    let more = insert_key bytes_cmp inputs input in
-    let longer : length more ≡ length inputs + 1 = length-insert_key bytes_cmp inputs input (is_among-by_order input inputs ∙ absent) in
-    let refusals = map refused_mention (r ∷ rest) in
-    let within : (q : List ℕ) → is_among q more ≡ true → is_among q (mentioned_on page ms) ≡ true =
-    λ q e. sym (any_on page q ms) ∙ sym (same page q) ∙ any_noted page q calls (r ∷ rest) ok
-    ∙ either (bytes_eq q input) (is_among q inputs) (sym (is_among-insert inputs input q) ∙ e)
-    (λ s. or_last (stands calls page q) (list_any (is_mention page q) refusals) (refused_here r rest q s))
-    (λ s. or_first (stands calls page q) (list_any (is_mention page q) refusals) (sym (union page q) ∙ s)) in
-    let less = few_among more (mentioned_on page ms) (sorted-insert_key nat_list_cmp_total inputs input (rising_page book page is_book)) within in
-    let bound = few page in
-    absurd (omega (arith, longer, many, less, bound))
+stands_here : (c : Call) (cs : List Call) → is_ok c.reply ≡ true → stands (c ∷ cs) c.page c.input ≡ true
+unfolding stands
+stands_here c cs ok =
+    let page : page_eq c.page c.page ≡ true = pages_equal.refl c.page in
+    let input : bytes_eq c.input c.input ≡ true = bytes_laws.refl c.input in
+    or_first (is_ok c.reply && (page_eq c.page c.page && bytes_eq c.input c.input)) (stands cs c.page c.input) (rw (ok, page, input) refl)
 
-no_refusals : (refused : List Refusal) → length refused ≡ 0 → refused ≡ []
-no_refusals [] e = refl
-no_refusals (r ∷ rest) e = absurd (omega (arith, e))
+stands_later : (c : Call) (cs : List Call) (page : PageName) (q : List ℕ) → stands cs page q ≡ true → stands (c ∷ cs) page q ≡ true
+unfolding stands
+stands_later c cs page q e = or_last (is_ok c.reply && (page_eq page c.page && bytes_eq q c.input)) (stands cs page q) e
+
+-- the book has the input of each accepted call
+called_noted : (book : Contents) (cs : List Call) → ((page : PageName) (q : List ℕ) → stands cs page q ≡ true → is_among q (inputs_on book page) ≡ true) → all_ok cs ≡ true → count_by (is_noted book) (map called_mention cs) ≡ length cs
+called_noted book [] within ok = refl
+called_noted book (c ∷ cs) within ok =
+    let both = ok_both (is_ok c.reply) (all_ok cs) ok in
+    let here : is_noted book (called_mention c) ≡ true = within c.page c.input (stands_here c cs both.0) in
+    let one : ◌≡◌ {A = ℕ} (cond (is_noted book (called_mention c)) 1 0) 1 = ap (λ b. cond b 1 0) here in
+    let later = called_noted book cs (λ page q e. within page q (stands_later c cs page q e)) both.1 in
+    let more = sum_by-cons (λ m. cond (is_noted book m) 1 0) (called_mention c) (map called_mention cs) in
+    omega (arith, later, more, one)
+
+-- and none that a full page refused
+refused_noted : (book : Contents) (rs : List Refusal) → All (IsFull book) rs → count_by (is_noted book) (map refused_mention rs) ≡ 0
+refused_noted book [] full = refl
+refused_noted book (r ∷ rs) full =
+    let absent : is_noted book (refused_mention r) ≡ false = (full_page book r (All-head (IsFull book) r rs full)).0 in
+    let one : ◌≡◌ {A = ℕ} (cond (is_noted book (refused_mention r)) 1 0) 0 = ap (λ b. cond b 1 0) absent in
+    let later = refused_noted book rs (All-tail (IsFull book) r rs full) in
+    let more = sum_by-cons (λ m. cond (is_noted book m) 1 0) (refused_mention r) (map refused_mention rs) in
+    omega (arith, later, more, one)
 
 -- ---- the whole
 
@@ -282,27 +165,30 @@ noted_whole flags workers asks seats given refused n book accepted new some len 
     let last : length seats ≡ suc (workers - 1) = omega (arith, some, len) in
     let counted : (p : Mention → Bool) → count_by p (noted_by calls refused) ≡ count_by p ms =
     λ p. works.noted p ∙ ap (λ k. mentions_to_all flags p (workers - 1) k asks) last ∙ to_all flags p (workers - 1) asks ∙ sym (count-mentions flags p asks) in
-    let any : (page : PageName) (q : List ℕ) → list_any (is_mention page q) (noted_by calls refused) ≡ list_any (is_mention page q) ms = λ page q. any_from_count (is_mention page q) (noted_by calls refused) ms (counted (is_mention page q)) in
+    let any : (page : PageName) (q : List ℕ) → (stands calls page q || list_any (is_mention page q) (map refused_mention refused)) ≡ list_any (is_mention page q) ms =
+    λ page q. sym (any_noted page q calls refused ok) ∙ any_from_count (is_mention page q) (noted_by calls refused) ms (counted (is_mention page q)) in
     let union : (page : PageName) (q : List ℕ) → is_among q (inputs_on book page) ≡ stands calls page q = λ page q. told.told.union page q in
-    let contents : length refused ≡ 0 → (page : PageName) (q : List ℕ) → is_among q (inputs_on book page) ≡ list_any (is_mention page q) ms =
-    λ none page q. union page q ∙ sym (or_empty (stands calls page q)) ∙ ap (λ l. stands calls page q || list_any (is_mention page q) (map refused_mention l)) (sym (no_refusals refused none))
-    ∙ sym (any_noted page q calls refused ok) ∙ any page q in record {
-      calls =
-          let whole = sym (count_all (noted_by calls refused)) ∙ counted (λ _. true) ∙ count_all ms in
-          let parts = length-append (map called_mention calls) (map refused_mention refused) in
-          let a = length_map called_mention calls in
-          let b = length_map refused_mention refused in
-          omega (arith, whole, parts, a, b, accepted_is);
+    let kept : AreKept ms book refused = record {
+      lawful = is_book;
+      held = λ page q e. sym (any page q) ∙ or_first (stands calls page q) (list_any (is_mention page q) (map refused_mention refused)) (sym (union page q) ∙ e);
+      full = full;
+      within = λ page q e. sym (any page q) ∙ or_last (stands calls page q) (list_any (is_mention page q) (map refused_mention refused)) e;
+      exact = λ page q e. union page q ∙ sym (or_empty (stands calls page q)) ∙ ap (λ b. stands calls page q || b) (sym e) ∙ any page q;
+    } in
+    let whole = sym (count_all (noted_by calls refused)) ∙ counted (λ _. true) ∙ count_all ms in
+    let parts = length-append (map called_mention calls) (map refused_mention refused) in
+    let a = length_map called_mention calls in
+    let b = length_map refused_mention refused in
+    let split = sym (counted (is_noted book)) ∙ count-append (is_noted book) (map called_mention calls) (map refused_mention refused) in
+    let accepted_ones = called_noted book calls (λ page q e. union page q ∙ e) ok in
+    let refused_ones = refused_noted book refused full in record {
+      contents = page_contents ms book refused kept;
+      filled = page_filled ms book refused kept;
+      held = kept.held;
+      calls = omega (arith, split, accepted_ones, refused_ones, accepted_is);
       news = news;
-      full = (
-        (λ none page.
-            let counts = length-from_keys bytes_laws (inputs_on book page) (mentioned_on page ms) (rising_distinct (inputs_on book page) (rising_page book page is_book)) (λ q. contents none page q ∙ any_on page q ms) in
-            let few = few_on_page book page is_book in
-            omega (arith, counts, few)),
-        none_refused ms book calls refused is_book any ok union full,
-      );
-      contents = contents;
-      held = λ page q e. sym (any page q) ∙ any_noted page q calls refused ok ∙ or_first (stands calls page q) (list_any (is_mention page q) (map refused_mention refused)) (sym (union page q) ∙ e);
+      refusals = let both = count_both (is_noted book) ms in omega (arith, split, accepted_ones, refused_ones, both, whole, parts, a, b);
+      full = none_full ms book refused kept;
     }
 
 -- how many long inputs there are in the answers

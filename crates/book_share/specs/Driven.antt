@@ -1,5 +1,5 @@
 -- What a drive ends with, and what its workers end with.
-use Rattle.std.specs.Prelude.{◌≡◌, ◌↔◌, ◌≤◌, ℕ, zero, suc, ◌+◌, ◌-◌, List, [], ◌∷◌, ◌++◌, length, map, count_by, sum_by, All, Bool, true, false, Some, Result, Err, IfErr, IfOk, IfSome, option_map, slice_get, string_bytes}
+use Rattle.std.specs.Prelude.{◌≡◌, ◌↔◌, ◌<◌, ◌≤◌, ℕ, zero, suc, ◌+◌, ◌-◌, List, [], ◌∷◌, ◌++◌, length, map, count_by, sum_by, All, Bool, true, false, not, Some, Result, Err, IfErr, IfOk, IfSome, option_map, slice_get, string_bytes}
 use Rattle.std.specs.List.{list_any}
 use Rattle.std.specs.Set.{distinct_count}
 use Rattle.std.specs.Str.{bytes_eq}
@@ -23,14 +23,24 @@ use Rattle.book_share.specs.declared.gather.Harvest.{Harvest}
 use Rattle.book_share.specs.declared.reach.Refusal.{Refusal}
 use Rattle.book_share.specs.declared.worker.Part.{Part}
 
--- What was noted of the mentioned inputs. Each mention was accepted or refused by a full page, and there was no full page
--- exactly where no page has more than 1000000 different inputs mentioned for it. The book then has just the mentioned inputs.
+-- how many different inputs are mentioned for the page
+abbrev pub reached_on : PageName → List Mention → ℕ
+reached_on page mentions = distinct_count bytes_eq (mentioned_on page mentions)
+
+-- the book has the mentioned input on its page
+abbrev pub is_noted : Contents → Mention → Bool
+is_noted book m = is_among m.input (inputs_on book m.page)
+
+-- What was noted of the mentioned inputs. A page for which at most 1000000 different ones are mentioned has just these; a page
+-- of more has 1000000 of them. Each mention of an input that the book has was accepted, and each other was refused by a full page.
 pub record AreNoted (mentions : List Mention) (book : Contents) (accepted new refused : ℕ) : Type 0 where
-  pub calls : accepted + refused ≡ length mentions
-  pub news : new ≡ input_count book
-  pub full : (refused ≡ 0) ↔ ((page : PageName) → distinct_count bytes_eq (mentioned_on page mentions) ≤ most_inputs)
-  pub contents : refused ≡ 0 → (page : PageName) (input : List ℕ) → is_among input (inputs_on book page) ≡ list_any (is_mention page input) mentions
+  pub contents : (page : PageName) → reached_on page mentions ≤ most_inputs → (input : List ℕ) → is_among input (inputs_on book page) ≡ list_any (is_mention page input) mentions
+  pub filled : (page : PageName) → most_inputs < reached_on page mentions → length (inputs_on book page) ≡ most_inputs
   pub held : (page : PageName) (input : List ℕ) → is_among input (inputs_on book page) ≡ true → list_any (is_mention page input) mentions ≡ true
+  pub calls : accepted ≡ count_by (is_noted book) mentions
+  pub news : new ≡ input_count book
+  pub refusals : refused ≡ count_by (λ m. not (is_noted book m)) mentions
+  pub full : (refused ≡ 0) ↔ ((page : PageName) → reached_on page mentions ≤ most_inputs)
 
 -- after these calls the page refuses the input, for it is full
 abbrev pub IsFullAfter : List Call → Refusal → Type 0

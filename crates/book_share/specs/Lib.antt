@@ -1,3 +1,4 @@
 pub mod Asked
 pub mod DriveFault
 pub mod Driven
+pub mod Gated

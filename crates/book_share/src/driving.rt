@@ -7,6 +7,7 @@ ghost use Rattle.book_lock.specs.Limits.{most_seats};
 ghost use Rattle.book_lock.specs.Told.{all_told};
 ghost use Rattle.book_share.specs.Asked.{is_long, long_inputs, long_of as long_of_asks, mentions, resolved};
 ghost use Rattle.book_share.specs.Driven.{AreNoted};
+ghost use Rattle.book_share.specs.Gated.{EachAsk, StallsOf};
 ghost use Rattle.book_share.specs.declared.drive_fault.DriveFault.{DriveFault as Fault};
 ghost use Rattle.book_share.specs.DriveFault.{is_of_workers, workers_fault};
 
@@ -49,7 +50,8 @@ pub struct Driven {
 /// is too long or that a full page refuses is counted, and the ask is answered all the same.
 ///
 /// It is refused with NoWorkers and TooManyWorkers (more than 64), then with Stalled where the gate refuses an ask
-/// 1000000 times. A refusal comes after all workers have ended, and drops the book. The condition is fewer than 2^32 asks.
+/// 1000000 times. A refusal comes after all workers have ended, and drops the book. The gate is told of each ask that was
+/// answered. The condition is fewer than 2^32 asks.
 pub fn drive<G: Gate, R: Threads + Wait + Sync>(
     rt: &R,
     alloc: Global,
@@ -64,7 +66,8 @@ pub fn drive<G: Gate, R: Threads + Wait + Sync>(
     ensures long { IfOk result (λ d. d.long ≡ long_of_asks (flags_view flags.now) asks.now) }
     ensures workers { (e : Fault) → workers_fault workers ≡ Some e → result ≡ Err e }
     ensures refused { IfErr result (λ e. is_of_workers e ≡ true → workers_fault workers ≡ Some e) }
-    ensures unstalled { G.always → result ≢ Err DriveFault.Stalled }
+    ensures gated { IfOk result (λ _. EachAsk (λ ask. G.started gate.now ask × G.told gate.now ask) (length asks.now)) }
+    ensures stalled { StallsOf (G.refused gate.now) (length asks.now) result }
 {
     let blanks = blanks_of(alloc, workers)?;
     driven_by::<Brand, G, R>(rt, alloc, blanks, workers, flags, asks, gate)
@@ -102,7 +105,8 @@ fn driven_by<L: BookName + Send + Sync, G: Gate, R: Threads + Wait + Sync>(
     ensures answers { IfOk result (λ d. map resolution_view d.answers.items ≡ map (resolved (flags_view flags.now)) asks.now) }
     ensures noted { IfOk result (λ d. AreNoted (mentions (flags_view flags.now) asks.now) d.book d.calls d.news d.full) }
     ensures long { IfOk result (λ d. d.long ≡ long_of_asks (flags_view flags.now) asks.now) }
-    ensures unstalled { G.always → result ≢ Err DriveFault.Stalled }
+    ensures gated { IfOk result (λ _. EachAsk (λ ask. G.started gate.now ask × G.told gate.now ask) (length asks.now)) }
+    ensures stalled { StallsOf (G.refused gate.now) (length asks.now) result }
     ensures started { IfErr result (λ e. is_of_workers e ≡ false) }
 {
     let (book, seats) = SharedBook::<L>::new(alloc, blanks)?;
@@ -118,7 +122,7 @@ fn driven_by<L: BookName + Send + Sync, G: Gate, R: Threads + Wait + Sync>(
         seats,
         answers,
         refused,
-    } = gathered(alloc, parts)?;
+    } = gathered(alloc, &round, parts)?;
     let answers = in_order(alloc, flags, asks, answers)?;
     let calls = calls_of(seats.as_slice());
     let long = long_of(answers.as_slice());

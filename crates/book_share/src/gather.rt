@@ -5,6 +5,7 @@ ghost use Rattle.flag_defs.specs.Flags.{flags_view};
 ghost use Rattle.book_lock.specs.Counts.{own};
 ghost use Rattle.book_lock.specs.Seen.{unseen};
 ghost use Rattle.book_share.specs.Driven.{AreParts, HasStarted, IsHarvest, IsPart};
+ghost use Rattle.book_share.specs.Gated.{EachPart, EachTurn, StallsOf};
 ghost use Rattle.book_share.specs.declared.ask.Ask.{Ask};
 
 use crate::drive_fault::DriveFault;
@@ -60,7 +61,8 @@ pub(crate) fn parts_of<L: BookName + Send + Sync, G: Gate, R: Threads + Wait + S
     requires fresh { seats.items ≡ unseen round.now.step }
     ensures len { IfOk result (λ parts. length parts.items ≡ round.now.step) }
     ensures work { IfOk result (λ parts. AreParts (flags_view round.now.flags.now) round.now.step round.now.asks.now parts.items) }
-    ensures unstalled { G.always → IfOk result (λ parts. All (λ r. r ≢ Err DriveFault.Stalled) parts.items) }
+    ensures gated { IfOk result (λ parts. EachPart (λ n. G.started round.now.gate.now n × G.told round.now.gate.now n) round.now.step (length round.now.asks.now) parts.items) }
+    ensures stalled { IfOk result (λ parts. All (λ r. StallsOf (G.refused round.now.gate.now) (length round.now.asks.now) r) parts.items) }
     ensures started { IfOk result (λ parts. All (λ r. HasStarted r) parts.items) }
 {
     let jobs = jobs_of(alloc, seats, round.step)?;
@@ -70,22 +72,28 @@ pub(crate) fn parts_of<L: BookName + Send + Sync, G: Gate, R: Threads + Wait + S
         &|job: Job<L>| -> Result<Part<L>, DriveFault>
             requires { (own job.seat ≡ []) × (job.first < round.now.step) }
             ensures { IfOk result (λ p. IsPart (flags_view round.entry.now.flags.now) round.entry.now.step round.entry.now.asks.now job.first p)
-                × (G.always → result ≢ Err DriveFault.Stalled) × HasStarted result }
+                × StallsOf (G.refused round.entry.now.gate.now) (length round.entry.now.asks.now) result × HasStarted result
+                × IfOk result (λ _. EachTurn (λ n. G.started round.entry.now.gate.now n × G.told round.entry.now.gate.now n) round.entry.now.step job.first (length round.entry.now.asks.now)) }
         { work(rt, alloc, round, job) },
     )
 }
 
 /// What the workers made, put together; or the refusal of one of them.
-pub(crate) fn gathered<L: BookName>(
+pub(crate) fn gathered<L: BookName, G: Gate>(
     alloc: Global,
+    round: &Round<'_, L, G>,
     parts: Vec<Result<Part<L>, DriveFault>>,
 ) -> Result<Harvest<L>, DriveFault>
     ensures len { IfOk result (λ h. length h.seats.items ≡ length parts.items) }
     ensures work { (flags : Definitions) (asks : List Ask) (workers : ℕ) → AreParts flags workers asks parts.items
         → IfOk result (λ h. IsHarvest flags workers asks h) }
-    ensures unstalled { All (λ r. r ≢ Err DriveFault.Stalled) parts.items → result ≢ Err DriveFault.Stalled }
+    ensures gated { EachPart (λ n. G.started round.now.gate.now n × G.told round.now.gate.now n) round.now.step (length round.now.asks.now) parts.items
+        → IfOk result (λ _. (w : ℕ) → w < length parts.items → EachTurn (λ n. G.started round.now.gate.now n × G.told round.now.gate.now n) round.now.step w (length round.now.asks.now)) }
+    ensures stalled { All (λ r. StallsOf (G.refused round.now.gate.now) (length round.now.asks.now) r) parts.items → StallsOf (G.refused round.now.gate.now) (length round.now.asks.now) result }
     ensures started { All (λ r. HasStarted r) parts.items → HasStarted result }
 {
+    // The contract alone names the round.
+    let _ = round;
     let mut seats = Vec::with_capacity(alloc, parts.len())?;
     let mut answers = VecDeque::with_capacity(alloc, parts.len())?;
     let mut refused = Vec::new(alloc);

@@ -28,4 +28,4 @@ pub use ask::Ask;
 pub use book_lock::{Blanks, BookName, SealFault, SealRefused, Seat, SeatsFault, SharedBook, seal};
 pub use drive_fault::DriveFault;
 pub use driving::{Driven, drive};
-pub use gate::{Gate, OpenGate};
+pub use gate::{Attempt, Gate, OpenGate};

@@ -8,20 +8,22 @@ ghost use Rattle.book_lock.specs.Limits.{most_seats};
 ghost use Rattle.book_share.specs.Asked.{asks_of, mentions_of, resolved as resolution_of_ask};
 ghost use Rattle.book_share.specs.DriveFault.{is_of_workers};
 ghost use Rattle.book_share.specs.Driven.{AreFull, IsAnswer, IsWork, Notes, NotesAsk, noted_by};
+ghost use Rattle.book_share.specs.Gated.{EachTurn, IsClosed, StallsOf};
 
 use crate::ask::Ask;
 use crate::drive_fault::DriveFault;
-use crate::gate::Gate;
+use crate::gate::{Attempt, Gate};
 use crate::reach::{Refusal, note_reached};
 use book_lock::{BookName, Seat, SharedBook};
 use flag_defs::Flags;
 use flag_resolve::{Resolution, resolve};
 use std::alloc::{AllocError, Global};
 use std::collections::VecDeque;
+use std::marker::Brand;
 use std::sync::Wait;
 
 /// How often a gate is asked whether an ask may start.
-const MOST_TRIES: u32 = 1_000_000;
+const MOST_ATTEMPTS: u32 = 1_000_000;
 
 /// What all workers share.
 #[derive(Drop)]
@@ -59,7 +61,8 @@ pub(crate) fn work<L: BookName, G: Gate, R: Wait>(
     requires fresh { own job.seat ≡ [] }
     requires first { job.first < round.now.step }
     ensures work { IfOk result (λ p. IsWork (flags_view round.now.flags.now) (asks_of round.now.step job.first round.now.asks.now) p.seat p.answers.items p.refused.items) }
-    ensures unstalled { G.always → result ≢ Err DriveFault.Stalled }
+    ensures gated { IfOk result (λ _. EachTurn (λ n. G.started round.now.gate.now n × G.told round.now.gate.now n) round.now.step job.first (length round.now.asks.now)) }
+    ensures stalled { StallsOf (G.refused round.now.gate.now) (length round.now.asks.now) result }
     ensures started { IfErr result (λ e. is_of_workers e ≡ false) }
 {
     let Job { mut seat, first } = job;
@@ -93,7 +96,8 @@ fn answered<L: BookName, G: Gate, R: Wait>(
     ensures noted { IfOk result (λ _. NotesAsk (flags_view round.now.flags.now) round.now.asks.now ask (noted_by (own seat.old) refused.old.items) (noted_by (own seat.new) refused.new.items)) }
     ensures full { IfOk result (λ _. AreFull seat.old.seen refused.old.items → AreFull seat.new.seen refused.new.items) }
     ensures grown { IfOk result (λ _. length (own seat.new) ≤ length (own seat.old) + most_units) }
-    ensures unstalled { G.always → result ≢ Err DriveFault.Stalled }
+    ensures gated { IfOk result (λ _. G.started round.now.gate.now ask × G.told round.now.gate.now ask) }
+    ensures stalled { StallsOf (G.refused round.now.gate.now) (length round.now.asks.now) result }
     ensures started { IfErr result (λ e. is_of_workers e ≡ false) }
 {
     if !starts(round.gate, ask) {
@@ -151,12 +155,24 @@ fn resolution(alloc: Global, flags: &Flags, ask: &Ask) -> Result<Resolution, All
 
 /// Whether the gate lets the ask start.
 fn starts<G: Gate>(gate: &G, ask: usize) -> bool
-    ensures { G.always → result ≡ true }
+    ensures started { result ≡ true → G.started gate.now ask }
+    ensures closed { result ≡ false → IsClosed (G.refused gate.now) ask }
 {
-    for _turn in 0..MOST_TRIES {
-        if gate.may_start(ask) {
+    for attempt in 0..MOST_ATTEMPTS {
+        if may_start::<Brand, G>(gate, ask, attempt) {
             return true;
         }
     }
     false
+}
+
+/// Whether the gate lets the ask start at this attempt.
+fn may_start<A: Attempt, G: Gate>(gate: &G, ask: usize, attempt: u32) -> bool
+    requires { attempt ≡ A.number }
+    ensures started { result ≡ true → G.started gate.now ask }
+    ensures refused { result ≡ false → G.refused gate.now ask attempt }
+{
+    // The contract alone names the attempt.
+    let _ = attempt;
+    gate.may_start::<A>(ask)
 }

@@ -8,7 +8,7 @@ use Rattle.bucket_core.specs.Rule.{Entries, refinement, total_weight}
 use Rattle.flag_documents.specs.Document.{Definitions}
 use Rattle.book_core.specs.Book.{Contents, IsBook, is_among, inputs_on}
 use Rattle.book_core.specs.Page.{PageName}
-use Rattle.book_share.proofs.Whole.{rising_distinct, rising_page}
+use Rattle.book_share.proofs.Pages.{rising_distinct, rising_page}
 use Rattle.price_core.specs.Cost.{cost_of, input_cost}
 use Rattle.price_core.specs.Limits.{Limits}
 use Rattle.price_core.specs.Pricing.{Pricing}

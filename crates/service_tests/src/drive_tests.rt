@@ -3,7 +3,7 @@
 ghost use Rattle.std.specs.Prelude.{◌<◌, ◌^◌, length, IfOk};
 
 use book_core::{Book, print_book};
-use book_share::{Ask, Driven, Gate, OpenGate, drive};
+use book_share::{Ask, Attempt, Driven, Gate, OpenGate, drive};
 use flag_defs::{Flags, read_flags};
 use flag_resolve::{Code, Reason, Resolution};
 use flag_text::read_tree;
@@ -160,7 +160,7 @@ fn before(answered: &[AtomicBool], links: usize, forward: bool, ask: usize) -> O
 }
 
 impl<R: Clock + Sync> Gate for Chain<'_, R> {
-    fn may_start(&self, ask: usize) -> bool {
+    fn may_start<A: Attempt>(&self, ask: usize) -> bool {
         let Some(before) = before(&self.answered, self.links, self.forward, ask) else {
             return true;
         };
@@ -250,7 +250,7 @@ struct Barrier {
 }
 
 impl Gate for Barrier {
-    fn may_start(&self, ask: usize) -> bool {
+    fn may_start<A: Attempt>(&self, ask: usize) -> bool {
         ask != self.closed
     }
 

@@ -7,6 +7,7 @@ use Rattle.logic_evaluator.specs.Views.{reach_view}
 use Rattle.book_lock.specs.Told.{all_told}
 use Rattle.book_share.specs.Asked.{long_inputs, mentions}
 use Rattle.book_share.specs.Driven.{AreInTurn, AreNoted}
+use Rattle.book_share.proofs.Telling.{told_all}
 use Rattle.book_share.proofs.Turns.{line_count}
 use Rattle.book_share.proofs.Whole.{noted_whole, long_whole}
 use Rattle.book_share.proofs.driving.driven_by.Goals as goal
@@ -30,6 +31,11 @@ in_order-requires-clause-turns g c =
     let count = line_count deque_items flags (c.args.workers - 1) (length c.in_ok-seats.field-0.seats.items) asks line works.answers in
     let seats : length c.in_ok-seats.field-0.seats.items ≡ c.args.workers = c.in_ok-seats.ensures.len ∙ c.in_ok-parts.ensures.len in
     subst (λ k. AreInTurn flags (k - 1) 0 k asks (map deque_items line)) (sym (count ∙ seats)) (subst (λ k. AreInTurn flags (c.args.workers - 1) 0 k asks (map deque_items line)) seats works.answers)
+
+pub returns-clause-gated : goal.returns-clause-gated
+returns-clause-gated g c =
+    told_all (λ n. g.G.Gate.started c.args.gate.now n × g.G.Gate.told c.args.gate.now n) c.args.workers (length c.args.asks.now) c.requires.workers.1
+    (λ w lt. c.in_ok-seats.ensures.gated c.in_ok-parts.ensures.gated w (let len = c.in_ok-parts.ensures.len in omega (arith, len, lt)))
 
 pub returns-clause-answers : goal.returns-clause-answers
 returns-clause-answers g c = c.in_ok-answers.ensures

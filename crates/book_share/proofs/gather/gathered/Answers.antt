@@ -1,4 +1,4 @@
-use Rattle.std.proofs.Common.{◌≡◌, ℕ, zero, suc, ◌+◌, List, [], ◌∷◌, length, length-append, map, subst, sym, ap, ◌∙◌, arith}
+use Rattle.std.proofs.Common.{◌≡◌, ℕ, zero, suc, ◌+◌, List, [], ◌∷◌, length, length-append, map, subst, sym, ap, ◌∙◌, arith, rules}
 use Rattle.std.specs.Prelude.{IfOk, IfSome, Result, slice_get}
 use Rattle.std.specs.VecDeque.{deque_items}
 use Rattle.std.proofs.lemmas.List.{map-append}
@@ -7,6 +7,8 @@ use Rattle.book_share.specs.Driven.{IsWork}
 use Rattle.book_share.specs.declared.drive_fault.DriveFault.{DriveFault}
 use Rattle.book_share.specs.declared.worker.Part.{Part}
 use Rattle.book_share.proofs.Reaching.{of_ok}
+use Rattle.book_share.specs.Gated.{EachTurn}
+use Rattle.book_share.proofs.Telling.{done_more, later_more, later_none}
 use Rattle.book_share.proofs.Turns.{works_none, works_more}
 use Rattle.book_share.proofs.gather.gathered.Goals as goal
 
@@ -22,6 +24,11 @@ loop-part-init g c =
         works_none flags workers asks c.in_ok-seats.seats.items (map deque_items c.in_ok-answers.answers.items) c.new-refused.result.items none (ap (map deque_items) c.in_ok-answers.ensures.items) c.new-refused.ensures.items,
       )),
       (let a = ap length none in let b = ap length gives in omega (arith, a, b)),
+      (λ all. (
+        later_none (λ w (r : Result (Part g.row.L.Denot) DriveFault). IfOk r (λ _. EachTurn (λ n. g.G.Gate.started c.args.round.now.gate.now n × g.G.Gate.told c.args.round.now.gate.now n) c.args.round.now.step w (length c.args.round.now.asks.now)))
+            (length c.in_ok-seats.seats.items) c.args.parts.items c.into_iter-part-iterator.result.rest.items (ap length none) gives all,
+        (λ w lt. absurd (let a = ap length none in omega (arith, a, lt))),
+      )),
     )
 
 pub loop-part-preserved : goal.loop-part-preserved
@@ -42,7 +49,17 @@ loop-part-preserved g c =
                 pushed (ap (map deque_items) c.in_ok-push_back.ensures.items ∙ map-append deque_items c.loop-part.answers.items (c.in_ok-seat.field-0.answers ∷ [])) c.in_ok-append.ensures.items i.1 one,
           )),
       (let b = ap length steps in let d = c.loop-part.invariant.1 in omega (arith, longer, b, d)),
+      (λ all.
+          let T = λ (w : ℕ). EachTurn (λ n. g.G.Gate.started c.args.round.now.gate.now n × g.G.Gate.told c.args.round.now.gate.now n) c.args.round.now.step w (length c.args.round.now.asks.now) in
+          let i = c.loop-part.invariant.2 all in
+          let both = later_more (λ w (r : Result (Part g.row.L.Denot) DriveFault). IfOk r (λ _. T w)) (length seats) (length c.push.new.self.items) c.in-Some.part c.loop-part.part-iterator.rest.items later steps longer i.0 in (
+            both.0,
+            done_more T (length seats) (length c.push.new.self.items) longer i.1 (of_ok (λ (_ : Part g.row.L.Denot). T (length seats)) c.in-Some.part c.in_ok-seat.field-0 c.in_ok-seat.was both.1),
+          )),
     )
+
+pub returns-clause-gated : goal.returns-clause-gated
+returns-clause-gated g c = λ all w within. (c.loop-part.invariant.2 all).1 w (search (rules, within))
 
 pub returns-clause-work : goal.returns-clause-work
 returns-clause-work g c = λ flags asks workers all. (c.loop-part.invariant.0 flags asks workers all).1

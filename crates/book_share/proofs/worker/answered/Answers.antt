@@ -21,3 +21,6 @@ returns-clause-noted g c =
     let new = noted_by (own c.resolved.new.seat) c.resolved.new.refused.items in
     noted_at flags c.args.round.now.asks.now c.index-round-ask.result c.args.ask old new c.requires.within c.index-round-ask.is
     (subst (λ (x : Ask). Notes (mentions_of flags x) old new) (sym c.index-round-ask.is) c.in_ok-resolution.ensures.noted)
+
+pub returns-then-not-starts-clause-stalled : goal.returns-then-not-starts-clause-stalled
+returns-then-not-starts-clause-stalled g c = λ _. (c.args.ask, c.requires.within, c.starts.ensures.closed c.if-not-starts.true)

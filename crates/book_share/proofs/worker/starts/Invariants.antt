@@ -1,5 +1,8 @@
-use Rattle.std.specs.Prelude.{◌≡◌}
+use Rattle.std.specs.Prelude.{ℕ, ◌<◌}
 use Rattle.book_share.proofs.worker.starts.Given as goal
 
-abbrev pub invariant-loop-turn : goal.invariant-loop-turn
-invariant-loop-turn g l = g.G.Gate.always → l._turn ≡ 0
+abbrev pub invariant-loop-attempt : goal.invariant-loop-attempt
+invariant-loop-attempt g l = (k : ℕ) → k < l.attempt → g.G.Gate.refused l.gate l.ask k
+
+abbrev pub ghosts-may_start : goal.ghosts-may_start
+ghosts-may_start g a = record { number = a.attempt }

@@ -1,5 +1,4 @@
-use Rattle.std.proofs.Common.{ap}
-use Rattle.std.specs.Prelude.{Err}
+use Rattle.std.proofs.Common.{arith}
 use Rattle.flag_defs.specs.Flags.{flags_view}
 use Rattle.flag_text.specs.View.{items_view}
 use Rattle.flagops_drive.specs.Asks.{asks_in}
@@ -17,4 +16,4 @@ returns-in-Ok g c =
 pub returns : goal.returns
 returns g c =
     refused_of (flags_view c.args.flags.now) (asks_in (items_view c.args.items.now)) c.in_ok-asks.asks.items c.args.workers c.in-Err.fault c.in_ok-asks.ensures.exact c.in-Err.ensures.refused
-    (λ is. c.in-Err.ensures.unstalled tt (ap Err is))
+    (λ is. (c.in-Err.ensures.stalled is).2 0 (omega arith))

@@ -9,4 +9,4 @@ returns-clause-sealed c = λ seats book m flags request planned is_book told is_
 
 pub returns-clause-driven : goal.returns-clause-driven
 returns-clause-driven c = λ mentions book calls news m flags request planned is_book noted is_planned.
-    plan_holds (mentioned_in mentions) m flags request book planned is_book (noted.contents refl) is_planned
+    plan_holds (mentioned_in mentions) m flags request book planned is_book (λ page input. noted.contents page (noted.full.0 refl page) input) is_planned
