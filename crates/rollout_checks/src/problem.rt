@@ -1,9 +1,12 @@
 //! What a lawful request asks.
-ghost use Rattle.std.specs.Prelude.{◌≡◌, ◌≤◌, ◌<◌, ◌*◌, false, Ok};
+ghost use Rattle.std.specs.Prelude.{◌≡◌, ◌≤◌, ◌<◌, ◌*◌, false, length, Ok, IsErrOf};
+ghost use Rattle.std.specs.Str.{is_utf8};
 ghost use Rattle.flag_text.specs.Outcome.{GivesUnless};
 ghost use Rattle.bucket_core.specs.Rule.{total_weight, refinement, entries_view};
 ghost use Rattle.flag_documents.specs.Flag.{flag_view, is_broken};
 ghost use Rattle.flag_defs.specs.Flags.{flags_view};
+ghost use Rattle.price_core.specs.Request.{max_request};
+ghost use Rattle.price_core.specs.declared.fault.PriceFault.TheVariants.{BadRequest};
 ghost use Rattle.rollout_checks.specs.Lawful.{IsRefining, max_planned, problem_of, problem_at, sized, place_view, problem_view};
 
 use crate::fault::RolloutFault;
@@ -34,7 +37,8 @@ pub struct Problem {
 /// What the bytes of a request ask of the flags and the book, where it is lawful. The condition is a factor from 1.
 ///
 /// It refuses an unlawful request, in this order, with `Request`, `UnknownFlag`, `NoSite`, `Computed`, `NoWeight`,
-/// `UnknownVariant`, `TotalsSum` and `TotalTooLarge`.
+/// `UnknownVariant`, `TotalsSum` and `TotalTooLarge`. A request above its limit or that is not UTF-8 is refused before memory
+/// is taken.
 pub fn problem_of(
     alloc: Global,
     refining: Refining,
@@ -43,7 +47,9 @@ pub fn problem_of(
     book: &Book,
 ) -> Result<Problem, RolloutFault>
     requires { IsRefining refining }
-    ensures { GivesUnless RolloutFault.WantOfMemory problem_view result (problem_of refining (flags_view flags.now) request.now book.now) }
+    ensures exact { GivesUnless RolloutFault.WantOfMemory problem_view result (problem_of refining (flags_view flags.now) request.now book.now) }
+    ensures large { max_request < length request.now → IsErrOf result (RolloutFault.Request BadRequest) }
+    ensures no_text { length request.now ≤ max_request → is_utf8 request.now ≡ false → IsErrOf result (RolloutFault.Request BadRequest) }
 {
     let request = Request::read(alloc, request)?;
     let place = place_of(alloc, flags, request.flag(), request.site())?;

@@ -1,9 +1,13 @@
 //! Whether an answer is right, whoever made it.
-ghost use Rattle.std.specs.Prelude.{◌≡◌, ◌<◌, OnOk, MatchResult};
+ghost use Rattle.std.specs.Prelude.{◌≡◌, ◌<◌, ◌≤◌, false, length, OnOk, IsErrOf, MatchResult};
+ghost use Rattle.std.specs.Str.{is_utf8};
 ghost use Rattle.flag_defs.specs.Flags.{flags_view};
+ghost use Rattle.price_core.specs.Request.{max_request};
+ghost use Rattle.price_core.specs.declared.fault.PriceFault.TheVariants.{BadRequest};
 ghost use Rattle.plan_text.specs.Answer.{planned_view};
 ghost use Rattle.rollout_checks.specs.Lawful.{IsLawful, IsRefining, problem_of, problem_view};
 ghost use Rattle.rollout_checks.specs.Verified.{IsOutcome, Proves, Shows, Denies, IsShown, refining_for};
+ghost use Rattle.rollout_checks.specs.declared.fault.RolloutFault.{RolloutFault};
 ghost use Rattle.rollout_checks.specs.declared.refining.Refining.TheVariants.{Times};
 
 use crate::problem::{Problem, problem_of};
@@ -19,7 +23,8 @@ use transport_core::{CheckFault, check_cut, check_plan};
 /// Checks that a request is lawful and that an answer is right for it. A rule is checked against the site's rule, refined
 /// to the rule's total where that is a multiple of the site's; a set of names against the site's rule as it is.
 ///
-/// It refuses with `Request` where the request is refused, and then with `Check` as [`check_plan`] or [`check_cut`] does.
+/// It refuses with `Request` where the request is refused, and then with `Check` as [`check_plan`] or [`check_cut`] does. A
+/// request above its limit or that is not UTF-8 is refused before memory is taken.
 pub fn verify(
     rt: &(impl Threads + Sync),
     alloc: Global,
@@ -30,6 +35,8 @@ pub fn verify(
 ) -> Result<(), VerifyFault>
     ensures exact { IsOutcome (problem_of (refining_for (planned_view planned.now)) (flags_view flags.now) request.now book.now) (planned_view planned.now) result }
     ensures shown { OnOk result (IsShown (problem_of (refining_for (planned_view planned.now)) (flags_view flags.now) request.now book.now) (planned_view planned.now)) }
+    ensures large { max_request < length request.now → IsErrOf result (VerifyFault.Request (RolloutFault.Request BadRequest)) }
+    ensures no_text { length request.now ≤ max_request → is_utf8 request.now ≡ false → IsErrOf result (VerifyFault.Request (RolloutFault.Request BadRequest)) }
 {
     verify_by(
         rt,
@@ -55,6 +62,8 @@ pub fn verify_refined(
     requires { 0 < m }
     ensures exact { IsOutcome (problem_of (Times m) (flags_view flags.now) request.now book.now) (planned_view planned.now) result }
     ensures shown { OnOk result (IsShown (problem_of (Times m) (flags_view flags.now) request.now book.now) (planned_view planned.now)) }
+    ensures large { max_request < length request.now → IsErrOf result (VerifyFault.Request (RolloutFault.Request BadRequest)) }
+    ensures no_text { length request.now ≤ max_request → is_utf8 request.now ≡ false → IsErrOf result (VerifyFault.Request (RolloutFault.Request BadRequest)) }
 {
     verify_by(rt, alloc, Refining::Times(m), flags, request, book, planned)
 }
@@ -81,6 +90,8 @@ fn verify_by(
     requires { IsRefining refining }
     ensures exact { IsOutcome (problem_of refining (flags_view flags.now) request.now book.now) (planned_view planned.now) result }
     ensures shown { OnOk result (IsShown (problem_of refining (flags_view flags.now) request.now book.now) (planned_view planned.now)) }
+    ensures large { max_request < length request.now → IsErrOf result (VerifyFault.Request (RolloutFault.Request BadRequest)) }
+    ensures no_text { length request.now ≤ max_request → is_utf8 request.now ≡ false → IsErrOf result (VerifyFault.Request (RolloutFault.Request BadRequest)) }
 {
     let problem = problem_of(alloc, refining, flags, request, book)?;
     check(rt, alloc, &problem, planned)?;
