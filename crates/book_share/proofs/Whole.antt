@@ -191,6 +191,10 @@ noted_whole flags workers asks seats given refused n book accepted new some len 
       full = none_full ms book refused kept;
     }
 
+-- where nothing was refused, the book has just what is mentioned
+pub just_mentioned : (ms : List Mention) (book : Contents) (accepted new : ℕ) → AreNoted ms book accepted new 0 → (page : PageName) (input : List ℕ) → is_among input (inputs_on book page) ≡ list_any (is_mention page input) ms
+just_mentioned ms book accepted new noted page input = noted.contents page (noted.full.0 refl page) input
+
 -- how many long inputs there are in the answers
 pub long_whole : (flags : Definitions) (asks : List Ask) (rs : List Resolution) (long : ℕ) → map resolution_view rs ≡ map (resolved flags) asks
     → long ≡ sum_by (λ (r : Resolution). long_inputs (map reach_view r.reached.items)) rs → long ≡ long_of flags asks

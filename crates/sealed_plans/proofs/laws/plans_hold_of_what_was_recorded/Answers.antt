@@ -1,6 +1,6 @@
 use Rattle.sealed_plans.specs.Recorded.{mentioned_in, told_to}
 use Rattle.sealed_plans.proofs.Holding.{plan_holds}
-use Rattle.std.proofs.Common.{refl}
+use Rattle.book_share.proofs.Whole.{just_mentioned}
 use Rattle.sealed_plans.proofs.laws.plans_hold_of_what_was_recorded.Goals as goal
 
 pub returns-clause-sealed : goal.returns-clause-sealed
@@ -9,4 +9,4 @@ returns-clause-sealed c = λ seats book m flags request planned is_book told is_
 
 pub returns-clause-driven : goal.returns-clause-driven
 returns-clause-driven c = λ mentions book calls news m flags request planned is_book noted is_planned.
-    plan_holds (mentioned_in mentions) m flags request book planned is_book (λ page input. noted.contents page (noted.full.0 refl page) input) is_planned
+    plan_holds (mentioned_in mentions) m flags request book planned is_book (just_mentioned mentions book calls news noted) is_planned
