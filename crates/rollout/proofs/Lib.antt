@@ -1,5 +1,6 @@
 pub mod Changed
 pub mod Copies
+mod Effort
 pub mod Plans
 pub mod Resolved
 pub mod Sites

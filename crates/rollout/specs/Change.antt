@@ -46,3 +46,9 @@ pub record ResolveAsBefore (before : Definitions) (key : List ℕ) (site : ℕ) 
   pub itself : (targeting : Expression) (old : Entries) (a : Asked) (s : Situation)
       → HasRule before key targeting site old → s.flag ≡ key → ChooseAlike site old new (reached_in targeting s)
       → resolution_of (Some after) a s ≡ with_reached (with_total site (total_weight new)) (resolution_of (Some before) a s)
+
+-- what a rule that is put at a site leaves: one flag is changed, and what chooses alike resolves as before
+pub record IsLocal (before : Definitions) (key : List ℕ) (site : ℕ) (rule : Entries) (after : Definitions) : Type 0 where
+  pub changed : IsChanged before key site rule after
+  pub others : OthersStay before key after
+  pub resolutions : ResolveAsBefore before key site rule after

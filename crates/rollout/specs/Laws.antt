@@ -1,11 +1,15 @@
--- What the law of planned answers says: each is told as valid, unless memory ran out.
+-- What the laws say: each planned answer is told as valid, unless memory ran out, and a rule that is put at a site changes no more than
+-- what chooses otherwise.
 use Rattle.std.specs.Prelude.{◌≡◌, ℕ, List, None, Some, Ok}
 use Rattle.flag_documents.specs.Document.{Definitions}
 use Rattle.book_core.specs.Book.{Contents}
-use Rattle.bucket_core.specs.Rule.{Entries}
+use Rattle.bucket_core.specs.Rule.{Entries, IsRuleTotal, total_weight}
+use Rattle.flag_defs.specs.Flags.{AreFlags}
 use Rattle.transport_instance.specs.Certificate.{DualPrices}
 use Rattle.plan_text.specs.Answer.{Answer, emit}
 use Rattle.rollout_checks.specs.Lawful.{Problem}
+use Rattle.rollout.specs.Applied.{applied}
+use Rattle.rollout.specs.Change.{IsLocal}
 use Rattle.rollout.specs.Planned.{IsPlan}
 use Rattle.rollout_checks.specs.Refined.{problem_refined, problem_checked}
 use Rattle.rollout_checks.specs.Verified.{IsOutcome, IsValid, Told}
@@ -30,3 +34,9 @@ RefinedRulesAreValid =
     (m : ℕ) (flags : Definitions) (request : List ℕ) (book : Contents) (p : Problem) (rule : Entries) (c : DualPrices) (told : Told)
     → problem_refined m flags request book ≡ Ok p → IsPlan p (emit rule c)
     → IsOutcome (problem_checked None (emit rule c) flags request book) (emit rule c) told → IsValid told
+
+-- the flags in which a rule was put at a site
+abbrev pub AppliedIsLocal : Type 0
+AppliedIsLocal =
+    (flags : Definitions) (key : List ℕ) (site : ℕ) (rule : Entries) (after : Definitions)
+    → AreFlags flags → IsRuleTotal (total_weight rule) → applied flags key site rule ≡ Ok after → IsLocal flags key site rule after

@@ -5,5 +5,6 @@ pub use Rattle.rollout_checks.specs.Verified
 pub use Rattle.rollout_checks.specs.VerifyFault
 pub mod Applied
 pub mod Change
+pub mod Effort
 pub mod Laws
 pub mod Planned

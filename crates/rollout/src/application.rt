@@ -24,7 +24,7 @@ use std::alloc::{AllocError, Global};
 /// given the same name by the old entries and by the rule: then only the site's totals differ among what was reached.
 ///
 /// It refuses, in this order, with `UnknownFlag`, `NoSite`, `Computed`, `UnknownVariant` (a name of the rule is none of the
-/// flag's variants) and `TooLarge` (the document is too large when it is printed).
+/// flag's variants) and `TooLarge` (the document is too large when it is printed). The first three take no memory.
 pub fn apply(
     alloc: Global,
     flags: &Flags,
@@ -35,6 +35,7 @@ pub fn apply(
     ensures exact { GivesUnless RolloutFault.WantOfMemory flags_view result (applied (flags_view flags.now) key.now site rule.now) }
     ensures unknown { lookup (bytes_eq key.now) (flags_view flags.now) ≡ None → IsErrOf result RolloutFault.UnknownFlag }
     ensures no_site { (flag : Definition) → lookup (bytes_eq key.now) (flags_view flags.now) ≡ Some flag → with_site site rule.now flag ≡ Err LogicFault.NoSite → IsErrOf result RolloutFault.NoSite }
+    ensures computed { (flag : Definition) → lookup (bytes_eq key.now) (flags_view flags.now) ≡ Some flag → with_site site rule.now flag ≡ Err LogicFault.Computed → IsErrOf result RolloutFault.Computed }
     ensures changed { IfOk result (λ new. IsChanged (flags_view flags.now) key.now site rule.now (flags_view new)) }
     ensures others { IfOk result (λ new. OthersStay (flags_view flags.now) key.now (flags_view new)) }
     ensures resolutions { IfOk result (λ new. ResolveAsBefore (flags_view flags.now) key.now site rule.now (flags_view new)) }

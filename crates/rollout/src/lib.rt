@@ -36,7 +36,7 @@ mod laws;
 mod planner;
 
 pub use application::apply;
-pub use laws::plans_are_valid;
-pub use plan_text::{PlanFileFault, Planned, print_planned, read_planned};
-pub use planner::{plan, plan_refined};
+pub use laws::{applied_is_local, plans_are_valid};
+pub use plan_text::{PlanFileFault, Planned, print_planned, print_planned_line, read_planned};
+pub use planner::{plan, plan_counted, plan_refined};
 pub use rollout_checks::{RolloutFault, VerifyFault, verify, verify_refined};

@@ -1,10 +1,13 @@
 //! The answer of the planner to a request.
-ghost use Rattle.std.specs.Prelude.{◌≡◌, ◌≤◌, ◌<◌, true, length, IfOk, MatchResult};
+ghost use Rattle.std.specs.Prelude.{◌≡◌, ◌≤◌, ◌<◌, true, false, length, IfOk, IsErrOf, MatchResult};
 ghost use Rattle.std.specs.Cmp.Lexicographic.{slice_cmp};
 ghost use Rattle.std.specs.List.Sorted.{IsStrictlySortedBy};
 ghost use Rattle.std.specs.Ordering.{nat_cmp};
+ghost use Rattle.std.specs.Str.{is_utf8};
 ghost use Rattle.bucket_core.specs.Rule.{names_view, total_weight};
 ghost use Rattle.flag_defs.specs.Flags.{flags_view};
+ghost use Rattle.price_core.specs.Request.{max_request};
+ghost use Rattle.price_core.specs.declared.fault.PriceFault.TheVariants.{BadRequest};
 ghost use Rattle.transport_instance.specs.Assignment.{IsProved};
 ghost use Rattle.transport_instance.specs.Certificate.{certificate_view};
 ghost use Rattle.transport_instance.specs.Groups.{AreSizes};
@@ -12,6 +15,7 @@ ghost use Rattle.transport_instance.specs.Instance.{AreListed, MissTotal, max_pl
 ghost use Rattle.plan_text.specs.Answer.{IsOrdered, planned_view};
 ghost use Rattle.rollout_checks.specs.Lawful.{IsRefining, problem_of, problem_view};
 ghost use Rattle.plan_text.specs.PlanFile.{has_whole_numbers, IsWhole};
+ghost use Rattle.rollout.specs.Effort.{Spends, SpendsOn};
 ghost use Rattle.rollout.specs.Planned.{IsPlan, IsPlanned};
 ghost use Rattle.transport_plan.specs.Solved.{IfNone, IfPlan, IsCut, IsNeverOver};
 ghost use Rattle.transport_plan.specs.Solved.{IsPlan as IsSolved};
@@ -23,17 +27,21 @@ use book_core::Book;
 use flag_defs::Flags;
 use plan_text::Planned;
 use rollout_checks::{Problem, Refining, RolloutFault, problem_of};
+use search_effort::Effort;
 use std::alloc::{AllocError, Global};
+use std::marker::Brand;
+use std::sync::ledger::{Blank, Ledger};
 use std::thread::Threads;
 use transport_core::{CutKind, Instance};
-use transport_plan::{Solved, solve_uncounted};
+use transport_plan::{Solved, solve};
 
 /// The rule that meets a request and costs the recorded inputs the least, with its certificate, or a set of names which
 /// shows that no rule does: a set over its high limits where there is one, and else one under its low limits. Beside the
 /// search it takes `O(log n)` steps for each point and input, at n entries and inputs.
 ///
 /// It refuses an unlawful request, in this order, with `Request`, `UnknownFlag`, `NoSite`, `Computed`, `NoWeight`,
-/// `UnknownVariant`, `TotalsSum` and `TotalTooLarge`. A lawful one is always decided, unless memory runs out.
+/// `UnknownVariant`, `TotalsSum` and `TotalTooLarge`. One above its limit or that is not UTF-8 is refused before memory is
+/// taken. A lawful one is always decided, unless memory runs out.
 pub fn plan(
     _rt: &(impl Threads + Sync),
     alloc: Global,
@@ -44,8 +52,17 @@ pub fn plan(
     ensures exact { IsPlanned (problem_of (Times 1) (flags_view flags.now) request.now book.now) result }
     ensures ordered { IfOk result (λ a. IsOrdered (planned_view a)) }
     ensures whole { IfOk result (λ a. IsWhole (planned_view a)) }
+    ensures large { max_request < length request.now → IsErrOf result (RolloutFault.Request BadRequest) }
+    ensures no_text { length request.now ≤ max_request → is_utf8 request.now ≡ false → IsErrOf result (RolloutFault.Request BadRequest) }
 {
-    plan_by(alloc, Refining::Times(1), flags, request, book)
+    plan_over::<Brand>(
+        alloc,
+        Refining::Times(1),
+        flags,
+        request,
+        book,
+        Blank::new(2),
+    )
 }
 
 /// As [`plan`], on the site's rule refined by m. The condition is m from 1.
@@ -61,30 +78,93 @@ pub fn plan_refined(
     ensures exact { IsPlanned (problem_of (Times m) (flags_view flags.now) request.now book.now) result }
     ensures ordered { IfOk result (λ a. IsOrdered (planned_view a)) }
     ensures whole { IfOk result (λ a. IsWhole (planned_view a)) }
+    ensures large { max_request < length request.now → IsErrOf result (RolloutFault.Request BadRequest) }
+    ensures no_text { length request.now ≤ max_request → is_utf8 request.now ≡ false → IsErrOf result (RolloutFault.Request BadRequest) }
 {
-    plan_by(alloc, Refining::Times(m), flags, request, book)
+    plan_over::<Brand>(
+        alloc,
+        Refining::Times(m),
+        flags,
+        request,
+        book,
+        Blank::new(2),
+    )
 }
 
-fn plan_by(
+/// As [`plan_refined`], with m 1 as [`plan`], for a caller that counts: what the search takes is counted as by [`solve`], at W
+/// points at most 2 W augmentations and at most (2 W + 2) (groups + names) settlings, and nothing of a request that is
+/// refused. The condition is m from 1.
+pub fn plan_counted<L: Ledger>(
+    _rt: &(impl Threads + Sync),
+    alloc: Global,
+    flags: &Flags,
+    request: &[u8],
+    book: &Book,
+    m: u32,
+    effort: &mut Effort<L>,
+) -> Result<Planned, RolloutFault>
+    requires { 0 < m }
+    ensures exact { IsPlanned (problem_of (Times m) (flags_view flags.now) request.now book.now) result }
+    ensures ordered { IfOk result (λ a. IsOrdered (planned_view a)) }
+    ensures whole { IfOk result (λ a. IsWhole (planned_view a)) }
+    ensures large { max_request < length request.now → IsErrOf result (RolloutFault.Request BadRequest) }
+    ensures no_text { length request.now ≤ max_request → is_utf8 request.now ≡ false → IsErrOf result (RolloutFault.Request BadRequest) }
+    ensures spent { Spends (problem_of (Times m) (flags_view flags.now) request.now book.now) effort.old effort.new }
+{
+    plan_by(alloc, Refining::Times(m), flags, request, book, effort)
+}
+
+/// As [`plan_counted`], over a counter of its own.
+fn plan_over<L: Ledger>(
     alloc: Global,
     refining: Refining,
     flags: &Flags,
     request: &[u8],
     book: &Book,
+    blank: Blank,
+) -> Result<Planned, RolloutFault>
+    requires lawful { IsRefining refining }
+    requires name { blank.name ≡ L.name }
+    requires parts { blank.parts ≡ L.parts }
+    requires two { blank.parts ≡ 2 }
+    ensures exact { IsPlanned (problem_of refining (flags_view flags.now) request.now book.now) result }
+    ensures ordered { IfOk result (λ a. IsOrdered (planned_view a)) }
+    ensures whole { IfOk result (λ a. IsWhole (planned_view a)) }
+    ensures large { max_request < length request.now → IsErrOf result (RolloutFault.Request BadRequest) }
+    ensures no_text { length request.now ≤ max_request → is_utf8 request.now ≡ false → IsErrOf result (RolloutFault.Request BadRequest) }
+{
+    let mut effort = Effort::<L>::none(blank);
+    plan_by(alloc, refining, flags, request, book, &mut effort)
+}
+
+fn plan_by<L: Ledger>(
+    alloc: Global,
+    refining: Refining,
+    flags: &Flags,
+    request: &[u8],
+    book: &Book,
+    effort: &mut Effort<L>,
 ) -> Result<Planned, RolloutFault>
     requires { IsRefining refining }
     ensures exact { IsPlanned (problem_of refining (flags_view flags.now) request.now book.now) result }
     ensures ordered { IfOk result (λ a. IsOrdered (planned_view a)) }
     ensures whole { IfOk result (λ a. IsWhole (planned_view a)) }
+    ensures large { max_request < length request.now → IsErrOf result (RolloutFault.Request BadRequest) }
+    ensures no_text { length request.now ≤ max_request → is_utf8 request.now ≡ false → IsErrOf result (RolloutFault.Request BadRequest) }
+    ensures spent { Spends (problem_of refining (flags_view flags.now) request.now book.now) effort.old effort.new }
 {
     // Called for what its contract says: flags have at most 64 variants.
     let _count = flags.len();
     let problem = problem_of(alloc, refining, flags, request, book)?;
-    plan_on(alloc, &problem)
+    plan_on(alloc, &problem, effort)
 }
 
 /// The answer to what a lawful request asks.
-fn plan_on(alloc: Global, problem: &Problem) -> Result<Planned, RolloutFault>
+fn plan_on<L: Ledger>(
+    alloc: Global,
+    problem: &Problem,
+    effort: &mut Effort<L>,
+) -> Result<Planned, RolloutFault>
     requires small { total_weight problem.now.old ≤ max_planned_total }
     requires few { length problem.now.totals ≤ max_names }
     requires listed { AreListed problem.now.old problem.now.totals }
@@ -92,6 +172,7 @@ fn plan_on(alloc: Global, problem: &Problem) -> Result<Planned, RolloutFault>
     ensures exact { MatchResult result (λ a. IsPlan (problem_view problem.now) (planned_view a)) (λ e. e ≡ WantOfMemory) }
     ensures ordered { IfOk result (λ a. IsOrdered (planned_view a)) }
     ensures whole { IfOk result (λ a. IsWhole (planned_view a)) }
+    ensures spent { SpendsOn (problem_view problem.now) effort.old effort.new }
 {
     let prices = problem.request.prices();
     let Problem {
@@ -101,7 +182,7 @@ fn plan_on(alloc: Global, problem: &Problem) -> Result<Planned, RolloutFault>
         ..
     } = problem;
     let instance = Instance::make(alloc, old, totals, prices, exposure)?;
-    let solved = solve_uncounted(alloc, &instance)?;
+    let solved = solve(alloc, &instance, effort)?;
     Ok(answer(alloc, problem, &instance, solved)?)
 }
 
