@@ -1,5 +1,5 @@
 -- The table of the commands.
-use Rattle.std.specs.Prelude.{◌≡◌, Bool, true, Option, Some, Ok, Err}
+use Rattle.std.specs.Prelude.{◌≡◌, Bool, true, false, Option, Some, Ok, Err}
 use Rattle.flagops_commands.specs.Apply.{IsApplyReport}
 use Rattle.flagops_commands.specs.Bucket.{bucket_report}
 use Rattle.flagops_commands.specs.Check.{IsCheckReport}
@@ -15,6 +15,11 @@ use Rattle.flagops_commands.specs.Verify.{IsVerifyReport}
 use Rattle.flagops_files.specs.declared.refusal.Call.{Call}
 use Rattle.flagops_files.specs.declared.refusal.Call.TheVariants as call
 use Rattle.flagops_words.specs.Asked.{Asked, bucket, price, check, resolve, verify, apply, plan, drive}
+
+-- the command waits for others: `drive` for its workers, and no other command
+abbrev pub waits : Asked → Bool
+waits (drive document file workers book) = true
+waits asked = false
 
 -- what each command comes to over the files, and over those that it leaves
 abbrev pub IsOutcome : Holding → Option Holding → Asked → Outcomes

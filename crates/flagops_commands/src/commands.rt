@@ -1,6 +1,6 @@
 //! The table of the commands, and what each answers.
-ghost use Rattle.std.specs.Prelude.{◌≡◌, ◌||◌, IfSome};
-ghost use Rattle.flagops_commands.specs.Commands.{calls_of, IsOutcome, Leaves};
+ghost use Rattle.std.specs.Prelude.{◌≡◌, ◌||◌, false, IfSome};
+ghost use Rattle.flagops_commands.specs.Commands.{calls_of, IsOutcome, Leaves, waits};
 ghost use Rattle.flagops_commands.specs.Drive.{KeepsUnlessStored};
 ghost use Rattle.flagops_words.specs.Asked.{asked_view};
 ghost use Rattle.flagops_files.specs.Refusal.{ComesFrom, GivesOne, is_file_fault};
@@ -20,7 +20,8 @@ use std::alloc::Global;
 use std::sync::Wait;
 use std::thread::Threads;
 
-/// What the command answers, or why it is refused.
+/// What the command answers, or why it is refused. `drive` waits for its workers; each other command is done without a
+/// handle to wait by, so it returns.
 #[tactic(auto, using(crate::proofs::Refusing::all_kept))]
 pub fn outcome<R: Threads + Wait + Sync, F: FileSet>(
     rt: &R,
@@ -28,6 +29,32 @@ pub fn outcome<R: Threads + Wait + Sync, F: FileSet>(
     files: &mut F,
     asked: &Asked<'_>,
 ) -> Result<Outcome, Refused>
+    ensures exact { IfSome (F.holding files.old) (λ at. GivesOne outcome_view result (IsOutcome at (F.holding files.new) (asked_view asked.now))) }
+    ensures calls { ComesFrom (calls_of (asked_view asked.now)) result }
+    ensures failed { F.has_failed files.new ≡ (F.has_failed files.old || is_file_fault result) }
+    ensures left { Leaves (asked_view asked.now) (F.holding files.old) (F.holding files.new) }
+    ensures kept { KeepsUnlessStored (F.holding files.old) (F.holding files.new) result }
+{
+    match asked {
+        Asked::Drive {
+            document,
+            asks,
+            workers,
+            book,
+        } => drive(rt, alloc, files, document, asks, *workers, book),
+        _ => outcome_at_once(rt, alloc, files, asked),
+    }
+}
+
+/// The same of a command that waits for nobody.
+#[tactic(auto, using(crate::proofs::Refusing::all_kept))]
+fn outcome_at_once<R: Threads + Sync, F: FileSet>(
+    rt: &R,
+    alloc: Global,
+    files: &mut F,
+    asked: &Asked<'_>,
+) -> Result<Outcome, Refused>
+    requires { waits (asked_view asked.now) ≡ false }
     ensures exact { IfSome (F.holding files.old) (λ at. GivesOne outcome_view result (IsOutcome at (F.holding files.new) (asked_view asked.now))) }
     ensures calls { ComesFrom (calls_of (asked_view asked.now)) result }
     ensures failed { F.has_failed files.new ≡ (F.has_failed files.old || is_file_fault result) }
@@ -72,11 +99,6 @@ pub fn outcome<R: Threads + Wait + Sync, F: FileSet>(
             key,
             site,
         } => apply(alloc, files, document, plan, key, *site),
-        Asked::Drive {
-            document,
-            asks,
-            workers,
-            book,
-        } => drive(rt, alloc, files, document, asks, *workers, book),
+        Asked::Drive { .. } => unreachable!(),
     }
 }
