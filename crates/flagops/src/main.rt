@@ -6,8 +6,9 @@
 //! `follow` of `flagops_network`.
 #![tactic(auto)]
 
-ghost use Rattle.std.specs.Prelude.{◌≡◌, false, map, IfErr};
+ghost use Rattle.std.specs.Prelude.{◌≡◌, false, map, drop, IfErr, IfOk, IsErrOf};
 ghost use Rattle.std.specs.Process.{exit_status};
+ghost use Rattle.std.specs.Vec.Iter.{into_iter_items};
 ghost use Rattle.flagops.specs.First.{begins_with, OnFiles, OnFollow, OnServe, WhereFiles, WhereFollow, WhereServe};
 ghost use Rattle.flagops_commands.specs.Commands.{LeavesAsked};
 ghost use Rattle.flagops_commands.specs.Ended.{AnswersAsked, AnswersStored, AnswersUnread, ComplainsAt, TellsUnasked};
@@ -20,25 +21,34 @@ use flagops_files::{Call, FileSet, SystemFiles, want};
 use flagops_network::{follow, serve};
 use std::alloc::Global;
 use std::convert::AsStr;
+use std::env::{self, Args};
+use std::io;
 use std::net::{Net, TcpListener, TcpStream};
 use std::process::ExitCode;
 use std::sync::Wait;
 use std::thread::Threads;
 use std::time::Clock;
-use std::{env, io};
 
 fn main(rt: HostRuntime) -> ExitCode {
     let mut files = SystemFiles::new(&rt);
     let mut out = WriteOutlet::new(rt.stdout());
     let mut err = WriteOutlet::new(rt.stderr());
-    flagops(&rt, arguments(&rt), &mut files, &mut out, &mut err)
+    let words = behind_name(rt.alloc(), env::args(&rt));
+    flagops(&rt, words, &mut files, &mut out, &mut err)
 }
 
-/// The words after the program's name.
-fn arguments(rt: &HostRuntime) -> io::Result<Vec<String>> {
-    let mut words = env::args(rt)?;
-    let _program = words.next();
-    Ok(words.collect(rt.alloc())?)
+/// The words behind the first, which is the program's name.
+fn behind_name(alloc: Global, words: io::Result<Args>) -> io::Result<Vec<String>>
+    ensures behind { IfOk result (λ v. IfOk words (λ w. v.items ≡ drop 1 (into_iter_items w))) }
+    ensures unread { IfErr words (λ e. IsErrOf result e) }
+{
+    let mut words = words?;
+    let _name = words.next();
+    let mut behind = Vec::new(alloc);
+    for word in words {
+        behind.push(word)?;
+    }
+    Ok(behind)
 }
 
 /// Does what the words after the program's name ask for, over whatever files and outlets it is given, and gives the status
