@@ -1,4 +1,4 @@
-"""Runs of the program as `./flagops` built it, each over files in a folder of its own."""
+"""Runs of the program, each over files in a folder of its own: of the one that was built here, and else of the shipped one."""
 import os
 import subprocess
 import tempfile
@@ -6,7 +6,8 @@ import unittest
 from typing import NamedTuple
 
 ROOT = os.path.dirname(os.path.dirname(os.path.abspath(__file__)))
-PROGRAM = os.path.join(ROOT, "crates", "flagops", "out", "flagops")
+BUILT = os.path.join(ROOT, "crates", "flagops", "out", "flagops")
+PROGRAM = BUILT if os.path.exists(BUILT) else os.path.join(ROOT, "release", "x86_64-linux", "flagops")
 SECONDS = 120
 
 

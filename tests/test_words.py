@@ -1,7 +1,10 @@
-"""Words that ask for nothing, and for help."""
+"""Words that ask for nothing, for help, and for the completion of a shell."""
+import os
+import re
+import subprocess
 import unittest
 
-from program import ProgramTest, run
+from program import PROGRAM, ROOT, ProgramTest, run
 
 # The words, and what is told beside the output.
 MISTAKES = [
@@ -12,6 +15,8 @@ MISTAKES = [
     (["bucket", "f", "k", "l"], "unexpected argument 'l'"),
     (["bucket", "f", "-k"], "to pass '-k' as a value, use '-- -k'"),
     (["--verbose"], "unexpected argument '--verbose'"),
+    (["completions"], "Usage: flagops completions <SHELL>"),
+    (["completions", "csh"], "it is bash, fish or zsh"),
 ]
 
 # The words, and what is printed within.
@@ -19,7 +24,7 @@ HELP = [
     (["--help"], "Usage: flagops <COMMAND>"),
     (["-h"], "bucket"),
     (["bucket", "--help"], "Usage: flagops bucket <RULE> <KEY>"),
-    (["--version"], "flagops 0.1.0"),
+    (["--version"], "flagops 0.1.0\nproved with "),
 ]
 
 # A word that begins with `-` and is longer follows `--`; `-` alone is a plain word.
@@ -48,6 +53,46 @@ class Words(ProgramTest):
             with self.subTest(words=words):
                 ran = run(words, {"f": '[["on"]]'})
                 self.assertEqual((ran.status, ran.err), (0, ""))
+
+    def test_completions(self):
+        words = words_of_help()
+        self.assertIn("plan", words)
+        self.assertIn("--refine", words)
+        for shell in ["bash", "fish", "zsh"]:
+            ran = run(["completions", shell], {})
+            self.assertEqual((ran.status, ran.err), (0, ""))
+            for word in words:
+                with self.subTest(shell=shell, word=word):
+                    name = "-l " + word[2:] if shell == "fish" and word.startswith("--") else word
+                    self.assertRegex(ran.out, r"(?<![\w-])" + re.escape(name) + r"(?!\w)")
+
+    def test_bash_completes(self):
+        for line, want in [
+            (["flagops", "pl"], ["plan"]),
+            (["flagops", "plan", "--re"], ["--refine"]),
+            (["flagops", "completions", "f"], ["fish"]),
+            (["flagops", "resolve", "d", "k", "wh"], ["whole"]),
+            (["flagops", "check", "READM"], ["README.md"]),
+        ]:
+            script = (
+                f"source <({PROGRAM} completions bash); COMP_WORDS=({' '.join(line)}); COMP_CWORD={len(line) - 1}; "
+                "_flagops; printf '%s\\n' \"${COMPREPLY[@]}\""
+            )
+            ran = subprocess.run(["bash", "-c", script], cwd=ROOT, capture_output=True, text=True, timeout=60, check=True)
+            self.assertEqual(ran.stdout.split(), want, line)
+
+    def test_the_man_page_has_each_word(self):
+        with open(os.path.join(ROOT, "release", "flagops.1"), encoding="utf-8") as file:
+            page = file.read().replace("\\-", "-")
+        for word in words_of_help():
+            self.assertIn(word, page)
+
+
+def words_of_help():
+    """The commands of the program, and the options of each, as its help lists them."""
+    commands = re.findall(r"^  ([a-z]+)  ", run(["--help"], {}).out, re.M) + ["serve", "follow"]
+    options = {word for name in commands for word in re.findall(r"--[a-z]+", run([name, "--help"], {}).out)}
+    return commands + sorted(options)
 
 
 if __name__ == "__main__":

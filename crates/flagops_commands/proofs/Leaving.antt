@@ -1,7 +1,7 @@
 -- What the commands leave of the files, and which refusals a file that failed or changed is told by.
 use Rattle.std.proofs.Common.{◌≡◌, ◌≢◌, ◌⊎◌, ◌∙◌, ◌||◌, Option, Some, None, Bool, true, false, IfSome, IfOk, IfErr, inl, inr, refl, sym, ap, subst}
 use Rattle.std.specs.Prelude.{Result, Ok, Err}
-use Rattle.flagops_words.specs.Asked.{Asked, bucket, price, check, resolve, verify, apply, plan, drive}
+use Rattle.flagops_words.specs.Asked.{Asked, bucket, price, check, resolve, verify, apply, plan, drive, completions}
 use Rattle.flagops_commands.specs.Commands.{calls_of, HasStored, IsOutcome, IsRunOutcome, Leaves, LeavesAsked}
 use Rattle.flagops_files.specs.Files.{Holding}
 use Rattle.flagops_files.specs.Refusal.{call_of, is_unread, is_want, stores_file, unreadable, unwritable}
@@ -24,6 +24,7 @@ leaves_same (resolve document key kind default context moment) h = refl
 leaves_same (verify document request book file refine) h = refl
 leaves_same (apply document file key site) h = refl
 leaves_same (plan document request book refine) h = refl
+leaves_same (completions shell) h = refl
 leaves_same (drive document file workers book) h = inl refl
 
 pub left_alone : (o : Option Asked) (h : Option Holding) → LeavesAsked o h h

@@ -4,6 +4,11 @@ use Rattle.flagops_files.specs.Refusal.{loads_tree, loads_rule, loads_flags, loa
 use Rattle.flagops_files.specs.declared.refusal.Call.{Call}
 use Rattle.flagops_files.specs.declared.refusal.Call.TheVariants as call
 
+-- the command `completions` makes no call but the program's own
+abbrev pub completions_calls : Call → Bool
+completions_calls call.Flagops = true
+completions_calls c = false
+
 -- the calls that the command `bucket` makes
 abbrev pub bucket_calls : Call → Bool
 bucket_calls call.Bucket = true

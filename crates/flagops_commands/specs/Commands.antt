@@ -3,18 +3,19 @@ use Rattle.std.specs.Prelude.{◌≡◌, Bool, true, false, Option, Some, Ok, Er
 use Rattle.flagops_commands.specs.Apply.{IsApplyReport}
 use Rattle.flagops_commands.specs.Bucket.{bucket_report}
 use Rattle.flagops_commands.specs.Check.{IsCheckReport}
+use Rattle.flagops_commands.specs.Completions.{completions_report}
 use Rattle.flagops_commands.specs.Drive.{IsDriveReport, LeavesBook}
 use Rattle.flagops_files.specs.Files.{Holding}
 use Rattle.flagops_commands.specs.Plan.{IsPlanReport}
 use Rattle.flagops_commands.specs.Price.{price_report}
-use Rattle.flagops_commands.specs.Calls.{bucket_calls, price_calls, check_calls, resolve_calls, verify_calls, apply_calls, plan_calls, drive_calls}
+use Rattle.flagops_commands.specs.Calls.{bucket_calls, completions_calls, price_calls, check_calls, resolve_calls, verify_calls, apply_calls, plan_calls, drive_calls}
 use Rattle.flagops_files.specs.Refusal.{unwritable}
 use Rattle.flagops_files.specs.Report.{IsFileRefusal, Outcomes}
 use Rattle.flagops_commands.specs.Resolve.{IsResolveReport}
 use Rattle.flagops_commands.specs.Verify.{IsVerifyReport}
 use Rattle.flagops_files.specs.declared.refusal.Call.{Call}
 use Rattle.flagops_files.specs.declared.refusal.Call.TheVariants as call
-use Rattle.flagops_words.specs.Asked.{Asked, bucket, price, check, resolve, verify, apply, plan, drive}
+use Rattle.flagops_words.specs.Asked.{Asked, bucket, price, check, resolve, verify, apply, plan, drive, completions}
 
 -- the command waits for others: `drive` for its workers, and no other command
 abbrev pub waits : Asked → Bool
@@ -30,6 +31,7 @@ IsOutcome at after (resolve document key kind default context moment) r = IsReso
 IsOutcome at after (verify document request book file refine) r = IsVerifyReport at document request book file refine r
 IsOutcome at after (apply document file key site) r = IsApplyReport at document file key site r
 IsOutcome at after (plan document request book refine) r = IsPlanReport at document request book refine r
+IsOutcome at after (completions shell) r = completions_report shell ≡ r
 IsOutcome at after (drive document file workers book) r = IsDriveReport at after document file workers book r
 
 -- the same; and that a file cannot be read or written is told only where one has failed
@@ -60,6 +62,7 @@ calls_of (resolve document key kind default context moment) c = resolve_calls c
 calls_of (verify document request book file refine) c = verify_calls c
 calls_of (apply document file key site) c = apply_calls c
 calls_of (plan document request book refine) c = plan_calls c
+calls_of (completions shell) c = completions_calls c
 calls_of (drive document file workers book) c = drive_calls c
 
 -- the calls that may run out of memory: those of the command, and reading the words

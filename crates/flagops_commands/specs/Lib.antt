@@ -3,6 +3,7 @@ pub mod Bucket
 pub mod Calls
 pub mod Check
 pub mod Commands
+pub mod Completions
 pub mod Drive
 pub mod Ended
 pub mod Plan

@@ -7,6 +7,7 @@ ghost use Rattle.flagops_files.specs.Refusal.{ComesFrom, GivesOne, is_file_fault
 ghost use Rattle.flagops_files.specs.Report.{outcome_view};
 
 use crate::books::drive::drive;
+use crate::completions::completions;
 use crate::flags::check::check;
 use crate::flags::resolve::resolve;
 use crate::rollouts::apply::apply;
@@ -63,6 +64,7 @@ fn outcome_at_once<R: Threads + Sync, F: FileSet>(
 {
     match asked {
         Asked::Bucket { rule, key } => bucket(alloc, files, rule, key),
+        Asked::Completions { shell } => completions(alloc, *shell),
         Asked::Price {
             old,
             new,

@@ -21,6 +21,7 @@
 
 mod books;
 mod commands;
+mod completions;
 mod flags;
 mod laws;
 mod program;

@@ -1,5 +1,5 @@
 -- What `clap` is proved to read of the words, as the command that they ask for.
-use Rattle.std.proofs.Common.{◌≡◌, ◌⊎◌, ◌&&◌, Bool, cond, true, false, not, is_some, List, [], ◌∷◌, Option, Some, None, ap, refl, subst, sym, ◌∙◌, inl, inr}
+use Rattle.std.proofs.Common.{◌≡◌, ◌⊎◌, Bool, cond, true, false, is_some, List, [], ◌∷◌, Option, Some, None, ap, refl, subst, sym, ◌∙◌, inl, inr}
 use Rattle.std.specs.Prelude.{codes, option_and_then}
 use Rattle.std.specs.Str.{bytes_eq}
 use Rattle.clap.proofs.WalkLemmas.{first_value-rows}
@@ -10,16 +10,16 @@ use Rattle.clap.specs.declared.error.kind.ErrorKind.TheVariants.{InvalidValue, O
 use Rattle.clap.specs.declared.parser.matches.ArgMatches.{ArgMatches}
 use Rattle.flagops_words.specs.Asked.{Asked}
 use Rattle.flagops_words.proofs.Named.{faultless}
-use Rattle.flagops_words.specs.Words.{IsToldBy, asked_by, asked_of, faults_of, apply_app, bucket_app, check_app, drive_app, kind_fault, kind_in, plan_app, price_app, resolve_app, resolve_in, verify_app, flagops_app}
+use Rattle.flagops_words.specs.Words.{IsToldBy, asked_by, asked_of, faults_of, apply_app, bucket_app, check_app, completions_app, completions_in, drive_app, kind_fault, kind_in, plan_app, price_app, resolve_app, resolve_in, shell_in, unless, verify_app, flagops_app}
 
 pub ruleset rows = first_value-rows
 
 is_plain : is_simple flagops_app ≡ true
-unfolding flagops_app bucket_app price_app check_app resolve_app plan_app verify_app apply_app drive_app
+unfolding flagops_app bucket_app price_app check_app resolve_app plan_app verify_app apply_app drive_app completions_app
 is_plain = refl
 
 is_free : is_simple_and_free flagops_app ≡ true
-unfolding flagops_app bucket_app price_app check_app resolve_app plan_app verify_app apply_app drive_app
+unfolding flagops_app bucket_app price_app check_app resolve_app plan_app verify_app apply_app drive_app completions_app
 is_free = refl
 
 -- a command that is read has a kind of value where it wants one
@@ -33,13 +33,22 @@ some_kind (Some x) (Some y) (Some z) next a e = refl
 has_kind : (rows : List Row) (a : Asked) → resolve_in rows ≡ Some a → is_some (kind_in rows) ≡ true
 has_kind rows a e = some_kind (first_of (codes "DOC") rows) (first_of (codes "KEY") rows) (kind_in rows) _ a e
 
+some_shell : {X A : Type 0} (o : Option X) (next : X → A) (a : A) → option_and_then (λ x. Some (next x)) o ≡ Some a → is_some o ≡ true
+some_shell None next a e = cc
+some_shell (Some x) next a e = refl
+
+has_shell : (rows : List Row) (a : Asked) → completions_in rows ≡ Some a → is_some (shell_in rows) ≡ true
+has_shell rows a e = some_shell (shell_in rows) _ a e
+
 no_kind_fault : (named : Option (Text × List Row)) (a : Asked) → asked_of named ≡ Some a → kind_fault named ≡ []
 no_kind_fault None a e = refl
-no_kind_fault (Some (name, rows)) a e = go (bytes_eq name (codes "resolve")) _ e
+no_kind_fault (Some (name, rows)) a e = go (bytes_eq name (codes "resolve")) (bytes_eq name (codes "completions")) _ e
   where
-    go : (b : Bool) (other : Option Asked) → cond b (resolve_in rows) other ≡ Some a → cond (b && not (is_some (kind_in rows))) (InvalidValue ∷ []) [] ≡ []
-    go true other h = rw (has_kind rows a h) refl
-    go false other h = refl
+    go : (b c : Bool) (other : Option Asked) → cond b (resolve_in rows) (cond c (completions_in rows) other) ≡ Some a
+        → cond b (unless (is_some (kind_in rows))) (cond c (unless (is_some (shell_in rows))) []) ≡ []
+    go true c other h = rw (has_kind rows a h) refl
+    go false true other h = rw (has_shell rows a h) refl
+    go false false other h = refl
 
 none_some : {X : Type 0} {x : X} → None ≡ Some x → ⊥
 none_some e = cc

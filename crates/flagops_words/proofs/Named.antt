@@ -18,9 +18,11 @@ use Rattle.clap.specs.declared.error.kind.ErrorKind.TheVariants.{InvalidValue}
 use Rattle.flag_resolve.specs.Kind.{kind_named}
 use Rattle.flag_resolve.specs.declared.kind.Kind.{Kind}
 use Rattle.clap.specs.Walk.{Row, Rule, Text, answers_to, first_of, nothing_held, rows_after, settled, walk, walk_from}
-use Rattle.flagops_words.specs.Asked.{Asked, bucket, price, check, resolve, verify, apply, plan, drive}
+use Rattle.flagops_words.specs.Asked.{Asked, bucket, price, check, resolve, verify, apply, plan, drive, completions}
+use Rattle.flagops_words.specs.Shell.{shell_named}
+use Rattle.flagops_words.specs.declared.shell.Shell.{Shell}
 use Rattle.flagops_words.specs.Numbers.{max_16, max_32, max_moment, number_in}
-use Rattle.flagops_words.specs.Words.{apply_app, asked_in, asked_of, bucket_app, check_app, drive_app, flagops_app, kind_fault, plan_app, price_app, refine_in, resolve_app, verify_app}
+use Rattle.flagops_words.specs.Words.{apply_app, asked_in, asked_of, bucket_app, check_app, completions_app, drive_app, flagops_app, kind_fault, plan_app, price_app, refine_in, resolve_app, verify_app}
 use Rattle.flagops_words.proofs.Filled.{Each, Filled, IsFull, Stores, filled_level, none_both, stores}
 
 -- ---- one command
@@ -271,13 +273,25 @@ drive_asks s name stored given words e =
     let workers = number_read 0 max_16 word.0 (word.2 refl) in
     inl (drive document.0 file.0 workers.0 book.0, drive_read s.name rows document.0 file.0 word.0 book.0 workers.0 name document.1 file.1 word.1 workers.1 book.1)
 
+completions_read : (name : Text) (rows : List Row) (word : Text) (shell : Option Shell) → name ≡ codes "completions" → first_of (codes "SHELL") rows ≡ Some word → shell_named word ≡ shell
+    → IsRead (Some (name, rows))
+completions_read name rows word (Some shell) is word_is shell_is = inl (completions shell, rw (is, word_is, shell_is) refl)
+completions_read name rows word None is word_is shell_is = inr (rw (is, word_is, shell_is) refl)
+
+completions_asks : (s : Shape) → s.name ≡ codes "completions" → list_all stores s.rules ≡ true → ((rows : List Row) → HasGiven s rows → is_given (codes "SHELL") rows ≡ true) → Asks s
+completions_asks s name stored given words e =
+    let rows = rows_after s.rules [] words in
+    let full = filled_level Any s [] (any_stored s.rules stored) words false [] e in
+    let shell = value_given (codes "SHELL") rows full (given rows (level_given s words e)) in
+    completions_read s.name rows shell.0 (shell_named shell.0) name shell.1 refl
+
 -- ---- the program
 
 abbrev AllAsk : List Shape → Type 0
 AllAsk = Each Asks
 
 each : AllAsk (built flagops_app).subs
-unfolding flagops_app bucket_app price_app check_app resolve_app plan_app verify_app apply_app drive_app
+unfolding flagops_app bucket_app price_app check_app resolve_app plan_app verify_app apply_app drive_app completions_app
 each = (
   bucket_asks _ refl refl (λ rows e. let rule = needed _ _ e in let key = needed _ _ rule.1 in (rule.0, key.0)),
   (
@@ -335,7 +349,7 @@ each = (
                     let workers = needed _ _ file.1 in
                     let book = needed _ _ workers.1 in
                     (document.0, file.0, workers.0, book.0)),
-                tt,
+                (completions_asks _ refl refl (λ rows e. (needed _ _ e).0), tt),
               ),
             ),
           ),
@@ -368,7 +382,7 @@ stopped a asks (Some p) e has = named a.subs p asks e has
 
 -- what words that `clap` finds no fault with ask for
 pub faultless : (words : List Text) → fault_of flagops_app words ≡ [] → IsRead (subcommand_of flagops_app words)
-unfolding flagops_app bucket_app price_app check_app resolve_app plan_app verify_app apply_app drive_app
+unfolding flagops_app bucket_app price_app check_app resolve_app plan_app verify_app apply_app drive_app completions_app
 faultless words e =
     let app = built flagops_app in
     let stop = (walk app.top.rules (names_of app) nothing_held words).stopped in

@@ -2,6 +2,7 @@
 use Rattle.std.specs.Prelude.{List, ℕ, Option, option_map}
 use Rattle.flag_resolve.specs.declared.kind.Kind.{Kind}
 use Rattle.flagops_words.specs.declared.asked.Asked as declared
+use Rattle.flagops_words.specs.declared.shell.Shell.{Shell}
 use Rattle.flagops_words.specs.declared.asked.Asked.TheVariants as code
 
 pub data Asked : Type 0 where
@@ -21,6 +22,8 @@ pub data Asked : Type 0 where
   apply : List ℕ → List ℕ → List ℕ → ℕ → Asked
   -- a document, asks, a number of workers and a book
   drive : List ℕ → List ℕ → ℕ → List ℕ → Asked
+  -- a shell
+  completions : Shell → Asked
 
 -- the same, without where the words lie in memory
 abbrev pub asked_view : declared.Asked → Asked
@@ -31,4 +34,5 @@ asked_view (code.Resolve document key kind default context moment) = resolve doc
 asked_view (code.Verify document request book file refine) = verify document.now request.now book.now file.now (option_map (λ m. m.number) refine)
 asked_view (code.Apply document file key site) = apply document.now file.now key.now site
 asked_view (code.Drive document file workers book) = drive document.now file.now workers book.now
+asked_view (code.Completions shell) = completions shell
 asked_view (code.Plan document request book refine) = plan document.now request.now book.now (option_map (λ m. m.number) refine)

@@ -1,5 +1,5 @@
 -- Which command the words ask for, by what `clap` reads of them.
-use Rattle.std.specs.Prelude.{◌≡◌, ◌⊎◌, ◌&&◌, ℕ, true, not, is_some, List, [], ◌∷◌, codes, Option, Some, None, option_and_then, option_map, if◌then◌else◌}
+use Rattle.std.specs.Prelude.{◌≡◌, ◌⊎◌, ℕ, Bool, true, is_some, List, [], ◌∷◌, codes, Option, Some, None, option_and_then, option_map, if◌then◌else◌}
 use Rattle.std.specs.Str.{bytes_eq}
 use Rattle.clap.specs.Walk.{Row, Rule, Text, first_of}
 use Rattle.clap.specs.Simple.{App, Shape, new_app, new_rule, on_top, subcommand_of, with_rule, with_subcommand}
@@ -10,7 +10,9 @@ use Rattle.clap.specs.declared.error.kind.ErrorKind.TheVariants.{InvalidValue, O
 use Rattle.clap.specs.Faults.{fault_of}
 use Rattle.flag_resolve.specs.Kind.{kind_named}
 use Rattle.flag_resolve.specs.declared.kind.Kind.{Kind}
-use Rattle.flagops_words.specs.Asked.{Asked, bucket, price, check, resolve, verify, apply, plan, drive}
+use Rattle.flagops_words.specs.Asked.{Asked, bucket, price, check, resolve, verify, apply, plan, drive, completions}
+use Rattle.flagops_words.specs.Shell.{shell_named}
+use Rattle.flagops_words.specs.declared.shell.Shell.{Shell}
 use Rattle.flagops_words.specs.Numbers.{max_16, max_32, max_moment, moment_in, factor_in, number_in}
 
 -- ---- what the program takes
@@ -72,6 +74,10 @@ unfoldable pub drive_app : App
 drive_app =
     with_rule (with_rule (with_rule (with_rule (new_app (codes "drive")) (required (codes "DOC"))) (required (codes "ASKS"))) (number (codes "WORKERS") max_16)) (required (codes "BOOK"))
 
+-- `completions SHELL`
+unfoldable pub completions_app : App
+completions_app = with_rule (new_app (codes "completions")) (required (codes "SHELL"))
+
 -- a command has to be named; there is a version, and no program's name before the words
 abbrev pub takes_commands : Shape → Shape
 takes_commands s = record s {
@@ -85,9 +91,9 @@ takes_commands s = record s {
 -- the program with its commands
 unfoldable pub flagops_app : App
 flagops_app =
-    with_subcommand (with_subcommand (with_subcommand (with_subcommand
+    with_subcommand (with_subcommand (with_subcommand (with_subcommand (with_subcommand
     (with_subcommand (with_subcommand (with_subcommand (with_subcommand (on_top takes_commands (new_app (codes "flagops"))) bucket_app.top) price_app.top) check_app.top)
-    resolve_app.top) plan_app.top) verify_app.top) apply_app.top) drive_app.top
+    resolve_app.top) plan_app.top) verify_app.top) apply_app.top) drive_app.top) completions_app.top
 
 -- ---- what the words ask for
 
@@ -175,25 +181,45 @@ drive_in rows = do
   book ← first_of (codes "BOOK") rows
   Some (drive document file workers book)
 
+abbrev pub shell_in : List Row → Option Shell
+shell_in rows = do
+  word ← first_of (codes "SHELL") rows
+  shell_named word
+
+abbrev pub completions_in : List Row → Option Asked
+completions_in rows = do
+  shell ← shell_in rows
+  Some (completions shell)
+
+-- a command on rollouts by its name, with its words
+abbrev pub rollout_in : Text × List Row → Option Asked
+rollout_in (name, rows) =
+    if bytes_eq name (codes "verify") then verify_in rows else
+    (if bytes_eq name (codes "apply") then apply_in rows else
+    (if bytes_eq name (codes "plan") then plan_in rows else
+    (if bytes_eq name (codes "drive") then drive_in rows else None)))
+
 -- a command by its name, with its words
 abbrev pub asked_in : Text × List Row → Option Asked
 asked_in (name, rows) =
     if bytes_eq name (codes "resolve") then resolve_in rows else
+    (if bytes_eq name (codes "completions") then completions_in rows else
     (if bytes_eq name (codes "check") then check_in rows else
     (if bytes_eq name (codes "price") then price_in rows else
-    (if bytes_eq name (codes "bucket") then bucket_in rows else
-    (if bytes_eq name (codes "verify") then verify_in rows else
-    (if bytes_eq name (codes "apply") then apply_in rows else
-    (if bytes_eq name (codes "plan") then plan_in rows else
-    (if bytes_eq name (codes "drive") then drive_in rows else None)))))))
+    (if bytes_eq name (codes "bucket") then bucket_in rows else rollout_in (name, rows)))))
 
 -- the same of the subcommand that was met, if one was
 abbrev pub asked_of : Option (Text × List Row) → Option Asked
 asked_of named = named >>= asked_in
 
--- a kind of value that is none of the four is a mistake
+abbrev pub unless : Bool → Kinds
+unless known = if known then [] else InvalidValue ∷ []
+
+-- a kind of value that is none of the four is a mistake, and so is a shell that is none of the three
 abbrev pub kind_fault_in : Text × List Row → Kinds
-kind_fault_in (name, rows) = if bytes_eq name (codes "resolve") && not (is_some (kind_in rows)) then InvalidValue ∷ [] else []
+kind_fault_in (name, rows) =
+    if bytes_eq name (codes "resolve") then unless (is_some (kind_in rows)) else
+    (if bytes_eq name (codes "completions") then unless (is_some (shell_in rows)) else [])
 
 abbrev pub kind_fault : Option (Text × List Row) → Kinds
 kind_fault None = []

@@ -1,4 +1,5 @@
 use crate::numbers::{Factor, Moment};
+use crate::shell::Shell;
 use flag_resolve::Kind;
 
 /// A command with its words.
@@ -57,5 +58,9 @@ pub enum Asked<'a> {
         asks: &'a str,
         workers: u16,
         book: &'a str,
+    },
+    /// The script by which a shell completes the words of the program.
+    Completions {
+        shell: Shell,
     },
 }

@@ -1,7 +1,8 @@
 //! What the words of the command line ask for.
 //!
 //! [`read_words`] gives the command that the words name, with each of its words, or the mistake that `clap` finds in them.
-//! [`Asked`] has a variant for each command; [`Moment`] and [`Factor`] are the numbers that a word may spell.
+//! [`Asked`] has a variant for each command; [`Moment`] and [`Factor`] are the numbers that a word may spell,
+//! [`Shell`] the shells whose completion of these words can be printed.
 //!
 //! ```rust
 //! use flagops_words::{Asked, read_words};
@@ -20,10 +21,12 @@
 
 mod asked;
 mod numbers;
+mod shell;
 mod table;
 mod usage;
 mod words;
 
 pub use asked::Asked;
 pub use numbers::{Factor, Moment};
+pub use shell::Shell;
 pub use words::read_words;

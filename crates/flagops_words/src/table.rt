@@ -37,7 +37,17 @@ const REFINE: Word = Word::Option(
 );
 
 /// The commands, in the order of the help.
-pub const COMMANDS: &[Usage] = &[BUCKET, PRICE, CHECK, RESOLVE, PLAN, VERIFY, APPLY, DRIVE];
+pub const COMMANDS: &[Usage] = &[
+    BUCKET,
+    PRICE,
+    CHECK,
+    RESOLVE,
+    PLAN,
+    VERIFY,
+    APPLY,
+    DRIVE,
+    COMPLETIONS,
+];
 
 const BUCKET: Usage = Usage {
     name: "bucket",
@@ -140,3 +150,20 @@ const DRIVE: Usage = Usage {
         Word::Text("BOOK", "The book file that is written"),
     ],
 };
+
+const COMPLETIONS: Usage = Usage {
+    name: "completions",
+    about: COMPLETES,
+    words: SHELL,
+};
+
+/// The command outside the program, with the program's name before its own.
+pub const COMPLETIONS_ALONE: Usage = Usage {
+    name: "flagops completions",
+    about: COMPLETES,
+    words: SHELL,
+};
+
+const COMPLETES: &str = "Prints the script by which a shell completes these words";
+
+const SHELL: &[Word] = &[Word::Text("SHELL", "bash, fish or zsh")];

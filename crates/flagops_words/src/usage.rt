@@ -7,7 +7,7 @@ ghost use Rattle.clap.specs.declared.error.kind.ErrorKind.TheVariants.{InvalidVa
 ghost use Rattle.flagops_words.specs.Usage.{app_for, rule_for, with_commands};
 ghost use Rattle.flagops_words.specs.Words.{flagops_app, required, takes_commands};
 
-use crate::table::{COMMANDS, RESOLVE_ALONE, Usage, Word};
+use crate::table::{COMMANDS, COMPLETIONS_ALONE, RESOLVE_ALONE, Usage, Word};
 use clap::builder::ValueParser;
 use clap::error::ErrorKind;
 use clap::{Arg, Command, Error};
@@ -30,9 +30,22 @@ pub fn unknown_kind(alloc: Global) -> Result<Error, AllocError>
     )
 }
 
+/// The mistake of a shell that is none of the three.
+pub fn unknown_shell(alloc: Global) -> Result<Error, AllocError>
+    ensures { IfOk result (λ e. kind_of e ≡ InvalidValue) }
+{
+    command(alloc, &COMPLETIONS_ALONE)?.error(
+        ErrorKind::InvalidValue,
+        "invalid value for '<SHELL>': it is bash, fish or zsh",
+    )
+}
+
 /// What the help of the program ends with: the two commands that read their words by themselves, and the statuses.
 const STATUSES: &str =
     "On the network: 'flagops serve' publishes flag documents to subscribers, 'flagops follow' prints what comes;\n'flagops serve --help' and 'flagops follow --help' tell their words.\n\nStatus: 0 done, 1 refused or the output failed, 2 words that are no command, 3 no rule fits.\nWhat was refused, where, and what to change is told on the error outlet; docs/REFUSALS.md has each line\nthat begins with 'refused', docs/FORMATS.md the files with examples, demo/README.md a first rollout.";
+
+/// The version of the program, and the kit that it is proved with (`rt version`), a line each.
+const VERSION: &str = "0.1.0\nproved with rattle-kit-13f logic dac8208d650f15bf";
 
 /// The program without its commands.
 fn program<'a>(alloc: Global) -> Result<Command<'a>, AllocError>
@@ -49,7 +62,7 @@ fn taking_commands<'a>(program: Command<'a>) -> Command<'a>
     ensures { app_of result ≡ on_top takes_commands (app_of program.entry) }
 {
     program
-        .version("0.1.0")
+        .version(VERSION)
         .no_binary_name(true)
         .disable_help_subcommand(true)
         .arg_required_else_help(true)

@@ -1,15 +1,17 @@
 //! What the words of the command line ask for, as `clap` reads them.
 ghost use Rattle.std.specs.Prelude.{◌≡◌, Some, IfOk, IfErr, map, option_map};
 ghost use Rattle.clap.specs.Words.{found_of, kind_of, rows_of, subcommand_rows_of};
+ghost use Rattle.clap.specs.declared.error.kind.ErrorKind.TheVariants.{InvalidValue};
 ghost use Rattle.flagops_words.specs.Asked.{asked_view};
-ghost use Rattle.flagops_words.specs.Words.{IsToldBy, apply_in, asked_by, asked_of, bucket_in, check_in, drive_in, plan_in, price_in, refine_in, resolve_in, verify_in};
+ghost use Rattle.flagops_words.specs.Words.{IsToldBy, apply_in, asked_by, asked_of, bucket_in, check_in, completions_in, drive_in, plan_in, price_in, refine_in, resolve_in, rollout_in, verify_in};
 
 use crate::asked::Asked;
 use crate::numbers::{Factor, Moment, spelled_16, spelled_32};
-use crate::usage::{flagops, unknown_kind};
+use crate::shell::Shell;
+use crate::usage::{flagops, unknown_kind, unknown_shell};
 use clap::{ArgMatches, Error};
 use flag_resolve::Kind;
-use std::alloc::Global;
+use std::alloc::{AllocError, Global};
 use std::convert::AsStr;
 
 /// What the words after the program's name ask for.
@@ -21,8 +23,18 @@ pub fn read_words<'a, S: AsStr>(alloc: Global, words: &'a [S]) -> Result<Asked<'
     let matches = flagops(alloc)?.try_get_matches_from(words)?;
     match asked_of(&matches) {
         Some(asked) => Ok(asked),
-        // Words that `clap` takes name a command with each of its words, and its check of a kind is made here.
-        None => Err(unknown_kind(alloc)?),
+        // Words that `clap` takes name a command with each of its words, and its check of a kind or a shell is made here.
+        None => Err(unknown_word(alloc, &matches)?),
+    }
+}
+
+/// The mistake of a kind that is none of the four, or of a shell that is none of the three.
+fn unknown_word(alloc: Global, matches: &ArgMatches<'_>) -> Result<Error, AllocError>
+    ensures { IfOk result (λ e. kind_of e ≡ InvalidValue) }
+{
+    match matches.subcommand() {
+        Some(("completions", _)) => unknown_shell(alloc),
+        _ => unknown_kind(alloc),
     }
 }
 
@@ -32,9 +44,19 @@ fn asked_of<'a>(matches: &ArgMatches<'a>) -> Option<Asked<'a>>
     let (name, words) = matches.subcommand()?;
     match name {
         "resolve" => resolve_in(words),
+        "completions" => completions_in(words),
         "check" => check_in(words),
         "price" => price_in(words),
         "bucket" => bucket_in(words),
+        _ => rollout_in(name, words),
+    }
+}
+
+/// The same of a command on rollouts.
+fn rollout_in<'a>(name: &str, words: &ArgMatches<'a>) -> Option<Asked<'a>>
+    ensures { option_map asked_view result ≡ rollout_in (name.now, rows_of (found_of words.now)) }
+{
+    match name {
         "verify" => verify_in(words),
         "apply" => apply_in(words),
         "plan" => plan_in(words),
@@ -160,6 +182,14 @@ fn drive_in<'a>(words: &ArgMatches<'a>) -> Option<Asked<'a>>
         workers,
         book,
     })
+}
+
+#[tactic(auto, using(crate::proofs::Matched::rows))]
+fn completions_in<'a>(words: &ArgMatches<'a>) -> Option<Asked<'a>>
+    ensures { option_map asked_view result ≡ completions_in (rows_of (found_of words.now)) }
+{
+    let shell = Shell::named(words.get_str("SHELL")?)?;
+    Some(Asked::Completions { shell })
 }
 
 /// The factor of a refinement, if one is given; `None` where the word is no factor.

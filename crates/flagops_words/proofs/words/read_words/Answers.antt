@@ -16,4 +16,4 @@ pub returns-clause-err : goal.returns-clause-err
 returns-clause-err g c =
     let words = map g.S.AsStr.text c.args.words.now in
     let told = told_by-kind words _ c.in_ok-matches.matches c.in_ok-flagops.ensures c.in_ok-matches.ensures.kinds c.in_ok-matches.ensures.matches c.in-None.ensures in
-    subst (λ (k : ErrorKind). IsToldBy words k) (sym c.in_ok-unknown_kind-in-None.ensures) told
+    subst (λ (k : ErrorKind). IsToldBy words k) (sym c.in_ok-unknown_word-in-None.ensures) told

@@ -1,0 +1,25 @@
+//! The command `completions`: the script by which a shell completes the words of the program.
+ghost use Rattle.std.specs.Prelude.{◌≡◌, false};
+ghost use Rattle.flagops_commands.specs.Calls.{completions_calls};
+ghost use Rattle.flagops_commands.specs.Completions.{completions_report};
+ghost use Rattle.flagops_files.specs.Refusal.{ComesFrom, GivesUnlessWant, is_file_fault};
+ghost use Rattle.flagops_files.specs.Report.{outcome_view};
+
+use flagops_files::{Call, Outcome, Refusal, Refused, Remark, Status};
+use flagops_words::Shell;
+use std::alloc::{AllocError, Global};
+
+/// The script of a shell.
+pub fn completions(alloc: Global, shell: Shell) -> Result<Outcome, Refused>
+    ensures exact { GivesUnlessWant outcome_view result (completions_report shell) }
+    ensures calls { ComesFrom completions_calls result }
+    ensures read { is_file_fault result ≡ false }
+{
+    match String::from_str(alloc, shell.script()) {
+        Ok(text) => Ok(Outcome::plain(text.into_bytes(), Status::Done)),
+        Err(AllocError) => Err(Refused {
+            refusal: Refusal::WantOfMemory(Call::Flagops),
+            remark: Remark::Short,
+        }),
+    }
+}

@@ -1,0 +1,111 @@
+//! The shells whose completion of the program's words can be printed.
+ghost use Rattle.std.specs.Prelude.{◌≡◌};
+ghost use Rattle.flagops_words.specs.Shell.{script_of, shell_named};
+
+/// A shell that completes the words of a command by a script.
+#[derive(Clone, Copy, Debug)]
+pub enum Shell {
+    Bash,
+    Fish,
+    Zsh,
+}
+
+impl Shell {
+    /// The shell of this name: `bash`, `fish` or `zsh`.
+    pub fn named(name: &str) -> Option<Shell>
+        ensures { result ≡ shell_named name.now }
+    {
+        match name {
+            "bash" => Some(Shell::Bash),
+            "fish" => Some(Shell::Fish),
+            "zsh" => Some(Shell::Zsh),
+            _ => None,
+        }
+    }
+
+    /// The script by which the shell completes the words of `flagops`.
+    #[tactic(auto, unfolding(crate::specs::Shell::script_of))]
+    pub fn script(self) -> &'static str
+        ensures { result.now ≡ script_of self }
+    {
+        match self {
+            Shell::Bash => BASH,
+            Shell::Fish => FISH,
+            Shell::Zsh => ZSH,
+        }
+    }
+}
+
+const BASH: &str = r#"# bash completion of flagops: source <(flagops completions bash)
+_flagops() {
+    local word=${COMP_WORDS[COMP_CWORD]}
+    COMPREPLY=()
+    if [ "$COMP_CWORD" -eq 1 ]; then
+        COMPREPLY=($(compgen -W "bucket price check resolve plan verify apply drive serve follow completions --help --version" -- "$word"))
+        return
+    fi
+    case ${COMP_WORDS[1]}:$word in
+        plan:-* | verify:-*) COMPREPLY=($(compgen -W "--refine --help" -- "$word")) ;;
+        *:-*) COMPREPLY=($(compgen -W "--help" -- "$word")) ;;
+        completions:*) COMPREPLY=($(compgen -W "bash fish zsh" -- "$word")) ;;
+        resolve:*)
+            if [ "$COMP_CWORD" -eq 4 ]; then
+                COMPREPLY=($(compgen -W "bool text whole object" -- "$word"))
+            else
+                COMPREPLY=($(compgen -f -- "$word"))
+            fi
+            ;;
+        *) COMPREPLY=($(compgen -f -- "$word")) ;;
+    esac
+}
+complete -o filenames -F _flagops flagops
+"#;
+
+const FISH: &str = r#"# fish completion of flagops: flagops completions fish | source
+complete -c flagops -l help -s h -d 'Print help'
+complete -c flagops -n __fish_use_subcommand -f -l version -s V -d 'Print the version'
+complete -c flagops -n __fish_use_subcommand -f -a bucket -d 'The hash of a key, its point and its variant'
+complete -c flagops -n __fish_use_subcommand -f -a price -d 'What a new rule costs the keys of a file'
+complete -c flagops -n __fish_use_subcommand -f -a check -d 'Which flags of a document are good'
+complete -c flagops -n __fish_use_subcommand -f -a resolve -d 'What a flag resolves to in a context'
+complete -c flagops -n __fish_use_subcommand -f -a plan -d 'The rule that switches the fewest users'
+complete -c flagops -n __fish_use_subcommand -f -a verify -d 'Check a plan apart from the planner'
+complete -c flagops -n __fish_use_subcommand -f -a apply -d 'A document with the rule of a plan'
+complete -c flagops -n __fish_use_subcommand -f -a drive -d 'Answer asks and write the book of what they reach'
+complete -c flagops -n __fish_use_subcommand -f -a serve -d 'Publish documents to subscribers'
+complete -c flagops -n __fish_use_subcommand -f -a follow -d 'Print the snapshots that come'
+complete -c flagops -n __fish_use_subcommand -f -a completions -d 'Print the completion of a shell'
+complete -c flagops -n '__fish_seen_subcommand_from plan verify' -l refine -x -d 'Plan in finer points'
+complete -c flagops -n '__fish_seen_subcommand_from completions' -f -a 'bash fish zsh'
+"#;
+
+const ZSH: &str = r#"#compdef flagops
+# zsh completion of flagops: source <(flagops completions zsh), or a file _flagops on the fpath
+_flagops() {
+    local -a commands
+    commands=(
+        'bucket:the hash of a key, its point and its variant'
+        'price:what a new rule costs the keys of a file'
+        'check:which flags of a document are good'
+        'resolve:what a flag resolves to in a context'
+        'plan:the rule that switches the fewest users'
+        'verify:check a plan apart from the planner'
+        'apply:a document with the rule of a plan'
+        'drive:answer asks and write the book of what they reach'
+        'serve:publish documents to subscribers'
+        'follow:print the snapshots that come'
+        'completions:print the completion of a shell'
+    )
+    if (( CURRENT == 2 )); then
+        _describe command commands
+        _arguments '--help[print help]' '--version[print the version]'
+        return
+    fi
+    case $words[2] in
+        plan | verify) _arguments '--refine[plan in finer points]:M:' '--help[print help]' '*:file:_files' ;;
+        completions) _values shell bash fish zsh ;;
+        *) _arguments '--help[print help]' '*:file:_files' ;;
+    esac
+}
+if [ "$funcstack[1]" = _flagops ]; then _flagops "$@"; else compdef _flagops flagops; fi
+"#;
