@@ -1,4 +1,7 @@
 //! The two copies of the current stamp.
+ghost use Rattle.std.specs.Prelude.{◌≡◌, true, IfErr};
+ghost use Rattle.snap_share.specs.Fault.{is_of_current};
+
 use crate::fault::ShareFault;
 use crate::history::ShareName;
 use crate::stamp::Stamp;
@@ -73,7 +76,9 @@ pub type StampWriter<J> = Writer<Stamp<J>, Handover<J>, (), Unruled>;
 /// Reads the current stamp. It waits for nobody.
 pub(crate) fn read<J: ShareName>(
     reader: StampReader<J>,
-) -> (StampReader<J>, Result<Stamp<J>, ShareFault>) {
+) -> (StampReader<J>, Result<Stamp<J>, ShareFault>)
+    ensures { IfErr result.1 (λ fault. is_of_current fault ≡ true) }
+{
     match reader.enter_as::<Unruled>() {
         Ok(reading) => {
             let stamp = reading.get().another();

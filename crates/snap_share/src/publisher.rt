@@ -1,5 +1,6 @@
 //! The one that publishes, and what it tells.
-ghost use Rattle.std.specs.Prelude.{◌≡◌, ◌≢◌, ◌+◌, ◌-◌, ◌<◌, ◌^◌, ◌++◌, ◌∷◌, ◌↔◌, [], length, Err, IfErr, IfOk, OnErr};
+ghost use Rattle.std.specs.Prelude.{◌≡◌, ◌≢◌, ◌+◌, ◌-◌, ◌<◌, ◌^◌, ◌++◌, ◌∷◌, ◌↔◌, [], true, length, Err, IfErr, IfOk, OnErr};
+ghost use Rattle.snap_share.specs.Fault.{is_of_publish};
 
 use crate::cell::{Handover, Places, StampWriter};
 use crate::fault::ShareFault;
@@ -58,7 +59,8 @@ where
     }
 
     /// Publishes flags behind all others, and answers their number. It is refused with LastNumber where no number is left,
-    /// and then nothing was published. It waits for readers that still copy what was published before the last.
+    /// and then nothing was published; else with WantOfMemory, or with Closed where another has added to the history, which
+    /// no publisher does. It waits for readers that still copy what was published before the last.
     pub fn publish<R: Wait>(
         &mut self,
         rt: &R,
@@ -68,6 +70,7 @@ where
         ensures adds { IfOk result (λ n. (self.new ≡ self.old ++ flags ∷ []) × (n ≡ length self.new)) }
         ensures stays { OnErr result (self.new ≡ self.old) }
         ensures last { (result ≡ Err ShareFault.LastNumber) ↔ (length self.old ≡ 2 ^ 64 - 1) }
+        ensures faults { IfErr result (λ fault. is_of_publish fault ≡ true) }
     {
         if self.front.len() == u64::MAX {
             return Err(ShareFault::LastNumber);
@@ -87,6 +90,7 @@ where
         ensures adds { IfOk result (λ n. (self.new ≡ self.old ++ flags ∷ []) × (n ≡ length self.new)) }
         ensures stays { OnErr result (self.new ≡ self.old) }
         ensures other { IfErr result (λ fault. fault ≢ ShareFault.LastNumber) }
+        ensures faults { IfErr result (λ fault. is_of_publish fault ≡ true) }
     {
         let first = Arc::new(alloc, flags)?;
         let second = Arc::try_clone(&first)?;

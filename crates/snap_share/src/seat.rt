@@ -1,7 +1,8 @@
 //! The seats that read.
-ghost use Rattle.std.specs.Prelude.{◌≡◌, Contains, IfOk};
+ghost use Rattle.std.specs.Prelude.{◌≡◌, true, Contains, IfErr, IfOk};
 ghost use mathlib.Core.List.{IsPrefix};
 ghost use Rattle.snap_core.specs.HubView.{snapshot_view};
+ghost use Rattle.snap_share.specs.Fault.{is_of_current};
 ghost use Rattle.snap_share.specs.Known.{IsLastOf, snapshots_of};
 ghost use Rattle.snap_share.specs.Lists.{StartsWith};
 
@@ -60,6 +61,7 @@ impl<J: ShareName> ReadSeat<J> {
     fn read_on(&mut self, alloc: Global) -> Result<Snapshot, ShareFault>
         ensures forward { IsPrefix self.old self.new }
         ensures last { IfOk result (λ s. IsLastOf self.new (snapshot_view s)) }
+        ensures faults { IfErr result (λ fault. is_of_current fault ≡ true) }
     {
         let stamp = self.read_stamp()?;
         if !self.known.begins(stamp.front()) {
@@ -71,12 +73,15 @@ impl<J: ShareName> ReadSeat<J> {
 
     /// What the copies show.
     fn read_stamp(&mut self) -> Result<Stamp<J>, ShareFault>
-        ensures { self.new ≡ self.old }
+        ensures stays { self.new ≡ self.old }
+        ensures faults { IfErr result (λ fault. is_of_current fault ≡ true) }
     {
         replace_with(
             &mut self.reader,
             (),
-            |reader: StampReader<J>, _nothing: ()| { read(reader) },
+            |reader: StampReader<J>, _nothing: ()| -> (StampReader<J>, Result<Stamp<J>, ShareFault>)
+                ensures { IfErr result.1 (λ fault. is_of_current fault ≡ true) }
+            { read(reader) },
         )
     }
 }
@@ -91,6 +96,7 @@ impl<J: ShareName> Current for ReadSeat<J> {
         ensures last { IfOk result (λ s. IsLastOf self.new (snapshot_view s)) }
         ensures grows { StartsWith (snapshots_of self.new) (snapshots_of self.old) }
         ensures known { IfOk result (λ s. Contains (snapshots_of self.new) (snapshot_view s)) }
+        ensures faults { IfErr result (λ fault. is_of_current fault ≡ true) }
     {
         self.read_on(alloc)
     }

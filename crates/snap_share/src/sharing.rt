@@ -1,5 +1,6 @@
 //! Sharing flags.
-ghost use Rattle.std.specs.Prelude.{◌≡◌, ◌≢◌, ◌<◌, ◌≤◌, ◌↔◌, ◌∷◌, [], All, vec_len, Err, IfErr, IfOk};
+ghost use Rattle.std.specs.Prelude.{◌≡◌, ◌≢◌, ◌<◌, ◌≤◌, ◌↔◌, ◌∷◌, [], true, All, vec_len, Err, IfErr, IfOk};
+ghost use Rattle.snap_share.specs.Fault.{is_of_share};
 
 use crate::cell::{Handover, StampWriter};
 use crate::fault::ShareFault;
@@ -32,6 +33,7 @@ where
     requires { history.seen.book ≡ J.book }
     ensures none { (result ≡ Err ShareFault.NoSeats) ↔ (seats ≡ 0) }
     ensures many { (result ≡ Err ShareFault.TooManySeats) ↔ (64 < seats) }
+    ensures faults { IfErr result (λ fault. is_of_share fault ≡ true) }
     ensures published { IfOk result (λ r. r.0 ≡ flags ∷ []) }
     ensures seats { IfOk result (λ r. (vec_len r.1 ≡ seats) × All (λ seat. seat ≡ flags ∷ []) r.1.items) }
 {
@@ -58,6 +60,7 @@ where
     requires name { history.seen.book ≡ J.book }
     requires count { (0 < seats) × (seats ≤ 64) }
     ensures other { IfErr result (λ fault. (fault ≢ ShareFault.NoSeats) × (fault ≢ ShareFault.TooManySeats)) }
+    ensures faults { IfErr result (λ fault. is_of_share fault ≡ true) }
     ensures published { IfOk result (λ r. r.0 ≡ flags ∷ []) }
     ensures seats { IfOk result (λ r. (vec_len r.1 ≡ seats) × All (λ seat. seat ≡ flags ∷ []) r.1.items) }
 {
@@ -89,6 +92,7 @@ fn seated<J: ShareName>(
 where
     Stamp<J>: Absorb<Handover<J>, State = ()>,
     ensures other { IfErr result (λ fault. (fault ≢ ShareFault.NoSeats) × (fault ≢ ShareFault.TooManySeats)) }
+    ensures faults { IfErr result (λ fault. is_of_share fault ≡ true) }
     ensures seats { IfOk result (λ all. (vec_len all ≡ seats) × All (λ seat. seat ≡ known.now) all.items) }
 {
     let mut all = Vec::with_capacity(alloc, seats)?;
