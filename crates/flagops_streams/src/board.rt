@@ -142,6 +142,9 @@ impl<'a, J: ShareName, R: Wait> Numbers<'a, J, R> {
 impl<J: ShareName, R: Wait> NextNumber for Numbers<'_, J, R> {
     ghost is_closed = { λ n. n.closed };
 
+    // Others change the board meanwhile, so that no clause can tell what asking made of it.
+    ghost asked = { λ old after new. Unit {0} };
+
     /// The latest number where it is above `after`. Else it waits for one, and gives None once nothing more is published.
     fn next(&mut self, after: u64) -> Option<u64> {
         let news = self

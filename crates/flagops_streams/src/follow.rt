@@ -4,6 +4,7 @@ ghost use Rattle.flag_text.specs.Outlet.{AppendsPart};
 ghost use Rattle.std.specs.Bool.{MatchBool};
 ghost use Rattle.std.specs.Io.KnownBytes.{Appends};
 ghost use Rattle.snap_core.specs.HubView.{snapshot_view};
+ghost use Rattle.sync_server.specs.Reads.{ReadUpTo};
 ghost use Rattle.flagops_streams.specs.Printed.{Follows, Printed, last_line, snapshot_line, start_of, status_of, word_of};
 ghost use Rattle.flagops_streams.specs.Report.{RefusesBy, Writes};
 ghost use Rattle.flagops_streams.specs.declared.refusal.Refusal.TheVariants.{Unreachable};
@@ -83,7 +84,8 @@ pub fn follow_lines<I: Inlet, O: Outlet>(
 ) -> (O, u8)
     requires inlet { I.is_broken inlet.old ≡ false }
     requires outlet { O.is_broken out ≡ false }
-    ensures { Printed (I.bytes inlet.old) (I.bytes inlet.new) (I.is_broken inlet.new) (O.bytes out) (O.bytes result.0) (O.is_broken result.0) result.1 }
+    ensures printed { Printed (I.bytes inlet.old) (I.bytes inlet.new) (I.is_broken inlet.new) (O.bytes out) (O.bytes result.0) (O.is_broken result.0) result.1 }
+    ensures reads { ReadUpTo I.was_read turns inlet.old inlet.new }
 {
     let mut printer = Printer {
         alloc,

@@ -33,6 +33,8 @@ impl Inlet for MemoryInlet<'_> {
 
     ghost is_broken = { λ inlet. inlet.broken };
 
+    ghost was_read = { λ old new. Unit {0} };
+
     fn read(&mut self, buf: &mut [u8]) -> io::Result<usize> {
         if self.reads == 0 {
             self.broken = true;

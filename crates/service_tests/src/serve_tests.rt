@@ -27,6 +27,8 @@ struct Script<'p, J: ShareName, R: Wait> {
 impl<J: ShareName, R: Wait> NextNumber for Script<'_, J, R> {
     ghost is_closed = { λ script. script.closed };
 
+    ghost asked = { λ old after new. Unit {0} };
+
     fn next(&mut self, after: u64) -> Option<u64> {
         self.calls = self.calls.saturating_add(1);
         if self.calls == 3 {

@@ -1,5 +1,5 @@
 -- What a sink has as a piece of the stream comes.
-use Rattle.std.proofs.Common.{◌≡◌, ℕ, zero, suc, ◌<◌, take, drop, Bool, true, false, List, [], ◌∷◌, ◌++◌, map, length, ◌||◌, arith, Option, Some, None, refl, sym, ap, subst, ◌∙◌, append-nil, append_assoc}
+use Rattle.std.proofs.Common.{◌≡◌, ℕ, zero, suc, ◌<◌, ◌≤◌, take, drop, Bool, true, false, List, [], ◌∷◌, ◌++◌, map, length, ◌||◌, arith, Option, Some, None, refl, sym, ap, subst, ◌∙◌, append-nil, append_assoc}
 use Rattle.std.proofs.lemmas.Bool.{true≢false}
 use Rattle.std.proofs.lemmas.List.{append_cancel_left}
 use Rattle.snap_core.specs.Hub.{Numbered}
@@ -15,10 +15,11 @@ use Rattle.sync_frames.specs.declared.fault.FrameFault.TheVariants.{WantOfMemory
 use Rattle.sync_frames.specs.declared.feed.Feed.{Feed}
 use Rattle.sync_frames.proofs.Streams.{reads_once, reads, part-no_frame}
 use Rattle.sync_frames.proofs.Feeds.{opening, is_quiet}
-use Rattle.sync_server.specs.End.{of_fault}
+use Rattle.sync_server.specs.End.{is_limit_result, of_fault}
 use Rattle.sync_server.specs.Ends.{AllOf, FirstOf, Ends}
 use Rattle.sync_server.specs.Follows.{Stands, LeadsTo, AtEnd}
 use Rattle.sync_server.specs.Handed.{Took, Handed}
+use Rattle.sync_server.specs.Reads.{AfterReads, ReadUpTo, ReadWithin}
 use Rattle.sync_server.specs.declared.end.ReadEnd.{ReadEnd}
 use Rattle.sync_server.specs.declared.end.ReadEnd.TheVariants as end
 use Rattle.sync_server.specs.declared.follow.Step.{Step}
@@ -42,20 +43,20 @@ pub first_front : (x y : List ℕ) (ss : List Numbered) → AllOf x ss → First
 first_front x y ss a = (x, y, [], refl, subst (AllOf x) (sym (append-nil ss)) a)
 
 -- where the feed refuses a piece
-pub refused : (old new : Feed) (x piece : List ℕ) (ss : List Numbered) (left : Option (List ℕ)) (broken : Bool) (fault : FrameFault) → has_failed old ≡ false → Refuses old new piece fault → HasBeenFed old x → AllOf x ss
-    → Ends (x ++ piece) (ss ++ []) left broken (of_fault fault)
-refused old new x piece ss left broken WantOfMemory works r fed all = first_front x piece (ss ++ []) (subst (AllOf x) (sym (append-nil ss)) all)
-refused old new x piece ss left broken Length works r fed all = let w = r.shown x fed in (gained x (x ++ piece) ss [] all w.1, w.2)
-refused old new x piece ss left broken NotRising works r fed all = let w = r.shown x fed in (gained x (x ++ piece) ss [] all w.1, w.2)
-refused old new x piece ss left broken Document works r fed all = let w = r.shown x fed in (gained x (x ++ piece) ss [] all w.1, w.2)
-refused old new x piece ss left broken Failed works r fed all = absurd (true≢false (sym r.0 ∙ works))
+pub refused : (old new : Feed) (x piece : List ℕ) (ss : List Numbered) (left : Option (List ℕ)) (fault : FrameFault) → has_failed old ≡ false → Refuses old new piece fault → HasBeenFed old x → AllOf x ss
+    → Ends (x ++ piece) (ss ++ []) left false (of_fault fault)
+refused old new x piece ss left WantOfMemory works r fed all = first_front x piece (ss ++ []) (subst (AllOf x) (sym (append-nil ss)) all)
+refused old new x piece ss left Length works r fed all = let w = r.shown x fed in (gained x (x ++ piece) ss [] all w.1, w.2, refl)
+refused old new x piece ss left NotRising works r fed all = let w = r.shown x fed in (gained x (x ++ piece) ss [] all w.1, w.2, refl)
+refused old new x piece ss left Document works r fed all = let w = r.shown x fed in (gained x (x ++ piece) ss [] all w.1, w.2, refl)
+refused old new x piece ss left Failed works r fed all = absurd (true≢false (sym r.0 ∙ works))
 
 -- where it refuses no piece at all, behind snapshots that were handed on
-pub refused_behind : (old new : Feed) (x : List ℕ) (ss : List Numbered) (left : Option (List ℕ)) (broken : Bool) (fault : FrameFault) → has_failed old ≡ false → Refuses old new [] fault → HasBeenFed old x → AllOf x ss
-    → Ends x ss left broken (of_fault fault)
-refused_behind old new x ss left broken fault works r fed all =
-    subst (λ (l : List Numbered). Ends x l left broken (of_fault fault)) (append-nil ss)
-    (subst (λ (y : List ℕ). Ends y (ss ++ []) left broken (of_fault fault)) (append-nil x) (refused old new x [] ss left broken fault works r fed all))
+pub refused_behind : (old new : Feed) (x : List ℕ) (ss : List Numbered) (left : Option (List ℕ)) (fault : FrameFault) → has_failed old ≡ false → Refuses old new [] fault → HasBeenFed old x → AllOf x ss
+    → Ends x ss left false (of_fault fault)
+refused_behind old new x ss left fault works r fed all =
+    subst (λ (l : List Numbered). Ends x l left false (of_fault fault)) (append-nil ss)
+    (subst (λ (y : List ℕ). Ends y (ss ++ []) left false (of_fault fault)) (append-nil x) (refused old new x [] ss left fault works r fed all))
 
 -- where the feed takes a piece, and then no piece: nothing is wrong
 pub goes_on : (old mid new : Feed) (x piece : List ℕ) (ss more none : List Numbered) (left : Option (List ℕ)) → Gives old mid piece more → Gives mid new [] none → (none ≡ [] → (stream : List ℕ) → HasBeenFed mid stream → ShowsNothing (stream ++ [])) → has_failed new ≡ false
@@ -77,7 +78,7 @@ full old mid x piece ss taken left gives (fed, all, shows) =
 pub ends_behind : (old mid new : Feed) (x piece : List ℕ) (ss more : List Numbered) (left : Option (List ℕ)) (fault : FrameFault) → Gives old mid piece more → has_failed mid ≡ false → Refuses mid new [] fault → Stands old x ss → Ends (x ++ piece) (ss ++ more) left false (of_fault fault)
 ends_behind old mid new x piece ss more left fault gives works refuses (fed, all, shows) =
     let now = gives x fed in
-    refused_behind mid new (x ++ piece) (ss ++ more) left false fault works refuses now.0 (gained x (x ++ piece) ss more all now.1)
+    refused_behind mid new (x ++ piece) (ss ++ more) left fault works refuses now.0 (gained x (x ++ piece) ss more all now.1)
 
 -- no snapshots are none
 pub no_items : (xs : List Snapshot) → snapshots_view xs ≡ [] → xs ≡ []
@@ -157,13 +158,13 @@ pub works_first : (feed : Feed) → waiting feed ≡ None → has_failed feed �
 works_first feed h = waits_for_none feed.stage h
 
 -- the input is at its end
-pub at_end : (feed : Feed) (x : List ℕ) (ss : List Numbered) (left : Option (List ℕ)) (broken : Bool) (e : ReadEnd) → Stands feed x ss → IsAtEnd left → AtEnd x e → Ends (x ++ []) (ss ++ []) left broken e
-at_end feed x ss left broken e (fed, all, shows) is_end how =
+pub at_end : (feed : Feed) (x : List ℕ) (ss : List Numbered) (left : Option (List ℕ)) (broken : Bool) (e : ReadEnd) → Stands feed x ss → IsAtEnd left → broken ≡ false → AtEnd x e → Ends (x ++ []) (ss ++ []) left broken e
+at_end feed x ss left broken e (fed, all, shows) is_end works how =
     subst (λ (y : List ℕ). Ends y (ss ++ []) left broken e) (sym (append-nil x)) (subst (λ (l : List Numbered). Ends x l left broken e) (sym (append-nil ss)) (here e how))
   where
     here : (e : ReadEnd) → AtEnd x e → Ends x ss left broken e
-    here end.Ended how = (all, is_end, how)
-    here end.EndedInside how = (all, is_end, shows, how)
+    here end.Ended how = (all, is_end, how, works)
+    here end.EndedInside how = (all, is_end, shows, how, works)
     here end.Limit how = absurd how
     here (end.Frame fault) how = absurd how
     here end.ReadFault how = absurd how
@@ -179,3 +180,25 @@ pub refilled : (n : ℕ) (new old : List ℕ) → 0 < n → 0 < length new → 0
 refilled zero new old h k = absurd (omega (arith, h))
 refilled (suc n) [] old h k = absurd (omega (arith, k))
 refilled (suc n) (x ∷ new) old h k = omega arith
+
+-- ---- the turns
+
+-- at most so many reads
+pub up_to : {X : Type 0} (was_read : X → X → Type 0) (limit n : ℕ) (x y : X) (result : Option ReadEnd) → is_limit_result result ≡ false → n ≤ limit → AfterReads was_read n x y → ReadWithin was_read limit x y result
+up_to was_read limit n x y (Some end.Limit) other few h = absurd (true≢false other)
+up_to was_read limit n x y (Some end.Ended) other few h = (n, few, h)
+up_to was_read limit n x y (Some end.EndedInside) other few h = (n, few, h)
+up_to was_read limit n x y (Some (end.Frame fault)) other few h = (n, few, h)
+up_to was_read limit n x y (Some end.ReadFault) other few h = (n, few, h)
+up_to was_read limit n x y (Some end.WantOfMemory) other few h = (n, few, h)
+up_to was_read limit n x y None other few h = (n, few, h)
+
+-- the same where the limit may be told
+pub at_most : {X : Type 0} (was_read : X → X → Type 0) (limit : ℕ) (x y : X) (result : Option ReadEnd) → ReadWithin was_read limit x y result → ReadUpTo was_read limit x y
+at_most was_read limit x y (Some end.Limit) h = (limit, omega arith, h)
+at_most was_read limit x y (Some end.Ended) h = h
+at_most was_read limit x y (Some end.EndedInside) h = h
+at_most was_read limit x y (Some (end.Frame fault)) h = h
+at_most was_read limit x y (Some end.ReadFault) h = h
+at_most was_read limit x y (Some end.WantOfMemory) h = h
+at_most was_read limit x y None h = h

@@ -1,5 +1,5 @@
 -- The names that the ends of streams are printed with, and the end by a fault.
-use Rattle.std.specs.Prelude.{ℕ, List, codes, Bool, true, false}
+use Rattle.std.specs.Prelude.{ℕ, List, codes, Bool, true, false, Option, Some, None}
 use Rattle.sync_frames.specs.declared.fault.FrameFault.{FrameFault}
 use Rattle.sync_frames.specs.declared.fault.FrameFault.TheVariants as fault
 use Rattle.sync_server.specs.declared.end.ReadEnd.{ReadEnd}
@@ -28,3 +28,17 @@ is_closed_end end = false
 abbrev pub is_write_fault : StreamEnd → Bool
 is_write_fault stream.WriteFault = true
 is_write_fault end = false
+
+-- the end of a stream that took all the turns it was allowed
+abbrev pub is_limit_end : StreamEnd → Bool
+is_limit_end stream.Limit = true
+is_limit_end end = false
+
+-- the same of a stream that is read
+abbrev pub is_limit_read : ReadEnd → Bool
+is_limit_read Limit = true
+is_limit_read end = false
+
+abbrev pub is_limit_result : Option ReadEnd → Bool
+is_limit_result (Some end) = is_limit_read end
+is_limit_result None = false

@@ -5,6 +5,7 @@ use Rattle.snap_core.specs.Hub.{Numbered}
 use Rattle.sync_frames.specs.Feed.{HasBeenFed, has_failed}
 use Rattle.sync_frames.specs.Frames.{ShowsNothing, IsDone}
 use Rattle.sync_frames.specs.declared.feed.Feed.{Feed}
+use Rattle.sync_server.specs.End.{is_limit_read}
 use Rattle.sync_server.specs.Ends.{AllOf, FirstOf, Ends}
 use Rattle.sync_server.specs.Handed.{Handed}
 use Rattle.sync_server.specs.declared.end.ReadEnd.{ReadEnd}
@@ -36,6 +37,11 @@ LeadsTo feed stream ss left broken Full = FirstOf stream ss
 abbrev pub is_full : Step → Bool
 is_full Full = true
 is_full step = false
+
+-- the step ends with the limit, which no step does
+abbrev pub is_limit : Step → Bool
+is_limit (StepEnds end) = is_limit_read end
+is_limit step = false
 
 -- A step takes a piece of the input, and hands its snapshots on.
 abbrev pub Steps : {X : Type 0} → (X → Numbered → X → Type 0) → (X → Numbered → X → Type 0) → Option (List ℕ) → Option (List ℕ) → Bool → Feed → Feed → X → X → Step → Type 0

@@ -1,6 +1,6 @@
 //! How streams end.
-ghost use Rattle.std.specs.Prelude.{◌≡◌};
-ghost use Rattle.sync_server.specs.End.{name_of, of_fault};
+ghost use Rattle.std.specs.Prelude.{◌≡◌, false};
+ghost use Rattle.sync_server.specs.End.{is_limit_read, name_of, of_fault};
 
 use sync_frames::FrameFault;
 
@@ -54,7 +54,8 @@ impl ReadEnd {
 
 /// The end by a fault of a feed.
 pub(crate) fn end_by(fault: FrameFault) -> ReadEnd
-    ensures { result ≡ of_fault fault }
+    ensures by_fault { result ≡ of_fault fault }
+    ensures other { is_limit_read result ≡ false }
 {
     match fault {
         FrameFault::WantOfMemory => ReadEnd::WantOfMemory,

@@ -2,8 +2,10 @@
 ghost use Rattle.std.specs.Prelude.{◌≡◌, ℕ, ◌<◌, List, ◌++◌, false, not, length, is_none};
 ghost use Rattle.snap_core.specs.Hub.{Numbered};
 ghost use Rattle.sync_frames.specs.Feed.{HasBeenFed, has_failed, snapshots_view};
-ghost use Rattle.sync_server.specs.Follows.{AtEnd, Follows, LeadsOn, Steps, is_full};
+ghost use Rattle.sync_server.specs.End.{is_limit_read};
+ghost use Rattle.sync_server.specs.Follows.{AtEnd, Follows, LeadsOn, Steps, is_full, is_limit};
 ghost use Rattle.sync_server.specs.Handed.{Handed, NoneLeftIf};
+ghost use Rattle.sync_server.specs.Reads.{ReadWithin};
 
 use crate::end::{ReadEnd, end_by};
 use crate::inlet::Inlet;
@@ -36,6 +38,7 @@ pub fn follow_stream<I: Inlet, S: Sink>(
     requires takes { S.is_full sink.old ≡ false }
     ensures follows { Follows S.took S.refused (I.bytes inlet.old) (I.bytes inlet.new) (I.is_broken inlet.new) sink.old sink.new result }
     ensures full { S.is_full sink.new ≡ is_none result }
+    ensures reads { ReadWithin I.was_read limit inlet.old inlet.new result }
 {
     let mut feed = Feed::new(alloc);
     let Ok(mut buffer) = vec![in alloc; 0u8; READ_AT_MOST] else {
@@ -65,6 +68,8 @@ fn take_turn<I: Inlet, S: Sink>(
     requires takes { S.is_full sink.old ≡ false }
     ensures steps { Steps S.took S.refused (I.bytes inlet.old) (I.bytes inlet.new) (I.is_broken inlet.new) feed.old feed.new sink.old sink.new result }
     ensures full { S.is_full sink.new ≡ is_full result }
+    ensures read { I.was_read inlet.old inlet.new }
+    ensures other { is_limit result ≡ false }
     ensures room { length buffer.new ≡ length buffer.old }
 {
     match inlet.read(buffer) {
@@ -79,6 +84,7 @@ fn take_piece<S: Sink>(alloc: Global, sink: &mut S, feed: &mut Feed, piece: &[u8
     requires works { has_failed feed.old ≡ false }
     requires takes { S.is_full sink.old ≡ false }
     ensures full { S.is_full sink.new ≡ is_full result }
+    ensures other { is_limit result ≡ false }
     ensures leads { (more : List Numbered)
         × Handed S.took S.refused sink.old more (is_full result) sink.new
         × LeadsOn feed.old feed.new piece.now more result }
@@ -114,7 +120,8 @@ fn hand_on<S: Sink>(sink: &mut S, snapshots: Vec<Snapshot>) -> bool
 
 /// How the reading ends at the end of the input.
 fn end_of_input(feed: &Feed) -> ReadEnd
-    ensures { (stream : List ℕ) → HasBeenFed feed.now stream → AtEnd stream result }
+    ensures at_end { (stream : List ℕ) → HasBeenFed feed.now stream → AtEnd stream result }
+    ensures other { is_limit_read result ≡ false }
 {
     if feed.done() {
         ReadEnd::Ended

@@ -1,7 +1,8 @@
 //! Reading a stream into a list.
-ghost use Rattle.std.specs.Prelude.{◌≡◌, false};
+ghost use Rattle.std.specs.Prelude.{◌≡◌, false, Some};
 ghost use Rattle.sync_frames.specs.Feed.{snapshots_view};
 ghost use Rattle.sync_server.specs.Ends.{ReadsTo};
+ghost use Rattle.sync_server.specs.Reads.{ReadWithin};
 
 use crate::end::ReadEnd;
 use crate::follow::follow_stream;
@@ -37,7 +38,8 @@ impl Sink for Collected {
 /// WantOfMemory, the first of them. The condition is an inlet that is not broken.
 pub fn read_stream<I: Inlet>(alloc: Global, inlet: &mut I, limit: u64) -> (Vec<Snapshot>, ReadEnd)
     requires { I.is_broken inlet.old ≡ false }
-    ensures { ReadsTo (I.bytes inlet.old) (I.bytes inlet.new) (I.is_broken inlet.new) (snapshots_view result.0.items) result.1 }
+    ensures ends { ReadsTo (I.bytes inlet.old) (I.bytes inlet.new) (I.is_broken inlet.new) (snapshots_view result.0.items) result.1 }
+    ensures reads { ReadWithin I.was_read limit inlet.old inlet.new (Some result.1) }
 {
     let snapshots = Vec::new(alloc);
     let mut collected = Collected {

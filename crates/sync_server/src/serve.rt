@@ -2,7 +2,7 @@
 ghost use Rattle.std.specs.Prelude.{◌≡◌, ℕ, ◌<◌, ◌≤◌, ◌+◌, ◌^◌, false, not, length, take, IfErr, IfNone, IfSome, MatchResult};
 ghost use Rattle.std.specs.Bool.{MatchBool};
 ghost use Rattle.std.specs.Io.KnownBytes.{Appends};
-ghost use Rattle.sync_server.specs.End.{is_closed_end, is_write_fault};
+ghost use Rattle.sync_server.specs.End.{is_closed_end, is_limit_end, is_write_fault};
 ghost use Rattle.snap_share.specs.Lists.{StartsWith};
 ghost use Rattle.sync_server.specs.Served.{SendsLast, SendsOn, Serves, Wrote};
 
@@ -22,9 +22,9 @@ struct Progress {
 }
 
 /// Writes frames of the current snapshot until the numbers are closed, a write fails, the current snapshot can't be read,
-/// memory runs out, or `limit` turns were taken; answers why, and how many whole frames were written. A turn asks for a
-/// number above the last one that was written, 0 at first, reads the current snapshot, and writes its frame where its
-/// number is above the last. The conditions are numbers that are not closed and an outlet that is not broken.
+/// memory runs out, or `limit` turns were taken, which is told before another number is asked for; answers why, and how many
+/// whole frames were written. A turn asks for a number above the last one that was written, 0 at first, reads the current
+/// snapshot, and writes its frame where its number is above the last. The conditions are numbers that are not closed and an outlet that is not broken.
 pub fn serve_stream<C: Current, N: NextNumber, O: Outlet>(
     alloc: Global,
     current: &mut C,
@@ -34,7 +34,7 @@ pub fn serve_stream<C: Current, N: NextNumber, O: Outlet>(
 ) -> (StreamEnd, u64)
     requires open { N.is_closed next.old ≡ false }
     requires whole { O.is_broken out.old ≡ false }
-    ensures serves { Serves (C.known current.new) (O.bytes out.old) (O.bytes out.new) result.1 result.0 }
+    ensures serves { Serves N.asked next.old next.new limit (C.known current.new) (O.bytes out.old) (O.bytes out.new) result.1 result.0 }
     ensures closed { N.is_closed next.new ≡ is_closed_end result.0 }
     ensures broken { O.is_broken out.new ≡ is_write_fault result.0 }
 {
@@ -66,6 +66,7 @@ fn take_turn<C: Current, O: Outlet>(
     ensures ends { IfSome result (λ end.
         SendsLast (C.known current.old) (C.known current.new) (O.bytes out.old) (O.bytes out.new) progress.old progress.new end) }
     ensures closed { IfSome result (λ end. is_closed_end end ≡ false) }
+    ensures limit { IfSome result (λ end. is_limit_end end ≡ false) }
     ensures broken { IfSome result (λ end. O.is_broken out.new ≡ is_write_fault end) }
 {
     match write_newer(alloc, current, out, progress.last) {
@@ -90,6 +91,7 @@ fn write_newer<C: Current, O: Outlet>(
     ensures grows { StartsWith (C.known current.new) (C.known current.old) }
     ensures wrote { Wrote (C.known current.new) last (O.bytes out.old) (O.bytes out.new) result }
     ensures closed { IfErr result (λ end. is_closed_end end ≡ false) }
+    ensures limit { IfErr result (λ end. is_limit_end end ≡ false) }
     ensures broken { MatchResult result (λ _. O.is_broken out.new ≡ false) (λ end. O.is_broken out.new ≡ is_write_fault end) }
 {
     let snapshot = match current.current(alloc) {

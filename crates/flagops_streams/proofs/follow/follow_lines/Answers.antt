@@ -1,21 +1,31 @@
-use Rattle.std.proofs.Common.{refl}
+use Rattle.std.proofs.Common.{None, Some, refl}
 use Rattle.sync_server.specs.declared.end.ReadEnd.TheVariants.{WantOfMemory}
+use Rattle.sync_server.proofs.Followed.{at_most}
 use Rattle.flagops_streams.proofs.Lines.{ended, lines_taken, off, wanting}
 use Rattle.flagops_streams.proofs.follow.follow_lines.Goals as goal
 
-pub returns-in-Some : goal.returns-in-Some
-returns-in-Some g c =
+pub returns-in-Some-clause-printed : goal.returns-in-Some-clause-printed
+returns-in-Some-clause-printed g c =
     let h = c.in-Some.ensures.follows in
     let lines = lines_taken (λ p. g.O.Outlet.bytes p.out) (λ p. g.O.Outlet.is_broken p.out) (λ p. p.wants) _ c.follow_stream-end.new.sink h.1 h.3 in
     (h.0, h.1, h.2, ended h.0 h.1 _ _ _ _ _ _ _ c.in-Some.end h.4 lines c.finish.ensures)
 
-pub returns-in-None : goal.returns-in-None
-returns-in-None g c =
+pub returns-in-None-clause-printed : goal.returns-in-None-clause-printed
+returns-in-None-clause-printed g c =
     let h = c.in-None.ensures.follows in
     let w = wanting (λ p. g.O.Outlet.bytes p.out) (λ p. g.O.Outlet.is_broken p.out) (λ p. p.wants) _ c.follow_stream-end.new.sink h.0 h.1 (g.I.Inlet.bytes c.follow_stream-end.new.inlet) (g.I.Inlet.is_broken c.follow_stream-end.new.inlet) h.4 h.3 c.if-wants.true in
     (h.0, w.0, h.2, ended h.0 w.0 _ _ _ _ _ _ _ WantOfMemory w.1 w.2 c.finish-in-None.ensures)
 
-pub returns-in-None-2 : goal.returns-in-None-2
-returns-in-None-2 g c =
+pub returns-in-None-2-clause-printed : goal.returns-in-None-2-clause-printed
+returns-in-None-2-clause-printed g c =
     let h = c.in-None-2.ensures.follows in
     (h.0, h.1, h.2, off (λ p. g.O.Outlet.bytes p.out) (λ p. g.O.Outlet.is_broken p.out) (λ p. p.wants) _ c.follow_stream-end.new.sink h.0 h.1 _ _ 1 h.4 h.3 c.if-wants.false refl)
+
+pub returns-in-Some-clause-reads : goal.returns-in-Some-clause-reads
+returns-in-Some-clause-reads g c = at_most g.I.Inlet.was_read c.args.turns c.args.inlet.now c.follow_stream-end.new.inlet (Some c.in-Some.end) c.in-Some.ensures.reads
+
+pub returns-in-None-clause-reads : goal.returns-in-None-clause-reads
+returns-in-None-clause-reads g c = at_most g.I.Inlet.was_read c.args.turns c.args.inlet.now c.follow_stream-end.new.inlet None c.in-None.ensures.reads
+
+pub returns-in-None-2-clause-reads : goal.returns-in-None-2-clause-reads
+returns-in-None-2-clause-reads g c = at_most g.I.Inlet.was_read c.args.turns c.args.inlet.now c.follow_stream-end.new.inlet None c.in-None-2.ensures.reads

@@ -1,6 +1,7 @@
-use Rattle.std.proofs.Common.{ℕ, ◌<◌, List, [], ◌++◌, length, true, arith, refl, sym, subst, ◌∙◌}
+use Rattle.std.proofs.Common.{ℕ, ◌+◌, ◌<◌, Some, add-one, List, [], ◌++◌, length, true, arith, refl, sym, subst, ◌∙◌}
 use Rattle.snap_core.specs.Hub.{Numbered}
-use Rattle.sync_server.proofs.Followed.{consumes_both, consumes_none, first_of_nothing, handed_behind, refilled, stands_first, took_both, works_first}
+use Rattle.sync_server.specs.Reads.{AfterReads}
+use Rattle.sync_server.proofs.Followed.{up_to, consumes_both, consumes_none, first_of_nothing, handed_behind, refilled, stands_first, took_both, works_first}
 use Rattle.sync_server.proofs.follow.follow_stream.Goals as goal
 
 pub returns-in_default-clause-follows : goal.returns-in_default-clause-follows
@@ -17,6 +18,7 @@ loop-turn-init g c = (
   c.requires.whole,
   omega (arith, c.in-Ok.ensures.len, c.in-Ok.buffer.ok.0),
   c.requires.takes,
+  refl,
 )
 
 pub take_turn-requires-clause-whole : goal.take_turn-requires-clause-whole
@@ -68,10 +70,31 @@ loop-turn-preserved g c =
       t.2,
       refilled c.loop-turn.buffer.len c.take_turn.new.buffer c.loop-turn.buffer.items (subst (λ (n : ℕ). 0 < n) (sym c.loop-turn.buffer.ok.0) i.7) (subst (λ (n : ℕ). 0 < n) (sym c.take_turn.ensures.room) room),
       c.in-GoesOn.ensures.full,
+      rw add-one (c.loop-turn.inlet, i.9, c.in-GoesOn.ensures.read),
     )
 
 pub returns-clause-follows : goal.returns-clause-follows
-returns-clause-follows g c = let i = c.loop-turn.invariant in (i.0, i.1, i.2, i.3, (i.4.1, i.4.2))
+returns-clause-follows g c = let i = c.loop-turn.invariant in (i.0, i.1, i.2, i.3, (i.4.1, i.4.2, i.6))
 
 pub returns-clause-full : goal.returns-clause-full
 returns-clause-full g c = c.loop-turn.invariant.8
+
+pub returns-in_default-clause-reads : goal.returns-in_default-clause-reads
+returns-in_default-clause-reads g c = (0, omega arith, refl)
+
+pub returns-in-Ends-clause-reads : goal.returns-in-Ends-clause-reads
+returns-in-Ends-clause-reads g c =
+    let n = c.loop-turn._turn in
+    let h : AfterReads g.I.Inlet.was_read (n + 1) c.args.inlet.now c.take_turn.new.inlet = rw add-one (c.loop-turn.inlet, c.loop-turn.invariant.9, c.in-Ends.ensures.read) in
+    up_to g.I.Inlet.was_read c.args.limit (n + 1) c.args.inlet.now c.take_turn.new.inlet (Some c.in-Ends.end) c.in-Ends.ensures.other (omega (arith, c.loop-turn-test.true)) h
+
+pub returns-in-Full-clause-reads : goal.returns-in-Full-clause-reads
+returns-in-Full-clause-reads g c =
+    let n = c.loop-turn._turn in
+    let h : AfterReads g.I.Inlet.was_read (n + 1) c.args.inlet.now c.take_turn.new.inlet = rw add-one (c.loop-turn.inlet, c.loop-turn.invariant.9, c.in-Full.ensures.read) in
+    (n + 1, omega (arith, c.loop-turn-test.true), h)
+
+pub returns-clause-reads : goal.returns-clause-reads
+returns-clause-reads g c =
+    let n = c.loop-turn._turn in
+    subst (λ (k : ℕ). AfterReads g.I.Inlet.was_read k c.args.inlet.now c.loop-turn.inlet) (omega (arith, c.loop-turn-test.false)) c.loop-turn.invariant.9

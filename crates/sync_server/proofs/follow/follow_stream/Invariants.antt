@@ -4,6 +4,7 @@ use Rattle.snap_core.specs.Hub.{Numbered}
 use Rattle.sync_frames.specs.Feed.{has_failed}
 use Rattle.sync_server.specs.Follows.{Stands}
 use Rattle.sync_server.specs.Handed.{Took}
+use Rattle.sync_server.specs.Reads.{AfterReads}
 use Rattle.sync_server.proofs.follow.follow_stream.Given as goal
 
 abbrev pub invariant-loop-turn : goal.invariant-loop-turn
@@ -16,3 +17,4 @@ invariant-loop-turn g l =
     × (g.I.Inlet.is_broken l.inlet ≡ false)
     × (0 < length l.buffer.items)
     × (g.S.Sink.is_full l.sink ≡ false)
+    × AfterReads g.I.Inlet.was_read l._turn l.initial.inlet l.inlet

@@ -39,7 +39,7 @@ returns-in-Err-feed-clause-leads g c =
     let gives : Gives old mid piece h.0 = subst (λ (l : List Numbered). Gives old mid piece l) (h.2 ∙ ap (λ (l : List Numbered). h.0 ++ l) h.4 ∙ append-nil h.0) c.in-Ok.ensures.gives in (
       h.0,
       h.3,
-      λ stream ss left st. subst (λ (e : ReadEnd). Ends (stream ++ piece) (ss ++ h.0) left false e) (sym c.end_by.ensures) (ends_behind old mid new stream piece ss h.0 left c.in-Err-feed.fault gives c.in-Ok.ensures.works c.in-Err-feed.ensures.refuses st),
+      λ stream ss left st. subst (λ (e : ReadEnd). Ends (stream ++ piece) (ss ++ h.0) left false e) (sym c.end_by.ensures.by_fault) (ends_behind old mid new stream piece ss h.0 left c.in-Err-feed.fault gives c.in-Ok.ensures.works c.in-Err-feed.ensures.refuses st),
     )
 
 pub returns-in-Err-clause-leads : goal.returns-in-Err-clause-leads
@@ -49,5 +49,5 @@ returns-in-Err-clause-leads g c =
     let piece = c.args.piece.now in (
       [],
       refl,
-      λ stream ss left st. subst (λ (e : ReadEnd). Ends (stream ++ piece) (ss ++ []) left false e) (sym c.end_by-in-Err.ensures) (refused old new stream piece ss left false c.in-Err.fault c.requires.works c.in-Err.ensures.refuses st.0 st.1),
+      λ stream ss left st. subst (λ (e : ReadEnd). Ends (stream ++ piece) (ss ++ []) left false e) (sym c.end_by-in-Err.ensures.by_fault) (refused old new stream piece ss left c.in-Err.fault c.requires.works c.in-Err.ensures.refuses st.0 st.1),
     )

@@ -16,7 +16,7 @@ returns-in-Ok-eq0-clause-steps g c =
       [],
       nothing,
       refl,
-      λ stream ss st. at_end c.args.feed.now stream ss new (g.I.Inlet.is_broken c.read.new.self) c.end_of_input.result st (e.1 c.in-Ok-eq0.field-0-test room) (c.end_of_input.ensures stream st.0),
+      λ stream ss st. at_end c.args.feed.now stream ss new (g.I.Inlet.is_broken c.read.new.self) c.end_of_input.result st (e.1 c.in-Ok-eq0.field-0-test room) (unbroken (g.I.Inlet.is_broken c.args.inlet.now) (g.I.Inlet.is_broken c.read.new.self) c.requires.whole c.in-Ok-eq0.ensures.broken) (c.end_of_input.ensures.at_end stream st.0),
     )
 
 pub returns-in-Ok-clause-steps : goal.returns-in-Ok-clause-steps

@@ -1,0 +1,49 @@
+-- One turn more of a stream that is written.
+use Rattle.std.proofs.Common.{◌≡◌, ℕ, ◌<◌, ◌≤◌, Bool, true, false, if◌then◌else◌, nat_lt, List, [], ◌∷◌, ◌++◌, refl, sym, ap, subst, ◌∙◌}
+use Rattle.std.proofs.lemmas.Bool.{lt-ltb, le-ltb}
+use Rattle.snap_core.specs.Hub.{Numbered}
+use Rattle.sync_frames.specs.Frames.{last_number}
+use Rattle.sync_server.specs.Turns.{Asked, latest, newer, raised}
+
+-- a snapshot above the last is one more
+pub newer_more : (last : ℕ) (read : List Numbered) (s : Numbered) → latest last read < s.number → newer last (read ++ s ∷ []) ≡ newer last read ++ s ∷ []
+newer_more last [] s h = rw (lt-ltb last s.number h) refl
+newer_more last (r ∷ read) s h =
+    elim (nat_lt last r.number) as (λ b. latest (if b then r.number else last) read < s.number → (if b then r ∷ newer r.number (read ++ s ∷ []) else newer last (read ++ s ∷ [])) ≡ (if b then r ∷ newer r.number read else newer last read) ++ s ∷ []) [
+      | true ↦ λ k. ap (λ (l : List Numbered). r ∷ l) (newer_more r.number read s k)
+      | false ↦ λ k. newer_more last read s k
+    ] h
+
+-- another is none
+pub newer_same : (last : ℕ) (read : List Numbered) (s : Numbered) → s.number ≤ latest last read → newer last (read ++ s ∷ []) ≡ newer last read
+newer_same last [] s h = rw (le-ltb last s.number h) refl
+newer_same last (r ∷ read) s h =
+    elim (nat_lt last r.number) as (λ b. s.number ≤ latest (if b then r.number else last) read → (if b then r ∷ newer r.number (read ++ s ∷ []) else newer last (read ++ s ∷ [])) ≡ (if b then r ∷ newer r.number read else newer last read)) [
+      | true ↦ λ k. ap (λ (l : List Numbered). r ∷ l) (newer_same r.number read s k)
+      | false ↦ λ k. newer_same last read s k
+    ] h
+
+pub latest_append : (last : ℕ) (read : List Numbered) (s : Numbered) → latest last (read ++ s ∷ []) ≡ raised (latest last read) s
+latest_append last [] s = refl
+latest_append last (r ∷ read) s = latest_append (raised last r) read s
+
+pub latest_more : (last : ℕ) (read : List Numbered) (s : Numbered) → latest last read < s.number → latest last (read ++ s ∷ []) ≡ s.number
+latest_more last read s h = latest_append last read s ∙ ap (λ (b : Bool). if b then s.number else latest last read) (lt-ltb (latest last read) s.number h)
+
+pub latest_same : (last : ℕ) (read : List Numbered) (s : Numbered) → s.number ≤ latest last read → latest last (read ++ s ∷ []) ≡ latest last read
+latest_same last read s h = latest_append last read s ∙ ap (λ (b : Bool). if b then s.number else latest last read) (le-ltb (latest last read) s.number h)
+
+-- the last number is that of the last that was newer
+pub last_newer : (last : ℕ) (read : List Numbered) → last_number last (newer last read) ≡ latest last read
+last_newer last [] = refl
+last_newer last (r ∷ read) =
+    elim (nat_lt last r.number) as (λ b. last_number last (if b then r ∷ newer r.number read else newer last read) ≡ latest (if b then r.number else last) read) [
+      | true ↦ last_newer r.number read
+      | false ↦ last_newer last read
+    ]
+
+-- one more was asked for and read
+pub asked_more : {X : Type 0} (asked : X → ℕ → X → Type 0) (last : ℕ) (x y z : X) (read : List Numbered) (s : Numbered)
+    → Asked asked last x read y → asked y (latest last read) z → Asked asked last x (read ++ s ∷ []) z
+asked_more asked last x y z [] s h next = (z, subst (λ w. asked w last z) h next, refl)
+asked_more asked last x y z (r ∷ read) s (w, first, h) next = (w, first, asked_more asked (raised last r) w y z read s h next)
