@@ -1,6 +1,14 @@
 -- What was planned and printed is told as valid.
-use Rattle.std.proofs.Common.{◌≡◌, ◌*◌, ◌%◌, ◌==◌, ℕ, zero, suc, Bool, true, false, cond, Option, Some, None, unwrap_or, refl, sym, ap, subst, ◌∙◌, arith, eq-eqb}
+use Rattle.std.proofs.Common.{◌≡◌, ◌≤◌, ◌+◌, ◌*◌, ◌%◌, ◌==◌, ℕ, zero, suc, List, length, Bool, true, false, cond, Option, Some, None, unwrap_or, refl, sym, ap, subst, ◌∙◌, arith, eq-eqb}
 use Rattle.std.specs.Prelude.{Result, Ok, Err}
+use Rattle.std.proofs.lemmas.Bool.{ltb-false}
+use Rattle.std.proofs.lemmas.List.{take_all}
+use Rattle.flag_text.specs.Reading.{if_whole}
+use Rattle.flag_text.specs.Shape.{Shape}
+use Rattle.flag_text.specs.declared.fault.TextFault.{TextFault}
+use Rattle.flag_text.specs.declared.fault.TextFault.TheVariants.{TooLarge}
+use Rattle.plan_text.specs.PlanFile.{answer_of, if_tree}
+use Rattle.flagops_files.specs.declared.files.LoadFault.{LoadFault}
 use Rattle.std.proofs.Math.Nat.{mul-div_cancel_left, mul-mod_right}
 use Rattle.bucket_core.proofs.Refined.{total_weight-refinement}
 use Rattle.bucket_core.specs.Rule.{Entries, refinement, total_weight}
@@ -22,7 +30,12 @@ use Rattle.rollout_checks.specs.declared.verify_fault.VerifyFault.TheVariants.{R
 use Rattle.transport_instance.specs.declared.fault.CheckFault.TheVariants as check
 use Rattle.flagops_commands.specs.Plan.{Holds, IsPlanOf, MayBePlanned, ReadsBack, report_planned}
 use Rattle.flagops_commands.specs.Valid.{IsValid, IsValidPlan}
-use Rattle.flagops_commands.specs.Verify.{told}
+use Rattle.flagops_commands.specs.Verify.{IsVerdict, told}
+use Rattle.flagops_files.specs.Files.{Holding, front_of}
+use Rattle.flagops_files.specs.Loading.{◌>>=◌, max_rule, refused_by}
+use Rattle.flagops_files.specs.PlanFile.{plan_at}
+use Rattle.flagops_files.specs.declared.refusal.Refusal.{Refusal}
+use Rattle.flagops_files.specs.declared.refusal.Refusal.TheVariants.{Load, ReadPlanned}
 use Rattle.flagops_files.specs.Question.{Question}
 use Rattle.flagops_files.specs.Report.{Report, beside}
 use Rattle.flagops_commands.specs.Unrecorded.{is_unrecorded}
@@ -102,13 +115,29 @@ told_valid b p answer (Err (Check check.Cost)) proves h = absurd (h.wrong (λ sa
 told_valid b p answer (Err (Check check.NotDeficient)) proves h = absurd (h.wrong (λ same. cc) proves)
 told_valid b p answer (Err (Check check.Groups)) proves h = absurd (h.wrong (λ same. cc) proves)
 
+-- ---- a file of a text that reads as an answer
+
+fits_by : (b : Bool) (r : Result Shape TextFault) (answer : Answer) → if_tree (if_whole (cond b (Err TooLarge) r)) ≡ Ok answer → b ≡ false
+fits_by true r answer h = absurd (refused h)
+fits_by false r answer h = refl
+
+loaded : (at : Holding) (path text : List ℕ) → at path ≡ Some text → length text ≤ max_rule → front_of max_rule (at path) ≡ Ok text
+loaded at path text is fits = ap (front_of max_rule) is ∙ ap Ok (take_all (max_rule + 1) text (omega (arith, fits)))
+
+saved_plan : (at : Holding) (path text : List ℕ) (answer : Answer) → at path ≡ Some text → Holds answer text → plan_at at path ≡ Ok answer
+unfolding plan_at
+saved_plan at path text answer is holds =
+    let fits : length text ≤ max_rule = ltb-false max_rule (length text) (fits_by _ _ answer holds) in
+    ap (λ (it : Result (List ℕ) LoadFault). refused_by Load it >>= λ bytes. refused_by ReadPlanned (answer_of bytes)) (loaded at path text is fits) ∙ ap (refused_by ReadPlanned) holds
+
 module _ (refine : Option ℕ) (q : Question) (report : Report) (p : Planned) where
   valid_at : (problem : Result Problem RolloutFault) → problem_refined (unwrap_or refine 1) q.flags q.request q.book ≡ problem → IsPlanned problem (Ok p) → Holds (planned_view p) report.text → IsValidPlan refine q report.text
   valid_at (Err f) e h holds = absurd h
   valid_at (Ok problem) e h holds = record {
     answer = planned_view p;
     holds = holds;
-    valid = λ r verdict.
+    valid = λ at path r is told_of.
+        let verdict : IsVerdict refine (Ok q) (Ok (planned_view p)) r = subst (λ (it : Result Answer Refusal). IsVerdict refine (Ok q) it r) (saved_plan at path report.text (planned_view p) is holds) told_of in
         let outcome = subst (λ (it : Result Problem RolloutFault). IsOutcome it (planned_view p) verdict.0) (same_problem refine (planned_view p) q problem e h.proves) verdict.1.told in
         subst (IsValid (planned_view p)) (sym verdict.2) (told_valid (is_unrecorded q) problem (planned_view p) verdict.0 h.proves outcome);
   }

@@ -1,9 +1,9 @@
 -- What was loaded in turn and then told, as one report.
-use Rattle.std.proofs.Common.{◌≡◌, ℕ, List, Option, Some, None, IfSome, subst, sym}
+use Rattle.std.proofs.Common.{◌≡◌, ℕ, List, Option, Some, None, IfOk, IfSome, subst, sym}
 use Rattle.std.specs.Prelude.{Result, Ok, Err}
 use Rattle.flag_documents.specs.Document.{Definitions}
 use Rattle.plan_text.specs.Answer.{Answer}
-use Rattle.flagops_commands.specs.Apply.{IsApplyReport, applied_report}
+use Rattle.flagops_commands.specs.Apply.{IsApplyReport, IsLocalReport, applied_report}
 use Rattle.flagops_files.specs.Documents.{IsDocumentAt}
 use Rattle.flagops_files.specs.Files.{Holding}
 use Rattle.flagops_commands.specs.Plan.{IsPlanOf, IsPlanReport}
@@ -49,11 +49,11 @@ module _ (document request book : List ℕ) (refine : Option ℕ) (q : Question)
 
 module _ (path plan key : List ℕ) (site : ℕ) (flags : Definitions) (answer : Answer) where
   applied_over : (at : Holding) (r : Result Outcome Refused) → IsDocumentAt at path (Ok flags) → plan_at at plan ≡ Ok answer
-      → GivesUnlessWant outcome_view r (applied_report flags key site answer) → GivesOne outcome_view r (IsApplyReport at path plan key site)
+      → GivesUnlessWant outcome_view r (applied_report flags key site answer) → IfOk r (λ o. IsLocalReport flags key site answer (outcome_view o)) → GivesOne outcome_view r (IsApplyReport at path plan key site)
   unfolding IsApplyReport
-  applied_over at (Ok o) loaded answered told = (Ok flags, loaded, rw answered (sym told))
-  applied_over at (Err e) loaded answered told = λ no. (Ok flags, loaded, rw answered (sym (told no)))
+  applied_over at (Ok o) loaded answered told local = (Ok flags, loaded, rw answered (sym told, local))
+  applied_over at (Err e) loaded answered told local = λ no. (Ok flags, loaded, rw answered (sym (told no), tt))
 
   pub applied : (old kept : Option Holding) (r : Result Outcome Refused) → kept ≡ old → IfSome old (λ at. IsDocumentAt at path (Ok flags)) → IfSome kept (λ at. plan_at at plan ≡ Ok answer)
-      → GivesUnlessWant outcome_view r (applied_report flags key site answer) → IfSome old (λ at. GivesOne outcome_view r (IsApplyReport at path plan key site))
-  applied old kept r same loaded answered told = joined old kept same loaded answered (λ at a b. applied_over at r a b told)
+      → GivesUnlessWant outcome_view r (applied_report flags key site answer) → IfOk r (λ o. IsLocalReport flags key site answer (outcome_view o)) → IfSome old (λ at. GivesOne outcome_view r (IsApplyReport at path plan key site))
+  applied old kept r same loaded answered told local = joined old kept same loaded answered (λ at a b. applied_over at r a b told local)

@@ -1,8 +1,9 @@
 -- What the command `apply` answers.
-use Rattle.std.specs.Prelude.{◌≡◌, ℕ, false, List, ◌++◌, codes, Result, Ok}
+use Rattle.std.specs.Prelude.{◌≡◌, ℕ, false, List, ◌++◌, codes, IfOk, Result, Ok, Err}
 use Rattle.flag_documents.specs.Document.{Definitions, printed}
 use Rattle.plan_text.specs.Answer.{Answer, emit, none_exists}
 use Rattle.rollout.specs.Applied.{applied}
+use Rattle.rollout.specs.Change.{IsLocal}
 use Rattle.flagops_files.specs.Documents.{IsDocumentAt}
 use Rattle.flagops_files.specs.Files.{Holding}
 use Rattle.flagops_files.specs.Loading.{◌>>=◌, refused_by}
@@ -24,12 +25,17 @@ unfoldable pub applied_report : Definitions → List ℕ → ℕ → Answer → 
 applied_report flags key site (emit rule c) = refused_by Apply (applied flags key site rule) >>= λ changed. done (document_line changed)
 applied_report flags key site (none_exists kind names) = Ok none_report
 
--- the same of what was read, the document before the plan
-abbrev pub apply_over : Holding → Result Definitions Refusal → List ℕ → List ℕ → ℕ → Result Report Refusal
-apply_over at document plan key site = do
-  flags ← document
-  answer ← plan_at at plan
-  applied_report flags key site answer
+-- What is printed is the document of flags of which one is changed, at the site alone: the others, and what chooses alike by both
+-- rules, resolve as before.
+abbrev pub IsLocalReport : Definitions → List ℕ → ℕ → Answer → Report → Type 0
+IsLocalReport before key site (emit rule c) report = (after : Definitions) × (report.text ≡ document_line after) × IsLocal before key site rule after
+IsLocalReport before key site (none_exists kind names) report = Unit {0}
+
+-- the report of what was read, the document before the plan
+abbrev pub IsApplied : List ℕ → ℕ → Result Definitions Refusal → Result Answer Refusal → Outcomes
+IsApplied key site (Err e) answer r = r ≡ Err e
+IsApplied key site (Ok flags) (Err e) r = r ≡ Err e
+IsApplied key site (Ok flags) (Ok answer) r = (r ≡ applied_report flags key site answer) × IfOk r (IsLocalReport flags key site answer)
 
 unfoldable pub IsApplyReport : Holding → List ℕ → List ℕ → List ℕ → ℕ → Outcomes
-IsApplyReport at path plan key site r = (document : Result Definitions Refusal) × IsDocumentAt at path document × (r ≡ apply_over at document plan key site)
+IsApplyReport at path plan key site r = (document : Result Definitions Refusal) × IsDocumentAt at path document × IsApplied key site document (plan_at at plan) r

@@ -1,7 +1,7 @@
 -- What the command `plan` answers.
-use Rattle.std.specs.Prelude.{◌≡◌, ℕ, false, List, ◌++◌, codes, unwrap_or, IfOk, Option, Result, Ok, Err}
+use Rattle.std.specs.Prelude.{◌≡◌, ℕ, false, List, unwrap_or, IfOk, Option, Result, Ok, Err}
 use Rattle.plan_text.specs.Answer.{Answer, emit, none_exists, IsOrdered, planned_view}
-use Rattle.plan_text.specs.PlanFile.{IsWhole, answer_of, plan_file}
+use Rattle.plan_text.specs.PlanFile.{IsWhole, answer_of, plan_line}
 use Rattle.rollout.specs.Planned.{IsPlanned}
 use Rattle.rollout_checks.specs.Refined.{problem_refined}
 use Rattle.rollout_checks.specs.declared.fault.RolloutFault.{RolloutFault}
@@ -21,7 +21,7 @@ plan_status (none_exists kind names) = 3
 
 -- the plan file of the answer, as a line
 abbrev pub plan_report : Answer → Result Report Refusal
-plan_report answer = refused_by PrintPlanned (plan_file answer) >>= λ text. Ok (record { text = text ++ codes "\n"; status = plan_status answer; is_told = false })
+plan_report answer = refused_by PrintPlanned (plan_line answer) >>= λ text. Ok (record { text = text; status = plan_status answer; is_told = false })
 
 -- the report of what was planned
 abbrev pub report_planned : Result Planned RolloutFault → Result Report Refusal
@@ -36,11 +36,9 @@ pub record MayBePlanned (refine : Option ℕ) (q : Question) (planned : Result P
   -- each number fits a plan file
   pub whole : IfOk planned (λ p. IsWhole (planned_view p))
 
--- the text is a plan file that reads as the answer, and a line end
-pub record Holds (answer : Answer) (text : List ℕ) : Type 0 where
-  pub file : List ℕ
-  pub line : text ≡ file ++ codes "\n"
-  pub reads_back : answer_of file ≡ Ok answer
+-- the whole text, its line end too, is a plan file that reads as the answer
+abbrev pub Holds : Answer → List ℕ → Type 0
+Holds answer text = answer_of text ≡ Ok answer
 
 -- what is printed of an answer reads back as the answer
 abbrev pub ReadsBack : Result Planned RolloutFault → Result Report Refusal → Type 0

@@ -2,7 +2,7 @@
 ghost use Rattle.std.specs.Prelude.{◌≡◌, ◌||◌, false, Ok, IfOk, IfSome};
 ghost use Rattle.flag_defs.specs.Flags.{flags_view};
 ghost use Rattle.plan_text.specs.Answer.{planned_view};
-ghost use Rattle.flagops_commands.specs.Apply.{IsApplyReport, applied_report, document_line, none_report};
+ghost use Rattle.flagops_commands.specs.Apply.{IsApplyReport, IsLocalReport, applied_report, document_line, none_report};
 ghost use Rattle.flagops_commands.specs.Calls.{apply_calls, apply_itself};
 ghost use Rattle.flagops_files.specs.Refusal.{ComesFrom, GivesOne, GivesUnlessWant, is_file_fault};
 ghost use Rattle.flagops_files.specs.Report.{done, outcome_view};
@@ -46,6 +46,7 @@ fn applied(
     planned: &Planned,
 ) -> Result<Outcome, Refused>
     ensures exact { GivesUnlessWant outcome_view result (applied_report (flags_view flags.now) key.now site (planned_view planned.now)) }
+    ensures local { IfOk result (λ o. IsLocalReport (flags_view flags.now) key.now site (planned_view planned.now) (outcome_view o)) }
     ensures calls { ComesFrom apply_itself result }
     ensures read { is_file_fault result ≡ false }
 {

@@ -14,9 +14,9 @@ use flagops_files::{
 };
 use flagops_remarks::{of_large_plan, of_rollout};
 use flagops_words::Factor;
-use plan_text::{Planned, print_planned};
+use plan_text::{Planned, print_planned_line};
 use rollout::{RolloutFault, plan_refined};
-use std::alloc::{AllocError, AllocFailed, Global};
+use std::alloc::{AllocError, Global};
 use std::thread::Threads;
 
 /// The plan file of the rule that meets a request and costs the recorded inputs the least, or of a set of names which
@@ -99,27 +99,17 @@ fn printed(alloc: Global, planned: &Planned, remark: Option<Remark>) -> Result<O
     ensures calls { ComesFrom prints_plan result }
     ensures read { is_file_fault result ≡ false }
 {
-    let mut text = match print_planned(alloc, planned) {
-        Ok(text) => text,
-        Err(fault) => {
-            let lines = of_large_plan(alloc);
-            return Err(Refused {
-                refusal: Refusal::PrintPlanned(fault),
-                remark: Remark::of(lines),
-            });
-        }
-    };
-    if let Err(AllocFailed { .. }) = text.push(b'\n') {
-        return Err(Refused {
-            refusal: Refusal::WantOfMemory(Call::Plan),
-            remark: Remark::Short,
-        });
+    match print_planned_line(alloc, planned) {
+        Ok(text) => Ok(Outcome {
+            text,
+            status: status_of(planned),
+            remark,
+        }),
+        Err(fault) => Err(Refused {
+            refusal: Refusal::PrintPlanned(fault),
+            remark: Remark::of(of_large_plan(alloc)),
+        }),
     }
-    Ok(Outcome {
-        text,
-        status: status_of(planned),
-        remark,
-    })
 }
 
 fn status_of(planned: &Planned) -> Status
