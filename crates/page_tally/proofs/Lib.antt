@@ -1,0 +1,5 @@
+mod Quoted
+mod Plainly
+mod Running
+mod Joined
+mod Paging

@@ -1,0 +1,17 @@
+//! How many inputs of one page of a book file fall on each point, with no text for each input.
+//!
+//! Proved, over the definitions of `specs/`: [`read_tally`] gives what `counts` of `book_core` gives of the page's
+//! exposure in the book of the file, or that file's first fault (`Tally`). It is a fold over the lines that keeps of
+//! those before the page, the last input, the line's number and the counts (`Folding`), and a run of lines at fault in
+//! nothing changes only these (`Runs`).
+#![tactic(auto)]
+
+mod counter;
+mod input;
+mod line;
+mod lines;
+mod plain;
+mod read;
+mod run;
+
+pub use read::read_tally;
