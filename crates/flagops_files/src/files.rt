@@ -1,5 +1,5 @@
 //! The files that the program reads and writes, as it sees them.
-ghost use Rattle.std.specs.Prelude.{◌≡◌, ◌≤◌, ◌+◌, ℕ, List, Option, Bool, ◌||◌, length, IfOk, IfSome, OnOk};
+ghost use Rattle.std.specs.Prelude.{◌≡◌, ◌≤◌, ◌+◌, ℕ, List, Option, Bool, ◌||◌, length, IfOk, IfSome, OnErr, OnOk};
 ghost use Rattle.flag_text.specs.Outcome.{GivesUnless};
 ghost use Rattle.flagops_files.specs.Files.{Holding, load_of, is_unreadable, is_unwritable, Stores, KeepsOthers, load_number, load_name, store_number, store_name};
 
@@ -89,9 +89,10 @@ pub trait FileSet {
         ensures failed { has_failed self.new ≡ (has_failed self.old || is_unreadable result) }
         ensures kept { holding self.new ≡ holding self.old };
 
-    /// Makes the bytes the file at the path. What that file holds after an `Err` is left open.
+    /// Makes the bytes the file at the path. After an `Err` the files are as they were.
     fn write(&mut self, alloc: Global, path: &str, bytes: &[u8]) -> Result<(), StoreFault>
         ensures stored { OnOk result (Stores (holding self.old) (holding self.new) path.now bytes.now) }
         ensures others { KeepsOthers (holding self.old) (holding self.new) path.now }
+        ensures refused { OnErr result (holding self.new ≡ holding self.old) }
         ensures failed { has_failed self.new ≡ (has_failed self.old || is_unwritable result) };
 }

@@ -2,6 +2,7 @@
 //!
 //! - [`FileSet`] is what a command sees of files; [`SystemFiles`] are those of the system. The functions `load_..` go from a
 //!   path to what the file stands for: a tree, a rule, a flag document, a plan file, or the [`Question`] of a rollout.
+//!   [`store`] replaces a file whole: where it is refused, the files are as they were.
 //! - A [`Refusal`] is the fault of one of the calls that a command makes. [`Refusal::line`] is the line that it is written as;
 //!   a [`Refused`] has it with the [`Remark`] that a person is told.
 //! - An [`Outcome`] is the whole output of a command with its [`Status`] and perhaps a remark; [`report`] writes both, and
@@ -18,7 +19,8 @@
 //! ```
 //!
 //! Proved, over the definitions of `specs/`: what is loaded is what the definitions give of the files, the first refusal in
-//! its order, unless memory ran out; a file set shows a failure exactly where a load refused; the line of a refusal is
+//! its order, unless memory ran out; a file set shows a failure exactly where a load refused; a file that was refused to be
+//! written leaves all files as they were; the line of a refusal is
 //! `Refusal.line_of`; and what was written is the text, or a front of it with status 1 where the outlet failed; a remark is
 //! told where there is one, whatever becomes of the output, and changes neither text nor status.
 #![tactic(auto)]
@@ -33,6 +35,7 @@ mod question;
 mod quoting;
 mod refusal;
 mod refused;
+mod replacing;
 mod reports;
 mod storing;
 mod system_files;

@@ -1,5 +1,5 @@
 //! From bytes to a file at a path.
-ghost use Rattle.std.specs.Prelude.{◌≡◌, ◌||◌, false, IfErr, OnOk};
+ghost use Rattle.std.specs.Prelude.{◌≡◌, ◌||◌, false, IfErr, OnErr, OnOk};
 ghost use Rattle.flagops_files.specs.Files.{KeepsOthers, Stores};
 ghost use Rattle.flagops_files.specs.Refusal.{ComesFrom, is_file_fault, is_want, stores_file, unwritable};
 
@@ -9,7 +9,7 @@ use crate::refused::{Refused, Remark};
 use flagops_remarks::of_unwritable;
 use std::alloc::Global;
 
-/// Makes the bytes the file at a path. What that file holds after a refusal is left open.
+/// Makes the bytes the file at a path. After a refusal the files are as they were.
 pub fn store<F: FileSet>(
     alloc: Global,
     files: &mut F,
@@ -18,6 +18,7 @@ pub fn store<F: FileSet>(
 ) -> Result<(), Refused>
     ensures stored { OnOk result (Stores (F.holding files.old) (F.holding files.new) path.now bytes.now) }
     ensures others { KeepsOthers (F.holding files.old) (F.holding files.new) path.now }
+    ensures refused { OnErr result (F.holding files.new ≡ F.holding files.old) }
     ensures fault { IfErr result (λ r. is_want r.refusal ≡ false → r.refusal ≡ unwritable) }
     ensures calls { ComesFrom stores_file result }
     ensures failed { F.has_failed files.new ≡ (F.has_failed files.old || is_file_fault result) }

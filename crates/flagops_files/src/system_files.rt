@@ -2,6 +2,7 @@
 ghost use Rattle.std.specs.Prelude.{◌≡◌, ◌≤◌, ◌+◌, None, false, length, IfOk};
 
 use crate::files::{FileSet, LoadFault, StoreFault};
+use crate::replacing::replace;
 use std::alloc::Global;
 use std::fs::{File, OpenFile};
 use std::io::{ErrorKind, Read};
@@ -40,8 +41,8 @@ impl<'a, R: Files> FileSet for SystemFiles<'a, R> {
         }
     }
 
-    fn write(&mut self, _alloc: Global, path: &str, bytes: &[u8]) -> Result<(), StoreFault> {
-        match fs::write(self.rt, path, bytes) {
+    fn write(&mut self, alloc: Global, path: &str, bytes: &[u8]) -> Result<(), StoreFault> {
+        match replace(self.rt, alloc, path, bytes) {
             Ok(()) => Ok(()),
             Err(e) if e.kind() == ErrorKind::OutOfMemory => Err(StoreFault::WantOfMemory),
             Err(_) => {
