@@ -16,7 +16,12 @@ use Rattle.flagops_files.specs.declared.outcome.Outcome.{Outcome}
 use Rattle.flagops_files.specs.declared.refused.Refused.{Refused}
 use Rattle.flagops_files.specs.declared.refusal.Refusal.{Refusal}
 use Rattle.flagops_files.specs.declared.refusal.Refusal.TheVariants.{Drive}
-use Rattle.flagops_commands.specs.Drive.{AreRead, IsDriveReport, IsDroveOf, IsWritten, LeavesBook}
+use Rattle.flagops_commands.specs.Drive.{AreRead, IsDriveReport, IsDroveOf, IsWritten, KeepsUnlessDone, LeavesBook}
+
+-- files that stayed until the storing
+pub kept_after : {E : Type 0} (old mid last new : Option Holding) (r : Result Outcome E) → mid ≡ old → last ≡ mid → KeepsUnlessDone last new r → KeepsUnlessDone old new r
+kept_after old mid last new r first second (inl same) = inl (same ∙ second ∙ first)
+kept_after old mid last new r first second (inr done) = inr done
 
 pub others_after : (old mid new : Option Holding) (path : List ℕ) → mid ≡ old → KeepsOthers mid new path → KeepsOthers old new path
 others_after old mid new path same kept = subst (λ (h : Option Holding). KeepsOthers h new path) same kept
@@ -26,12 +31,12 @@ others_after old mid new path same kept = subst (λ (h : Option Holding). KeepsO
 pub book_stored : (old new : Option Holding) (book : List ℕ) (d : Drove) (r : Result Report Refusal) → r ≡ done d.text → Stores old new book d.book → KeepsOthers old new book
     → IfSome old (λ at. IsWritten at new book (Ok d) r)
 book_stored None new book d r is stored kept = tt
-book_stored (Some at) new book d r is stored kept = (kept, inl (is, stored))
+book_stored (Some at) new book d r is stored kept = inl (is, stored, kept)
 
-pub book_refused : (old new : Option Holding) (book : List ℕ) (d : Drove) (e : Refused) → (is_want e.refusal ≡ false → e.refusal ≡ unwritable) → KeepsOthers old new book
+pub book_refused : (old new : Option Holding) (book : List ℕ) (d : Drove) (e : Refused) → (is_want e.refusal ≡ false → e.refusal ≡ unwritable) → new ≡ old
     → IfSome old (λ at. is_want e.refusal ≡ false → IsWritten at new book (Ok d) (Err e.refusal))
-book_refused None new book d e fault kept = tt
-book_refused (Some at) new book d e fault kept = λ wanted. (kept, inr (rw (fault wanted) refl))
+book_refused None new book d e fault same = tt
+book_refused (Some at) new book d e fault same = λ wanted. inr (rw (fault wanted) refl, same)
 
 -- ---- the whole
 

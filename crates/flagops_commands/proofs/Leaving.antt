@@ -1,16 +1,16 @@
 -- What the commands leave of the files, and which refusals a file that failed or changed is told by.
-use Rattle.std.proofs.Common.{◌≡◌, ◌≢◌, ◌⊎◌, ◌∙◌, ◌||◌, Option, Some, None, Bool, true, false, IfSome, IfOk, IfErr, inl, inr, refl, sym, ap, subst}
+use Rattle.std.proofs.Common.{◌≡◌, ◌∙◌, ◌||◌, Option, Some, None, Bool, true, false, IfSome, IfOk, IfErr, inl, inr, refl, sym, ap, subst}
 use Rattle.std.specs.Prelude.{Result, Ok, Err}
 use Rattle.flagops_words.specs.Asked.{Asked, bucket, price, check, resolve, verify, apply, plan, drive, completions}
-use Rattle.flagops_commands.specs.Commands.{calls_of, HasStored, IsOutcome, IsRunOutcome, Leaves, LeavesAsked}
+use Rattle.flagops_commands.specs.Commands.{calls_of, IsOutcome, IsRunOutcome, Leaves, LeavesAsked}
+use Rattle.flagops_commands.specs.Drive.{KeepsUnlessDone}
 use Rattle.flagops_files.specs.Files.{Holding}
-use Rattle.flagops_files.specs.Refusal.{call_of, is_unread, is_want, stores_file, unreadable, unwritable}
+use Rattle.flagops_files.specs.Refusal.{call_of, is_unread, is_want, unreadable, unwritable}
 use Rattle.flagops_files.specs.Report.{AnswersOrWants, IsFileRefusal, Report, outcome_view, report_of}
 use Rattle.flagops_files.specs.declared.files.LoadFault.TheVariants as load
 use Rattle.flagops_files.specs.declared.files.StoreFault.TheVariants as store
 use Rattle.flagops_files.specs.declared.outcome.Outcome.{Outcome}
 use Rattle.flagops_files.specs.declared.refusal.Call.{Call}
-use Rattle.flagops_files.specs.declared.refusal.Call.TheVariants as call
 use Rattle.flagops_files.specs.declared.refusal.Refusal.{Refusal}
 use Rattle.flagops_files.specs.declared.refusal.Refusal.TheVariants as refusal
 use Rattle.flagops_files.specs.declared.refused.Refused.{Refused}
@@ -93,43 +93,8 @@ module _ (files after : Option Holding) (failed : Bool) (asked : Asked) where
       go (Some at) (Ok o) is line named = (Err e.refusal, (is line.0, has_failed was failed e.refusal fails), line.1)
       go (Some at) (Err c) is line named = ap (calls_of asked) named ∙ calls
 
--- ---- a file that changed is told
+-- ---- a refusal leaves the files
 
-differs : {X : Type 0} → true ≡ false → X
-differs h = cc
-
-of_storing : (r : Refusal) → stores_file (call_of r) ≡ true → is_want r ≡ false → r ≡ unwritable
-of_storing (refusal.Store store.Unwritable) is e = refl
-of_storing (refusal.Store store.WantOfMemory) is e = cc
-of_storing (refusal.WantOfMemory c) is e = cc
-of_storing (refusal.Load f) is e = cc
-of_storing refusal.LongBook is e = cc
-of_storing (refusal.ReadTree f) is e = cc
-of_storing (refusal.ReadRule f) is e = cc
-of_storing (refusal.ReadRequest f) is e = cc
-of_storing (refusal.Note f) is e = cc
-of_storing (refusal.Price f) is e = cc
-of_storing (refusal.ReadFlags f) is e = cc
-of_storing (refusal.ReadBook f) is e = cc
-of_storing (refusal.ReadPlanned f) is e = cc
-of_storing (refusal.Verify f) is e = cc
-of_storing (refusal.Apply f) is e = cc
-of_storing (refusal.Plan f) is e = cc
-of_storing (refusal.PrintPlanned f) is e = cc
-of_storing (refusal.Drive f) is e = cc
-
-pub stored_done : (old new : Option Holding) (o : Outcome) → (new ≡ old) ⊎ AnswersOrWants stores_file (Ok o) HasStored
-stored_done old new o = inr (Ok (outcome_view o), tt, refl)
-
-pub stored_refused : (old new : Option Holding) (e : Refused) (r : Result Outcome Call) → (call_of e.refusal ≢ call.Store → new ≡ old)
-    → IfOk r (λ o. (is_want e.refusal ≡ false) × (outcome_view o ≡ report_of (Err e.refusal))) → IfErr r (λ c. c ≡ call_of e.refusal) → (new ≡ old) ⊎ AnswersOrWants stores_file r HasStored
-stored_refused old new e r kept line named = by (stores_file (call_of e.refusal)) refl
-  where
-    told : (s : Result Outcome Call) → stores_file (call_of e.refusal) ≡ true → IfOk s (λ o. (is_want e.refusal ≡ false) × (outcome_view o ≡ report_of (Err e.refusal))) → IfErr s (λ c. c ≡ call_of e.refusal)
-        → AnswersOrWants stores_file s HasStored
-    told (Ok o) stores line named = (Err e.refusal, of_storing e.refusal stores line.0, line.1)
-    told (Err c) stores line named = ap stores_file named ∙ stores
-
-    by : (b : Bool) → stores_file (call_of e.refusal) ≡ b → (new ≡ old) ⊎ AnswersOrWants stores_file r HasStored
-    by true stores = inr (told r stores line named)
-    by false other = inl (kept (λ is. differs (sym (ap stores_file is) ∙ other)))
+pub refused_kept : {X Y : Type 0} (old new : Option Holding) (e : X) (r : Result Outcome Y) → KeepsUnlessDone old new (Err e) → KeepsUnlessDone old new r
+refused_kept old new e r (inl same) = inl same
+refused_kept old new e r (inr done) = absurd done

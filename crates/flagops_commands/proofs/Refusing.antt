@@ -1,6 +1,6 @@
 -- What `drive` refuses: by name where the workers or the asks are wrong, and before any file is stored.
-use Rattle.std.proofs.Common.{◌≡◌, ◌∙◌, ℕ, List, Option, Some, None, Bool, true, false, IfSome, sym, ap, refl, subst}
-use Rattle.std.specs.Prelude.{Result, Ok, Err}
+use Rattle.std.proofs.Common.{◌≡◌, ◌∙◌, ℕ, List, Option, Some, None, Bool, true, false, IfSome, inl, sym, ap, subst}
+use Rattle.std.specs.Prelude.{Result, Ok}
 use Rattle.flag_text.specs.Shape.{Shape}
 use Rattle.flagops_drive.proofs.Named.{is_refused, named}
 use Rattle.flagops_drive.specs.Asks.{Ask, asks_of}
@@ -9,13 +9,14 @@ use Rattle.flagops_drive.specs.declared.fault.DriveRefusal.{DriveRefusal}
 use Rattle.flagops_drive.specs.declared.fault.DriveRefusal.TheVariants.{BadAsks}
 use Rattle.flagops_files.specs.Files.{Holding}
 use Rattle.flagops_files.specs.Loading.{max_text, tree_at}
-use Rattle.flagops_files.specs.Refusal.{ComesFrom, call_of, is_want, stores_file}
+use Rattle.flagops_files.specs.Refusal.{call_of, is_want}
 use Rattle.flagops_files.specs.declared.refusal.Call.{Call}
 use Rattle.flagops_files.specs.declared.refusal.Call.TheVariants as call
 use Rattle.flagops_files.specs.declared.refusal.Refusal.{Refusal}
 use Rattle.flagops_files.specs.declared.refusal.Refusal.TheVariants.{Drive}
 use Rattle.flagops_files.specs.declared.refused.Refused.{Refused}
-use Rattle.flagops_commands.specs.Drive.{HasNoAsks, IsRefusedByName, KeepsUnlessStored}
+use Rattle.flagops_commands.specs.Drive.{HasNoAsks, IsRefusedByName, KeepsUnlessDone}
+use Rattle.flagops_files.specs.declared.outcome.Outcome.{Outcome}
 
 differs : {X : Type 0} → true ≡ false → X
 differs h = cc
@@ -73,33 +74,6 @@ module _ (path : List ℕ) (t : Shape) (workers : ℕ) where
 
 -- ---- the files
 
-is_store : (c : Call) → stores_file c ≡ true → c ≡ call.Store
-is_store call.Store e = refl
-is_store call.Flagops e = cc
-is_store call.Load e = cc
-is_store call.ReadTree e = cc
-is_store call.ReadRule e = cc
-is_store call.Bucket e = cc
-is_store call.ReadRequest e = cc
-is_store call.Note e = cc
-is_store call.Price e = cc
-is_store call.ReadFlags e = cc
-is_store call.Check e = cc
-is_store call.Resolve e = cc
-is_store call.ReadBook e = cc
-is_store call.ReadPlanned e = cc
-is_store call.Verify e = cc
-is_store call.Apply e = cc
-is_store call.Plan e = cc
-is_store call.PrintPlanned e = cc
-is_store call.Drive e = cc
-
--- the storing of a file is what may change it
-pub changed_by_storing : {X : Type 0} (old new : Option Holding) (r : Result X Refused) → ComesFrom stores_file r → KeepsUnlessStored old new r
-changed_by_storing old new (Ok x) h = tt
-changed_by_storing old new (Err e) h = λ other. absurd (other (is_store (call_of e.refusal) h))
-
 -- files that stay
-pub all_kept : {X : Type 0} (old new : Option Holding) (r : Result X Refused) → new ≡ old → KeepsUnlessStored old new r
-all_kept old new (Ok x) same = tt
-all_kept old new (Err e) same = λ _. same
+pub all_kept : {E : Type 0} (old new : Option Holding) (r : Result Outcome E) → new ≡ old → KeepsUnlessDone old new r
+all_kept old new r same = inl same

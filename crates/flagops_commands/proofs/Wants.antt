@@ -1,10 +1,10 @@
 -- What a command came to, and a call of it that ran out of memory, as an answer of the program.
 use Rattle.std.proofs.Common.{◌≡◌, ◌⊎◌, inl, inr, ℕ, Bool, true, refl, sym, subst, List, Option, Some, None, IfSome}
-use Rattle.std.specs.Prelude.{Ok}
+use Rattle.std.specs.Prelude.{Ok, Err}
 use Rattle.flagops_words.specs.Asked.{Asked}
-use Rattle.flagops_commands.specs.Commands.{HasStored, IsRunOutcome, calls_of, can_want}
+use Rattle.flagops_commands.specs.Commands.{IsRunOutcome, calls_of, can_want}
+use Rattle.flagops_commands.specs.Drive.{KeepsUnlessDone}
 use Rattle.flagops_files.specs.Files.{Holding}
-use Rattle.flagops_files.specs.Refusal.{stores_file}
 use Rattle.flagops_files.specs.Report.{Answers, AnswersOrWants, Report, ReportsAll, outcome_view, want_report}
 use Rattle.flagops_files.specs.declared.outcome.Outcome.{Outcome}
 use Rattle.flagops_files.specs.declared.refusal.Call.{Call}
@@ -60,12 +60,13 @@ module _ (out out_after : Option (List ℕ)) (is_broken : Bool) (err err_after :
       go (Some at) told = inl (told.0, told.1, subst Writes told.2 writes)
 
   -- a file has changed
-  pub stored_reported : (old new : Option Holding) (o : Outcome) → (new ≡ old) ⊎ AnswersOrWants stores_file (Ok o) HasStored → Writes (outcome_view o)
-      → (new ≡ old) ⊎ Answers stores_file out out_after is_broken err err_after is_err_broken status HasStored
-  stored_reported old new o (inl same) writes = inl same
-  stored_reported old new o (inr told) writes = inr (inl (told.0, told.1, subst Writes told.2 writes))
+  abbrev IsDone : Type 0
+  IsDone = (report : Report) × (report.status ≡ 0) × Writes report
 
-  pub stored_wanted : (old new : Option Holding) (c : Call) → (new ≡ old) ⊎ (stores_file c ≡ true) → Writes (want_report c)
-      → (new ≡ old) ⊎ Answers stores_file out out_after is_broken err err_after is_err_broken status HasStored
-  stored_wanted old new c (inl same) writes = inl same
-  stored_wanted old new c (inr stores) writes = inr (inr (c, stores, writes))
+  pub done_reported : (old new : Option Holding) (o : Outcome) → KeepsUnlessDone {E = Call} old new (Ok o) → Writes (outcome_view o) → (new ≡ old) ⊎ IsDone
+  done_reported old new o (inl same) writes = inl same
+  done_reported old new o (inr done) writes = inr (outcome_view o, done, writes)
+
+pub none_done : {X : Type 0} (old new : Option Holding) (c : Call) → KeepsUnlessDone old new (Err c) → (new ≡ old) ⊎ X
+none_done old new c (inl same) = inl same
+none_done old new c (inr done) = absurd done

@@ -1,5 +1,5 @@
 -- The table of the commands.
-use Rattle.std.specs.Prelude.{◌≡◌, Bool, true, false, Option, Some, Ok, Err}
+use Rattle.std.specs.Prelude.{◌≡◌, Bool, true, false, Option, Some}
 use Rattle.flagops_commands.specs.Apply.{IsApplyReport}
 use Rattle.flagops_commands.specs.Bucket.{bucket_report}
 use Rattle.flagops_commands.specs.Check.{IsCheckReport}
@@ -9,7 +9,6 @@ use Rattle.flagops_files.specs.Files.{Holding}
 use Rattle.flagops_commands.specs.Plan.{IsPlanReport}
 use Rattle.flagops_commands.specs.Price.{price_report}
 use Rattle.flagops_commands.specs.Calls.{bucket_calls, completions_calls, price_calls, check_calls, resolve_calls, verify_calls, apply_calls, plan_calls, drive_calls}
-use Rattle.flagops_files.specs.Refusal.{unwritable}
 use Rattle.flagops_files.specs.Report.{IsFileRefusal, Outcomes}
 use Rattle.flagops_commands.specs.Resolve.{IsResolveReport}
 use Rattle.flagops_commands.specs.Verify.{IsVerifyReport}
@@ -37,11 +36,6 @@ IsOutcome at after (drive document file workers book) r = IsDriveReport at after
 -- the same; and that a file cannot be read or written is told only where one has failed
 abbrev pub IsRunOutcome : Holding → Option Holding → Bool → Asked → Outcomes
 IsRunOutcome at after has_failed asked r = IsOutcome at after asked r × (IsFileRefusal r → has_failed ≡ true)
-
--- what a command comes to that has stored a file, or was refused while it stored one
-abbrev pub HasStored : Outcomes
-HasStored (Ok report) = Unit {0}
-HasStored (Err e) = e ≡ unwritable
 
 -- a command leaves the files as they are; `drive` changes the file of its book alone, and only where it has a book
 abbrev pub Leaves : Asked → Option Holding → Option Holding → Type 0

@@ -1,5 +1,5 @@
 -- What the command `drive` answers, and the book that it writes.
-use Rattle.std.specs.Prelude.{◌≡◌, ◌≢◌, ◌⊎◌, ℕ, List, true, false, Option, Some, None, is_some, IfSome, Result, Ok, Err, IfErr, IsErrAnd}
+use Rattle.std.specs.Prelude.{◌≡◌, ◌⊎◌, ℕ, List, true, false, Option, Some, None, is_some, IfSome, Result, Ok, Err, IsErrAnd, IsOkAnd}
 use Rattle.flag_documents.specs.Document.{Definitions}
 use Rattle.flag_text.specs.Shape.{Shape}
 use Rattle.flagops_drive.specs.Asks.{asks_of}
@@ -9,7 +9,8 @@ use Rattle.flagops_files.specs.Documents.{IsDocumentAt}
 use Rattle.flagops_files.specs.Files.{Holding, KeepsOthers, Stores}
 use Rattle.flagops_files.specs.Loading.{max_text, refused_by, tree_at}
 use Rattle.flagops_files.specs.Refusal.{call_of, is_want, unwritable}
-use Rattle.flagops_files.specs.Report.{Outcomes, done}
+use Rattle.flagops_files.specs.Report.{Outcomes, done, status_number}
+use Rattle.flagops_files.specs.declared.outcome.Outcome.{Outcome}
 use Rattle.flagops_files.specs.declared.refusal.Call.TheVariants as call
 use Rattle.flagops_files.specs.declared.refusal.Refusal.{Refusal}
 use Rattle.flagops_files.specs.declared.refusal.Refusal.TheVariants.{Drive}
@@ -21,10 +22,10 @@ IsDroveOf (Err e) asks workers r = r ≡ Err e
 IsDroveOf (Ok flags) (Err e) workers r = r ≡ Err e
 IsDroveOf (Ok flags) (Ok t) workers r = (d : Result Drove DriveRefusal) × IsDriveOf flags (asks_of t) workers d × (r ≡ refused_by Drive d)
 
--- The book is written before the output, and where that fails the refusal is all. No other file changes, and none where there is no book.
+-- The book is written before the output, and no other file changes; none does where there is no book, or where it is refused to be written.
 abbrev pub IsWritten : Holding → Option Holding → List ℕ → Result Drove Refusal → Outcomes
 IsWritten at after book (Err e) r = (r ≡ Err e) × (after ≡ Some at)
-IsWritten at after book (Ok d) r = KeepsOthers (Some at) after book × (((r ≡ done d.text) × Stores (Some at) after book d.book) ⊎ (r ≡ Err unwritable))
+IsWritten at after book (Ok d) r = ((r ≡ done d.text) × Stores (Some at) after book d.book × KeepsOthers (Some at) after book) ⊎ ((r ≡ Err unwritable) × (after ≡ Some at))
 
 unfoldable pub IsDriveReport : Holding → Option Holding → List ℕ → List ℕ → ℕ → List ℕ → Outcomes
 IsDriveReport at after path asks workers book r =
@@ -38,9 +39,9 @@ AreRead at path asks = (flags : Definitions) × IsDocumentAt at path (Ok flags) 
 abbrev pub LeavesBook : Option Holding → Option Holding → List ℕ → List ℕ → ℕ → List ℕ → Type 0
 LeavesBook old new path asks workers book = (new ≡ old) ⊎ ((workers_refusal workers ≡ None) × IfSome old (λ at. AreRead at path asks) × KeepsOthers old new book)
 
--- a refusal by another call than the storing of a file leaves all files as they are
-abbrev pub KeepsUnlessStored : {X : Type 0} → Option Holding → Option Holding → Result X Refused → Type 0
-KeepsUnlessStored old new r = IfErr r (λ e. call_of e.refusal ≢ call.Store → new ≡ old)
+-- the files stay as they are, or the command did what it was asked
+abbrev pub KeepsUnlessDone : {E : Type 0} → Option Holding → Option Holding → Result Outcome E → Type 0
+KeepsUnlessDone old new r = (new ≡ old) ⊎ IsOkAnd r (λ o. status_number o.status ≡ 0)
 
 -- the file at a path has a tree that is no list of asks
 abbrev pub HasNoAsks : Holding → List ℕ → Type 0

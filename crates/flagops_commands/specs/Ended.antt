@@ -1,11 +1,10 @@
 -- What a command that words ask for comes to, by what its two outlets show before and after, what its files show, and its status.
 use Rattle.std.specs.Prelude.{◌≡◌, ◌⊎◌, ℕ, Bool, true, false, List, Option, None, IfSome}
 use Rattle.clap.specs.Walk.{Text}
-use Rattle.flagops_commands.specs.Commands.{can_want, HasStored, IsRunOutcome}
+use Rattle.flagops_commands.specs.Commands.{can_want, IsRunOutcome}
 use Rattle.flagops_commands.specs.Telling.{Complains, TellsWords, Wants}
 use Rattle.flagops_files.specs.Files.{Holding}
-use Rattle.flagops_files.specs.Refusal.{stores_file}
-use Rattle.flagops_files.specs.Report.{Answers, IsFileRefusal, Outcomes, is_of_file}
+use Rattle.flagops_files.specs.Report.{Answers, IsFileRefusal, Outcomes, Report, ReportsAll, is_of_file}
 use Rattle.flagops_files.specs.declared.refusal.Call.{Call}
 use Rattle.flagops_words.specs.Words.{asked_by}
 
@@ -14,6 +13,10 @@ module _ {O E : Type 0} (bytes : O → Option (List ℕ)) (is_broken : O → Boo
   -- the report of one of these outcomes, or of one of these calls, which ran out of memory
   abbrev pub AnswersAt : (Call → Bool) → Outcomes → Type 0
   AnswersAt calls IsOutcome = Answers calls (bytes out) (bytes out') (is_broken out') (told err) (told err') (is_mute err') status IsOutcome
+
+  -- the report of a command that did what it was asked
+  abbrev pub ReportsDone : Type 0
+  ReportsDone = (report : Report) × (report.status ≡ 0) × ReportsAll (bytes out) (bytes out') (is_broken out') (told err) (told err') (is_mute err') status report
 
   -- memory ran out while the words were read
   abbrev pub WantsAt : Type 0
@@ -36,6 +39,6 @@ module _ {O E : Type 0} (bytes : O → Option (List ℕ)) (is_broken : O → Boo
     abbrev pub AnswersUnread : Type 0
     AnswersUnread = has_failed files ≡ false → has_failed files' ≡ true → AnswersAt is_of_file IsFileRefusal
 
-    -- where a file has changed, that is told: no other call is said to have refused
+    -- where a file has changed, the command is reported to have done what it was asked
     abbrev pub AnswersStored : Type 0
-    AnswersStored = (holding files' ≡ holding files) ⊎ AnswersAt stores_file HasStored
+    AnswersStored = (holding files' ≡ holding files) ⊎ ReportsDone

@@ -1,7 +1,7 @@
 //! The table of the commands, and what each answers.
 ghost use Rattle.std.specs.Prelude.{◌≡◌, ◌||◌, false, IfSome};
 ghost use Rattle.flagops_commands.specs.Commands.{calls_of, IsOutcome, Leaves, waits};
-ghost use Rattle.flagops_commands.specs.Drive.{KeepsUnlessStored};
+ghost use Rattle.flagops_commands.specs.Drive.{KeepsUnlessDone};
 ghost use Rattle.flagops_words.specs.Asked.{asked_view};
 ghost use Rattle.flagops_files.specs.Refusal.{ComesFrom, GivesOne, is_file_fault};
 ghost use Rattle.flagops_files.specs.Report.{outcome_view};
@@ -34,7 +34,7 @@ pub fn outcome<R: Threads + Wait + Sync, F: FileSet>(
     ensures calls { ComesFrom (calls_of (asked_view asked.now)) result }
     ensures failed { F.has_failed files.new ≡ (F.has_failed files.old || is_file_fault result) }
     ensures left { Leaves (asked_view asked.now) (F.holding files.old) (F.holding files.new) }
-    ensures kept { KeepsUnlessStored (F.holding files.old) (F.holding files.new) result }
+    ensures kept { KeepsUnlessDone (F.holding files.old) (F.holding files.new) result }
 {
     match asked {
         Asked::Drive {
@@ -60,7 +60,7 @@ fn outcome_at_once<R: Threads + Sync, F: FileSet>(
     ensures calls { ComesFrom (calls_of (asked_view asked.now)) result }
     ensures failed { F.has_failed files.new ≡ (F.has_failed files.old || is_file_fault result) }
     ensures left { Leaves (asked_view asked.now) (F.holding files.old) (F.holding files.new) }
-    ensures kept { KeepsUnlessStored (F.holding files.old) (F.holding files.new) result }
+    ensures kept { KeepsUnlessDone (F.holding files.old) (F.holding files.new) result }
 {
     match asked {
         Asked::Bucket { rule, key } => bucket(alloc, files, rule, key),

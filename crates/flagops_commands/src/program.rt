@@ -1,10 +1,11 @@
 //! The program over whatever files and outlets it is given.
-ghost use Rattle.std.specs.Prelude.{◌≡◌, ◌⊎◌, ◌||◌, false, true, map, IfErr, IfOk, IfSome, None, Ok, Err, Some};
+ghost use Rattle.std.specs.Prelude.{◌≡◌, ◌||◌, false, true, map, IfErr, IfOk, IfSome, None, Ok, Err, Some};
 ghost use Rattle.clap.specs.Words.{kind_of};
 ghost use Rattle.flagops_words.specs.Asked.{asked_view};
 ghost use Rattle.flagops_commands.specs.Ended.{AnswersAsked, AnswersStored, AnswersUnread, TellsUnasked};
-ghost use Rattle.flagops_commands.specs.Commands.{calls_of, HasStored, IsRunOutcome, Leaves, LeavesAsked};
-ghost use Rattle.flagops_files.specs.Refusal.{call_of, is_want, stores_file};
+ghost use Rattle.flagops_commands.specs.Commands.{calls_of, IsRunOutcome, Leaves, LeavesAsked};
+ghost use Rattle.flagops_commands.specs.Drive.{KeepsUnlessDone};
+ghost use Rattle.flagops_files.specs.Refusal.{call_of, is_want};
 ghost use Rattle.flagops_files.specs.Report.{AnswersOrWants, PutsText, is_of_file, IsFileRefusal, outcome_view, report_of};
 ghost use Rattle.flagops_commands.specs.Telling.{Tells};
 ghost use Rattle.flagops_words.specs.Words.{asked_by};
@@ -25,7 +26,7 @@ use std::thread::Threads;
 /// `clap` on words that it refuses, and what a person is told: of a refusal, of broken flags, and
 /// of a book without an input for the request. What becomes of `err` changes neither the report nor
 /// the status. Help and the version, where they are asked for, go to `out` with status 0.
-#[tactic(auto, using(crate::proofs::Leaving::left_alone, crate::proofs::Leaving::left_by))]
+#[tactic(auto, using(crate::proofs::Leaving::left_alone, crate::proofs::Leaving::left_by, crate::proofs::Wants::done_reported))]
 pub fn run<R: AllocGlobal + Threads + Wait + Sync, S: AsStr, F: FileSet, O: Outlet, E: Outlet>(
     rt: &R,
     words: &[S],
@@ -42,7 +43,7 @@ pub fn run<R: AllocGlobal + Threads + Wait + Sync, S: AsStr, F: FileSet, O: Outl
         F.holding F.has_failed files.old files.new }
     ensures tells { TellsUnasked O.bytes O.is_broken out.old out.new E.bytes E.is_broken err.old err.new result (map S.text words.now) }
     ensures left { LeavesAsked (asked_by (map S.text words.now)) (F.holding files.old) (F.holding files.new) }
-    // Where a file has changed, that is told: no other call is said to have refused.
+    // Where a file has changed, the command did what it was asked: a refusal, and want of memory, leave all files.
     ensures stored { AnswersStored O.bytes O.is_broken out.old out.new E.bytes E.is_broken err.old err.new result
         F.holding F.has_failed files.old files.new }
 {
@@ -67,7 +68,7 @@ fn answer<R: Threads + Wait + Sync, F: FileSet>(
     ensures exact { IfSome (F.holding files.old) (λ at. AnswersOrWants (calls_of (asked_view asked.now)) result (IsRunOutcome at (F.holding files.new) (F.has_failed files.new) (asked_view asked.now))) }
     ensures unread { F.has_failed files.old ≡ false → F.has_failed files.new ≡ true → AnswersOrWants is_of_file result IsFileRefusal }
     ensures left { Leaves (asked_view asked.now) (F.holding files.old) (F.holding files.new) }
-    ensures stored { (F.holding files.new ≡ F.holding files.old) ⊎ AnswersOrWants stores_file result HasStored }
+    ensures kept { KeepsUnlessDone (F.holding files.old) (F.holding files.new) result }
 {
     match outcome(rt, alloc, files, asked) {
         Ok(outcome) => Ok(outcome),

@@ -7,7 +7,7 @@ ghost use Rattle.flagops_drive.specs.Asks.{asks_of};
 ghost use Rattle.flagops_drive.specs.Driven.{drove_view, refusal_of, workers_refusal};
 ghost use Rattle.flagops_drive.specs.declared.fault.DriveRefusal.{DriveRefusal as Reason};
 ghost use Rattle.flagops_commands.specs.Calls.{drive_calls, drive_itself};
-ghost use Rattle.flagops_commands.specs.Drive.{HasNoAsks, IsDriveReport, IsDroveOf, IsRefusedByName, IsWritten, KeepsUnlessStored, LeavesBook};
+ghost use Rattle.flagops_commands.specs.Drive.{HasNoAsks, IsDriveReport, IsDroveOf, IsRefusedByName, IsWritten, KeepsUnlessDone, LeavesBook};
 ghost use Rattle.flagops_files.specs.Files.{KeepsOthers};
 ghost use Rattle.flagops_files.specs.Refusal.{ComesFrom, GivesOne, is_file_fault, stores_file};
 ghost use Rattle.flagops_files.specs.Report.{outcome_view};
@@ -39,7 +39,7 @@ pub fn drive<R: Threads + Wait + Sync, F: FileSet>(
     ensures calls { ComesFrom drive_calls result }
     ensures failed { F.has_failed files.new ≡ (F.has_failed files.old || is_file_fault result) }
     ensures left { LeavesBook (F.holding files.old) (F.holding files.new) document.now asks.now workers book.now }
-    ensures kept { KeepsUnlessStored (F.holding files.old) (F.holding files.new) result }
+    ensures kept { KeepsUnlessDone (F.holding files.old) (F.holding files.new) result }
     // What is known without taking memory is refused by name, once the files before it were read.
     ensures bad_workers { (e : Reason) → workers_refusal workers ≡ Some e → IsRefusedByName result }
     ensures bad_asks { IfSome (F.holding files.old) (λ at. HasNoAsks at asks.now → IsRefusedByName result) }
@@ -99,6 +99,7 @@ fn written<F: FileSet>(
     ensures calls { ComesFrom stores_file result }
     ensures failed { F.has_failed files.new ≡ (F.has_failed files.old || is_file_fault result) }
     ensures others { KeepsOthers (F.holding files.old) (F.holding files.new) book.now }
+    ensures kept { KeepsUnlessDone (F.holding files.old) (F.holding files.new) result }
 {
     store(alloc, files, book, drove.book.as_slice())?;
     Ok(Outcome::plain(drove.text, Status::Done))

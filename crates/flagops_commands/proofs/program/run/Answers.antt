@@ -1,5 +1,5 @@
 use Rattle.flagops_words.specs.Asked.{asked_view}
-use Rattle.flagops_commands.proofs.Wants.{stored_wanted, wanted}
+use Rattle.flagops_commands.proofs.Wants.{none_done, wanted}
 use Rattle.flagops_commands.proofs.program.run.Goals as goal
 
 pub returns-in-Err-answer-clause-answers : goal.returns-in-Err-answer-clause-answers
@@ -7,4 +7,4 @@ returns-in-Err-answer-clause-answers g c =
     wanted _ (asked_view c.in-Ok.asked) _ _ _ c.in-Err-answer.call _ _ _ _ _ _ _ c.in-Ok.ensures.ok c.in-Err-answer.ensures.exact c.want.ensures
 
 pub returns-in-Err-answer-clause-stored : goal.returns-in-Err-answer-clause-stored
-returns-in-Err-answer-clause-stored g c = stored_wanted _ _ _ _ _ _ _ _ _ c.in-Err-answer.call c.in-Err-answer.ensures.stored c.want.ensures
+returns-in-Err-answer-clause-stored g c = none_done _ _ c.in-Err-answer.call c.in-Err-answer.ensures.kept

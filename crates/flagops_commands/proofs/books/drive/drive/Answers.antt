@@ -3,8 +3,8 @@ use Rattle.flag_text.specs.View.{view}
 use Rattle.flagops_drive.specs.Driven.{drove_view}
 use Rattle.flagops_drive.specs.Asks.{asks_of}
 use Rattle.flagops_files.specs.Refusal.{loads_flags, loads_tree}
-use Rattle.flagops_commands.proofs.Driving.{driven, left_by_storing, no_asks, no_document, not_driven}
-use Rattle.flagops_commands.proofs.Refusing.{by_another, by_asks, by_workers, changed_by_storing, in_any_case, no_asks_driven, none_driven}
+use Rattle.flagops_commands.proofs.Driving.{driven, kept_after, left_by_storing, no_asks, no_document, not_driven}
+use Rattle.flagops_commands.proofs.Refusing.{by_another, by_asks, by_workers, in_any_case, no_asks_driven, none_driven}
 use Rattle.std.proofs.Common.{◌∙◌, inl, refl, rules}
 use Rattle.flagops_commands.proofs.books.drive.drive.Goals as goal
 
@@ -14,6 +14,9 @@ returns-in_err-flags-clause-exact g c =
 
 pub returns-in_err-flags-clause-left : goal.returns-in_err-flags-clause-left
 returns-in_err-flags-clause-left g c = inl c.load_flags.ensures.kept
+
+pub returns-in_err-flags-clause-kept : goal.returns-in_err-flags-clause-kept
+returns-in_err-flags-clause-kept g c = inl c.load_flags.ensures.kept
 
 pub returns-in_err-flags-clause-bad_workers : goal.returns-in_err-flags-clause-bad_workers
 returns-in_err-flags-clause-bad_workers g c = λ e wrong.
@@ -33,6 +36,9 @@ returns-in_err-tree-clause-exact g c =
 pub returns-in_err-tree-clause-left : goal.returns-in_err-tree-clause-left
 returns-in_err-tree-clause-left g c = inl (c.load_tree.ensures.kept ∙ c.load_flags.ensures.kept)
 
+pub returns-in_err-tree-clause-kept : goal.returns-in_err-tree-clause-kept
+returns-in_err-tree-clause-kept g c = inl (c.load_tree.ensures.kept ∙ c.load_flags.ensures.kept)
+
 pub returns-in_err-tree-clause-bad_workers : goal.returns-in_err-tree-clause-bad_workers
 returns-in_err-tree-clause-bad_workers g c = λ e wrong.
     let told = by_another loads_tree c.in_err-tree.field-0.0.refusal refl c.in_err-tree.ensures.calls in search rules
@@ -50,6 +56,9 @@ returns-in_err-drove-clause-exact g c =
 
 pub returns-in_err-drove-clause-left : goal.returns-in_err-drove-clause-left
 returns-in_err-drove-clause-left g c = inl (c.load_tree.ensures.kept ∙ c.load_flags.ensures.kept)
+
+pub returns-in_err-drove-clause-kept : goal.returns-in_err-drove-clause-kept
+returns-in_err-drove-clause-kept g c = inl (c.load_tree.ensures.kept ∙ c.load_flags.ensures.kept)
 
 pub returns-in_err-drove-clause-bad_workers : goal.returns-in_err-drove-clause-bad_workers
 returns-in_err-drove-clause-bad_workers g c = λ e wrong.
@@ -71,7 +80,7 @@ returns-clause-left g c =
     c.load_tree.ensures.kept c.in_ok-flags.ensures.exact c.in_ok-tree.ensures.exact c.in_ok-drove.ensures.exact c.written.ensures.others
 
 pub returns-clause-kept : goal.returns-clause-kept
-returns-clause-kept g c = changed_by_storing _ _ _ c.written.ensures.calls
+returns-clause-kept g c = kept_after _ _ _ _ _ c.load_flags.ensures.kept c.load_tree.ensures.kept c.written.ensures.kept
 
 pub returns-clause-bad_workers : goal.returns-clause-bad_workers
 returns-clause-bad_workers g c = λ e wrong. absurd (none_driven (asks_of (view c.in_ok-tree.tree)) c.args.workers e wrong c.in_ok-drove.ensures.refused)
