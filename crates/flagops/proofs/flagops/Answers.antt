@@ -1,9 +1,8 @@
 use Rattle.std.proofs.Common.{◌≡◌, ◌⊎◌, ℕ, None, Result, false, true, map, List, IfSome}
 use Rattle.flagops.specs.First.{WhereFiles, WhereFollow, WhereServe}
-use Rattle.flagops_commands.specs.Commands.{can_want, HasStored, IsRunOutcome}
+use Rattle.flagops_commands.specs.Commands.{can_want, IsRunOutcome}
 use Rattle.flagops_commands.specs.Telling.{TellsWords, Wants}
-use Rattle.flagops_files.specs.Refusal.{stores_file}
-use Rattle.flagops_files.specs.Report.{Answers, IsFileRefusal, is_of_file}
+use Rattle.flagops_files.specs.Report.{Answers, IsFileRefusal, Report, ReportsAll, is_of_file}
 use Rattle.flagops_network.specs.Loading.{AnswersTo}
 use Rattle.flagops_network.specs.Mistakes.{TellsOne}
 use Rattle.flagops_network.specs.Words.{follow_by, follow_faults, serve_by, serve_faults}
@@ -37,8 +36,8 @@ returns-in-Ok-clause-tells g c =
 pub returns-in-Ok-clause-stored : goal.returns-in-Ok-clause-stored
 returns-in-Ok-clause-stored g c =
     carried (λ (l : List g.row.S.Denot) (s : ℕ). WhereFiles (map g.S.AsStr.text l) ((g.F.FileSet.holding c.status_of.new.files ≡ g.F.FileSet.holding c.args.files.now)
-    ⊎ Answers stores_file (g.O.Outlet.bytes c.args.out.now) (g.O.Outlet.bytes c.status_of.new.out) (g.O.Outlet.is_broken c.status_of.new.out)
-    (g.E.Outlet.bytes c.args.err.now) (g.E.Outlet.bytes c.status_of.new.err) (g.E.Outlet.is_broken c.status_of.new.err) s HasStored))
+    ⊎ ((report : Report) × (report.status ≡ 0) × ReportsAll (g.O.Outlet.bytes c.args.out.now) (g.O.Outlet.bytes c.status_of.new.out) (g.O.Outlet.is_broken c.status_of.new.out)
+    (g.E.Outlet.bytes c.args.err.now) (g.E.Outlet.bytes c.status_of.new.err) (g.E.Outlet.is_broken c.status_of.new.err) s report)))
     (λ w. w.items) _ _ _ _ _ c.in-Ok.is c.as_slice.ensures.value c.from.ensures c.status_of.ensures.stored
 
 pub returns-in-Ok-clause-serve_answers : goal.returns-in-Ok-clause-serve_answers
