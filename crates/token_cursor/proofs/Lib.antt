@@ -1,0 +1,6 @@
+mod Balanced
+mod Bounds
+mod Lexing
+mod Marks
+mod Passing
+mod Stepping

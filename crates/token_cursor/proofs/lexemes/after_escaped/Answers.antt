@@ -1,0 +1,8 @@
+use Rattle.token_cursor.proofs.Lexing.{escaped_at, escaped_none}
+use Rattle.token_cursor.proofs.lexemes.after_escaped.Goals as goal
+
+pub returns-in-Some-clause-lexed : goal.returns-in-Some-clause-lexed
+returns-in-Some-clause-lexed c = escaped_at _ _ _ c.in-Some.ensures.cases.0
+
+pub returns-in-None-clause-lexed : goal.returns-in-None-clause-lexed
+returns-in-None-clause-lexed c = escaped_none c.args.text.now c.in-None.ensures.cases

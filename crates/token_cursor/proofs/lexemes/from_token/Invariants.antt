@@ -1,0 +1,10 @@
+use Rattle.std.proofs.Common.{List, length}
+use Rattle.json.specs.Token.{Token}
+use Rattle.token_cursor.specs.Place.{IsEnd, Stand}
+use Rattle.token_cursor.proofs.lexemes.from_token.Given as goal
+
+abbrev pub invariant-bytes : goal.invariant-bytes
+invariant-bytes l = ((ts : List Token) → Stand ts l.text → Stand ts l.rest) × IsEnd l.rest l.text
+
+abbrev pub decreases-bytes : goal.decreases-bytes
+decreases-bytes l = length l.rest
