@@ -8,6 +8,7 @@ import subprocess
 import tempfile
 import unittest
 
+from given import document
 from program import PROGRAM, SECONDS
 
 
@@ -26,6 +27,26 @@ def large(key):
 NONE = '{"flags":{}}'
 ONE = flags("color")
 TEN = flags("color", *(f"flag-{number}" for number in range(9)))
+
+# A flag with a rule, and ten flags with it among them: some are broken, some refer to an evaluator.
+RULED = document()
+MIXED = """{"$evaluators":{"vip":{"in":[{"var":"key"},["test"]]}},"flags":{
+"bare":{"state":"ENABLED","variants":{"on":1},"targeting":{"if":[false,"on"]}},
+"color":{"state":"ENABLED","variants":{"red":"r"},"defaultVariant":"red"},
+"half":{"state":"ENABLED","variants":{"a":1.5},"defaultVariant":"a"},
+"lost":{"state":"ENABLED","variants":{"on":1},"defaultVariant":"on","targeting":{"if":[true,"no such"]}},
+"loop":{"state":"ENABLED","variants":{"on":1},"targeting":{"$ref":"nobody"}},
+"off":{"state":"DISABLED","variants":{"on":true},"defaultVariant":"on"},
+"plain":{"state":"ENABLED","variants":{"on":true,"off":false},"defaultVariant":"on","targeting":{}},
+"te":{"state":"ENABLED","variants":{"red":1,"blue":2},"targeting":{"fractional":[["red",50],["blue",50]]}},
+"vip":{"state":"ENABLED","variants":{"on":1},"targeting":{"if":[{"$ref":"vip"},"on",null]}},
+"zero":{"state":"ENABLED","variants":{"on":1},"targeting":{"%":[1,0]}}}}"""
+
+# What two of them are printed as: a broken one is empty, and of the other the evaluator stands where it was named.
+PRINTED = [
+    b'"half":{},',
+    b'"vip":{"state":"ENABLED","targeting":{"if":[{"in":[{"var":["key"]},["test"]]},"on",null]},"variants":{"on":1}},',
+]
 
 # What a follower can see of ONE, TEN and ONE: each snapshot at most once, and always the last.
 SEEN = [
@@ -56,6 +77,30 @@ ENDS = [
     (bytes.fromhex("00000007"), "1000", "stopped Frame\n", 1),
     (frame(0, b"{")[:12], "1000", "stopped Frame\n", 1),
     (frame(1, b"{"), "1000", "stopped Frame\n", 1),
+]
+
+
+# Words that neither command takes: numbers that are missing or out of their range, and what is one too many.
+MISTAKES = [
+    "serve",
+    "serve 8013",
+    "serve 8013 1",
+    "serve 0 1 d",
+    "serve 65536 1 d",
+    "serve x 1 d",
+    "serve 8013 0 d",
+    "serve 8013 65 d",
+    "serve 8013 -1 d",
+    "serve 8013 1 d --fast",
+    "follow",
+    "follow 8013",
+    "follow 0 1000",
+    "follow 65536 1000",
+    "follow 8013 0",
+    "follow 8013 1000001",
+    "follow 8013 many",
+    "follow 8013 1000 d",
+    "follow 8013 1000 --fast",
 ]
 
 
@@ -105,14 +150,47 @@ class Streams(unittest.TestCase):
         self.assertEqual((out, child.returncode), (printed, status), told)
         return told
 
+    def received(self, port):
+        """The frames that a subscriber is sent: their numbers and documents."""
+        with socket.create_connection(("127.0.0.1", int(port)), SECONDS) as stream:
+            left = b"".join(iter(lambda: stream.recv(65536), b""))
+        frames = []
+        while left:
+            length, number = struct.unpack_from(">IQ", left)
+            frames.append((number, left[12 : 4 + length]))
+            left = left[4 + length :]
+        return frames
+
     def test_every_subscriber_gets_the_last_snapshot(self):
-        server, port = self.serve(2, ONE, TEN, ONE)
-        followers = [self.start("follow", port, "1000") for _ in range(2)]
-        for follower in followers:
-            out, _ = follower.communicate(timeout=SECONDS)
-            self.assertIn(out, SEEN)
-            self.assertEqual(follower.returncode, 0)
+        """A person is told nothing beside a stream, and of each subscriber beside what was published."""
+        for documents in ((ONE, TEN, ONE), (RULED, MIXED, RULED)):
+            server, port = self.serve(2, *documents)
+            followers = [self.start("follow", port, "1000") for _ in range(2)]
+            for follower in followers:
+                out, told = follower.communicate(timeout=SECONDS)
+                self.assertIn(out, SEEN)
+                self.assertEqual((follower.returncode, told), (0, ""))
+            told = self.assert_ends(server, "published 3\n", 0)
+            self.assertEqual(len(told.splitlines()), 4, told)
+            self.assertTrue(all(line.startswith("serve: subscriber ") for line in told.splitlines()), told)
+
+    def test_what_is_published_is_the_merge(self):
+        """The last frame has the rule of the last document, and what only the one before has."""
+        server, port = self.serve(1, RULED, MIXED, RULED)
+        number, last = self.received(port)[-1]
         self.assert_ends(server, "published 3\n", 0)
+        self.assertEqual((number, len(json.loads(last)["flags"])), (3, 10))
+        for printed in PRINTED:
+            self.assertIn(printed, last)
+        color = json.loads(last)["flags"]["color"]
+        self.assertEqual(color["targeting"], {"fractional": [{"var": ["key"]}, ["red", 5], ["blue", 5]]})
+
+    def test_a_large_document_among_small_ones(self):
+        server, port = self.serve(1, ONE, large("large"), ONE)
+        number, last = self.received(port)[-1]
+        self.assert_ends(server, "published 3\n", 0)
+        self.assertEqual((number, sorted(json.loads(last)["flags"])), (3, ["color", "large"]))
+        self.assertEqual(json.loads(last)["flags"]["large"]["variants"]["v"], "value" * 420_000)
 
     def test_one_turn_is_one_read(self):
         server, port = self.serve(1, ONE, TEN)
@@ -180,6 +258,22 @@ class Streams(unittest.TestCase):
 
     def test_nobody_listens(self):
         self.assert_ends(self.start("follow", free_port(), "1000"), "refused connect 1 Unreachable\n", 1)
+
+    def test_words_that_ask_for_nothing(self):
+        """They are told beside the output, with the status of a mistake."""
+        for words in MISTAKES:
+            with self.subTest(words=words):
+                told = self.assert_ends(self.start(*words.split()), "", 2)
+                self.assertTrue(told.startswith("error: "), told)
+
+    def test_a_document_that_cannot_be_read(self):
+        """Its path is told, and nobody was listened for."""
+        with open(os.path.join(self.folder, "d"), "w", encoding="utf-8") as file:
+            file.write(ONE)
+        for names in (["none"], ["none", "d"], ["d", "none", "d"], ["d", "d", "none"]):
+            told = self.assert_ends(self.start("serve", free_port(), "1", *names), "refused load 1 Unreadable\n", 1)
+            self.assertTrue(told.startswith("error: "), told)
+            self.assertIn('"none"', told)
 
     def test_no_seventeenth_document(self):
         with open(os.path.join(self.folder, "d"), "w", encoding="utf-8") as file:
