@@ -55,8 +55,6 @@ const ROWS: &[Row] = &[
     (1, 48, 48, StreamEnd::Limit, 1, 24),
     (0, 48, 48, StreamEnd::Limit, 0, 0),
     (1000, 48, 10, StreamEnd::WriteFault, 0, 10),
-    (1000, 7, 24, StreamEnd::WriteFault, 1, 24),
-    (1000, 7, 47, StreamEnd::WriteFault, 1, 47),
 ];
 
 #[test]
@@ -64,6 +62,29 @@ fn frames_that_are_written(rt: HostRuntime) {
     for row in ROWS {
         assert!(rt; is_written(&rt, rt.alloc(), row), "{} bytes", row.5);
     }
+}
+
+/// Whether of a stream that is cut at any byte the frames before it are whole.
+fn is_cut_anywhere<R: Wait + Abort>(rt: &R, alloc: Global) -> bool {
+    for room in 0..48 {
+        let row = (
+            1000,
+            7,
+            room,
+            StreamEnd::WriteFault,
+            (room / 24) as u64,
+            room,
+        );
+        if !is_written(rt, alloc, &row) {
+            return false;
+        }
+    }
+    true
+}
+
+#[test]
+fn streams_that_are_cut(rt: HostRuntime) {
+    assert!(rt; is_cut_anywhere(&rt, rt.alloc()));
 }
 
 /// Whether a stream is written as its row says.
