@@ -1,5 +1,6 @@
 //! A book that is read and printed, its laws, and the faults of its calls.
 use book_core::{Book, BookFault, Page, a_book_is_its_calls, print_book, read_book};
+use page_tally::read_tally;
 use std::alloc::{AllocError, Global};
 use std::test::Fail;
 
@@ -51,6 +52,24 @@ fn a_book_reads_as_it_was_printed(rt: HostRuntime) -> Result<(), Fail> {
     let page = color(rt.alloc())?;
     assert!(rt; is_read(rt.alloc(), &page));
     a_book_is_its_calls();
+    Ok(())
+}
+
+/// How many of the inputs of the file fall on each of ten points.
+const COUNTS: &[u32] = &[1, 1, 0, 0, 2, 0, 1, 2, 0, 0];
+
+/// Whether the inputs of the page are counted so in the file.
+fn is_counted(alloc: Global, page: &Page) -> bool {
+    match read_tally(alloc, FILE, page, 10) {
+        Ok(counts) => counts.as_slice() == COUNTS,
+        Err(_) => false,
+    }
+}
+
+#[test]
+fn a_page_is_counted_by_its_points(rt: HostRuntime) -> Result<(), Fail> {
+    let page = color(rt.alloc())?;
+    assert!(rt; is_counted(rt.alloc(), &page));
     Ok(())
 }
 
