@@ -10,3 +10,4 @@ pub mod Plain
 pub mod Printing
 pub mod Reading
 pub mod Site
+pub mod Union

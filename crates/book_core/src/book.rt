@@ -1,6 +1,7 @@
 ghost use Rattle.std.specs.Prelude.{◌≡◌, ◌≢◌, [], Ok, IfOk, OnOk, OnErr};
 ghost use Rattle.flag_text.specs.Outcome.{GivesUnless};
 ghost use Rattle.book_core.specs.Book.{IsBook, contents_view, inputs_on, input_count, is_among, reply_to, with_input};
+ghost use Rattle.book_core.specs.Union.{Unites};
 
 use crate::exposure::Exposure;
 use crate::fault::BookFault;
@@ -8,6 +9,7 @@ use crate::inputs::PageInputs;
 use crate::noted::Noted;
 use crate::page::Page;
 use crate::pages::{count_inputs, has_input, inputs_of, note_in};
+use crate::union::with_pages;
 use std::alloc::{AllocError, Global};
 use std::collections::BTreeMap;
 use std::marker::Model;
@@ -73,6 +75,16 @@ impl Book {
         ensures lawful { IsBook self.now }
     {
         count_inputs(&self.pages)
+    }
+
+    /// The book of the notes of this book and of another one: each page has the inputs that stand there in either. It is
+    /// refused with PageFull where both together have more than 1000000 inputs of a page. Cost: as a note for each input
+    /// of the other.
+    pub fn union(self, alloc: Global, other: &Book) -> Result<Book, BookFault>
+        ensures { Unites self other.now result }
+    {
+        let _ = &self.pages;
+        with_pages(alloc, self, other.pages())
     }
 
     /// The book of these pages.

@@ -19,7 +19,8 @@
 //! contents are what was accepted (`Calls`); an exposure is the page's contents in strictly rising order, the number
 //! of inputs is that of all pages, and the counts at each point are those of the hash (`Counts`); which book the bytes
 //! of a file stand for, or which line is at fault first and how (`Reading`); what is printed of a book, and that it
-//! reads as the book (`Printing`). A refused note leaves the book as it was.
+//! reads as the book (`Printing`); the union of two books has the inputs of both and no other, and is refused with PageFull
+//! only where there is none (`Union`). A refused note leaves the book as it was.
 #![tactic(auto)]
 
 mod book;
@@ -36,6 +37,7 @@ mod pages;
 mod plain;
 mod print;
 mod read;
+mod union;
 
 pub use book::Book;
 pub use counting::counts;
