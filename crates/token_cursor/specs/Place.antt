@@ -1,6 +1,8 @@
--- How a part of a text stands to the tokens that are left of it. Private clauses cite it.
-use Rattle.std.specs.Prelude.{◌≡◌, ◌≤◌, ◌⊎◌, ℕ, zero, suc, Option, Some, None, List, [], ◌∷◌, length, drop, Bool, true, false, not, ◌||◌, ◌==◌}
-use Rattle.json.specs.Lex.{Place, fresh, after_value, after_key, between, lex, punctuate}
+-- How a part of a text stands to the tokens that are left of it.
+use Rattle.std.specs.Prelude.{◌≡◌, ◌≤◌, ◌⊎◌, ◌+◌, ℕ, zero, suc, Option, Some, None, List, [], ◌∷◌, length, drop, Bool, true, false, not, ◌||◌, ◌==◌, if◌then◌else◌}
+use Rattle.std.specs.List.{prefix_len}
+use Rattle.json.specs.Align.{span}
+use Rattle.json.specs.Lex.{Place, fresh, after_value, after_key, between, in_string, lex, punctuate}
 use Rattle.json.specs.Token.{Token, bad}
 use Rattle.json.specs.Ascii as ascii
 use Rattle.json.specs.Word.{is_operator, is_space}
@@ -12,6 +14,33 @@ is_mark x = is_space x || ((x == ascii.comma) || (x == ascii.colon))
 -- the byte ends a number or a literal
 abbrev pub ends_number : ℕ → Bool
 ends_number x = is_operator x || is_space x
+
+-- the text from its first byte on that is no mark: there the next token begins
+abbrev pub from_token : List ℕ → List ℕ
+from_token text = drop (prefix_len is_mark text) text
+
+-- the text behind the quote that closes a string, within which it begins
+abbrev pub after_string : List ℕ → List ℕ
+after_string text = drop (span in_string text) text
+
+-- the text behind a number or a literal, within which it begins
+abbrev pub after_word : List ℕ → List ℕ
+after_word text = drop (prefix_len (λ x. not (ends_number x)) text) text
+
+-- The text behind the token that it begins with: a bracket is one byte, a string goes up to its closing quote, a number or a
+-- literal up to a bracket, a mark or the end (RFC 8259, sections 2, 6 and 7).
+abbrev pub after_token : List ℕ → List ℕ
+after_token [] = []
+after_token (x ∷ xs) = if ends_number x then xs else (if x == ascii.quote then after_string xs else after_word xs)
+
+-- the text behind its first n tokens
+unfoldable pub behind : ℕ → List ℕ → List ℕ
+behind zero text = text
+behind (suc n) text = behind n (after_token (from_token text))
+
+-- the tokens that are left and the text that is left go on by the same number of tokens
+abbrev pub GoOn : List Token → List ℕ → List Token → List ℕ → Type 0
+GoOn tokens text later rest = (n : ℕ) × (length tokens ≡ n + length later) × (rest ≡ behind n text)
 
 -- a token begins the text, or nothing is left of it
 abbrev pub begins_token : List ℕ → Bool

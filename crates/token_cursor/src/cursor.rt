@@ -1,10 +1,11 @@
 //! The tokens of a text, each with the place where it stands.
-ghost use Rattle.std.specs.Prelude.{◌≡◌, ◌∷◌, [], ℕ, true, IfOk, List, MatchOption, Some};
-ghost use Rattle.json.specs.Json.{skip_value};
+ghost use Rattle.std.specs.Prelude.{◌≡◌, ◌∷◌, [], ℕ, true, IfOk, List, MatchOption, None, Some};
+ghost use Rattle.std.specs.Bool.{MatchBool};
+ghost use Rattle.json.specs.Json.{after_end_array, skip_value};
 ghost use Rattle.json.specs.Lex.{after_value, between, lex, punctuate, tokens};
 ghost use Rattle.json.specs.Reads.{token_of};
 ghost use Rattle.json.specs.Token.{Token as Kind};
-ghost use Rattle.token_cursor.specs.Place.{IsEnd, Left, Stand, begins_token, closed, is_closing, is_opening};
+ghost use Rattle.token_cursor.specs.Place.{GoOn, IsEnd, Left, Stand, begins_token, closed, from_token as token_start, is_closing, is_opening};
 
 use crate::lexemes::{after_token, from_token};
 use json::{Reader, Scratch, Token};
@@ -33,6 +34,7 @@ impl<'a> Cursor<'a> {
 
     /// The text from the next token on.
     pub fn from_next(&self) -> &'a [u8]
+        ensures here { result.now ≡ token_start self.now.rest.now }
         ensures placed { (ts : List Kind) → Stand ts self.now.rest.now → Stand ts result.now }
         ensures begins { begins_token result.now ≡ true }
         ensures end { IsEnd result.now self.now.rest.now }
@@ -46,11 +48,27 @@ impl<'a> Cursor<'a> {
         ensures value { MatchOption result ((self.old.reader ≡ []) × (self.new.reader ≡ []))
             (λ t. (self.old.reader ≡ token_of t ∷ self.new.reader) × Left (token_of t) self.new.reader (λ p. punctuate p (lex between self.new.rest.now))) }
         ensures stands { Stand self.new.reader self.new.rest.now }
+        ensures passed { GoOn self.old.reader self.old.rest.now self.new.reader self.new.rest.now }
         ensures end { IsEnd self.new.rest.now self.old.rest.now }
     {
-        let token = self.reader.next();
+        let token = self.reader.next()?;
         self.rest = after_token(from_token(self.rest));
-        token
+        Some(token)
+    }
+
+    /// Takes the bracket that closes a list, if it is next, and tells whether it was.
+    pub fn take_end_list(&mut self) -> bool
+        requires stands { Stand self.old.reader self.old.rest.now }
+        ensures value { MatchBool result (after_end_array self.old.reader ≡ Some self.new.reader)
+            ((after_end_array self.old.reader ≡ None) × (self.new ≡ self.old)) }
+        ensures stands { Stand self.new.reader self.new.rest.now }
+        ensures passed { GoOn self.old.reader self.old.rest.now self.new.reader self.new.rest.now }
+    {
+        let ends = self.reader.take_end_array();
+        if ends {
+            self.rest = after_token(from_token(self.rest));
+        }
+        ends
     }
 
     /// Takes the tokens of the next value.
@@ -59,6 +77,7 @@ impl<'a> Cursor<'a> {
         ensures value { (depth : ℕ) (rest : List Kind) → skip_value depth self.old.reader ≡ Some rest
             → (self.new.reader ≡ rest) × (self.new.reader ≡ punctuate after_value (lex between self.new.rest.now)) }
         ensures stands { Stand self.new.reader self.new.rest.now }
+        ensures passed { GoOn self.old.reader self.old.rest.now self.new.reader self.new.rest.now }
         ensures end { IsEnd self.new.rest.now self.old.rest.now }
     {
         if let Some(token) = self.next() {
@@ -74,6 +93,7 @@ impl<'a> Cursor<'a> {
         ensures closed { (rest : List Kind) → closed 1 self.old.reader ≡ Some rest
             → (self.new.reader ≡ rest) × (self.new.reader ≡ punctuate after_value (lex between self.new.rest.now)) }
         ensures stands { Stand self.new.reader self.new.rest.now }
+        ensures passed { GoOn self.old.reader self.old.rest.now self.new.reader self.new.rest.now }
         ensures end { IsEnd self.new.rest.now self.old.rest.now }
     {
         // No more brackets are open than bytes are left, and the one.

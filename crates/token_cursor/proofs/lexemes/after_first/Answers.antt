@@ -1,5 +1,6 @@
 use Rattle.std.proofs.Common.{◌∙◌, sym}
 use Rattle.token_cursor.proofs.Marks.{bracket, string_at, word_from}
+use Rattle.token_cursor.proofs.Passed.{bracket_passed, string_passed, token_passed}
 use Rattle.token_cursor.proofs.lexemes.after_first.Goals as goal
 
 pub returns-then-ends_number-clause-one : goal.returns-then-ends_number-clause-one
@@ -10,3 +11,12 @@ returns-then-byte-eq34-clause-one c = λ m. string_at c.args.byte c.args.text.no
 
 pub returns-else-byte-eq34-clause-one : goal.returns-else-byte-eq34-clause-one
 returns-else-byte-eq34-clause-one c = λ m. word_from c.args.byte c.args.text.now _ (sym c.ends_number.ensures ∙ c.if-ends_number.false) c.if-byte-eq34.false c.after_word.ensures.lexed
+
+pub returns-then-ends_number-clause-here : goal.returns-then-ends_number-clause-here
+returns-then-ends_number-clause-here c = bracket_passed c.args.byte c.args.text.now (sym c.ends_number.ensures ∙ c.if-ends_number.true)
+
+pub returns-then-byte-eq34-clause-here : goal.returns-then-byte-eq34-clause-here
+returns-then-byte-eq34-clause-here c = c.after_string.ensures.here ∙ string_passed c.args.byte c.args.text.now (sym c.ends_number.ensures ∙ c.if-ends_number.false) c.if-byte-eq34.true
+
+pub returns-else-byte-eq34-clause-here : goal.returns-else-byte-eq34-clause-here
+returns-else-byte-eq34-clause-here c = c.after_word.ensures.here ∙ token_passed c.args.byte c.args.text.now (sym c.ends_number.ensures ∙ c.if-ends_number.false) c.if-byte-eq34.false

@@ -1,7 +1,8 @@
-use Rattle.std.proofs.Common.{◌≡◌, ◌∙◌, true, false, length, sym, ap, arith}
+use Rattle.std.proofs.Common.{◌≡◌, ◌∙◌, true, false, length, refl, sym, ap, arith}
 use Rattle.json.specs.Reads.{token_of}
 use Rattle.token_cursor.specs.Place.{is_closing, is_opening}
 use Rattle.token_cursor.proofs.Bounds.{stand_bound}
+use Rattle.token_cursor.proofs.Going.{goes_none, goes_on}
 use Rattle.token_cursor.proofs.Lexing.{end_end, end_same}
 use Rattle.token_cursor.proofs.Passing.{level_closes, level_done, level_none, level_opens, level_stays}
 use Rattle.token_cursor.proofs.cursor.Cursor.close.Goals as goal
@@ -16,6 +17,7 @@ tokens-preserved-then-opens c =
       is_open = omega (arith, c.tokens.invariant.is_open);
       level = λ rest e. level_opens c.tokens.depth (token_of c.in-Some.token) _ _ rest c.tokens.invariant.is_open c.in-Some.ensures.value.0 (c.tokens.invariant.level rest e) opens;
       stands = c.in-Some.ensures.stands;
+      passed = goes_on _ _ _ _ _ _ c.tokens.invariant.passed c.in-Some.ensures.passed;
       end = end_end _ _ _ c.in-Some.ensures.end c.tokens.invariant.end;
       bound = omega (arith, c.tokens.invariant.bound, ap length c.in-Some.ensures.value.0);
     }
@@ -39,6 +41,7 @@ tokens-preserved-else-depth-eq0 c =
       is_open = omega (arith, c.if-depth-eq0.false);
       level = λ rest e. level_closes c.tokens.depth (token_of c.in-Some.token) _ _ rest c.tokens.invariant.is_open c.in-Some.ensures.value.0 (c.tokens.invariant.level rest e) closes;
       stands = c.in-Some.ensures.stands;
+      passed = goes_on _ _ _ _ _ _ c.tokens.invariant.passed c.in-Some.ensures.passed;
       end = end_end _ _ _ c.in-Some.ensures.end c.tokens.invariant.end;
       bound = omega (arith, c.tokens.invariant.bound, ap length c.in-Some.ensures.value.0);
     }
@@ -51,6 +54,7 @@ tokens-preserved c =
       is_open = c.tokens.invariant.is_open;
       level = λ rest e. level_stays c.tokens.depth (token_of c.in-Some.token) _ _ rest c.tokens.invariant.is_open c.in-Some.ensures.value.0 (c.tokens.invariant.level rest e) opens closes;
       stands = c.in-Some.ensures.stands;
+      passed = goes_on _ _ _ _ _ _ c.tokens.invariant.passed c.in-Some.ensures.passed;
       end = end_end _ _ _ c.in-Some.ensures.end c.tokens.invariant.end;
       bound = omega (arith, c.tokens.invariant.bound, ap length c.in-Some.ensures.value.0);
     }
@@ -69,6 +73,13 @@ tokens-init c = record {
   is_open = omega arith;
   level = λ rest e. e;
   stands = c.requires.stands;
+  passed = goes_none _ _ _ refl;
   end = end_same _;
   bound = omega (arith, stand_bound _ _ c.requires.stands);
 }
+
+pub returns-then-depth-eq0-clause-passed : goal.returns-then-depth-eq0-clause-passed
+returns-then-depth-eq0-clause-passed c = goes_on _ _ _ _ _ _ c.tokens.invariant.passed c.in-Some.ensures.passed
+
+pub returns-clause-passed : goal.returns-clause-passed
+returns-clause-passed c = goes_on _ _ _ _ _ _ c.tokens.invariant.passed c.in_default.ensures.passed

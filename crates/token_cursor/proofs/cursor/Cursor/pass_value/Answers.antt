@@ -1,6 +1,7 @@
 use Rattle.std.proofs.Common.{◌≡◌, ◌∙◌, true, false, sym}
 use Rattle.json.specs.Reads.{token_of}
 use Rattle.token_cursor.specs.Place.{is_opening}
+use Rattle.token_cursor.proofs.Going.{goes_on}
 use Rattle.token_cursor.proofs.Passing.{value_alone, value_none, value_opens}
 use Rattle.token_cursor.proofs.cursor.Cursor.pass_value.Goals as goal
 
@@ -16,3 +17,6 @@ returns-else-opens-clause-value c =
 
 pub returns-in_default-clause-value : goal.returns-in_default-clause-value
 returns-in_default-clause-value c = λ depth rest e. value_none depth _ _ rest _ c.in_default.ensures.value.0 e
+
+pub returns-then-opens-clause-passed : goal.returns-then-opens-clause-passed
+returns-then-opens-clause-passed c = goes_on _ _ _ _ _ _ c.in-Some.ensures.passed c.close.ensures.passed
