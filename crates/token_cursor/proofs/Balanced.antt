@@ -194,3 +194,13 @@ no_tokens (suc d) r e = no_value (λ us. items (value d) (length us) us) (λ us.
 
 pub bracket_closed : (d : ℕ) (t : Token) (ts r : List Token) → is_opening t ≡ true → skip_value d (t ∷ ts) ≡ Some r → closed 1 ts ≡ Some r
 bracket_closed d t ts r h e = opened d t ts r (either_opens (λ us. None) (λ us. None) t h) e
+
+-- ---- what a list or an object takes, behind the bracket that opens it
+
+pub list_closed : (d n : ℕ) (ts r : List Token) → left (items (value d) n ts) ≡ Some r → closed 1 ts ≡ Some r
+unfolding closed
+list_closed d n ts r e = items_close (value d) (value_level d) n 0 ts r e
+
+pub object_closed : (d n : ℕ) (ts r : List Token) → left (members (value d) n ts) ≡ Some r → closed 1 ts ≡ Some r
+unfolding closed
+object_closed d n ts r e = members_close (value d) (value_level d) n 0 ts r e

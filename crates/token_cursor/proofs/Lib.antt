@@ -1,7 +1,7 @@
-mod Balanced
+pub mod Balanced
 mod Bounds
 pub mod Going
-mod Lexing
+pub mod Lexing
 mod Marks
 mod Passed
 mod Passing

@@ -1,0 +1,4 @@
+mod Found
+pub mod Laws
+mod Located
+pub mod Taken
