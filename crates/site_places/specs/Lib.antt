@@ -1,0 +1,4 @@
+pub mod Following
+pub mod Place
+pub mod Seeking
+pub mod View

@@ -1,0 +1,15 @@
+//! Where the buckets of a site stand in the document that a flag was read from.
+//!
+//! A targeting may refer to shared evaluators, so that what is evaluated stands in several places of a document. The sites of
+//! a flag are numbered in its targeting as it is with these references replaced. [`place_of_site`] leads from a site's number
+//! to the list in the document whose items are its buckets, or tells in which evaluator they stand.
+//!
+//! What is proved: the answer is `site_place` of `specs/Place.antt`, the way to the site in the targeting's written form
+//! followed through the document, as long as it meets no reference.
+#![tactic(auto)]
+
+mod following;
+mod locating;
+mod seeking;
+
+pub use locating::{SitePlace, place_of_site};
