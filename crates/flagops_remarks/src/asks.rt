@@ -1,5 +1,8 @@
 //! What a person is told of an asks file, and of a book that is not written.
-use crate::lines::Lines;
+ghost use Rattle.std.specs.Prelude.{IfOk, string_bytes};
+ghost use Rattle.flagops_remarks.specs.Named.{Names};
+
+use crate::lines::{Lines, Opening};
 use flag_text::Tree;
 use std::alloc::{AllocError, Global};
 
@@ -10,14 +13,16 @@ const LATEST_MOMENT: i64 = 9_007_199_254_740_991;
 const MOST_WORKERS: usize = 64;
 
 /// Of a tree that is no list of asks.
-pub fn of_asks(alloc: Global, path: &str, tree: &Tree) -> Result<String, AllocError> {
-    let mut lines = Lines::of(alloc, "error: ", path);
+pub fn of_asks(alloc: Global, path: &str, tree: &Tree) -> Result<String, AllocError>
+    ensures names { IfOk result (λ s. Names path.now (string_bytes s)) }
+{
+    let mut lines = Lines::new(alloc);
     lines.put(" is no list of asks: ");
     put_fault(&mut lines, tree);
     lines.put(
         "\n  an ask has a key, want (bool, text, whole or object), default, context (an object) and moment\n",
     );
-    lines.finish()
+    lines.headed(Opening::Error, path)
 }
 
 /// The first ask that is none, with the first member that is not of its form.
@@ -100,10 +105,12 @@ pub fn of_workers(alloc: Global, workers: usize, fault: &str) -> Result<String, 
 }
 
 /// Of a path at which no file is written.
-pub fn of_unwritable(alloc: Global, path: &str) -> Result<String, AllocError> {
-    let mut lines = Lines::of(alloc, "error: the file ", path);
+pub fn of_unwritable(alloc: Global, path: &str) -> Result<String, AllocError>
+    ensures names { IfOk result (λ s. Names path.now (string_bytes s)) }
+{
+    let mut lines = Lines::new(alloc);
     lines.put(
         " cannot be written\n  its folder is missing, or the path is a folder, or it may not be written\n",
     );
-    lines.finish()
+    lines.headed(Opening::File, path)
 }

@@ -1,5 +1,8 @@
 //! What a person is told of books.
-use crate::lines::Lines;
+ghost use Rattle.std.specs.Prelude.{IfOk, string_bytes};
+ghost use Rattle.flagops_remarks.specs.Named.{Names};
+
+use crate::lines::{Lines, Opening};
 use book_core::{BookFileFault, Page};
 use std::alloc::{AllocError, Global};
 
@@ -7,12 +10,14 @@ use std::alloc::{AllocError, Global};
 const MOST_PAGES: usize = 10;
 
 /// Of bytes that are no book.
-pub fn of_book(alloc: Global, path: &str, fault: BookFileFault) -> Result<String, AllocError> {
-    let mut lines = Lines::of(alloc, "error: ", path);
+pub fn of_book(alloc: Global, path: &str, fault: BookFileFault) -> Result<String, AllocError>
+    ensures names { IfOk result (λ s. Names path.now (string_bytes s)) }
+{
+    let mut lines = Lines::new(alloc);
     lines.put(" is no book: ");
     lines.put_shown(&fault);
     lines.put_all(&["\n  ", taken(fault), "\n"]);
-    lines.finish()
+    lines.headed(Opening::Error, path)
 }
 
 /// What is taken in place of a fault.
@@ -37,15 +42,17 @@ pub fn of_unrecorded(
     path: &str,
     page: &Page,
     others: &[&Page],
-) -> Result<String, AllocError> {
-    let mut lines = Lines::of(alloc, "note: ", path);
+) -> Result<String, AllocError>
+    ensures names { IfOk result (λ s. Names path.now (string_bytes s)) }
+{
+    let mut lines = Lines::new(alloc);
     lines.put(" has no input on the page of the request, so no recorded user counts:\n  flag ");
     lines.put_name(page.flag.as_str());
     lines.put(", ");
     put_page(&mut lines, page);
     lines.put("\n");
     put_others(&mut lines, others);
-    lines.finish()
+    lines.headed(Opening::Note, path)
 }
 
 /// The pages of the same flag, or that there is none.

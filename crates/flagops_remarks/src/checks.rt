@@ -1,5 +1,8 @@
 //! What a person is told of an answer that does not prove what it says.
-use crate::lines::Lines;
+ghost use Rattle.std.specs.Prelude.{IfOk, string_bytes};
+ghost use Rattle.flagops_remarks.specs.Named.{Names};
+
+use crate::lines::{Lines, Opening};
 use crate::sites::Place;
 use bucket_core::{Rule, total_weight};
 use flag_defs::Flags;
@@ -16,8 +19,10 @@ pub fn of_check(
     request: &[u8],
     planned: &Planned,
     fault: &CheckFault,
-) -> Result<String, AllocError> {
-    let mut lines = Lines::of(alloc, "error: the plan ", path);
+) -> Result<String, AllocError>
+    ensures names { IfOk result (λ s. Names path.now (string_bytes s)) }
+{
+    let mut lines = Lines::new(alloc);
     lines.put(" does not answer this request:\n  ");
     match planned {
         Planned::Emit(rule, certificate) => match Request::read(alloc, request) {
@@ -31,7 +36,7 @@ pub fn of_check(
         }
     }
     lines.put("\n  plan again with this document, request and book\n");
-    lines.finish()
+    lines.headed(Opening::Plan, path)
 }
 
 /// What is wrong with a rule, or with the numbers beside it.

@@ -1,5 +1,8 @@
 //! What a person is told of bytes that are no flag document.
-use crate::lines::Lines;
+ghost use Rattle.std.specs.Prelude.{◌≢◌, IfOk, string_bytes};
+ghost use Rattle.flagops_remarks.specs.Named.{Names};
+
+use crate::lines::{Lines, Opening};
 use crate::texts::put_not_json;
 use flag_defs::DefFault;
 use flag_text::{Tree, read_doc};
@@ -17,18 +20,20 @@ pub fn of_document(
     path: &str,
     bytes: &[u8],
     fault: DefFault,
-) -> Result<String, AllocError> {
+) -> Result<String, AllocError>
+    ensures names { fault ≢ DefFault.WantOfMemory → IfOk result (λ s. Names path.now (string_bytes s)) }
+{
     if fault == DefFault::WantOfMemory {
         return String::from_str(alloc, "error: out of memory\n");
     }
-    let mut lines = Lines::of(alloc, "error: ", path);
+    let mut lines = Lines::new(alloc);
     match fault {
         DefFault::WantOfMemory => {}
         DefFault::NotJson => put_not_json(&mut lines, bytes),
         DefFault::NoFlags => put_no_flags(&mut lines, bytes),
         DefFault::TooLarge => put_too_large(&mut lines, bytes),
     }
-    lines.finish()
+    lines.headed(Opening::Error, path)
 }
 
 /// What stands in the place of the flags.

@@ -1,17 +1,22 @@
 //! What a person is told of the other files: one that is not read, a rule, keys.
-use crate::lines::Lines;
+ghost use Rattle.std.specs.Prelude.{IfOk, string_bytes};
+ghost use Rattle.flagops_remarks.specs.Named.{Names};
+
+use crate::lines::{Lines, Opening};
 use book_core::BookFault;
 use bucket_core::RuleFault;
 use flag_text::Tree;
 use std::alloc::{AllocError, Global};
 
 /// Of a path whose file is not read.
-pub fn of_unreadable(alloc: Global, path: &str) -> Result<String, AllocError> {
-    let mut lines = Lines::of(alloc, "error: the file ", path);
+pub fn of_unreadable(alloc: Global, path: &str) -> Result<String, AllocError>
+    ensures names { IfOk result (λ s. Names path.now (string_bytes s)) }
+{
+    let mut lines = Lines::new(alloc);
     lines.put(
         " cannot be read\n  it is missing, is a folder, or may not be read; paths are taken from where the program runs\n",
     );
-    lines.finish()
+    lines.headed(Opening::File, path)
 }
 
 /// Of a tree that is no rule.
@@ -20,16 +25,18 @@ pub fn of_rule(
     path: &str,
     tree: &Tree,
     fault: RuleFault,
-) -> Result<String, AllocError> {
+) -> Result<String, AllocError>
+    ensures names { IfOk result (λ s. Names path.now (string_bytes s)) }
+{
     let advice = match fault {
         RuleFault::BadRule => {
             "a rule is a list of buckets [name, weight] with weights from 0 to 2147483647"
         }
         RuleFault::NoWeight => "give one bucket a weight above 0",
         RuleFault::TooHeavy => "divide the weights by a common factor",
-        RuleFault::WantOfMemory => return String::from_str(alloc, "error: out of memory\n"),
+        RuleFault::WantOfMemory => return Err(AllocError),
     };
-    let mut lines = Lines::of(alloc, "error: ", path);
+    let mut lines = Lines::new(alloc);
     if fault == RuleFault::BadRule {
         lines.put(" is no rule: ");
         put_wrong_bucket(&mut lines, tree);
@@ -38,7 +45,7 @@ pub fn of_rule(
         lines.put_shown(&fault);
     }
     lines.put_all(&["\n  ", advice, "\n"]);
-    lines.finish()
+    lines.headed(Opening::Error, path)
 }
 
 /// The first item that is no bucket.
@@ -76,8 +83,10 @@ pub fn of_keys(
     path: &str,
     place: Option<usize>,
     value: &Tree,
-) -> Result<String, AllocError> {
-    let mut lines = Lines::of(alloc, "error: ", path);
+) -> Result<String, AllocError>
+    ensures names { IfOk result (λ s. Names path.now (string_bytes s)) }
+{
+    let mut lines = Lines::new(alloc);
     lines.put(" is no list of keys: ");
     match place {
         Some(place) => {
@@ -89,7 +98,7 @@ pub fn of_keys(
     lines.put(" is ");
     lines.put_value(value);
     lines.put("\n  keys are a list of texts, the hash inputs of the users\n");
-    lines.finish()
+    lines.headed(Opening::Error, path)
 }
 
 /// Of a key that is not noted, in the file of keys at a path.
@@ -98,8 +107,10 @@ pub fn of_noted(
     path: &str,
     key: &str,
     fault: BookFault,
-) -> Result<String, AllocError> {
-    let mut lines = Lines::of(alloc, "error: ", path);
+) -> Result<String, AllocError>
+    ensures names { IfOk result (λ s. Names path.now (string_bytes s)) }
+{
+    let mut lines = Lines::new(alloc);
     lines.put(": the key ");
     lines.put_name(key);
     lines.put(" is not taken: ");
@@ -107,7 +118,7 @@ pub fn of_noted(
     lines.put(
         "\n  leave it out: keys have at most 1,024 bytes, and at most 1,000,000 of them differ\n",
     );
-    lines.finish()
+    lines.headed(Opening::Error, path)
 }
 
 /// Of two rules that differ in their totals.

@@ -1,4 +1,9 @@
 //! The text of a remark as it grows: words, and between them names, steps, values and lists of names.
+ghost use Rattle.std.specs.Prelude.{◌≡◌, ◌++◌, codes, IfNone, IfOk, IfSome, string_bytes};
+ghost use Rattle.flag_text.specs.Printing.{text_of};
+ghost use Rattle.flag_text.specs.Shape.{text};
+ghost use Rattle.flagops_remarks.specs.Named.{Names, NamesWord, opening_words, quoted, shown};
+
 use flag_text::{Tree, print_tree};
 use std::alloc::{AllocError, Global};
 use std::fmt::Display;
@@ -8,6 +13,35 @@ const MOST_NAMES: usize = 10;
 
 /// The most characters of a name or a value that are shown.
 const MOST_CHARACTERS: usize = 60;
+
+/// The words before the name of what is told of.
+#[derive(Clone, Copy)]
+pub(crate) enum Opening {
+    /// What is no more than a file at a path.
+    Error,
+    /// A file that the system does not give or take.
+    File,
+    /// The request of a rollout.
+    Request,
+    /// The plan of a plan file.
+    Plan,
+    /// What is no fault.
+    Note,
+}
+
+impl Opening {
+    fn words(self) -> &'static str
+        ensures { result.now ≡ opening_words self }
+    {
+        match self {
+            Opening::Error => "error: ",
+            Opening::File => "error: the file ",
+            Opening::Request => "error: the request ",
+            Opening::Plan => "error: the plan ",
+            Opening::Note => "note: ",
+        }
+    }
+}
 
 /// The lines of a remark. Once memory ran out they take nothing more, and `finish` gives that in place of the text.
 #[derive(Drop)]
@@ -27,19 +61,33 @@ impl Lines {
         }
     }
 
-    /// Lines that begin with these words and the path of the file that they tell of.
-    pub(crate) fn of(alloc: Global, words: &str, path: &str) -> Lines {
-        let mut lines = Lines::new(alloc);
-        lines.put(words);
-        lines.put_name(path);
-        lines
-    }
-
     pub(crate) fn finish(self) -> Result<String, AllocError> {
         match self.short {
             Some(want) => Err(want),
             None => Ok(self.text),
         }
+    }
+
+    /// The lines behind an opening and the name of what they tell of.
+    #[tactic(auto, unfolding(crate::specs::Named::Names))]
+    pub(crate) fn headed(self, opening: Opening, name: &str) -> Result<String, AllocError>
+        ensures { IfOk result (λ s. Names name.now (string_bytes s)) }
+    {
+        let alloc = self.alloc;
+        let lines = self.finish()?;
+        let name = quoted_name(alloc, name)?;
+        let opening = opening.words();
+        format!(in alloc; "{opening}{name}{lines}")
+    }
+
+    /// The lines of a refusal behind the word of the command that it tells of.
+    #[tactic(auto, unfolding(crate::specs::Named::NamesWord))]
+    pub(crate) fn behind_word(self, word: &str) -> Result<String, AllocError>
+        ensures { IfOk result (λ s. NamesWord word.now (string_bytes s)) }
+    {
+        let alloc = self.alloc;
+        let lines = self.finish()?;
+        format!(in alloc; "error: {word}{lines}")
     }
 
     /// The bytes so far.
@@ -77,23 +125,17 @@ impl Lines {
 
     /// The whole of a text as a JSON text.
     pub(crate) fn put_text(&mut self, text: &str) {
-        self.put_quoted(String::from_str(self.alloc, text));
+        self.put_made(quoted(self.alloc, text));
     }
 
     /// A name as a JSON text, cut where it is long.
     pub(crate) fn put_name(&mut self, name: &str) {
-        self.put_quoted(match front(name) {
-            Some(front) => format!(in self.alloc; "{front}.."),
-            None => String::from_str(self.alloc, name),
-        });
+        self.put_made(quoted_name(self.alloc, name));
     }
 
-    fn put_quoted(&mut self, text: Result<String, AllocError>) {
+    fn put_made(&mut self, text: Result<String, AllocError>) {
         match text {
-            Ok(text) => match print_tree(self.alloc, &Tree::Text(text)) {
-                Ok(quoted) => self.put(quoted.as_str()),
-                Err(want) => self.fall_short(want),
-            },
+            Ok(text) => self.put(text.as_str()),
             Err(want) => self.fall_short(want),
         }
     }
@@ -177,8 +219,32 @@ fn word_of(tree: &Tree) -> &'static str {
     }
 }
 
+/// A text as a JSON text.
+fn quoted(alloc: Global, name: &str) -> Result<String, AllocError>
+    ensures { IfOk result (λ s. string_bytes s ≡ text_of (text name.now)) }
+{
+    print_tree(alloc, &Tree::Text(String::from_str(alloc, name)?))
+}
+
+/// A name as a JSON text, cut where it is long.
+fn quoted_name(alloc: Global, name: &str) -> Result<String, AllocError>
+    ensures { IfOk result (λ s. string_bytes s ≡ quoted name.now) }
+{
+    match front(name) {
+        Some(front) => {
+            let cut = format!(in alloc; "{front}..")?;
+            quoted(alloc, cut.as_str())
+        }
+        None => quoted(alloc, name),
+    }
+}
+
 /// The first characters of a text that has more.
-fn front(text: &str) -> Option<&str> {
+#[tactic(auto, unfolding(crate::specs::Named::shown))]
+fn front(text: &str) -> Option<&str>
+    ensures long { IfSome result (λ f. shown text.now ≡ f.now ++ codes "..") }
+    ensures whole { IfNone result (shown text.now ≡ text.now) }
+{
     let (end, _) = text.char_indices().nth(MOST_CHARACTERS)?;
     let (front, _) = text.split_at_checked(end)?;
     Some(front)

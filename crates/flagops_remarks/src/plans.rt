@@ -1,5 +1,8 @@
 //! What a person is told of plan files.
-use crate::lines::Lines;
+ghost use Rattle.std.specs.Prelude.{IfOk, string_bytes};
+ghost use Rattle.flagops_remarks.specs.Named.{Names};
+
+use crate::lines::{Lines, Opening};
 use crate::requests::pairs;
 use crate::texts::of_text;
 use flag_text::{Tree, read_tree};
@@ -15,7 +18,9 @@ pub fn of_plan_file(
     path: &str,
     bytes: &[u8],
     fault: PlanFileFault,
-) -> Result<String, AllocError> {
+) -> Result<String, AllocError>
+    ensures names { IfOk result (λ s. Names path.now (string_bytes s)) }
+{
     if fault != PlanFileFault::BadPlan {
         return of_fault(alloc, path, None, fault);
     }
@@ -31,15 +36,17 @@ fn of_fault(
     path: &str,
     tree: Option<&Tree>,
     fault: PlanFileFault,
-) -> Result<String, AllocError> {
-    let mut lines = Lines::of(alloc, "error: ", path);
+) -> Result<String, AllocError>
+    ensures names { IfOk result (λ s. Names path.now (string_bytes s)) }
+{
+    let mut lines = Lines::new(alloc);
     lines.put(" is no plan: ");
     match tree {
         Some(tree) => put_misshaped(&mut lines, tree),
         None => lines.put_shown(&fault),
     }
     lines.put("\n  take a file that \"flagops plan\" printed; it has at most 67,108,864 bytes\n");
-    lines.finish()
+    lines.headed(Opening::Error, path)
 }
 
 /// The first member that is missing, or of another kind.

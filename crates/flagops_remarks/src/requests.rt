@@ -1,5 +1,8 @@
 //! What a person is told of bytes that are no request.
-use crate::lines::Lines;
+ghost use Rattle.std.specs.Prelude.{IfOk, string_bytes};
+ghost use Rattle.flagops_remarks.specs.Named.{Names};
+
+use crate::lines::{Lines, Opening};
 use crate::texts::of_text;
 use flag_text::{Tree, read_tree};
 use price_core::PriceFault;
@@ -18,20 +21,19 @@ pub fn of_request(
     path: &str,
     bytes: &[u8],
     fault: PriceFault,
-) -> Result<String, AllocError> {
+) -> Result<String, AllocError>
+    ensures names { IfOk result (λ s. Names path.now (string_bytes s)) }
+{
     match read_tree(alloc, bytes, LIMIT) {
         Ok(tree) => of_tree(alloc, path, &tree, fault),
         Err(fault) => of_text(alloc, path, bytes, LIMIT, fault),
     }
 }
 
-fn of_tree(
-    alloc: Global,
-    path: &str,
-    tree: &Tree,
-    fault: PriceFault,
-) -> Result<String, AllocError> {
-    let mut lines = Lines::of(alloc, "error: the request ", path);
+fn of_tree(alloc: Global, path: &str, tree: &Tree, fault: PriceFault) -> Result<String, AllocError>
+    ensures names { IfOk result (λ s. Names path.now (string_bytes s)) }
+{
+    let mut lines = Lines::new(alloc);
     lines.put(": ");
     match fault {
         PriceFault::BadRequest => put_misshaped(&mut lines, tree),
@@ -41,7 +43,7 @@ fn of_tree(
         PriceFault::UnknownVariant | PriceFault::WantOfMemory => lines.put_shown(&fault),
     }
     lines.put("\n");
-    lines.finish()
+    lines.headed(Opening::Request, path)
 }
 
 /// The first member that is not of its shape, and what a request looks like. Each function that is asked tells of the first

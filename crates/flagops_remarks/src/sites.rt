@@ -1,5 +1,8 @@
 //! What a person is told where a rollout is refused: the flag, the site, the names or the sums.
-use crate::lines::Lines;
+ghost use Rattle.std.specs.Prelude.{IfOk, string_bytes};
+ghost use Rattle.flagops_remarks.specs.Named.{Names};
+
+use crate::lines::{Lines, Opening};
 use crate::requests::{of_request, pairs, range, totals};
 use bucket_core::{Rule, total_weight};
 use flag_defs::{Flag, Flags};
@@ -82,11 +85,13 @@ pub fn of_rollout(
     request: &[u8],
     factor: u32,
     fault: RolloutFault,
-) -> Result<String, AllocError> {
+) -> Result<String, AllocError>
+    ensures names { IfOk result (λ s. Names path.now (string_bytes s)) }
+{
     if let RolloutFault::Request(fault) = fault {
         return of_request(alloc, path, request, fault);
     }
-    let mut lines = Lines::of(alloc, "error: the request ", path);
+    let mut lines = Lines::new(alloc);
     lines.put(": ");
     match Request::read(alloc, request) {
         Ok(asked) => {
@@ -96,7 +101,7 @@ pub fn of_rollout(
         Err(_) => lines.put_shown(&fault),
     }
     lines.put("\n");
-    lines.finish()
+    lines.headed(Opening::Request, path)
 }
 
 fn put_refused(
@@ -122,9 +127,11 @@ pub fn of_applied(
     number: u32,
     rule: &Rule,
     fault: RolloutFault,
-) -> Result<String, AllocError> {
+) -> Result<String, AllocError>
+    ensures names { IfOk result (λ s. Names path.now (string_bytes s)) }
+{
     let place = Place { flags, key, number };
-    let mut lines = Lines::of(alloc, "error: the plan ", path);
+    let mut lines = Lines::new(alloc);
     lines.put(": ");
     if fault == RolloutFault::UnknownVariant && flags.get(key).is_some() {
         put_unknown_applied(&mut lines, place, rule);
@@ -132,7 +139,7 @@ pub fn of_applied(
         put_place(&mut lines, place, fault);
     }
     lines.put("\n");
-    lines.finish()
+    lines.headed(Opening::Plan, path)
 }
 
 /// What is wrong with a flag or its site.

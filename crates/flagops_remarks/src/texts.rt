@@ -1,5 +1,8 @@
 //! What a person is told of a text that is no tree.
-use crate::lines::Lines;
+ghost use Rattle.std.specs.Prelude.{IfOk, string_bytes};
+ghost use Rattle.flagops_remarks.specs.Named.{Names, NamesWord};
+
+use crate::lines::{Lines, Opening};
 use crate::search::{Sought, first_wrong};
 use crate::way::Way;
 use flag_text::{TextFault, read_doc};
@@ -20,13 +23,15 @@ pub fn of_text(
     bytes: &[u8],
     limit: usize,
     fault: TextFault,
-) -> Result<String, AllocError> {
+) -> Result<String, AllocError>
+    ensures names { IfOk result (λ s. Names path.now (string_bytes s)) }
+{
     if fault == TextFault::WantOfMemory {
-        return String::from_str(alloc, "error: out of memory\n");
+        return Err(AllocError);
     }
-    let mut lines = Lines::of(alloc, "error: ", path);
+    let mut lines = Lines::new(alloc);
     put_fault(&mut lines, bytes, limit, fault);
-    lines.finish()
+    lines.headed(Opening::Error, path)
 }
 
 /// Of a word that is a JSON text.
@@ -36,12 +41,13 @@ pub fn of_word(
     bytes: &[u8],
     limit: usize,
     fault: TextFault,
-) -> Result<String, AllocError> {
+) -> Result<String, AllocError>
+    ensures names { IfOk result (λ s. NamesWord name.now (string_bytes s)) }
+{
     if fault == TextFault::WantOfMemory {
-        return String::from_str(alloc, "error: out of memory\n");
+        return Err(AllocError);
     }
     let mut lines = Lines::new(alloc);
-    lines.put_all(&["error: ", name]);
     put_fault(&mut lines, bytes, limit, fault);
     if fault == TextFault::NotJson {
         lines.put_all(&[
@@ -50,7 +56,7 @@ pub fn of_word(
             " is JSON: a text stands in quotes of its own, as '\"none\"'\n",
         ]);
     }
-    lines.finish()
+    lines.behind_word(name)
 }
 
 /// The fault, behind the name of the text.

@@ -1,0 +1,34 @@
+-- Names in what a person is told.
+use Rattle.std.specs.Prelude.{◌≡◌, ◌++◌, ℕ, List, chars, codes, encode_utf8_all, if◌then◌else◌, length, nat_lt, take}
+use Rattle.flag_text.specs.Printing.{text_of}
+use Rattle.flag_text.specs.Shape.{text}
+use Rattle.flagops_remarks.specs.declared.lines.Opening.{Opening}
+use Rattle.flagops_remarks.specs.declared.lines.Opening.TheVariants.{Error, File, Request, Plan, Note}
+
+-- the most characters of a name that are shown
+abbrev pub most_characters : ℕ
+most_characters = 60
+
+-- what is shown of a name: all of it, or its first characters and two dots
+unfoldable pub shown : List ℕ → List ℕ
+shown name = if nat_lt most_characters (length (chars name)) then encode_utf8_all (take most_characters (chars name)) ++ codes ".." else name
+
+-- what is shown, as a JSON text
+abbrev pub quoted : List ℕ → List ℕ
+quoted name = text_of (text (shown name))
+
+-- the words before the name of what is told of
+abbrev pub opening_words : Opening → List ℕ
+opening_words Error = codes "error: "
+opening_words File = codes "error: the file "
+opening_words Request = codes "error: the request "
+opening_words Plan = codes "error: the plan "
+opening_words Note = codes "note: "
+
+-- lines tell of a name: they begin with it, behind an opening
+unfoldable pub Names : List ℕ → List ℕ → Type 0
+Names name lines = (opening : Opening) × (rest : List ℕ) × (lines ≡ opening_words opening ++ (quoted name ++ rest))
+
+-- lines tell of a word of a command, as the command's help spells it
+unfoldable pub NamesWord : List ℕ → List ℕ → Type 0
+NamesWord word lines = (rest : List ℕ) × (lines ≡ codes "error: " ++ (word ++ rest))
