@@ -6,3 +6,4 @@ pub mod PlanFile
 pub mod Question
 pub mod Refusal
 pub mod Report
+pub mod Told

@@ -1,5 +1,5 @@
 -- What a rollout is asked over: the flags, a request, and the inputs that were recorded.
-use Rattle.std.specs.Prelude.{◌≡◌, ℕ, nat_lt, List, length, if◌then◌else◌, Result, Ok, Err}
+use Rattle.std.specs.Prelude.{◌≡◌, ℕ, nat_lt, List, [], ◌∷◌, length, if◌then◌else◌, Result, Ok, Err}
 use Rattle.book_core.specs.Book.{Contents}
 use Rattle.book_core.specs.Reading.{book_of}
 use Rattle.flag_documents.specs.Document.{Definitions}
@@ -7,6 +7,8 @@ use Rattle.flag_defs.specs.Flags.{flags_view}
 use Rattle.flagops_files.specs.Documents.{IsDocumentAt}
 use Rattle.flagops_files.specs.Files.{Holding, load_of}
 use Rattle.flagops_files.specs.Loading.{◌>>=◌, max_text, refused_by}
+use Rattle.flagops_files.specs.Refusal.{loads_book, loads_file, loads_flags}
+use Rattle.flagops_files.specs.Told.{Subjects, by, file}
 use Rattle.flagops_files.specs.declared.question.Question as program
 use Rattle.flagops_files.specs.declared.refusal.Refusal.{Refusal}
 use Rattle.flagops_files.specs.declared.refusal.Refusal.TheVariants.{Load, LongBook, ReadBook}
@@ -43,6 +45,10 @@ question_over at document request book = do
   bytes ← refused_by Load (load_of at request max_text)
   contents ← book_at at book
   Ok (record { flags = flags; request = bytes; book = contents })
+
+-- the files of a question, each with the refusals that are of it
+abbrev pub question_subjects : List ℕ → List ℕ → List ℕ → Subjects
+question_subjects document request book = (file document, by loads_flags) ∷ (file request, by loads_file) ∷ (file book, by loads_book) ∷ []
 
 -- the question of the files at these paths, or why there is none
 unfoldable pub IsQuestionAt : Holding → List ℕ → List ℕ → List ℕ → Result Question Refusal → Type 0

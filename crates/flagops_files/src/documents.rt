@@ -3,6 +3,7 @@ ghost use Rattle.std.specs.Prelude.{◌≡◌, ◌||◌, false, IfSome};
 ghost use Rattle.flag_defs.specs.Flags.{flags_view};
 ghost use Rattle.flagops_files.specs.Documents.{IsDocumentAt, IsDocumentIn};
 ghost use Rattle.flagops_files.specs.Refusal.{ComesFrom, GivesOne, is_file_fault, loads_flags, reads_flags};
+ghost use Rattle.flagops_files.specs.Told.{TellsOf, file};
 
 use crate::files::FileSet;
 use crate::loading::{TEXT_LIMIT, load};
@@ -25,6 +26,7 @@ pub fn load_flags<F: FileSet>(alloc: Global, files: &mut F, path: &str) -> Resul
     ensures calls { ComesFrom loads_flags result }
     ensures failed { F.has_failed files.new ≡ (F.has_failed files.old || is_file_fault result) }
     ensures kept { F.holding files.new ≡ F.holding files.old }
+    ensures names { TellsOf (file path.now) result }
 {
     let Document { flags, .. } = load_document(alloc, files, path)?;
     Ok(flags)
@@ -41,6 +43,7 @@ pub fn load_document<F: FileSet>(
     ensures calls { ComesFrom loads_flags result }
     ensures failed { F.has_failed files.new ≡ (F.has_failed files.old || is_file_fault result) }
     ensures kept { F.holding files.new ≡ F.holding files.old }
+    ensures names { TellsOf (file path.now) result }
 {
     let bytes = load(alloc, files, path, u64::from(TEXT_LIMIT))?;
     let flags = flags_in(alloc, path, bytes.as_slice())?;
@@ -48,10 +51,12 @@ pub fn load_document<F: FileSet>(
 }
 
 /// The flags of a document that was loaded from a path.
+#[tactic(auto, using(crate::proofs::Told::says))]
 fn flags_in(alloc: Global, path: &str, bytes: &[u8]) -> Result<Flags, Refused>
     ensures exact { GivesOne flags_view result (IsDocumentIn bytes.now) }
     ensures calls { ComesFrom reads_flags result }
     ensures read { is_file_fault result ≡ false }
+    ensures names { TellsOf (file path.now) result }
 {
     match read_flags(alloc, bytes) {
         Ok(flags) => Ok(flags),

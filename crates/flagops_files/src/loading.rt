@@ -6,6 +6,8 @@ ghost use Rattle.flagops_files.specs.Refusal.{ComesFrom, GivesUnlessWant, is_fil
 ghost use Rattle.flagops_files.specs.Files.{load_of};
 ghost use Rattle.flagops_files.specs.Loading.{refusal_of, refused_by, rule_at, tree_at};
 ghost use Rattle.flagops_files.specs.declared.refusal.Refusal.TheVariants.{Load};
+ghost use Rattle.flagops_remarks.specs.Named.{Names};
+ghost use Rattle.flagops_files.specs.Told.{Says, TellsOf, file};
 
 use crate::files::FileSet;
 use crate::refusal::Refusal;
@@ -23,6 +25,7 @@ pub const RULE_LIMIT: u32 = 67_108_864;
 pub const TEXT_LIMIT: u32 = 4_194_304;
 
 /// The bytes of the file at a path, cut after one more than so many.
+#[tactic(auto, using(crate::proofs::Told::says))]
 pub fn load<F: FileSet>(
     alloc: Global,
     files: &mut F,
@@ -34,6 +37,7 @@ pub fn load<F: FileSet>(
     ensures calls { ComesFrom loads_file result }
     ensures failed { F.has_failed files.new ≡ (F.has_failed files.old || is_file_fault result) }
     ensures kept { F.holding files.new ≡ F.holding files.old }
+    ensures names { TellsOf (file path.now) result }
 {
     match files.read(alloc, path, max) {
         Ok(bytes) => Ok(bytes),
@@ -45,7 +49,7 @@ pub fn load<F: FileSet>(
 }
 
 /// The tree of the file at a path, of at most so many bytes.
-#[tactic(auto, unfolding(crate::specs::Loading::tree_at))]
+#[tactic(auto, using(crate::proofs::Told::says), unfolding(crate::specs::Loading::tree_at))]
 pub fn load_tree<F: FileSet>(
     alloc: Global,
     files: &mut F,
@@ -57,6 +61,7 @@ pub fn load_tree<F: FileSet>(
     ensures calls { ComesFrom loads_tree result }
     ensures failed { F.has_failed files.new ≡ (F.has_failed files.old || is_file_fault result) }
     ensures kept { F.holding files.new ≡ F.holding files.old }
+    ensures names { TellsOf (file path.now) result }
 {
     let bytes = load(alloc, files, path, u64::from(limit))?;
     match read_tree(alloc, bytes.as_slice(), limit as usize) {
@@ -69,12 +74,13 @@ pub fn load_tree<F: FileSet>(
 }
 
 /// The rule of the rule file at a path.
-#[tactic(auto, unfolding(crate::specs::Loading::rule_at))]
+#[tactic(auto, using(crate::proofs::Told::says), unfolding(crate::specs::Loading::rule_at))]
 pub fn load_rule<F: FileSet>(alloc: Global, files: &mut F, path: &str) -> Result<Rule, Refused>
     ensures exact { IfSome (F.holding files.old) (λ at. GivesUnlessWant (λ r. r) result (rule_at at path.now)) }
     ensures calls { ComesFrom loads_rule result }
     ensures failed { F.has_failed files.new ≡ (F.has_failed files.old || is_file_fault result) }
     ensures kept { F.holding files.new ≡ F.holding files.old }
+    ensures names { TellsOf (file path.now) result }
 {
     let bytes = load(alloc, files, path, u64::from(RULE_LIMIT))?;
     match read_rule_text(alloc, bytes.as_slice(), RULE_LIMIT as usize) {
@@ -97,7 +103,10 @@ fn refusal_of(fault: RuleTextFault) -> Refusal
 }
 
 /// What a person is told of it. Only then is the tree of the text made.
-fn remark_on(alloc: Global, path: &str, bytes: &[u8], fault: RuleTextFault) -> Remark {
+#[tactic(auto, using(crate::proofs::Told::says))]
+fn remark_on(alloc: Global, path: &str, bytes: &[u8], fault: RuleTextFault) -> Remark
+    ensures { Says (Names path.now) result }
+{
     let limit = RULE_LIMIT as usize;
     match fault {
         RuleTextFault::Text(fault) => Remark::of(of_text(alloc, path, bytes, limit, fault)),

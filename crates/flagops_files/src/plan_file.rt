@@ -3,6 +3,7 @@ ghost use Rattle.std.specs.Prelude.{◌≡◌, ◌||◌, IfSome};
 ghost use Rattle.plan_text.specs.Answer.{planned_view};
 ghost use Rattle.flagops_files.specs.PlanFile.{plan_at};
 ghost use Rattle.flagops_files.specs.Refusal.{ComesFrom, GivesUnlessWant, is_file_fault, loads_plan};
+ghost use Rattle.flagops_files.specs.Told.{TellsOf, file};
 
 use crate::files::FileSet;
 use crate::loading::{RULE_LIMIT, load};
@@ -13,7 +14,7 @@ use plan_text::{Planned, read_planned};
 use std::alloc::Global;
 
 /// The answer of the plan file at a path.
-#[tactic(auto, unfolding(crate::specs::PlanFile::plan_at))]
+#[tactic(auto, using(crate::proofs::Told::says), unfolding(crate::specs::PlanFile::plan_at))]
 pub fn load_planned<F: FileSet>(
     alloc: Global,
     files: &mut F,
@@ -23,6 +24,7 @@ pub fn load_planned<F: FileSet>(
     ensures calls { ComesFrom loads_plan result }
     ensures failed { F.has_failed files.new ≡ (F.has_failed files.old || is_file_fault result) }
     ensures kept { F.holding files.new ≡ F.holding files.old }
+    ensures names { TellsOf (file path.now) result }
 {
     let bytes = load(alloc, files, path, u64::from(RULE_LIMIT))?;
     match read_planned(alloc, bytes.as_slice()) {

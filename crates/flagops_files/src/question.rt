@@ -1,7 +1,8 @@
 //! What a rollout is asked over: the flags, a request, and the inputs that were recorded.
 ghost use Rattle.std.specs.Prelude.{◌≡◌, ◌||◌, IfSome};
-ghost use Rattle.flagops_files.specs.Question.{IsQuestionAt, book_at, question_view};
+ghost use Rattle.flagops_files.specs.Question.{IsQuestionAt, book_at, question_subjects, question_view};
 ghost use Rattle.flagops_files.specs.Refusal.{ComesFrom, GivesOne, GivesUnlessWant, is_file_fault, loads_book, loads_question};
+ghost use Rattle.flagops_files.specs.Told.{TellsOf, TellsOfOne, file};
 
 use crate::documents::load_flags;
 use crate::files::FileSet;
@@ -37,6 +38,7 @@ pub fn load_question<F: FileSet>(
     ensures calls { ComesFrom loads_question result }
     ensures failed { F.has_failed files.new ≡ (F.has_failed files.old || is_file_fault result) }
     ensures kept { F.holding files.new ≡ F.holding files.old }
+    ensures names { TellsOfOne (question_subjects document.now request.now book.now) result }
 {
     let flags = load_flags(alloc, files, document)?;
     let request = load(alloc, files, request, u64::from(TEXT_LIMIT))?;
@@ -49,12 +51,13 @@ pub fn load_question<F: FileSet>(
 }
 
 /// The book of the file at a path.
-#[tactic(auto, unfolding(crate::specs::Question::book_at))]
+#[tactic(auto, using(crate::proofs::Told::says), unfolding(crate::specs::Question::book_at))]
 fn load_book<F: FileSet>(alloc: Global, files: &mut F, path: &str) -> Result<Book, Refused>
     ensures exact { IfSome (F.holding files.old) (λ at. GivesUnlessWant (λ b. b) result (book_at at path.now)) }
     ensures calls { ComesFrom loads_book result }
     ensures failed { F.has_failed files.new ≡ (F.has_failed files.old || is_file_fault result) }
     ensures kept { F.holding files.new ≡ F.holding files.old }
+    ensures names { TellsOf (file path.now) result }
 {
     let bytes = load(alloc, files, path, BOOK_LIMIT)?;
     if bytes.len() as u64 > BOOK_LIMIT {

@@ -1,4 +1,8 @@
 //! A refusal with what a person is told of it.
+ghost use Rattle.std.specs.Prelude.{◌≡◌, IfOk, OnErr};
+ghost use Rattle.flagops_files.specs.Told.{remark_text};
+ghost use Rattle.flagops_files.specs.declared.refused.Remark.TheVariants.{Lines, Short};
+
 use crate::refusal::Refusal;
 use std::alloc::AllocError;
 
@@ -13,7 +17,10 @@ pub enum Remark {
 
 impl Remark {
     /// The lines, or the fixed sentence where they could not be made.
-    pub fn of(lines: Result<String, AllocError>) -> Remark {
+    pub fn of(lines: Result<String, AllocError>) -> Remark
+        ensures lines { IfOk lines (λ s. result ≡ Lines s) }
+        ensures short { OnErr lines (result ≡ Short) }
+    {
         match lines {
             Ok(lines) => Remark::Lines(lines),
             Err(AllocError) => Remark::Short,
@@ -21,7 +28,9 @@ impl Remark {
     }
 
     /// What is written of it.
-    pub(crate) fn text(&self) -> &str {
+    pub(crate) fn text(&self) -> &str
+        ensures { result.now ≡ remark_text self.now }
+    {
         match self {
             Remark::Lines(lines) => lines.as_str(),
             Remark::Short => "error: out of memory\n",

@@ -1,9 +1,10 @@
 //! Writing what a run reports.
-ghost use Rattle.std.specs.Prelude.{◌≡◌, ◌++◌, false, not, is_some};
+ghost use Rattle.std.specs.Prelude.{◌≡◌, ◌<◌, ◌++◌, length, false, not, is_some};
 ghost use Rattle.std.specs.Bool.{OnTrue};
 ghost use Rattle.std.specs.Io.KnownBytes.{Appends};
 ghost use Rattle.flag_text.specs.Outlet.{AppendsPart};
-ghost use Rattle.flagops_files.specs.Report.{PutsText, Reports, ReportsAll, TellsIf, outcome_view, want_report};
+ghost use Rattle.flagops_files.specs.Told.{PutsRemark, spoken};
+ghost use Rattle.flagops_files.specs.Report.{Puts, PutsText, Reports, ReportsAll, TellsIf, outcome_view, want_report};
 
 use crate::outcome::{Outcome, Status};
 use crate::refusal::Call;
@@ -15,7 +16,8 @@ use flag_text::{Outlet, write_whole};
 pub fn report<O: Outlet, E: Outlet>(out: &mut O, err: &mut E, outcome: &Outcome) -> u8
     requires out_whole { O.is_broken out.old ≡ false }
     requires err_whole { E.is_broken err.old ≡ false }
-    ensures { ReportsAll (O.bytes out.old) (O.bytes out.new) (O.is_broken out.new) (E.bytes err.old) (E.bytes err.new) (E.is_broken err.new) result (outcome_view outcome.now) }
+    ensures report { ReportsAll (O.bytes out.old) (O.bytes out.new) (O.is_broken out.new) (E.bytes err.old) (E.bytes err.new) (E.is_broken err.new) result (outcome_view outcome.now) }
+    ensures remark { PutsRemark (E.bytes err.old) (E.bytes err.new) (E.is_broken err.new) outcome.now.remark }
 {
     let status = print(out, outcome);
     tell_remark(err, &outcome.remark);
@@ -63,7 +65,8 @@ fn print_want<O: Outlet>(out: &mut O, call: Call) -> u8
 /// Tells a remark where there is one.
 fn tell_remark<E: Outlet>(err: &mut E, remark: &Option<Remark>)
     requires { E.is_broken err.old ≡ false }
-    ensures { TellsIf (E.bytes err.old) (E.bytes err.new) (E.is_broken err.new) (is_some remark.now) }
+    ensures told { TellsIf (E.bytes err.old) (E.bytes err.new) (E.is_broken err.new) (is_some remark.now) }
+    ensures remark { PutsRemark (E.bytes err.old) (E.bytes err.new) (E.is_broken err.new) remark.now }
 {
     if let Some(remark) = remark {
         tell(err, remark.text());
@@ -73,15 +76,22 @@ fn tell_remark<E: Outlet>(err: &mut E, remark: &Option<Remark>)
 /// Writes what a person is told.
 pub fn tell<E: Outlet>(err: &mut E, text: &str)
     requires { E.is_broken err.old ≡ false }
-    ensures { PutsText (E.bytes err.old) (E.bytes err.new) (E.is_broken err.new) }
+    ensures told { PutsText (E.bytes err.old) (E.bytes err.new) (E.is_broken err.new) }
+    ensures spoken { Puts (E.bytes err.old) (E.bytes err.new) (E.is_broken err.new) (spoken text.now) }
 {
-    // A text that says nothing is not told: no clause says that those of `clap`, or of a remark, are not empty.
-    let text = if text.is_empty() {
+    write_whole(err, spoken(text).as_bytes());
+}
+
+/// A text as it is told. One that says nothing is not: no clause says that those of `clap`, or of a remark, are not empty.
+fn spoken(text: &str) -> &str
+    ensures text { result.now ≡ spoken text.now }
+    ensures some { 0 < length result.now }
+{
+    if text.is_empty() {
         "error: docs/REFUSALS.md explains the answer\n"
     } else {
         text
-    };
-    write_whole(err, text.as_bytes());
+    }
 }
 
 /// Writes all three, and says whether that went well.

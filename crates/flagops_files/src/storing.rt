@@ -2,6 +2,7 @@
 ghost use Rattle.std.specs.Prelude.{◌≡◌, ◌||◌, false, IfErr, OnErr, OnOk};
 ghost use Rattle.flagops_files.specs.Files.{KeepsOthers, Stores};
 ghost use Rattle.flagops_files.specs.Refusal.{ComesFrom, is_file_fault, is_want, stores_file, unwritable};
+ghost use Rattle.flagops_files.specs.Told.{TellsOf, file};
 
 use crate::files::FileSet;
 use crate::refusal::Refusal;
@@ -10,6 +11,7 @@ use flagops_remarks::of_unwritable;
 use std::alloc::Global;
 
 /// Makes the bytes the file at a path. After a refusal the files are as they were.
+#[tactic(auto, using(crate::proofs::Told::says))]
 pub fn store<F: FileSet>(
     alloc: Global,
     files: &mut F,
@@ -22,6 +24,7 @@ pub fn store<F: FileSet>(
     ensures fault { IfErr result (λ r. is_want r.refusal ≡ false → r.refusal ≡ unwritable) }
     ensures calls { ComesFrom stores_file result }
     ensures failed { F.has_failed files.new ≡ (F.has_failed files.old || is_file_fault result) }
+    ensures names { TellsOf (file path.now) result }
 {
     match files.write(alloc, path, bytes) {
         Ok(()) => Ok(()),
