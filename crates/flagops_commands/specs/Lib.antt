@@ -9,6 +9,7 @@ pub mod Ended
 pub mod Plan
 pub mod Price
 pub mod Resolve
+pub mod Subjects
 pub mod Telling
 pub mod Totals
 pub mod Unrecorded

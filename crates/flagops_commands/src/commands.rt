@@ -5,6 +5,8 @@ ghost use Rattle.flagops_commands.specs.Drive.{KeepsUnlessDone};
 ghost use Rattle.flagops_words.specs.Asked.{asked_view};
 ghost use Rattle.flagops_files.specs.Refusal.{ComesFrom, GivesOne, is_file_fault};
 ghost use Rattle.flagops_files.specs.Report.{outcome_view};
+ghost use Rattle.flagops_files.specs.Told.{TellsOfOne};
+ghost use Rattle.flagops_commands.specs.Subjects.{subjects_of};
 
 use crate::books::drive::drive;
 use crate::completions::completions;
@@ -35,6 +37,7 @@ pub fn outcome<R: Threads + Wait + Sync, F: FileSet>(
     ensures failed { F.has_failed files.new ≡ (F.has_failed files.old || is_file_fault result) }
     ensures left { Leaves (asked_view asked.now) (F.holding files.old) (F.holding files.new) }
     ensures kept { KeepsUnlessDone (F.holding files.old) (F.holding files.new) result }
+    ensures names { TellsOfOne (subjects_of (asked_view asked.now)) result }
 {
     match asked {
         Asked::Drive {
@@ -61,6 +64,7 @@ fn outcome_at_once<R: Threads + Sync, F: FileSet>(
     ensures failed { F.has_failed files.new ≡ (F.has_failed files.old || is_file_fault result) }
     ensures left { Leaves (asked_view asked.now) (F.holding files.old) (F.holding files.new) }
     ensures kept { KeepsUnlessDone (F.holding files.old) (F.holding files.new) result }
+    ensures names { TellsOfOne (subjects_of (asked_view asked.now)) result }
 {
     match asked {
         Asked::Bucket { rule, key } => bucket(alloc, files, rule, key),

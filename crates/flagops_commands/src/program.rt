@@ -6,6 +6,8 @@ ghost use Rattle.flagops_commands.specs.Ended.{AnswersAsked, AnswersStored, Answ
 ghost use Rattle.flagops_commands.specs.Commands.{calls_of, IsRunOutcome, Leaves, LeavesAsked};
 ghost use Rattle.flagops_commands.specs.Drive.{KeepsUnlessDone};
 ghost use Rattle.flagops_files.specs.Refusal.{call_of, is_want};
+ghost use Rattle.flagops_files.specs.Told.{NamesOne, RemarksOrWants};
+ghost use Rattle.flagops_commands.specs.Subjects.{subjects_of};
 ghost use Rattle.flagops_files.specs.Report.{AnswersOrWants, PutsText, is_of_file, IsFileRefusal, outcome_view, report_of};
 ghost use Rattle.flagops_commands.specs.Telling.{Tells};
 ghost use Rattle.flagops_words.specs.Words.{asked_by};
@@ -65,7 +67,7 @@ fn answer<R: Threads + Wait + Sync, F: FileSet>(
     files: &mut F,
     asked: &Asked<'_>,
 ) -> Result<Outcome, Call>
-    ensures exact { IfSome (F.holding files.old) (λ at. AnswersOrWants (calls_of (asked_view asked.now)) result (IsRunOutcome at (F.holding files.new) (F.has_failed files.new) (asked_view asked.now))) }
+    ensures exact { IfSome (F.holding files.old) (λ at. RemarksOrWants (calls_of (asked_view asked.now)) (NamesOne (subjects_of (asked_view asked.now))) result (IsRunOutcome at (F.holding files.new) (F.has_failed files.new) (asked_view asked.now))) }
     ensures unread { F.has_failed files.old ≡ false → F.has_failed files.new ≡ true → AnswersOrWants is_of_file result IsFileRefusal }
     ensures left { Leaves (asked_view asked.now) (F.holding files.old) (F.holding files.new) }
     ensures kept { KeepsUnlessDone (F.holding files.old) (F.holding files.new) result }
@@ -80,6 +82,7 @@ fn answer<R: Threads + Wait + Sync, F: FileSet>(
 fn refused(alloc: Global, refused: Refused) -> Result<Outcome, Call>
     ensures line { IfOk result (λ o. (is_want refused.refusal ≡ false) × (outcome_view o ≡ report_of (Err refused.refusal))) }
     ensures call { IfErr result (λ c. c ≡ call_of refused.refusal) }
+    ensures remark { IfOk result (λ o. o.remark ≡ Some refused.remark) }
 {
     let Refused { refusal, remark } = refused;
     if refusal.is_want() {

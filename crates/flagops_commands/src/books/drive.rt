@@ -1,5 +1,5 @@
 //! The command `drive`: what the asks of a file resolve to, and the book of what they reach.
-ghost use Rattle.std.specs.Prelude.{◌≡◌, ◌||◌, false, true, IfSome, IsErrAnd, Ok, Some};
+ghost use Rattle.std.specs.Prelude.{◌≡◌, ◌||◌, false, true, IfOk, IfSome, IsErrAnd, Ok, Some, [], ◌∷◌, string_bytes};
 ghost use Rattle.flag_defs.specs.Flags.{flags_view};
 ghost use Rattle.flag_text.specs.Shape.{is_whole};
 ghost use Rattle.flag_text.specs.View.{view};
@@ -12,6 +12,8 @@ ghost use Rattle.flagops_files.specs.Files.{KeepsOthers};
 ghost use Rattle.flagops_files.specs.Refusal.{ComesFrom, GivesOne, is_file_fault, stores_file};
 ghost use Rattle.flagops_files.specs.Report.{outcome_view};
 ghost use Rattle.flagops_files.specs.declared.refusal.Refusal.TheVariants.{Drive};
+ghost use Rattle.flagops_files.specs.Told.{TellsOfOne, by, file, neither};
+ghost use Rattle.flagops_commands.specs.Subjects.{NamesDriven, drive_subjects, is_of_asks, is_of_driving};
 
 use flag_defs::Flags;
 use flag_text::Tree;
@@ -43,6 +45,7 @@ pub fn drive<R: Threads + Wait + Sync, F: FileSet>(
     // What is known without taking memory is refused by name, once the files before it were read.
     ensures bad_workers { (e : Reason) → workers_refusal workers ≡ Some e → IsRefusedByName result }
     ensures bad_asks { IfSome (F.holding files.old) (λ at. HasNoAsks at asks.now → IsRefusedByName result) }
+    ensures names { TellsOfOne (drive_subjects document.now asks.now book.now) result }
 {
     let flags = load_flags(alloc, files, document)?;
     let tree = load_tree(alloc, files, asks, TEXT_LIMIT)?;
@@ -51,6 +54,7 @@ pub fn drive<R: Threads + Wait + Sync, F: FileSet>(
 }
 
 /// The asks of a tree, driven; the tree was loaded from a path.
+#[tactic(auto, using(flagops_files::proofs::Told::says))]
 fn drove<R: Threads + Wait + Sync>(
     rt: &R,
     alloc: Global,
@@ -64,6 +68,7 @@ fn drove<R: Threads + Wait + Sync>(
     ensures calls { ComesFrom drive_itself result }
     ensures read { is_file_fault result ≡ false }
     ensures refused { (e : Reason) → refusal_of (asks_of (view tree.now)) workers ≡ Some e → IsErrAnd result (λ r. r.refusal ≡ Drive e) }
+    ensures names { TellsOfOne ((file path.now, is_of_asks) ∷ (neither, is_of_driving) ∷ []) result }
 {
     let workers = usize::from(workers);
     match drive_asks(rt, alloc, flags, tree, workers) {
@@ -81,7 +86,9 @@ fn of_refusal(
     tree: &Tree,
     workers: usize,
     refusal: DriveRefusal,
-) -> Result<String, AllocError> {
+) -> Result<String, AllocError>
+    ensures { IfOk result (λ s. NamesDriven path.now refusal (string_bytes s)) }
+{
     match refusal {
         DriveRefusal::BadAsks => of_asks(alloc, path, tree),
         DriveRefusal::Drive(fault) => of_workers(alloc, workers, fault.name()),
@@ -100,6 +107,7 @@ fn written<F: FileSet>(
     ensures failed { F.has_failed files.new ≡ (F.has_failed files.old || is_file_fault result) }
     ensures others { KeepsOthers (F.holding files.old) (F.holding files.new) book.now }
     ensures kept { KeepsUnlessDone (F.holding files.old) (F.holding files.new) result }
+    ensures names { TellsOfOne ((file book.now, by stores_file) ∷ []) result }
 {
     store(alloc, files, book, drove.book.as_slice())?;
     Ok(Outcome::plain(drove.text, Status::Done))

@@ -6,6 +6,8 @@ ghost use Rattle.flagops_commands.specs.Check.{IsCheckReport, check_report, chec
 ghost use Rattle.flagops_commands.specs.Calls.{check_calls, check_itself};
 ghost use Rattle.flagops_files.specs.Refusal.{ComesFrom, GivesOne, GivesUnlessWant, is_file_fault};
 ghost use Rattle.flagops_files.specs.Report.{outcome_view};
+ghost use Rattle.flagops_files.specs.Told.{TellsOfOne};
+ghost use Rattle.flagops_commands.specs.Subjects.{check_subjects};
 
 use flag_defs::{Flag, Flags};
 use flagops_files::{
@@ -21,6 +23,7 @@ pub fn check<F: FileSet>(alloc: Global, files: &mut F, document: &str) -> Result
     ensures calls { ComesFrom check_calls result }
     ensures failed { F.has_failed files.new ≡ (F.has_failed files.old || is_file_fault result) }
     ensures kept { F.holding files.new ≡ F.holding files.old }
+    ensures names { TellsOfOne (check_subjects document.now) result }
 {
     let Document { bytes, flags } = load_document(alloc, files, document)?;
     checked(alloc, &flags, bytes.as_slice())

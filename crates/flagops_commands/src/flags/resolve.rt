@@ -1,5 +1,5 @@
 //! The command `resolve`: what the flag of a key resolves to.
-ghost use Rattle.std.specs.Prelude.{◌≡◌, ◌<◌, ◌^◌, ◌||◌, false, true, IfOk, IfSome, string_bytes};
+ghost use Rattle.std.specs.Prelude.{◌≡◌, ◌<◌, ◌^◌, ◌||◌, codes, false, true, IfOk, IfSome, string_bytes};
 ghost use Rattle.flag_defs.specs.Flags.{flags_view};
 ghost use Rattle.flag_text.specs.Shape.{is_whole};
 ghost use Rattle.flag_text.specs.View.{view};
@@ -10,6 +10,8 @@ ghost use Rattle.flagops_commands.specs.Calls.{resolve_calls};
 ghost use Rattle.flagops_files.specs.Refusal.{ComesFrom, GivesOne, GivesUnlessWant, is_file_fault, loads_tree};
 ghost use Rattle.flagops_files.specs.Report.{outcome_view};
 ghost use Rattle.flagops_files.specs.declared.refusal.Refusal.TheVariants.{ReadTree};
+ghost use Rattle.flagops_files.specs.Told.{TellsOf, TellsOfOne, word};
+ghost use Rattle.flagops_commands.specs.Subjects.{resolve_subjects};
 
 use flag_defs::Flags;
 use flag_resolve::{Kind, print_resolution};
@@ -37,6 +39,7 @@ pub fn resolve<F: FileSet>(
     ensures calls { ComesFrom resolve_calls result }
     ensures failed { F.has_failed files.new ≡ (F.has_failed files.old || is_file_fault result) }
     ensures kept { F.holding files.new ≡ F.holding files.old }
+    ensures names { TellsOfOne (resolve_subjects document.now context.now) result }
 {
     let flags = load_flags(alloc, files, document)?;
     let default = default_in(alloc, default)?;
@@ -50,21 +53,23 @@ pub fn resolve<F: FileSet>(
     }
 }
 
-/// The tree that a word spells.
-fn default_in(alloc: Global, word: &str) -> Result<Tree, Refused>
-    ensures exact { GivesUnlessWant view result (refused_by ReadTree (tree_of word.now max_text)) }
+/// The tree that the word DEFAULT spells.
+#[tactic(auto, using(flagops_files::proofs::Told::says))]
+fn default_in(alloc: Global, text: &str) -> Result<Tree, Refused>
+    ensures exact { GivesUnlessWant view result (refused_by ReadTree (tree_of text.now max_text)) }
     ensures whole { IfOk result (λ t. is_whole (view t) ≡ true) }
     ensures calls { ComesFrom loads_tree result }
     ensures read { is_file_fault result ≡ false }
+    ensures names { TellsOf (word (codes "DEFAULT")) result }
 {
-    match read_tree(alloc, word.as_bytes(), TEXT_LIMIT as usize) {
+    match read_tree(alloc, text.as_bytes(), TEXT_LIMIT as usize) {
         Ok(tree) => Ok(tree),
         Err(fault) => Err(Refused {
             refusal: Refusal::ReadTree(fault),
             remark: Remark::of(of_word(
                 alloc,
                 "DEFAULT",
-                word.as_bytes(),
+                text.as_bytes(),
                 TEXT_LIMIT as usize,
                 fault,
             )),

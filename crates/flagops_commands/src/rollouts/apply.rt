@@ -6,6 +6,8 @@ ghost use Rattle.flagops_commands.specs.Apply.{IsApplyReport, IsLocalReport, app
 ghost use Rattle.flagops_commands.specs.Calls.{apply_calls, apply_itself};
 ghost use Rattle.flagops_files.specs.Refusal.{ComesFrom, GivesOne, GivesUnlessWant, is_file_fault};
 ghost use Rattle.flagops_files.specs.Report.{done, outcome_view};
+ghost use Rattle.flagops_files.specs.Told.{TellsOf, TellsOfOne, file};
+ghost use Rattle.flagops_commands.specs.Subjects.{apply_subjects};
 
 use flag_defs::{Flags, print_flags};
 use flagops_files::{
@@ -30,13 +32,14 @@ pub fn apply<F: FileSet>(
     ensures calls { ComesFrom apply_calls result }
     ensures failed { F.has_failed files.new ≡ (F.has_failed files.old || is_file_fault result) }
     ensures kept { F.holding files.new ≡ F.holding files.old }
+    ensures names { TellsOfOne (apply_subjects document.now plan.now) result }
 {
     let flags = load_flags(alloc, files, document)?;
     let planned = load_planned(alloc, files, plan)?;
     applied(alloc, &flags, key, site, plan, &planned)
 }
 
-#[tactic(auto, unfolding(crate::specs::Apply::applied_report))]
+#[tactic(auto, using(flagops_files::proofs::Told::says), unfolding(crate::specs::Apply::applied_report))]
 fn applied(
     alloc: Global,
     flags: &Flags,
@@ -49,6 +52,7 @@ fn applied(
     ensures local { IfOk result (λ o. IsLocalReport (flags_view flags.now) key.now site (planned_view planned.now) (outcome_view o)) }
     ensures calls { ComesFrom apply_itself result }
     ensures read { is_file_fault result ≡ false }
+    ensures names { TellsOf (file path.now) result }
 {
     match planned {
         Planned::Emit(rule, _) => {

@@ -1,5 +1,5 @@
 //! The command `plan`: the answer of the planner to a rollout request.
-ghost use Rattle.std.specs.Prelude.{◌≡◌, ◌||◌, false, true, is_some, Ok, IfOk, IfSome, option_map};
+ghost use Rattle.std.specs.Prelude.{◌≡◌, ◌||◌, [], ◌∷◌, false, true, is_some, Ok, IfOk, IfSome, option_map};
 ghost use Rattle.plan_text.specs.Answer.{IsOrdered, planned_view};
 ghost use Rattle.plan_text.specs.PlanFile.{IsWhole};
 ghost use Rattle.flagops_commands.specs.Plan.{Holds, IsPlanOf, IsPlanReport, MayBePlanned, plan_report, plan_status};
@@ -7,6 +7,8 @@ ghost use Rattle.flagops_files.specs.Question.{question_view};
 ghost use Rattle.flagops_commands.specs.Calls.{plan_calls, prints_plan};
 ghost use Rattle.flagops_files.specs.Refusal.{ComesFrom, GivesOne, GivesUnlessWant, is_file_fault};
 ghost use Rattle.flagops_files.specs.Report.{beside, outcome_view, status_number};
+ghost use Rattle.flagops_files.specs.Told.{TellsOfOne, file, neither};
+ghost use Rattle.flagops_commands.specs.Subjects.{is_of_request, is_of_size, plan_subjects};
 
 use crate::rollouts::unrecorded::unrecorded;
 use flagops_files::{
@@ -35,12 +37,14 @@ pub fn plan<R: Threads + Sync, F: FileSet>(
     ensures calls { ComesFrom plan_calls result }
     ensures failed { F.has_failed files.new ≡ (F.has_failed files.old || is_file_fault result) }
     ensures kept { F.holding files.new ≡ F.holding files.old }
+    ensures names { TellsOfOne (plan_subjects document.now request.now book.now) result }
 {
     let question = load_question(alloc, files, document, request, book)?;
     answer(rt, alloc, request, book, &question, refine)
 }
 
 /// The report on a question, which was loaded from these paths.
+#[tactic(auto, using(flagops_files::proofs::Told::says))]
 fn answer(
     rt: &(impl Threads + Sync),
     alloc: Global,
@@ -52,6 +56,7 @@ fn answer(
     ensures exact { GivesOne outcome_view result (IsPlanOf (option_map (λ m. m.number) refine) (Ok (question_view question.now))) }
     ensures calls { ComesFrom prints_plan result }
     ensures read { is_file_fault result ≡ false }
+    ensures names { TellsOfOne ((file request.now, is_of_request) ∷ (neither, is_of_size) ∷ []) result }
 {
     let planned = match planned(rt, alloc, question, refine) {
         Ok(planned) => planned,
@@ -98,6 +103,7 @@ fn printed(alloc: Global, planned: &Planned, remark: Option<Remark>) -> Result<O
     ensures reads_back { IfOk result (λ o. Holds (planned_view planned.now) o.text.items) }
     ensures calls { ComesFrom prints_plan result }
     ensures read { is_file_fault result ≡ false }
+    ensures names { TellsOfOne ((neither, is_of_size) ∷ []) result }
 {
     match print_planned_line(alloc, planned) {
         Ok(text) => Ok(Outcome {

@@ -1,11 +1,13 @@
 //! The command `verify`: whether the answer of a plan file is right.
-ghost use Rattle.std.specs.Prelude.{◌≡◌, ◌||◌, false, is_some, Ok, IfOk, IfSome, option_map, string_bytes};
+ghost use Rattle.std.specs.Prelude.{◌≡◌, ◌||◌, [], ◌∷◌, false, is_some, Ok, IfOk, IfSome, option_map, string_bytes};
 ghost use Rattle.plan_text.specs.Answer.{planned_view};
 ghost use Rattle.flagops_files.specs.Question.{question_view};
 ghost use Rattle.flagops_commands.specs.Calls.{verify_calls, verify_itself};
 ghost use Rattle.flagops_files.specs.Refusal.{ComesFrom, GivesOne, GivesUnlessWant, is_file_fault};
 ghost use Rattle.flagops_files.specs.Report.{beside, done, outcome_view};
 ghost use Rattle.flagops_commands.specs.Verify.{IsVerdict, IsVerifyReport, MayBeTold, valid_text};
+ghost use Rattle.flagops_files.specs.Told.{TellsOfOne, file};
+ghost use Rattle.flagops_commands.specs.Subjects.{NamesVerified, is_of_answer, is_of_request, verify_subjects};
 
 use crate::rollouts::plan::factor_of;
 use crate::rollouts::unrecorded::unrecorded;
@@ -35,6 +37,7 @@ pub fn verify<R: Threads + Sync, F: FileSet>(
     ensures calls { ComesFrom verify_calls result }
     ensures failed { F.has_failed files.new ≡ (F.has_failed files.old || is_file_fault result) }
     ensures kept { F.holding files.new ≡ F.holding files.old }
+    ensures names { TellsOfOne (verify_subjects document.now request.now book.now plan.now) result }
 {
     let question = load_question(alloc, files, document, request, book)?;
     let planned = load_planned(alloc, files, plan)?;
@@ -55,6 +58,7 @@ struct Paths<'a> {
 }
 
 /// The line of an answer that is right.
+#[tactic(auto, using(flagops_files::proofs::Told::says))]
 fn verdict(
     rt: &(impl Threads + Sync),
     alloc: Global,
@@ -66,6 +70,7 @@ fn verdict(
     ensures exact { GivesOne outcome_view result (IsVerdict (option_map (λ m. m.number) refine) (Ok (question_view question.now)) (Ok (planned_view planned.now))) }
     ensures calls { ComesFrom verify_itself result }
     ensures read { is_file_fault result ≡ false }
+    ensures names { TellsOfOne ((file paths.entry.request.now, is_of_request) ∷ (file paths.entry.plan.now, is_of_answer) ∷ []) result }
 {
     if let Err(fault) = verified(rt, alloc, question, planned, refine) {
         let lines = lines_on(alloc, paths, question, planned, refine, &fault);
@@ -110,7 +115,9 @@ fn lines_on(
     planned: &Planned,
     refine: Option<Factor>,
     fault: &VerifyFault,
-) -> Result<String, AllocError> {
+) -> Result<String, AllocError>
+    ensures { IfOk result (λ s. NamesVerified paths.entry.request.now paths.entry.plan.now fault.now (string_bytes s)) }
+{
     let (flags, bytes) = (&question.flags, question.request.as_slice());
     match fault {
         VerifyFault::Request(fault) => {

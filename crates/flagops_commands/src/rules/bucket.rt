@@ -4,6 +4,8 @@ ghost use Rattle.flagops_commands.specs.Bucket.{eight_hex_digits, three_lines, b
 ghost use Rattle.flagops_commands.specs.Calls.{bucket_calls};
 ghost use Rattle.flagops_files.specs.Refusal.{ComesFrom, GivesUnlessWant, is_file_fault};
 ghost use Rattle.flagops_files.specs.Report.{outcome_view};
+ghost use Rattle.flagops_files.specs.Told.{TellsOfOne};
+ghost use Rattle.flagops_commands.specs.Subjects.{bucket_subjects};
 
 use bucket_core::{Rule, point};
 use flagops_files::{Call, FileSet, Outcome, Refusal, Refused, Remark, Status, load_rule, quoted};
@@ -22,6 +24,7 @@ pub fn bucket<F: FileSet>(
     ensures calls { ComesFrom bucket_calls result }
     ensures failed { F.has_failed files.new ≡ (F.has_failed files.old || is_file_fault result) }
     ensures kept { F.holding files.new ≡ F.holding files.old }
+    ensures names { TellsOfOne (bucket_subjects rule.now) result }
 {
     let rule = load_rule(alloc, files, rule)?;
     match lines(alloc, &rule, key) {

@@ -1,5 +1,5 @@
 //! The command `price`: what a new rule costs the keys of a file.
-ghost use Rattle.std.specs.Prelude.{◌≡◌, ◌<◌, ◌≤◌, ◌^◌, ◌++◌, ◌||◌, false, length, IfOk, IfSome, codes, decimal, map, string_bytes};
+ghost use Rattle.std.specs.Prelude.{◌≡◌, ◌<◌, ◌≤◌, ◌^◌, ◌++◌, ◌||◌, [], ◌∷◌, false, length, IfOk, IfSome, codes, decimal, map, string_bytes};
 ghost use Rattle.bucket_core.specs.Rule.{total_weight};
 ghost use Rattle.flag_text.specs.View.{view, items_view};
 ghost use Rattle.flagops_commands.specs.Price.{request_at, keys_at, keys_in, if_keys, texts_of, are_short, are_taken, exposed, price_report, weighed, weighed_keys, price_text, total_lines, forbidden_line, cost_line};
@@ -8,6 +8,8 @@ ghost use Rattle.flagops_files.specs.Refusal.{ComesFrom, GivesUnlessWant, is_fil
 ghost use Rattle.flagops_files.specs.Report.{outcome_view};
 ghost use Rattle.flagops_files.specs.declared.refusal.PriceMismatch.TheVariants.{BadKeys};
 ghost use Rattle.flagops_files.specs.declared.refusal.Refusal.TheVariants.{Price};
+ghost use Rattle.flagops_files.specs.Told.{NamesSubject, Says, TellsOf, TellsOfOne, file, neither};
+ghost use Rattle.flagops_commands.specs.Subjects.{is_of_keys, is_of_rules, price_subjects};
 
 use crate::rules::totals::totals_by_name;
 use book_core::{Book, Exposure, Page};
@@ -38,6 +40,7 @@ pub fn price<R: Threads + Sync, F: FileSet>(
     ensures calls { ComesFrom price_calls result }
     ensures failed { F.has_failed files.new ≡ (F.has_failed files.old || is_file_fault result) }
     ensures kept { F.holding files.new ≡ F.holding files.old }
+    ensures names { TellsOfOne (price_subjects old.now new.now request.now keys.now) result }
 {
     let old = load_rule(alloc, files, old)?;
     let new = load_rule(alloc, files, new)?;
@@ -48,12 +51,13 @@ pub fn price<R: Threads + Sync, F: FileSet>(
 }
 
 /// The request of the file at a path.
-#[tactic(auto, unfolding(crate::specs::Price::request_at))]
+#[tactic(auto, using(flagops_files::proofs::Told::says), unfolding(crate::specs::Price::request_at))]
 fn load_request<F: FileSet>(alloc: Global, files: &mut F, path: &str) -> Result<Request, Refused>
     ensures exact { IfSome (F.holding files.old) (λ at. GivesUnlessWant (λ r. r) result (request_at at path.now)) }
     ensures calls { ComesFrom loads_request result }
     ensures failed { F.has_failed files.new ≡ (F.has_failed files.old || is_file_fault result) }
     ensures kept { F.holding files.new ≡ F.holding files.old }
+    ensures names { TellsOf (file path.now) result }
 {
     let bytes = load(alloc, files, path, u64::from(TEXT_LIMIT))?;
     match Request::read(alloc, bytes.as_slice()) {
@@ -72,6 +76,7 @@ fn load_keys<F: FileSet>(alloc: Global, files: &mut F, path: &str) -> Result<Vec
     ensures calls { ComesFrom loads_keys result }
     ensures failed { F.has_failed files.new ≡ (F.has_failed files.old || is_file_fault result) }
     ensures kept { F.holding files.new ≡ F.holding files.old }
+    ensures names { TellsOf (file path.now) result }
 {
     let tree = load_tree(alloc, files, path, TEXT_LIMIT)?;
     keys_in(alloc, path, tree)
@@ -81,6 +86,7 @@ fn keys_in(alloc: Global, path: &str, tree: Tree) -> Result<Vec<String>, Refused
     ensures exact { GivesUnlessWant (λ v. map string_bytes v.items) result (keys_in (view tree)) }
     ensures calls { ComesFrom price_itself result }
     ensures read { is_file_fault result ≡ false }
+    ensures names { TellsOf (file path.now) result }
 {
     match tree {
         Tree::List(items) => texts_of(alloc, path, items),
@@ -92,6 +98,7 @@ fn texts_of(alloc: Global, path: &str, items: Vec<Tree>) -> Result<Vec<String>, 
     ensures exact { GivesUnlessWant (λ v. map string_bytes v.items) result (if_keys (texts_of (items_view items.items))) }
     ensures calls { ComesFrom price_itself result }
     ensures read { is_file_fault result ≡ false }
+    ensures names { TellsOf (file path.now) result }
 {
     let mut texts = Vec::new(alloc);
     for item in items {
@@ -110,8 +117,10 @@ fn texts_of(alloc: Global, path: &str, items: Vec<Tree>) -> Result<Vec<String>, 
 }
 
 /// The refusal of a value that is no list of keys, or that is no key at a place in it.
+#[tactic(auto, using(flagops_files::proofs::Told::says))]
 fn no_keys(alloc: Global, path: &str, place: Option<usize>, value: &Tree) -> Refused
-    ensures { result.refusal ≡ Price BadKeys }
+    ensures refusal { result.refusal ≡ Price BadKeys }
+    ensures names { Says (NamesSubject (file path.now)) result.remark }
 {
     Refused {
         refusal: Refusal::Price(PriceMismatch::BadKeys),
@@ -139,6 +148,7 @@ fn weigh_keys<R: Threads + Sync>(
     ensures exact { GivesUnlessWant outcome_view result (weighed_keys old.now new.now prices.now (map string_bytes keys.items)) }
     ensures calls { ComesFrom notes_keys result }
     ensures read { is_file_fault result ≡ false }
+    ensures names { TellsOfOne ((file path.now, is_of_keys) ∷ (neither, is_of_rules) ∷ []) result }
 {
     if are_taken(keys.as_slice()) {
         keys.sort_unstable();
@@ -168,10 +178,12 @@ fn are_short(keys: &[String]) -> bool
 }
 
 /// The keys as the inputs of a page of their own, noted one after the other.
+#[tactic(auto, using(flagops_files::proofs::Told::says))]
 fn noted(alloc: Global, path: &str, keys: &[String]) -> Result<Exposure, Refused>
     ensures exact { GivesUnlessWant (λ e. e) result (exposed (map string_bytes keys.now)) }
     ensures calls { ComesFrom notes_keys result }
     ensures read { is_file_fault result ≡ false }
+    ensures names { TellsOf (file path.now) result }
 {
     let page = Page {
         flag: String::new(alloc),
@@ -197,6 +209,7 @@ fn noted(alloc: Global, path: &str, keys: &[String]) -> Result<Exposure, Refused
     }
 }
 
+#[tactic(auto, using(flagops_files::proofs::Told::says))]
 fn priced(
     rt: &(impl Threads + Sync),
     alloc: Global,
@@ -209,6 +222,7 @@ fn priced(
     ensures exact { GivesUnlessWant outcome_view result (weighed old.now new.now prices.now (map string_bytes inputs.now)) }
     ensures calls { ComesFrom price_itself result }
     ensures read { is_file_fault result ≡ false }
+    ensures names { TellsOfOne ((neither, is_of_rules) ∷ []) result }
 {
     if old.total() != new.total() {
         let lines = of_weights(alloc, old.total(), new.total());

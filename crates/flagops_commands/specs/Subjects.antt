@@ -1,0 +1,110 @@
+-- What each command may be refused for: the files at its paths and its words, each with the refusals that are of it. By their
+-- names a person is told what was refused.
+use Rattle.std.specs.Prelude.{ℕ, Bool, true, false, List, [], ◌∷◌, ◌++◌, ◌||◌, codes}
+use Rattle.flagops_drive.specs.declared.fault.DriveRefusal.{DriveRefusal}
+use Rattle.flagops_drive.specs.declared.fault.DriveRefusal.TheVariants as driving
+use Rattle.flagops_files.specs.Question.{question_subjects}
+use Rattle.flagops_files.specs.Refusal.{loads_flags, loads_plan, loads_rule, loads_tree, stores_file}
+use Rattle.flagops_files.specs.Told.{Subjects, by, file, word, neither}
+use Rattle.flagops_files.specs.declared.refusal.Call.{Call}
+use Rattle.flagops_files.specs.declared.refusal.Call.TheVariants as call
+use Rattle.flagops_files.specs.declared.refusal.PriceMismatch.TheVariants.{Weight, BadKeys}
+use Rattle.flagops_files.specs.declared.refusal.Refusal.{Refusal}
+use Rattle.flagops_files.specs.declared.refusal.Refusal.TheVariants.{Note, Price, Plan, PrintPlanned, Verify, Apply, Drive}
+use Rattle.flagops_commands.specs.Calls.{loads_request}
+use Rattle.flagops_remarks.specs.Named.{Names}
+use Rattle.flagops_words.specs.Asked.{Asked, bucket, price, check, resolve, verify, apply, plan, drive, completions}
+use Rattle.rollout_checks.specs.declared.verify_fault.VerifyFault.{VerifyFault}
+use Rattle.rollout_checks.specs.declared.verify_fault.VerifyFault.TheVariants as verdict
+
+abbrev pub bucket_subjects : List ℕ → Subjects
+bucket_subjects rule = (file rule, by loads_rule) ∷ []
+
+-- a key file is refused as a file, for what it holds, or for a key
+abbrev pub is_of_keys : Refusal → Bool
+is_of_keys (Price BadKeys) = true
+is_of_keys (Note e) = true
+is_of_keys e = by loads_tree e
+
+-- two rules are refused together
+abbrev pub is_of_rules : Refusal → Bool
+is_of_rules (Price Weight) = true
+is_of_rules e = false
+
+abbrev pub price_subjects : List ℕ → List ℕ → List ℕ → List ℕ → Subjects
+price_subjects old new request keys =
+    (file old, by loads_rule) ∷ (file new, by loads_rule) ∷ (file request, by loads_request) ∷ (file keys, is_of_keys) ∷ (neither, is_of_rules) ∷ []
+
+abbrev pub check_subjects : List ℕ → Subjects
+check_subjects document = (file document, by loads_flags) ∷ []
+
+-- a word is read as a file's text is
+abbrev pub reads_tree : Call → Bool
+reads_tree call.ReadTree = true
+reads_tree c = false
+
+abbrev pub resolve_subjects : List ℕ → List ℕ → Subjects
+resolve_subjects document context = (file document, by loads_flags) ∷ (word (codes "DEFAULT"), by reads_tree) ∷ (file context, by loads_tree) ∷ []
+
+-- a plan is refused as no answer to its request, or the request itself
+abbrev pub is_of_request : Refusal → Bool
+is_of_request (Verify (verdict.Request e)) = true
+is_of_request (Plan e) = true
+is_of_request e = false
+
+abbrev pub is_of_answer : Refusal → Bool
+is_of_answer (Verify (verdict.Check e)) = true
+is_of_answer e = by loads_plan e
+
+abbrev pub verify_subjects : List ℕ → List ℕ → List ℕ → List ℕ → Subjects
+verify_subjects document request book answer = question_subjects document request book ++ (file request, is_of_request) ∷ (file answer, is_of_answer) ∷ []
+
+-- what is said of an answer that is not verified
+abbrev pub NamesVerified : List ℕ → List ℕ → VerifyFault → List ℕ → Type 0
+NamesVerified request answer (verdict.Request e) lines = Names request lines
+NamesVerified request answer (verdict.Check e) lines = Names answer lines
+
+-- a plan is refused as a file, or where its rule is put
+abbrev pub is_of_plan : Refusal → Bool
+is_of_plan (Apply e) = true
+is_of_plan e = by loads_plan e
+
+abbrev pub apply_subjects : List ℕ → List ℕ → Subjects
+apply_subjects document answer = (file document, by loads_flags) ∷ (file answer, is_of_plan) ∷ []
+
+-- a plan that is too large to be printed
+abbrev pub is_of_size : Refusal → Bool
+is_of_size (PrintPlanned e) = true
+is_of_size e = false
+
+abbrev pub plan_subjects : List ℕ → List ℕ → List ℕ → Subjects
+plan_subjects document request book = question_subjects document request book ++ (file request, is_of_request) ∷ (neither, is_of_size) ∷ []
+
+-- asks are refused as a file, or for what it holds
+abbrev pub is_of_asks : Refusal → Bool
+is_of_asks (Drive driving.BadAsks) = true
+is_of_asks e = by loads_tree e
+
+-- asks that are not driven, as by too many workers
+abbrev pub is_of_driving : Refusal → Bool
+is_of_driving (Drive (driving.Drive e)) = true
+is_of_driving e = false
+
+-- what is said of asks that are refused
+abbrev pub NamesDriven : List ℕ → DriveRefusal → List ℕ → Type 0
+NamesDriven asks driving.BadAsks lines = Names asks lines
+NamesDriven asks (driving.Drive e) lines = Unit {0}
+
+abbrev pub drive_subjects : List ℕ → List ℕ → List ℕ → Subjects
+drive_subjects document asks book = (file document, by loads_flags) ∷ (file asks, is_of_asks) ∷ (neither, is_of_driving) ∷ (file book, by stores_file) ∷ []
+
+abbrev pub subjects_of : Asked → Subjects
+subjects_of (bucket rule key) = bucket_subjects rule
+subjects_of (price old new request keys) = price_subjects old new request keys
+subjects_of (check document) = check_subjects document
+subjects_of (resolve document key kind default context moment) = resolve_subjects document context
+subjects_of (verify document request book answer refine) = verify_subjects document request book answer
+subjects_of (plan document request book refine) = plan_subjects document request book
+subjects_of (apply document answer key site) = apply_subjects document answer
+subjects_of (drive document asks workers book) = drive_subjects document asks book
+subjects_of (completions shell) = []
