@@ -34,7 +34,7 @@ TAKEN = {
     ("crates/flagops_files/src/reports.rt", 'b" 0 WantOfMemory\\n",'): (1, "`want` writes the line; its calls are looked for"),
     ("crates/flagops_files/src/reports.rt", "tell(err, Remark::Short.text());"): (1, "`want` tells it; its calls are looked for"),
     ("crates/flagops_files/src/loading.rt", "Err(_) => Remark::Short,"): (1, "the rule was refused, so its text is a tree, and is read again"),
-    ("crates/flagops_remarks/src/breaches.rt", 'return String::from_str(alloc, "error: out of memory\\n");'): (1, "the document was read as flags, so it is a tree, and is read again"),
+    ("crates/flagops_remarks/src/breaches.rt", 'return Err(AllocError);'): (1, "the document was read as flags, so it is a tree, and is read again"),
     ("crates/flagops_commands/src/program.rt", "Err(call) => want(out, err, call),"): (1, "`answer` gives a call there only where that call ran out of memory"),
     ("crates/snap_core/src/names.rt", "Err(_) => return Err(WorldFault::WantOfMemory),"): (1, "of the faults of `add`, whose clause `exact` has Known and TooMany alone, only want of memory is left there"),
 }

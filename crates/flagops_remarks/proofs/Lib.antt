@@ -1,1 +1,2 @@
+mod Broken
 mod Shown

@@ -1,5 +1,6 @@
 -- Names in what a person is told.
-use Rattle.std.specs.Prelude.{◌≡◌, ◌++◌, ℕ, List, chars, codes, encode_utf8_all, if◌then◌else◌, length, nat_lt, take}
+use Rattle.std.specs.Prelude.{◌≡◌, ◌++◌, ◌&&◌, ◌||◌, ℕ, Bool, true, not, nat_eq, nat_le, List, [], ◌∷◌, chars, codes, encode_utf8_all, if◌then◌else◌, length, nat_lt, take}
+use Rattle.std.specs.Char.{is_ascii_alphanumeric}
 use Rattle.flag_text.specs.Printing.{text_of}
 use Rattle.flag_text.specs.Shape.{text}
 use Rattle.flagops_remarks.specs.declared.lines.Opening.{Opening}
@@ -32,3 +33,18 @@ Names name lines = (opening : Opening) × (rest : List ℕ) × (lines ≡ openin
 -- lines tell of a word of a command, as the command's help spells it
 unfoldable pub NamesWord : List ℕ → List ℕ → Type 0
 NamesWord word lines = (rest : List ℕ) × (lines ≡ codes "error: " ++ (word ++ rest))
+
+-- a name of at most so many letters, digits, `_`, `-` and `$`, and of one at least
+abbrev pub is_plain_byte : ℕ → Bool
+is_plain_byte byte = ((is_ascii_alphanumeric byte || nat_eq byte 95) || nat_eq byte 45) || nat_eq byte 36
+
+abbrev pub are_plain : List ℕ → Bool
+are_plain [] = true
+are_plain (byte ∷ bytes) = is_plain_byte byte && are_plain bytes
+
+abbrev pub is_plain : List ℕ → Bool
+is_plain name = (are_plain name && not (nat_eq (length name) 0)) && nat_le (length name) most_characters
+
+-- the step from an object to its member: `.name`, or the name in brackets where it is no plain word
+unfoldable pub step : List ℕ → List ℕ
+step name = if is_plain name then codes "." ++ name else codes "[" ++ (quoted name ++ codes "]")

@@ -1,5 +1,11 @@
 //! What a person is told of the flags of a document that are broken.
-use crate::lines::Lines;
+ghost use Rattle.std.specs.Prelude.{◌≡◌, IfOk, length, option_and_then, string_bytes};
+ghost use Rattle.flag_documents.specs.Document.{or_no_members};
+ghost use Rattle.flag_text.specs.Readers.{as_object, member_of};
+ghost use Rattle.flag_text.specs.View.{members_view, view};
+ghost use Rattle.flagops_remarks.specs.Broken.{BrokenLines, IsBrokenLine, TellsBroken, rule_member};
+
+use crate::lines::{Lines, step};
 use crate::referred::Referred;
 use crate::search::{Sought, Wrong, first_wrong};
 use crate::way::Way;
@@ -13,16 +19,18 @@ const LIMIT: usize = 4_194_304;
 
 /// A line for each broken flag of the document that the bytes are, in the order of the keys: the first rule that it
 /// breaks, and where.
-pub fn of_breaches(alloc: Global, bytes: &[u8]) -> Result<String, AllocError> {
+#[tactic(auto, unfolding(crate::specs::Broken::TellsBroken))]
+pub fn of_breaches(alloc: Global, bytes: &[u8]) -> Result<String, AllocError>
+    ensures { IfOk result (λ s. TellsBroken bytes.now (string_bytes s)) }
+{
     let Ok(document) = read_doc(alloc, bytes, LIMIT) else {
-        return String::from_str(alloc, "error: out of memory\n");
+        return Err(AllocError);
     };
     let found = breaches(alloc, &document)?;
     let evaluators = members_in(&document, "$evaluators");
     let mut causes = Causes::find(alloc, evaluators, found.as_slice())?;
-    let mut lines = Lines::new(alloc);
-    put_breaches(&mut lines, &document, &mut causes, found.as_slice());
-    lines.finish()
+    let flags = members_in(&document, "flags");
+    lines_of(alloc, flags, &mut causes, found.as_slice())
 }
 
 /// What is sought where a flag is broken by something that lies deeper, for each rule that speaks of such.
@@ -66,31 +74,76 @@ fn where_broken<'a>(
     }
 }
 
-fn put_breaches(
-    lines: &mut Lines,
-    document: &Tree,
+/// A line for each flag of which a breach was found.
+fn lines_of(
+    alloc: Global,
+    flags: &[(String, Tree)],
     causes: &mut Causes<'_>,
     found: &[Option<Breach>],
-) {
-    for ((key, definition), breach) in members_in(document, "flags").iter().zip(found.iter()) {
-        if let Some(breach) = breach {
-            lines.put("broken: flags");
-            lines.put_step(key.as_str());
-            put_breach(lines, definition, causes, *breach);
-            lines.put("\n");
+) -> Result<String, AllocError>
+    requires { length found.now ≡ length flags.now }
+    ensures { IfOk result (λ s. BrokenLines (members_view flags.now) found.now (string_bytes s)) }
+{
+    let mut text = String::new(alloc);
+    for i in 0..flags.len() {
+        if let Some(breach) = found[i] {
+            let (key, definition) = &flags[i];
+            let line = line(alloc, key.as_str(), definition, causes, breach)?;
+            text.push_str(line.as_str())?;
         }
+    }
+    Ok(text)
+}
+
+/// The line of a broken flag.
+#[tactic(auto, unfolding(crate::specs::Broken::IsBrokenLine))]
+fn line(
+    alloc: Global,
+    key: &str,
+    definition: &Tree,
+    causes: &mut Causes<'_>,
+    breach: Breach,
+) -> Result<String, AllocError>
+    ensures { IfOk result (λ s. IsBrokenLine key.now breach (string_bytes s)) }
+{
+    let mut lines = Lines::new(alloc);
+    put_breach(&mut lines, definition, causes, breach);
+    let flag = step(alloc, key)?;
+    let member = rule_member(breach);
+    let lines = lines.finish()?;
+    format!(in alloc; "broken: flags{flag}{member}{lines}\n")
+}
+
+/// The member of a flag's definition that a rule is about, behind a point; nothing where it is about the definition.
+fn rule_member(breach: Breach) -> &'static str
+    ensures { result.now ≡ rule_member breach }
+{
+    match breach {
+        Breach::Definition => "",
+        Breach::State => ".state",
+        Breach::Variants | Breach::Kinds | Breach::VariantNumber | Breach::VariantLevels => {
+            ".variants"
+        }
+        Breach::DefaultVariant => ".defaultVariant",
+        Breach::Targeting
+        | Breach::Reference
+        | Breach::TargetingSize
+        | Breach::TargetingPart
+        | Breach::Expression => ".targeting",
     }
 }
 
 /// The members of the object of this name, none where there is none.
-fn members_in<'a>(tree: &'a Tree, name: &str) -> &'a [(String, Tree)] {
+fn members_in<'a>(tree: &'a Tree, name: &str) -> &'a [(String, Tree)]
+    ensures { members_view result.now ≡ or_no_members (option_and_then as_object (member_of name.now (view tree.now))) }
+{
     match tree.member(name) {
         Some(Tree::Object(members)) => members.as_slice(),
         _ => &[],
     }
 }
 
-/// The rule that a definition breaks, and where in it.
+/// What is wrong by the rule that a definition breaks, and where in the member that it is about.
 fn put_breach(lines: &mut Lines, definition: &Tree, causes: &mut Causes<'_>, breach: Breach) {
     match breach {
         Breach::Definition => put_instead(lines, definition, "no object"),
@@ -103,7 +156,7 @@ fn put_breach(lines: &mut Lines, definition: &Tree, causes: &mut Causes<'_>, bre
         Breach::Variants => put_variants(lines, definition),
         Breach::Kinds => put_kinds(lines, members_in(definition, "variants")),
         Breach::VariantNumber => put_first(lines, definition, "variants", &mut causes.numbers),
-        Breach::VariantLevels => lines.put(".variants nests deeper than 100 levels"),
+        Breach::VariantLevels => lines.put(" nests deeper than 100 levels"),
         Breach::DefaultVariant => put_default_variant(lines, definition),
         Breach::Targeting => put_member(
             lines,
@@ -113,7 +166,7 @@ fn put_breach(lines: &mut Lines, definition: &Tree, causes: &mut Causes<'_>, bre
         ),
         Breach::Reference => put_first(lines, definition, "targeting", &mut causes.unknown),
         Breach::TargetingSize => lines.put(
-            ".targeting has more than 10,000 nodes or 100 levels, with its references replaced",
+            " has more than 10,000 nodes or 100 levels, with its references replaced",
         ),
         Breach::TargetingPart => put_first(lines, definition, "targeting", &mut causes.parts),
         Breach::Expression => { put_first(lines, definition, "targeting", &mut causes.operations) }
@@ -122,7 +175,6 @@ fn put_breach(lines: &mut Lines, definition: &Tree, causes: &mut Causes<'_>, bre
 
 /// A member that is not what it has to be.
 fn put_member(lines: &mut Lines, definition: &Tree, name: &str, what: &str) {
-    lines.put_all(&[".", name]);
     match definition.member(name) {
         Some(value) => put_instead(lines, value, what),
         None => lines.put(" is missing"),
@@ -139,7 +191,7 @@ fn put_instead(lines: &mut Lines, value: &Tree, what: &str) {
 fn put_variants(lines: &mut Lines, definition: &Tree) {
     match definition.member("variants") {
         Some(Tree::Object(members)) => {
-            lines.put(".variants has ");
+            lines.put(" has ");
             lines.put_shown(&members.len());
             lines.put(" members, not 1 to 64");
         }
@@ -154,7 +206,6 @@ fn put_variants(lines: &mut Lines, definition: &Tree) {
 
 /// The first variant that is of none of the four kinds, or of another kind than the first.
 fn put_kinds(lines: &mut Lines, variants: &[(String, Tree)]) {
-    lines.put(".variants");
     let mut first: Option<&'static str> = None;
     for (name, value) in variants {
         match (kind(value), first) {
@@ -200,7 +251,7 @@ fn kind(tree: &Tree) -> Option<&'static str> {
 }
 
 fn put_default_variant(lines: &mut Lines, definition: &Tree) {
-    lines.put(".defaultVariant is ");
+    lines.put(" is ");
     if let Some(value) = definition.member("defaultVariant") {
         lines.put_value(value);
     }
@@ -210,7 +261,6 @@ fn put_default_variant(lines: &mut Lines, definition: &Tree) {
 
 /// The first place at which something is wrong in a member, or in the evaluators that it refers to.
 fn put_first(lines: &mut Lines, definition: &Tree, name: &str, referred: &mut Referred<'_>) {
-    lines.put_all(&[".", name]);
     if let Some(tree) = definition.member(name) {
         let mut way = Way::new();
         if let Some(wrong) = first_wrong(tree, referred.sought, &mut way) {

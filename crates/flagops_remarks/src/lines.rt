@@ -2,7 +2,7 @@
 ghost use Rattle.std.specs.Prelude.{◌≡◌, ◌++◌, codes, IfNone, IfOk, IfSome, string_bytes};
 ghost use Rattle.flag_text.specs.Printing.{text_of};
 ghost use Rattle.flag_text.specs.Shape.{text};
-ghost use Rattle.flagops_remarks.specs.Named.{Names, NamesWord, opening_words, quoted, shown};
+ghost use Rattle.flagops_remarks.specs.Named.{Names, NamesWord, are_plain, is_plain, is_plain_byte, opening_words, quoted, shown, step};
 
 use flag_text::{Tree, print_tree};
 use std::alloc::{AllocError, Global};
@@ -142,13 +142,7 @@ impl Lines {
 
     /// The step from an object to its member: `.name`, or the name in brackets where it is no plain word.
     pub(crate) fn put_step(&mut self, name: &str) {
-        if is_plain(name) {
-            self.put_all(&[".", name]);
-        } else {
-            self.put("[");
-            self.put_name(name);
-            self.put("]");
-        }
+        self.put_made(step(self.alloc, name));
     }
 
     /// The step from a list to an item.
@@ -219,6 +213,19 @@ fn word_of(tree: &Tree) -> &'static str {
     }
 }
 
+/// The step from an object to its member: `.name`, or the name in brackets where it is no plain word.
+#[tactic(auto, unfolding(crate::specs::Named::step))]
+pub(crate) fn step(alloc: Global, name: &str) -> Result<String, AllocError>
+    ensures { IfOk result (λ s. string_bytes s ≡ step name.now) }
+{
+    if is_plain(name) {
+        format!(in alloc; ".{name}")
+    } else {
+        let name = quoted_name(alloc, name)?;
+        format!(in alloc; "[{name}]")
+    }
+}
+
 /// A text as a JSON text.
 fn quoted(alloc: Global, name: &str) -> Result<String, AllocError>
     ensures { IfOk result (λ s. string_bytes s ≡ text_of (text name.now)) }
@@ -251,11 +258,25 @@ fn front(text: &str) -> Option<&str>
 }
 
 /// Whether a name is a word of letters, digits, `_`, `-` and `$`, and is shown whole.
-fn is_plain(name: &str) -> bool {
-    for byte in name.as_bytes() {
-        if !byte.is_ascii_alphanumeric() && !matches!(*byte, b'_' | b'-' | b'$') {
+fn is_plain(name: &str) -> bool
+    ensures { result ≡ is_plain name.now }
+{
+    are_plain(name.as_bytes()) && !name.is_empty() && name.len() <= MOST_CHARACTERS
+}
+
+fn are_plain(bytes: &[u8]) -> bool
+    ensures { result ≡ are_plain bytes.now }
+{
+    for byte in bytes {
+        if !is_plain_byte(*byte) {
             return false;
         }
     }
-    !name.is_empty() && name.len() <= MOST_CHARACTERS
+    true
+}
+
+fn is_plain_byte(byte: u8) -> bool
+    ensures { result ≡ is_plain_byte byte }
+{
+    byte.is_ascii_alphanumeric() || byte == b'_' || byte == b'-' || byte == b'$'
 }
