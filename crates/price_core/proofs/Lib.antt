@@ -9,3 +9,4 @@ pub mod Pricings
 pub mod Runs
 pub mod Shared
 pub mod Summed
+mod Tallied

@@ -19,8 +19,8 @@
 //!
 //! Proved, over the definitions of `specs/`: which request a text stands for, with each refusal in its order
 //! (`Request`); which limits the variants of a site have (`Limits`); what a change costs and which are forbidden
-//! (`Pricing`); the least forbidden point of two rules, and the cost of a new rule, which is added up by as many threads
-//! as there are processors (`Cost`).
+//! (`Pricing`); the least forbidden point of two rules, and the cost of a new rule: over inputs, which is added up by as
+//! many threads as there are processors, and over the numbers of inputs that fall on the points (`Cost`).
 #![tactic(auto)]
 
 mod change;
@@ -31,10 +31,12 @@ mod numbering;
 mod prices;
 mod request;
 mod switching;
+mod tally;
 mod totals;
 
 pub use cost::{first_forbidden, switch_cost, switch_cost_of};
 pub use fault::PriceFault;
 pub use prices::Prices;
 pub use request::Request;
+pub use tally::tally_cost;
 pub use totals::{Limit, Totals};
