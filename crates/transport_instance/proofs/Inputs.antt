@@ -21,7 +21,7 @@ one_each : {X : Type 0} (xs : List X) → sum_z (λ (x : X). pos 1) xs ≡ pos (
 one_each [] = refl
 one_each (x ∷ xs) = omega (arith, ints, one_each xs)
 
-sum_placed : {X : Type 0} (f g : X → ℤ) (xs : List X) → ((k : ℕ) (x : X) → slice_get xs k ≡ Some x → f x ≡ g x) → sum_z f xs ≡ sum_z g xs
+pub sum_placed : {X : Type 0} (f g : X → ℤ) (xs : List X) → ((k : ℕ) (x : X) → slice_get xs k ≡ Some x → f x ≡ g x) → sum_z f xs ≡ sum_z g xs
 sum_placed f g [] same = refl
 sum_placed f g (x ∷ xs) same = omega (arith, ints, same 0 x refl, sum_placed f g xs (λ k. same (suc k)))
 

@@ -1,6 +1,7 @@
 pub mod Arcs
 pub mod Assigned
 pub mod Certified
+pub mod Costs
 pub mod Cuts
 pub mod Deficits
 pub mod DualSums
@@ -18,7 +19,6 @@ pub mod Plans
 pub mod Points
 pub mod Ranges
 pub mod Regroup
-pub mod Runs
 pub mod Spread
 pub mod Sums
 mod Tallied

@@ -1,5 +1,5 @@
 -- Members of lists by their places, look-ups at them, and lists of rising keys with the same members.
-use Rattle.std.proofs.Common.{◌≡◌, ⊎_elim, ℕ, zero, suc, ◌<◌, List, [], ◌∷◌, length, Bool, true, false, Some, Ordering, refl, sym, ap, ◌∙◌, subst, arith}
+use Rattle.std.proofs.Common.{◌≡◌, ⊎_elim, ℕ, zero, suc, ◌<◌, List, [], ◌∷◌, length, get_or, Bool, true, false, Some, Ordering, refl, sym, ap, ◌∙◌, subst, arith}
 use Rattle.std.specs.Cmp.{IsTotalOrder}
 use Rattle.std.specs.List.{AllByRecursion, Contains, slice_get}
 use Rattle.std.specs.List.Sorted.{IsStrictlySortedBy}
@@ -84,3 +84,9 @@ sorted_unique {K} R order (x ∷ xs) (y ∷ ys) xs_rise ys_rise to from =
     let heads : x ≡ y = first_by R order x y xs ys xs_above ys_above (to x (0, refl)) (from y (0, refl)) in
     let rest = sorted_unique R order xs ys (sorted_tail R x xs xs_rise) (sorted_tail R y ys ys_rise) (behind R order x y xs ys heads xs_above to) (behind R order y x ys xs (sym heads) ys_above from) in
     ap (λ (k : K). k ∷ xs) heads ∙ ap (λ ks. y ∷ ks) rest
+
+-- below its length a list has one element at a place, whatever is read past it
+pub any_default : {X : Type 0} (xs : List X) (i : ℕ) (d e : X) → i < length xs → get_or xs i d ≡ get_or xs i e
+any_default [] i d e below = absurd (omega arith)
+any_default (x ∷ xs) zero d e below = refl
+any_default (x ∷ xs) (suc i) d e below = any_default xs i d e (omega arith)

@@ -1,7 +1,6 @@
 -- Points of inputs, sorted and joined: the number of inputs on each point.
-use Rattle.std.proofs.Common.{◌≡◌, ◌==◌, ℕ, ◌<◌, List, [], ◌∷◌, length, map, Bool, true, cond, eqb, String, Global, string_bytes, count_by, Ordering, refl, sym, ap, ◌∙◌, subst, arith}
+use Rattle.std.proofs.Common.{◌≡◌, ◌==◌, ℕ, ◌<◌, List, [], ◌∷◌, Bool, true, cond, Ordering, refl, sym, ap, ◌∙◌, subst, arith}
 use Rattle.std.specs.Cmp.{IsTotalOrder}
-use Rattle.std.specs.List.{All}
 use Rattle.std.specs.List.Sorted.{IsPermutation, IsSortedBy, IsStrictlySortedBy}
 use Rattle.std.specs.Map.{keys_of}
 use Rattle.std.specs.Ordering.{nat_cmp, is_lt, is_eq, ordering_then}
@@ -10,20 +9,16 @@ use Rattle.std.specs.Cmp.Lexicographic.{slice_cmp}
 use Rattle.std.specs.Borrow.{Bor}
 use Rattle.std.specs.declared.cmp.Ordering.TheVariants.{Less, Equal, Greater}
 use Rattle.std.proofs.lemmas.Bool.{eqb-true, eq-eqb, and_parts, and_from}
-use Rattle.std.proofs.lemmas.Bool.Decides.{same_from_decides, Decides-eqb, Decides-like}
 use Rattle.std.proofs.lemmas.Cmp.{nat_cmp_total, nat_list_cmp_total, then_total, on_total, ranked}
-use Rattle.std.proofs.lemmas.List.Elements.{All-cons, All-nil}
 use Rattle.std.proofs.lemmas.List.Sorted.{sum_by-IsPermutation, All-permutation, IsPermutation-map}
 use Rattle.std.proofs.lemmas.List.Sums.{sum_by-cons}
 use Rattle.std.proofs.lemmas.Map.Text.{is_eq-slice_cmp}
 use Rattle.std.proofs.lemmas.Slice.Eq.{bytes_eq-Decides}
-use Rattle.bucket_core.specs.Point.{point_of}
 use Rattle.bucket_core.specs.Rule.{Entries, total_weight}
 use Rattle.transport_instance.specs.Dual.{inputs_at}
 use Rattle.transport_instance.specs.Groups.{GroupKey, is_same_group, group_cmp, AreSizes, row_view, rows_view}
-use Rattle.transport_instance.specs.Rows.{amount_of, whole_amount, joined, IsLoads, CoversPoints}
-use Rattle.transport_instance.proofs.Joined.{seen, step, rise-joined, joined-seen, keys-joined, amount-joined, passed-joined, some-joined, lookup-amount}
-use Rattle.transport_instance.proofs.Points.{point_of-below}
+use Rattle.transport_instance.specs.Rows.{whole_amount, joined, CoversPoints}
+use Rattle.transport_instance.proofs.Joined.{step, rise-joined, joined-seen, amount-joined, passed-joined, some-joined, lookup-amount}
 
 -- ---- numbers
 
@@ -31,60 +26,6 @@ number_ties : (a b : ℕ) → nat_cmp b a ≡ Equal → a == b ≡ true
 number_ties a b tie =
     let ranks = ranked b a Equal (sym tie) in
     eq-eqb a b (sym ranks)
-
-eqb-sym : (a b : ℕ) → eqb a b ≡ eqb b a
-eqb-sym a b = same_from_decides (eqb a b) (eqb b a) (Decides-eqb a b) (Decides-like (eqb b a) sym sym (Decides-eqb b a))
-
-seen-same : (rows : List (ℕ × ℕ)) → seen (λ (n : ℕ). n) rows ≡ rows
-seen-same [] = refl
-seen-same (r ∷ rs) = ap (λ xs. r ∷ xs) (seen-same rs)
-
--- rows of numbers that are sorted
-pub numbers_rise : (rows : List (ℕ × ℕ)) → IsSortedBy (λ x y. is_lt (ordering_then (nat_cmp x.0 y.0) (nat_cmp x.1 y.1))) rows → IsStrictlySortedBy nat_cmp (keys_of (joined eqb rows))
-numbers_rise rows sorted =
-    let same = rise-joined (λ (n : ℕ). n) eqb (λ a b h. eqb-true a b h) nat_cmp nat_cmp_total (λ x y. is_lt (ordering_then (nat_cmp x.0 y.0) (nat_cmp x.1 y.1)))
-    (λ x y above. step eqb nat_cmp nat_cmp_total number_ties x.0 y.0 (nat_cmp y.1 x.1) above) rows sorted in
-    subst (λ rs. IsStrictlySortedBy nat_cmp (keys_of (joined eqb rs))) (seen-same rows) same
-
--- what falls on a point
-loads-placed : {X : Type 0} (f : X → ℕ) (xs : List X) (p : ℕ) → amount_of eqb (map (λ x. (f x, 1)) xs) p ≡ count_by (λ x. f x == p) xs
-loads-placed f [] p = refl
-loads-placed f (x ∷ xs) p =
-    let turned : cond (p == f x) 1 0 ≡ cond (f x == p) 1 0 = ap (λ (b : Bool). let n : ℕ = cond b 1 0 in n) (eqb-sym p (f x)) in
-    omega (arith, sum_by-cons (λ (r : ℕ × ℕ). cond (p == r.0) r.1 0) (f x, 1) (map (λ y. (f y, 1)) xs), sum_by-cons (λ y. cond (f y == p) 1 0) x xs, turned, loads-placed f xs p)
-
-count-map : {X Y : Type 0} (test : Y → Bool) (f : X → Y) (xs : List X) → count_by test (map f xs) ≡ count_by (λ x. test (f x)) xs
-count-map test f [] = refl
-count-map test f (x ∷ xs) = omega (arith, sum_by-cons (λ y. cond (test y) 1 0) (f x) (map f xs), sum_by-cons (λ y. cond (test (f y)) 1 0) x xs, count-map test f xs)
-
-pub whole-placed : {X : Type 0} (f : X → ℕ) (xs : List X) → whole_amount (map (λ x. (f x, 1)) xs) ≡ length xs
-whole-placed f [] = refl
-whole-placed f (x ∷ xs) = omega (arith, sum_by-cons (λ (r : ℕ × ℕ). r.1) (f x, 1) (map (λ y. (f y, 1)) xs), whole-placed f xs)
-
-within-placed : {X : Type 0} (f : X → ℕ) (total : ℕ) (xs : List X) → ((x : X) → f x < total) → All (λ (r : ℕ × ℕ). r.0 < total) (map (λ x. (f x, 1)) xs)
-within-placed f total [] below = All-nil (λ (r : ℕ × ℕ). r.0 < total)
-within-placed f total (x ∷ xs) below = All-cons (λ (r : ℕ × ℕ). r.0 < total) (f x, 1) (map (λ y. (f y, 1)) xs) (below x) (within-placed f total xs below)
-
--- the points of the inputs, sorted and joined
-pub loads_joined : (total : ℕ) (inputs : List (String Global)) (placed sorted out : List (ℕ × ℕ)) → 0 < total → placed ≡ map (λ k. (point_of total (string_bytes k), 1)) inputs → IsPermutation placed sorted
-    → IsSortedBy (λ x y. is_lt (ordering_then (nat_cmp x.0 y.0) (nat_cmp x.1 y.1))) sorted → out ≡ joined eqb sorted → IsLoads total (map string_bytes inputs) out
-loads_joined total inputs placed sorted out some is moved rises joined_is =
-    let f : String Global → ℕ = λ k. point_of total (string_bytes k) in
-    let rise = numbers_rise sorted rises in
-    let within : All (λ (r : ℕ × ℕ). r.0 < total) placed = subst (λ rs. All (λ (r : ℕ × ℕ). r.0 < total) rs) (sym is) (within-placed f total inputs (λ k. point_of-below total (string_bytes k) some)) in
-    let loads : IsLoads total (map string_bytes inputs) (joined eqb sorted) = record {
-      rise = rise;
-      within = keys-joined (λ (p : ℕ). p < total) eqb sorted (All-permutation (λ (r : ℕ × ℕ). r.0 < total) placed sorted moved within);
-      counts = λ p.
-          let found = lookup-amount eqb (λ a b h. eqb-true a b h) nat_cmp nat_cmp_total p (joined eqb sorted) rise in
-          let kept = amount-joined eqb (λ a b h. eqb-true a b h) sorted p in
-          let same = sum_by-IsPermutation (λ (r : ℕ × ℕ). cond (p == r.0) r.1 0) placed sorted moved in
-          found ∙ (kept ∙ (same ∙ (ap (λ rs. amount_of eqb rs p) is ∙ (loads-placed f inputs p ∙ sym (count-map (λ k. point_of total k == p) string_bytes inputs)))));
-    } in
-    subst (λ rs. IsLoads total (map string_bytes inputs) rs) (sym joined_is) loads
-
-pub whole-moved : (total : ℕ) (inputs : List (String Global)) (placed sorted : List (ℕ × ℕ)) → placed ≡ map (λ k. (point_of total (string_bytes k), 1)) inputs → IsPermutation placed sorted → whole_amount sorted ≡ length inputs
-whole-moved total inputs placed sorted is moved = sum_by-IsPermutation (λ (r : ℕ × ℕ). r.1) placed sorted moved ∙ (ap whole_amount is ∙ whole-placed (λ (k : String Global). point_of total (string_bytes k)) inputs)
 
 -- ---- groups
 

@@ -1,8 +1,9 @@
 -- What the laws of duality say (linear programming; Ahuja, Magnanti, Orlin, Network Flows, section 9.4) and of deficient sets
 -- (Hall's condition; Hoffman's circulation theorem).
-use Rattle.std.specs.Prelude.{◌<◌, ◌≤◌, ℕ, ℤ, List}
+use Rattle.std.specs.Prelude.{◌≡◌, ◌<◌, ◌≤◌, ℕ, ℤ, List}
+use Rattle.book_core.specs.Counts.{counts_of}
 use Rattle.bucket_core.specs.Rule.{Entries, total_weight}
-use Rattle.price_core.specs.Cost.{cost_of}
+use Rattle.price_core.specs.Cost.{cost_of, tally_cost}
 use Rattle.price_core.specs.Limits.{Limits, AreLimits}
 use Rattle.price_core.specs.Pricing.{Pricing}
 use Rattle.transport_instance.specs.Deficient.{IsDeficient}
@@ -29,3 +30,9 @@ abbrev pub DeficientFitsNone : Type 0
 DeficientFitsNone =
     (kind : CutKind) (old rule : Entries) (limits : Limits) (pricing : Pricing) (names : List (List ℕ))
     → AreLimits limits → IsDeficient kind old limits pricing names → Fits old rule limits pricing → ⊥
+
+-- The cost over how many inputs fall on each point is the cost over the inputs.
+abbrev pub TalliesCost : Type 0
+TalliesCost =
+    (old new : Entries) (pricing : Pricing) (inputs : List (List ℕ)) → 0 < total_weight old → total_weight new ≡ total_weight old
+    → tally_cost old new (counts_of inputs (total_weight old)) pricing ≡ cost_of old new inputs pricing

@@ -10,3 +10,4 @@ pub mod Laws
 pub mod Refusals
 pub mod Rows
 pub mod Sum
+pub mod Tally

@@ -1,5 +1,5 @@
 -- Rows of a key and an amount, where a key may stand more than once.
-use Rattle.std.specs.Prelude.{◌≡◌, ◌==◌, ℕ, ◌+◌, ◌-◌, ◌<◌, ◌≤◌, Bool, List, [], ◌∷◌, length, map, sum_by, count_by, unwrap_or, if◌then◌else◌}
+use Rattle.std.specs.Prelude.{◌≡◌, ℕ, ◌+◌, ◌<◌, ◌≤◌, Bool, List, [], ◌∷◌, length, map, sum_by, count_by, unwrap_or, if◌then◌else◌}
 use Rattle.std.specs.Borrow.{Bor}
 use Rattle.std.specs.Cmp.Lexicographic.{slice_cmp}
 use Rattle.std.specs.List.{All, range_with_len}
@@ -9,7 +9,6 @@ use Rattle.std.specs.Ordering.{nat_cmp}
 use Rattle.std.specs.Str.{bytes_eq}
 use Rattle.bucket_core.specs.Rule.{Entries, points, at}
 use Rattle.price_core.specs.Limits.{Limits, low_of, high_of}
-use Rattle.transport_instance.specs.Dual.{inputs_at}
 use Rattle.transport_instance.specs.Groups.{GroupKey, is_same_group}
 
 -- all that the rows have of a key
@@ -27,22 +26,6 @@ joined_from same row (next ∷ rows) = if same row.0 next.0 then joined_from sam
 abbrev pub joined : {K : Type 0} → (K → K → Bool) → List (K × ℕ) → List (K × ℕ)
 joined same [] = []
 joined same (row ∷ rows) = joined_from same row rows
-
--- the points on which inputs fall, each once, in order, with the number of inputs there
-pub record IsLoads (total : ℕ) (inputs : List (List ℕ)) (loads : List (ℕ × ℕ)) : Type 0 where
-  pub rise : IsStrictlySortedBy nat_cmp (keys_of loads)
-  pub within : All (λ load. load.0 < total) loads
-  pub counts : (p : ℕ) → unwrap_or (lookup (λ q. p == q) loads) 0 ≡ inputs_at total inputs p
-
--- how many points from `from` on and below `to` are of the group, if each has this number of inputs
-abbrev pub points_between : Entries → ℕ → ℕ → ℕ → GroupKey → ℕ
-points_between rule count from to g = count_by (λ p. is_same_group g (unwrap_or (at rule p) [], count)) (range_with_len from (to - from))
-
--- the rows have these points more
-pub record AddsPoints (rule : Entries) (count from to : ℕ) (old new : List (GroupKey × ℕ)) : Type 0 where
-  pub amounts : (g : GroupKey) → amount_of is_same_group new g ≡ amount_of is_same_group old g + points_between rule count from to g
-  pub whole : whole_amount new ≡ whole_amount old + (to - from)
-  pub some : All (λ r. 0 < r.1) old → All (λ r. 0 < r.1) new
 
 -- the rows have points of this name more, on each of which so many inputs fall
 pub record AddsCounts (name : List ℕ) (counts : List ℕ) (old new : List (GroupKey × ℕ)) : Type 0 where

@@ -1,14 +1,15 @@
 //! Instances: what a planner is given.
-ghost use Rattle.std.specs.Prelude.{◌≡◌, ◌≤◌, ◌⊎◌, ◌↔◌, IfOk, IfErr, IsErrOf, IsTrue, length};
+ghost use Rattle.std.specs.Prelude.{◌≡◌, ◌≤◌, ◌⊎◌, ◌↔◌, List, ℕ, IfOk, IfErr, IsErrOf, IsTrue, length};
+ghost use Rattle.book_core.specs.Counts.{counts_of};
 ghost use Rattle.bucket_core.specs.Rule.{total_weight};
 ghost use Rattle.transport_instance.specs.Groups.{AreSizes, rows_view};
 ghost use Rattle.transport_instance.specs.Instance.{IsProblem, AreListed, MissTotal, max_names, max_planned_total};
+ghost use Rattle.transport_instance.specs.Tally.{IsTally};
 
 use crate::cut::names_are_listed;
 use crate::fault::CheckFault;
 use crate::grouping::groups;
 use crate::rows::Row;
-use book_core::Exposure;
 use bucket_core::Rule;
 use price_core::{Prices, Totals};
 use std::alloc::Global;
@@ -35,20 +36,21 @@ impl<'a> Model for Instance<'a> {
 }
 
 impl<'a> Instance<'a> {
-    /// The instance of a rule, of limits and prices, and of the inputs that were recorded. It refuses with `Totals` where
-    /// the low limits sum above the rule's total or the high ones below it. It takes `O(n log n)` steps at n entries and
-    /// inputs.
+    /// The instance of a rule, of limits and prices, and of the inputs that were recorded, of which so many fall on each
+    /// point. It refuses with `Totals` where the low limits sum above the rule's total or the high ones below it. It takes
+    /// `O(n log n)` steps at n points.
     pub fn make(
         alloc: Global,
         old: &'a Rule,
         totals: &'a Totals,
         prices: &'a Prices,
-        exposure: &Exposure,
+        counts: &[u32],
     ) -> Result<Instance<'a>, CheckFault>
         requires small { total_weight old.now ≤ max_planned_total }
         requires names { length totals.now ≤ max_names }
         requires listed { AreListed old.now totals.now }
-        ensures groups { IfOk result (λ i. AreSizes old.now exposure.now i.groups) }
+        requires tally { IsTally (total_weight old.now) counts.now }
+        ensures groups { IfOk result (λ i. (inputs : List (List ℕ)) → counts.now ≡ counts_of inputs (total_weight old.now) → AreSizes old.now inputs i.groups) }
         ensures limits { IfOk result (λ i. i.limits ≡ totals.now) }
         ensures pricing { IfOk result (λ i. i.pricing ≡ prices.now) }
         ensures totals { IsErrOf result CheckFault.Totals ↔ MissTotal old.now totals.now }
@@ -61,7 +63,7 @@ impl<'a> Instance<'a> {
             return Err(CheckFault::Totals);
         }
         Ok(Instance {
-            groups: groups(alloc, old, exposure.inputs())?,
+            groups: groups(alloc, old, counts)?,
             totals,
             prices,
         })

@@ -1,4 +1,4 @@
-ghost use Rattle.transport_instance.specs.Laws.{DeficientFitsNone, DualsBound, DualsProveLeast};
+ghost use Rattle.transport_instance.specs.Laws.{DeficientFitsNone, DualsBound, DualsProveLeast, TalliesCost};
 
 /// Weak duality: no rule that fits costs less than dual prices prove, whatever its shape, so a rule that fits and costs just
 /// that costs the least (linear programming; Ahuja, Magnanti, Orlin, Network Flows, section 9.4). A law: it computes nothing.
@@ -11,4 +11,10 @@ pub fn weak_duality()
 /// theorem). A law: it computes nothing.
 pub fn deficient_sets_fit_none()
     ensures none { DeficientFitsNone }
+{}
+
+/// What a change costs needs no more to be known of the inputs than how many fall on each point: the cost over their tally is
+/// theirs. A law: it computes nothing.
+pub fn tallies_cost()
+    ensures { TalliesCost }
 {}

@@ -23,7 +23,8 @@
 //! whether a certificate's numbers are those of the groups and names (`are_groups`, `are_names`), leave each reduced cost at 0
 //! or above (`first_broken`) and sum to the cost (`sums_to`): each answers what its definition says (`Refusals`, `Certificate`).
 //! The check of a plan, which stands on them, is the crate transport_core. What it rests on are two laws, `weak_duality` and
-//! `deficient_sets_fit_none`.
+//! `deficient_sets_fit_none`. Of the recorded inputs only how many fall on each point is asked for (`Tally`): what is proved
+//! holds of all inputs of which so many do, and so does their cost (`tallies_cost`).
 //!
 //! An `Instance` is what a planner is given: groups of points, limits and prices, without the rule or the inputs. Proved of it:
 //! `make` gives the groups of the rule (`Instance`). What shows that an assignment on it costs the least is `IsProved`
@@ -50,7 +51,7 @@ pub use duals::{are_groups, are_names, sums_to};
 pub use fault::CheckFault;
 pub use grouping::groups;
 pub use instance::Instance;
-pub use laws::{deficient_sets_fit_none, weak_duality};
+pub use laws::{deficient_sets_fit_none, tallies_cost, weak_duality};
 pub use rows::Row;
 pub use slack::first_broken;
 pub use totals::keeps_limits;

@@ -1,7 +1,7 @@
 use Rattle.std.proofs.Common.{◌<◌, pos, ◌*ℤ◌, [], length, get_or, to_z, of_z, sym, ap, ◌∙◌, arith, rules}
 use Rattle.std.proofs.lemmas.Int.{ints, to_z-of_z}
 use Rattle.std.specs.Int.{w64}
-use Rattle.transport_instance.proofs.Runs.{any_default}
+use Rattle.transport_instance.proofs.Members.{any_default}
 use Rattle.transport_instance.proofs.Weighted.{points-more, whole-more, Row, Alpha}
 use Rattle.transport_instance.proofs.duals.sum_of_points.Goals as goal
 

@@ -1,7 +1,7 @@
 use Rattle.std.proofs.Common.{[], get_or, arith}
 use Rattle.price_core.specs.Limits.{high_of, limits_view}
 use Rattle.transport_instance.proofs.NameTotals.{total-at, totals-le, Lent}
-use Rattle.transport_instance.proofs.Runs.{any_default}
+use Rattle.transport_instance.proofs.Members.{any_default}
 use Rattle.transport_instance.proofs.totals.keeps_high.Goals as goal
 
 pub returns-then-high_of-total : goal.returns-then-high_of-total

@@ -1,0 +1,47 @@
+-- What is known of inputs by how many fall on each point: their number, and what they cost.
+use Rattle.std.proofs.Common.{◌≡◌, ℕ, ◌+◌, ◌*◌, ◌<◌, pos, List, length, get_or, sum, sym, ap, ◌∙◌, arith}
+use Rattle.std.specs.List.{range_with_len, slice_index}
+use Rattle.std.proofs.lemmas.List.FromFn.{get_or-map-range_with_len, length-map-range_with_len}
+use Rattle.std.proofs.lemmas.List.Sums.{sum-map}
+use Rattle.book_core.specs.Counts.{counts_of}
+use Rattle.bucket_core.specs.Rule.{Entries, total_weight}
+use Rattle.price_core.specs.Cost.{cost_of, point_cost, tally_cost}
+use Rattle.price_core.specs.Pricing.{Pricing}
+use Rattle.transport_instance.specs.Dual.{inputs_at}
+use Rattle.transport_instance.specs.Tally.{IsTally}
+use Rattle.transport_instance.proofs.Duality.{cost-by_points}
+use Rattle.transport_instance.proofs.DualSums.{range_place}
+use Rattle.transport_instance.proofs.Inputs.{points_inputs, sum_placed}
+use Rattle.transport_instance.proofs.Sums.{sum_z-pos}
+
+-- as many inputs on a point as its number says
+pub counted_at : (inputs : List (List ℕ)) (total : ℕ) (counts : List ℕ) (p : ℕ) → counts ≡ counts_of inputs total → p < total → slice_index counts p ≡ inputs_at total inputs p
+counted_at inputs total counts p is below =
+    let from : 0 + p ≡ p = omega arith in
+    ap (λ cs. get_or cs p 0) is ∙ get_or-map-range_with_len (λ q. inputs_at total inputs q) 0 total p p 0 below from
+
+pub length-counts : (inputs : List (List ℕ)) (total : ℕ) (counts : List ℕ) → counts ≡ counts_of inputs total → length counts ≡ total
+length-counts inputs total counts is = ap length is ∙ length-map-range_with_len (λ p. inputs_at total inputs p) 0 total
+
+pub length-tally : (total : ℕ) (counts : List ℕ) → IsTally total counts → length counts ≡ total
+length-tally total counts tally = length-counts tally.inputs total counts tally.counted
+
+same_number : {a b : ℕ} → pos a ≡ pos b → a ≡ b
+same_number same = cc
+
+-- the inputs at all points are all
+pub sum-counts : (inputs : List (List ℕ)) (total : ℕ) (counts : List ℕ) → 0 < total → counts ≡ counts_of inputs total → sum counts ≡ length inputs
+sum-counts inputs total counts some is =
+    let range = range_with_len 0 total in
+    ap sum is ∙ (sum-map (inputs_at total inputs) range ∙ same_number (sym (sum_z-pos (inputs_at total inputs) range) ∙ points_inputs total inputs some))
+
+-- what they cost, point by point
+pub cost-tally : (old new : Entries) (inputs : List (List ℕ)) (counts : List ℕ) (pricing : Pricing) → 0 < total_weight old → total_weight new ≡ total_weight old → counts ≡ counts_of inputs (total_weight old)
+    → tally_cost old new counts pricing ≡ cost_of old new inputs pricing
+cost-tally old new inputs counts pricing some weight is =
+    let total = total_weight old in
+    let range = range_with_len 0 total in
+    let f : ℕ → ℕ = λ p. slice_index counts p * point_cost old new pricing p in
+    let each = sum_placed (λ p. pos (f p)) (λ p. pos (inputs_at total inputs p * point_cost old new pricing p)) range (λ i p stands.
+    ap (λ n. pos (n * point_cost old new pricing p)) (counted_at inputs total counts p is (omega (arith, range_place 0 total i p stands)))) in
+    same_number (sym (sum_z-pos f range) ∙ (each ∙ sym (cost-by_points old new inputs pricing some weight)))
