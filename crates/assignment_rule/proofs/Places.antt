@@ -11,6 +11,7 @@ use Rattle.std.proofs.lemmas.List.{length-map}
 use Rattle.std.proofs.lemmas.List.FromFn.{get_or-map-range_with_len, length-map-range_with_len}
 use Rattle.std.proofs.lemmas.Map.Keys.{Less-from_sorted}
 use Rattle.std.proofs.lemmas.Option.{slice_get_within, get_or_from_slice_get}
+use Rattle.transport_instance.proofs.Costs.{counted_at}
 use Rattle.transport_instance.proofs.Keys.{not_below_itself}
 use Rattle.transport_instance.proofs.DualSums.{size-some, group_stands}
 use Rattle.transport_instance.proofs.Members.{place_from_contains, contains_from_place}
@@ -76,14 +77,10 @@ row-listed names rows i d all below =
 
 -- ---- the groups of the points
 
-pub length-counts : (inputs : List (List ℕ)) (total : ℕ) (counts : List ℕ) → counts ≡ counts_of inputs total → length counts ≡ total
-length-counts inputs total counts is = ap length is ∙ length-map-range_with_len (λ p. inputs_at total inputs p) 0 total
-
-pub group_here : (old : Entries) (inputs : List (List ℕ)) (counts : List ℕ) (total p : ℕ) (name : List ℕ) → counts ≡ counts_of inputs total → total ≡ total_weight old → p < total_weight old → at old p ≡ Some name
+pub group_here : (old : Entries) (inputs : List (List ℕ)) (counts : List ℕ) (p : ℕ) (name : List ℕ) → counts ≡ counts_of inputs (total_weight old) → p < total_weight old → at old p ≡ Some name
     → group_at old inputs p ≡ (name, get_or counts p 0)
-group_here old inputs counts total p name is same below named =
-    let count : inputs_at (total_weight old) inputs p ≡ get_or counts p 0 =
-    ap (λ n. inputs_at n inputs p) (sym same) ∙ (sym (get_or-map-range_with_len (λ q. inputs_at total inputs q) 0 total p p 0 (omega (arith, below, same)) (omega arith)) ∙ ap (λ xs. get_or xs p 0) (sym is)) in
+group_here old inputs counts p name counted below named =
+    let count = sym (counted_at inputs (total_weight old) counts p counted below) in
     ap (λ (o : Option (List ℕ)). let g : GroupKey = (unwrap_or o [], inputs_at (total_weight old) inputs p) in g) named ∙ ap (λ (n : ℕ). let g : GroupKey = (name, n) in g) count
 
 pub group_listed : (old : Entries) (inputs : List (List ℕ)) (groups : List (GroupKey × ℕ)) (p : ℕ) → AreSizes old inputs groups → p < total_weight old → Contains (keys_of groups) (group_at old inputs p)

@@ -5,9 +5,9 @@
 //! use transport_plan::{Solved, solve_uncounted};
 //!
 //! /// A rule that fits at the least cost, nothing where none fits.
-//! fn least(alloc: Global, old: &Rule, exposure: &Exposure, instance: &Instance<'_>) -> Result<Option<Rule>, Fail> {
+//! fn least(alloc: Global, old: &Rule, counts: &[u32], instance: &Instance<'_>) -> Result<Option<Rule>, Fail> {
 //!     match solve_uncounted(alloc, instance)? {
-//!         Solved::Plan(assignment, _) => Ok(Some(spread(alloc, old, exposure, instance, assignment)?)),
+//!         Solved::Plan(assignment, _) => Ok(Some(spread(alloc, old, counts, instance, assignment)?)),
 //!         Solved::None(_) => Ok(None),
 //!     }
 //! }

@@ -1,32 +1,32 @@
 //! Where groups and names stand, which is found by halving.
-ghost use Rattle.std.specs.Prelude.{◌≡◌, ◌≤◌, ◌<◌, ℕ, Some, IfOk, length, slice_get, slice_index};
+ghost use Rattle.std.specs.Prelude.{◌≡◌, ◌≤◌, ◌<◌, ℕ, List, Some, IfOk, length, slice_get, slice_index};
 ghost use Rattle.std.specs.Cmp.Lexicographic.{slice_cmp};
 ghost use Rattle.std.specs.List.{All, Contains};
 ghost use Rattle.std.specs.List.Sorted.{IsStrictlySortedBy};
 ghost use Rattle.std.specs.Map.{keys_of};
 ghost use Rattle.std.specs.Ordering.{nat_cmp};
+ghost use Rattle.book_core.specs.Counts.{counts_of};
 ghost use Rattle.bucket_core.specs.Rule.{names_view, total_weight};
 ghost use Rattle.transport_instance.specs.Groups.{AreSizes, group_at, group_cmp, rows_view};
 ghost use Rattle.transport_instance.specs.Instance.{max_planned_total};
+ghost use Rattle.transport_instance.specs.Tally.{IsTally};
 
-use book_core::{Exposure, counts};
 use bucket_core::Rule;
 use std::alloc::{AllocError, Global};
 
-/// The group of each point, as an index.
+/// The group of each point, as an index, where so many inputs fall on each point.
 pub(crate) fn groups_of(
     alloc: Global,
     old: &Rule,
-    exposure: &Exposure,
+    counts: &[u32],
     groups: &[((&str, u32), u32)],
 ) -> Result<Vec<u32>, AllocError>
-    requires sizes { AreSizes old.now exposure.now (rows_view groups.now) }
+    requires tally { IsTally (total_weight old.now) counts.now }
+    requires sizes { (inputs : List (List ℕ)) → counts.now ≡ counts_of inputs (total_weight old.now) → AreSizes old.now inputs (rows_view groups.now) }
     requires few { length groups.now ≤ max_planned_total }
     ensures many { IfOk result (λ v. length v.items ≡ total_weight old.now) }
-    ensures grouped { IfOk result (λ v. (p : ℕ) → p < total_weight old.now → slice_get (keys_of (rows_view groups.now)) (slice_index v.items p) ≡ Some (group_at old.now exposure.now p)) }
+    ensures grouped { IfOk result (λ v. (inputs : List (List ℕ)) → counts.now ≡ counts_of inputs (total_weight old.now) → (p : ℕ) → p < total_weight old.now → slice_get (keys_of (rows_view groups.now)) (slice_index v.items p) ≡ Some (group_at old.now inputs p)) }
 {
-    let counts = counts(alloc, exposure, old.total())?;
-    let counts = counts.as_slice();
     let mut points = Vec::with_capacity(alloc, counts.len())?;
     for p in 0..old.total() {
         let group = group_of(groups, old.variant_at(p), counts[p as usize]);

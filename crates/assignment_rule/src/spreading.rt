@@ -1,20 +1,21 @@
 //! From an assignment to a rule: of each group the first points stay, and the others are given its names in their order.
-ghost use Rattle.std.specs.Prelude.{◌≡◌, ◌≤◌, true, length, IfOk};
+ghost use Rattle.std.specs.Prelude.{◌≡◌, ◌≤◌, ℕ, List, true, length, IfOk};
 ghost use Rattle.std.specs.Cmp.Lexicographic.{slice_cmp};
 ghost use Rattle.std.specs.List.{All, Contains};
 ghost use Rattle.std.specs.List.Sorted.{IsStrictlySortedBy};
 ghost use Rattle.std.specs.Map.{keys_of};
 ghost use Rattle.std.specs.Ordering.{nat_cmp};
+ghost use Rattle.book_core.specs.Counts.{counts_of};
 ghost use Rattle.bucket_core.specs.Canonical.{IsCanonical};
-ghost use Rattle.bucket_core.specs.Rule.{names_view};
+ghost use Rattle.bucket_core.specs.Rule.{names_view, total_weight};
 ghost use Rattle.price_core.specs.Limits.{limits_view};
 ghost use Rattle.transport_instance.specs.Assignment.{HasAssignment, arc_flows, flows_of, spends_all};
 ghost use Rattle.transport_instance.specs.Groups.{AreSizes, rows_view};
 ghost use Rattle.transport_instance.specs.Instance.{max_names, max_planned_total};
+ghost use Rattle.transport_instance.specs.Tally.{IsTally};
 
 use crate::dealing::deal;
 use crate::placing::{groups_of, places_of};
-use book_core::Exposure;
 use bucket_core::Rule;
 use price_core::Limit;
 use std::alloc::{AllocError, Global};
@@ -22,26 +23,27 @@ use transport_instance::{Assignment, Instance};
 
 /// The rule whose points have the names of the assignment, and which has no other rule's shape: no entry has weight 0, and
 /// neighbours have different names. Of each group's points those that stay come first. It takes `O(log n)` steps for each
-/// point, at n groups and entries. The conditions are that the groups are those of the old rule and the inputs, and that the
-/// numbers of each group sum to its points.
+/// point, at n groups and entries. The conditions are that the groups are those of the old rule and of the inputs, of which so
+/// many fall on each point, and that the numbers of each group sum to its points.
 pub fn spread(
     alloc: Global,
     old: &Rule,
-    exposure: &Exposure,
+    counts: &[u32],
     instance: &Instance<'_>,
     assignment: Assignment,
 ) -> Result<Rule, AllocError>
-    requires sizes { AreSizes old.now exposure.now instance.now.groups }
+    requires tally { IsTally (total_weight old.now) counts.now }
+    requires sizes { (inputs : List (List ℕ)) → counts.now ≡ counts_of inputs (total_weight old.now) → AreSizes old.now inputs instance.now.groups }
     requires spent { spends_all instance.now.groups (length instance.now.limits) assignment.numbers.items ≡ true }
     ensures canonical { IfOk result IsCanonical }
-    ensures assigned { IfOk result (λ rule. HasAssignment old.now rule exposure.now (flows_of instance.now assignment.numbers.items)) }
+    ensures assigned { IfOk result (λ rule. (inputs : List (List ℕ)) → counts.now ≡ counts_of inputs (total_weight old.now) → HasAssignment old.now rule inputs (flows_of instance.now assignment.numbers.items)) }
 {
     let names = names_of(alloc, instance.totals().entries())?;
     let groups = instance.groups();
     spread_over(
         alloc,
         old,
-        exposure,
+        counts,
         groups,
         names.as_slice(),
         assignment.numbers,
@@ -52,25 +54,26 @@ pub fn spread(
 fn spread_over(
     alloc: Global,
     old: &Rule,
-    exposure: &Exposure,
+    counts: &[u32],
     groups: &[((&str, u32), u32)],
     names: &[String],
     numbers: Vec<u32>,
 ) -> Result<Rule, AllocError>
-    requires sizes { AreSizes old.now exposure.now (rows_view groups.now) }
+    requires tally { IsTally (total_weight old.now) counts.now }
+    requires sizes { (inputs : List (List ℕ)) → counts.now ≡ counts_of inputs (total_weight old.now) → AreSizes old.now inputs (rows_view groups.now) }
     requires few { length groups.now ≤ max_planned_total }
     requires names { length names.now ≤ max_names }
     requires rise { IsStrictlySortedBy (slice_cmp nat_cmp) (names_view names.now) }
     requires listed { All (λ g. Contains (names_view names.now) g.0.0) (rows_view groups.now) }
     requires spent { spends_all (rows_view groups.now) (length names.now) numbers.items ≡ true }
     ensures canonical { IfOk result IsCanonical }
-    ensures assigned { IfOk result (λ rule. HasAssignment old.now rule exposure.now (arc_flows (keys_of (rows_view groups.now)) (names_view names.now) numbers.items)) }
+    ensures assigned { IfOk result (λ rule. (inputs : List (List ℕ)) → counts.now ≡ counts_of inputs (total_weight old.now) → HasAssignment old.now rule inputs (arc_flows (keys_of (rows_view groups.now)) (names_view names.now) numbers.items)) }
 {
     // Called for what its contract says, on which what is dealt out rests: a rule's total is from 1 to 2^31-1.
     let _total = old.total();
     let stays = places_of(alloc, groups, names)?;
     let stays = stays.as_slice();
-    let points = groups_of(alloc, old, exposure, groups)?;
+    let points = groups_of(alloc, old, counts, groups)?;
     let points = points.as_slice();
     let items = deal(alloc, points, numbers, stays, names.len())?;
     Rule::from_points(alloc, items.as_slice(), names)

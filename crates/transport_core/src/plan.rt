@@ -1,48 +1,47 @@
 //! The check of a plan and its certificate.
-ghost use Rattle.std.specs.Prelude.{◌≡◌, ◌≢◌, ◌<◌, ◌^◌, length, map, string_bytes, sum_by, OnOk, IfErr, IsErrOf, MatchResult};
+ghost use Rattle.std.specs.Prelude.{◌≡◌, ◌≢◌, ◌<◌, ◌^◌, ℕ, List, length, sum_by, OnOk, IfErr, IsErrOf, MatchResult};
+ghost use Rattle.book_core.specs.Counts.{counts_of};
 ghost use Rattle.bucket_core.specs.Rule.{total_weight};
 ghost use Rattle.transport_instance.specs.Certificate.{IsCertified, certificate_view};
 ghost use Rattle.transport_instance.specs.Fits.{Fits, IsLeast};
 ghost use Rattle.transport_instance.specs.Refusals.{Refuses, RefusesRule, ChecksDuals};
+ghost use Rattle.transport_instance.specs.Tally.{IsTally};
 
-use book_core::Exposure;
 use bucket_core::Rule;
-use price_core::{Prices, Totals, first_forbidden, switch_cost};
+use price_core::{Prices, Totals, first_forbidden, tally_cost};
 use std::alloc::Global;
-use std::thread::Threads;
 use transport_instance::{
     Certificate, CheckFault, are_groups, are_names, first_broken, groups, keeps_limits, sums_to,
 };
 
-/// Checks that a new rule fits the request and that a certificate proves its cost for the inputs, so that no rule which
-/// fits costs less. It refuses, in this order, with `Weight` (the rules differ in their totals), `Totals` (a total is outside
-/// its limits), `Forbidden` (the least point whose change is), `Groups` (the numbers are not those of exactly the groups and
-/// names), `Slack` (the first group and name whose numbers sum to more than the change costs), `Sum` (the numbers do not sum
-/// to the cost), `Cost` (the rule's cost is another). It goes over runs of points and over groups, in `O(n log n)` steps at n
-/// entries and inputs, and `O(k)` look-ups of a price for each group, at k names. The inputs are priced by as many threads as
-/// there are processors.
+/// Checks that a new rule fits the request and that a certificate proves its cost for the inputs, of which so many fall on
+/// each point, so that no rule which fits costs less. It refuses, in this order, with `Weight` (the rules differ in their
+/// totals), `Totals` (a total is outside its limits), `Forbidden` (the least point whose change is), `Groups` (the numbers are
+/// not those of exactly the groups and names), `Slack` (the first group and name whose numbers sum to more than the change
+/// costs), `Sum` (the numbers do not sum to the cost), `Cost` (the rule's cost is another). It goes over points, runs of points
+/// and groups, in `O(n log n)` steps at n points and entries, and `O(k)` look-ups of a price for each group, at k names.
 pub fn check_plan(
-    rt: &(impl Threads + Sync),
     alloc: Global,
     old: &Rule,
     new: &Rule,
     totals: &Totals,
     prices: &Prices,
-    exposure: &Exposure,
+    counts: &[u32],
     certificate: &Certificate,
 ) -> Result<(), CheckFault>
+    requires { IsTally (total_weight old.now) counts.now }
     ensures weight { total_weight new.now ≢ total_weight old.now → IsErrOf result CheckFault.Weight }
-    ensures certified { OnOk result (IsCertified old.now new.now totals.now prices.now exposure.now (certificate_view certificate.now)) }
-    ensures least { OnOk result (IsLeast old.now new.now totals.now prices.now exposure.now) }
-    ensures refused { IfErr result (Refuses old.now new.now totals.now prices.now exposure.now (certificate_view certificate.now)) }
-    ensures exact { IfErr result (λ fault. fault ≢ CheckFault.WantOfMemory → ¬ (IsCertified old.now new.now totals.now prices.now exposure.now (certificate_view certificate.now))) }
+    ensures certified { OnOk result ((inputs : List (List ℕ)) → counts.now ≡ counts_of inputs (total_weight old.now) → IsCertified old.now new.now totals.now prices.now inputs (certificate_view certificate.now)) }
+    ensures least { OnOk result ((inputs : List (List ℕ)) → counts.now ≡ counts_of inputs (total_weight old.now) → IsLeast old.now new.now totals.now prices.now inputs) }
+    ensures refused { IfErr result (λ fault. (inputs : List (List ℕ)) → counts.now ≡ counts_of inputs (total_weight old.now) → Refuses old.now new.now totals.now prices.now inputs (certificate_view certificate.now) fault) }
+    ensures exact { IfErr result (λ fault. fault ≢ CheckFault.WantOfMemory → (inputs : List (List ℕ)) → counts.now ≡ counts_of inputs (total_weight old.now) → ¬ (IsCertified old.now new.now totals.now prices.now inputs (certificate_view certificate.now))) }
 {
     // Called for what their contracts say: a rule's total is from 1 to 2^31-1, and limits are lawful.
     let _total = old.total();
     let _limits = totals.entries();
     check_rule(alloc, old, new, totals, prices)?;
-    check_duals(alloc, old, totals, prices, exposure.inputs(), certificate)?;
-    let cost = switch_cost(rt, alloc, old, new, exposure, prices)?;
+    check_duals(alloc, old, totals, prices, counts, certificate)?;
+    let cost = tally_cost(old, new, counts, prices);
     if cost != certificate.cost {
         return Err(CheckFault::Cost);
     }
@@ -78,17 +77,17 @@ fn check_duals(
     old: &Rule,
     totals: &Totals,
     prices: &Prices,
-    inputs: &[String],
+    counts: &[u32],
     certificate: &Certificate,
 ) -> Result<(), CheckFault>
-    requires few { length inputs.now < 2 ^ 32 }
+    requires points { length counts.now ≡ total_weight old.now }
     requires lows { sum_by (λ l. l.1.0) totals.now < 2 ^ 32 }
-    ensures { ChecksDuals old.now totals.now prices.now (map string_bytes inputs.now) (certificate_view certificate.now) result }
+    ensures { (inputs : List (List ℕ)) → counts.now ≡ counts_of inputs (total_weight old.now) → ChecksDuals old.now totals.now prices.now inputs (certificate_view certificate.now) result }
 {
     let limits = totals.entries();
     let alpha = certificate.alpha.as_slice();
     let beta = certificate.beta.as_slice();
-    let sizes = groups(alloc, old, inputs)?;
+    let sizes = groups(alloc, old, counts)?;
     let groups = sizes.as_slice();
     if !are_groups(alpha, groups) {
         return Err(CheckFault::Groups);

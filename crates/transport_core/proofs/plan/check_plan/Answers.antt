@@ -1,42 +1,74 @@
 -- a plan that passes is certified, and one that is refused is not
-use Rattle.std.proofs.Common.{◌≢◌, ℕ, List, sym, ◌∙◌, subst, arith}
+use Rattle.std.proofs.Common.{◌≡◌, ◌≢◌, ◌<◌, ℕ, List, sym, ◌∙◌, arith}
+use Rattle.book_core.specs.Counts.{counts_of}
+use Rattle.bucket_core.specs.Rule.{total_weight}
 use Rattle.transport_instance.specs.Certificate.{certificate_view, IsCertified}
-use Rattle.transport_instance.specs.Refusals.{RefusesDuals, AreDuals}
 use Rattle.transport_instance.specs.declared.fault.CheckFault.{CheckFault}
 use Rattle.transport_instance.specs.declared.fault.CheckFault.TheVariants.{WantOfMemory}
 use Rattle.transport_instance.proofs.Certified.{lows-fit, refused_not, refuses_rule, refuses_duals, certified_duals, least_from, err_exit}
+use Rattle.transport_instance.proofs.Costs.{cost-tally, length-tally, sum-counts}
 use Rattle.transport_core.proofs.plan.check_plan.Goals as goal
 
 pub returns-in_err-check_rule-clause-exact : goal.returns-in_err-check_rule-clause-exact
-returns-in_err-check_rule-clause-exact g c =
+returns-in_err-check_rule-clause-exact c =
     let plan = certificate_view c.args.certificate.now in
     let fault = c.in_err-check_rule.field-0.0 in
-    err_exit c.from_residual.result fault (λ _. Unit {0}) (λ (f : CheckFault). f ≢ WantOfMemory → ¬ IsCertified c.args.old.now c.args.new.now c.args.totals.now c.args.prices.now c.args.exposure.now plan) c.from_residual.ensures.1
-    (λ want. refused_not c.args.old.now c.args.new.now c.args.totals.now c.args.prices.now c.args.exposure.now plan fault c.entries-limits.ensures.lawful want
-    (refuses_rule c.args.old.now c.args.new.now c.args.totals.now c.args.prices.now c.args.exposure.now plan fault c.in_err-check_rule.ensures.exact))
+    err_exit c.from_residual.result fault (λ _. Unit {0})
+    (λ (f : CheckFault). f ≢ WantOfMemory → (inputs : List (List ℕ)) → c.args.counts.now ≡ counts_of inputs (total_weight c.args.old.now) → ¬ IsCertified c.args.old.now c.args.new.now c.args.totals.now c.args.prices.now inputs plan) c.from_residual.ensures.1
+    (λ want inputs counted. refused_not c.args.old.now c.args.new.now c.args.totals.now c.args.prices.now inputs plan fault c.entries-limits.ensures.lawful want
+    (refuses_rule c.args.old.now c.args.new.now c.args.totals.now c.args.prices.now inputs plan fault c.in_err-check_rule.ensures.exact))
+
+pub check_duals-requires-clause-points : goal.check_duals-requires-clause-points
+check_duals-requires-clause-points c = length-tally (total_weight c.args.old.now) c.args.counts.now c.requires
 
 pub check_duals-requires-clause-lows : goal.check_duals-requires-clause-lows
-check_duals-requires-clause-lows g c =
+check_duals-requires-clause-lows c =
     omega (arith, lows-fit c.args.old.now c.args.new.now c.args.totals.now c.args.prices.now c.entries-limits.ensures.lawful c.in_ok-check_rule.ensures.exact, c.total-total.ensures.value, c.total-total.ensures.allowed.small)
 
 pub returns-in_err-check_duals-clause-exact : goal.returns-in_err-check_duals-clause-exact
-returns-in_err-check_duals-clause-exact g c =
+returns-in_err-check_duals-clause-exact c =
     let plan = certificate_view c.args.certificate.now in
     let fault = c.in_err-check_duals.field-0.0 in
-    let refuses = subst (λ (ks : List (List ℕ)). RefusesDuals c.args.old.now c.args.totals.now c.args.prices.now ks plan fault) c.inputs.ensures.all c.in_err-check_duals.ensures in
-    err_exit c.from_residual-in_err-check_duals.result fault (λ _. Unit {0}) (λ (f : CheckFault). f ≢ WantOfMemory → ¬ IsCertified c.args.old.now c.args.new.now c.args.totals.now c.args.prices.now c.args.exposure.now plan) c.from_residual-in_err-check_duals.ensures.1
-    (λ want. refused_not c.args.old.now c.args.new.now c.args.totals.now c.args.prices.now c.args.exposure.now plan fault c.entries-limits.ensures.lawful want
-    (refuses_duals c.args.old.now c.args.new.now c.args.totals.now c.args.prices.now c.args.exposure.now plan fault c.in_ok-check_rule.ensures.exact refuses))
+    err_exit c.from_residual-in_err-check_duals.result fault (λ _. Unit {0})
+    (λ (f : CheckFault). f ≢ WantOfMemory → (inputs : List (List ℕ)) → c.args.counts.now ≡ counts_of inputs (total_weight c.args.old.now) → ¬ IsCertified c.args.old.now c.args.new.now c.args.totals.now c.args.prices.now inputs plan) c.from_residual-in_err-check_duals.ensures.1
+    (λ want inputs counted. refused_not c.args.old.now c.args.new.now c.args.totals.now c.args.prices.now inputs plan fault c.entries-limits.ensures.lawful want
+    (refuses_duals c.args.old.now c.args.new.now c.args.totals.now c.args.prices.now inputs plan fault c.in_ok-check_rule.ensures.exact (c.in_err-check_duals.ensures inputs counted)))
+
+pub tally_cost-cost-requires-clause-points : goal.tally_cost-cost-requires-clause-points
+tally_cost-cost-requires-clause-points c = length-tally (total_weight c.args.old.now) c.args.counts.now c.requires
+
+pub tally_cost-cost-requires-clause-few : goal.tally_cost-cost-requires-clause-few
+tally_cost-cost-requires-clause-few c =
+    omega (arith, sum-counts c.requires.inputs (total_weight c.args.old.now) c.args.counts.now (omega (arith, c.total-total.ensures.value, c.total-total.ensures.allowed.some)) c.requires.counted, c.requires.few)
 
 pub returns-clause-certified : goal.returns-clause-certified
-returns-clause-certified g c =
+returns-clause-certified c = λ inputs counted.
     let plan = certificate_view c.args.certificate.now in
-    let duals = subst (λ (ks : List (List ℕ)). AreDuals c.args.old.now c.args.totals.now c.args.prices.now ks plan) c.inputs.ensures.all c.in_ok-check_duals.ensures in
-    certified_duals c.args.old.now c.args.new.now c.args.totals.now c.args.prices.now c.args.exposure.now plan c.entries-limits.ensures.lawful c.in_ok-check_rule.ensures.exact duals (sym c.in_ok-cost.ensures.exact ∙ c.if-cost-certificate.false)
+    let some : 0 < total_weight c.args.old.now = omega (arith, c.total-total.ensures.value, c.total-total.ensures.allowed.some) in
+    let fits = c.in_ok-check_rule.ensures.exact in
+    let cost = cost-tally c.args.old.now c.args.new.now inputs c.args.counts.now c.args.prices.now some fits.weight counted in
+    certified_duals c.args.old.now c.args.new.now c.args.totals.now c.args.prices.now inputs plan c.entries-limits.ensures.lawful fits (c.in_ok-check_duals.ensures inputs counted) (sym cost ∙ (sym c.tally_cost-cost.ensures ∙ c.if-cost-certificate.false))
 
 pub returns-clause-least : goal.returns-clause-least
-returns-clause-least g c =
+returns-clause-least c = λ inputs counted.
     let plan = certificate_view c.args.certificate.now in
-    let duals = subst (λ (ks : List (List ℕ)). AreDuals c.args.old.now c.args.totals.now c.args.prices.now ks plan) c.inputs.ensures.all c.in_ok-check_duals.ensures in
-    let certified = certified_duals c.args.old.now c.args.new.now c.args.totals.now c.args.prices.now c.args.exposure.now plan c.entries-limits.ensures.lawful c.in_ok-check_rule.ensures.exact duals (sym c.in_ok-cost.ensures.exact ∙ c.if-cost-certificate.false) in
-    least_from c.args.old.now c.args.new.now c.args.totals.now c.args.prices.now c.args.exposure.now plan (omega (arith, c.total-total.ensures.value, c.total-total.ensures.allowed.some)) c.entries-limits.ensures.lawful certified
+    let some : 0 < total_weight c.args.old.now = omega (arith, c.total-total.ensures.value, c.total-total.ensures.allowed.some) in
+    let fits = c.in_ok-check_rule.ensures.exact in
+    let cost = cost-tally c.args.old.now c.args.new.now inputs c.args.counts.now c.args.prices.now some fits.weight counted in
+    let certified = certified_duals c.args.old.now c.args.new.now c.args.totals.now c.args.prices.now inputs plan c.entries-limits.ensures.lawful fits (c.in_ok-check_duals.ensures inputs counted) (sym cost ∙ (sym c.tally_cost-cost.ensures ∙ c.if-cost-certificate.false)) in
+    least_from c.args.old.now c.args.new.now c.args.totals.now c.args.prices.now inputs plan some c.entries-limits.ensures.lawful certified
+
+pub returns-then-cost-certificate-clause-refused : goal.returns-then-cost-certificate-clause-refused
+returns-then-cost-certificate-clause-refused c = λ inputs counted.
+    let some : 0 < total_weight c.args.old.now = omega (arith, c.total-total.ensures.value, c.total-total.ensures.allowed.some) in
+    let fits = c.in_ok-check_rule.ensures.exact in
+    let duals = c.in_ok-check_duals.ensures inputs counted in
+    let cost = cost-tally c.args.old.now c.args.new.now inputs c.args.counts.now c.args.prices.now some fits.weight counted in
+    (record { fits = fits; groups = duals.groups; names = duals.names }, duals.unbroken, duals.sum, λ e. c.if-cost-certificate.true (c.tally_cost-cost.ensures ∙ (cost ∙ e)))
+
+pub returns-then-cost-certificate-clause-exact : goal.returns-then-cost-certificate-clause-exact
+returns-then-cost-certificate-clause-exact c = λ want inputs counted certified.
+    let some : 0 < total_weight c.args.old.now = omega (arith, c.total-total.ensures.value, c.total-total.ensures.allowed.some) in
+    let fits = c.in_ok-check_rule.ensures.exact in
+    let cost = cost-tally c.args.old.now c.args.new.now inputs c.args.counts.now c.args.prices.now some fits.weight counted in
+    c.if-cost-certificate.true (c.tally_cost-cost.ensures ∙ (cost ∙ certified.cost))
