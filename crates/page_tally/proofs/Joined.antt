@@ -1,11 +1,11 @@
 -- The fold over the lines of a book gives the counts of the wanted page of the book that they make, or their first fault.
-use Rattle.std.proofs.Common.{◌≡◌, ◌≢◌, ◌<◌, ◌≤◌, ◌+◌, ◌++◌, ◌&&◌, ℕ, Bool, true, false, List, [], ◌∷◌, length, set, get_or, replicate, Option, Some, None, Result, Ok, Err, cond, unwrap_or, eqb, length-append, nat_lt, if◌then◌else◌, refl, sym, ap, ◌∙◌, ⊎_elim, arith, length-set}
+use Rattle.std.proofs.Common.{◌≡◌, ◌≢◌, ◌<◌, ◌+◌, ◌++◌, ◌&&◌, ℕ, Bool, true, false, List, [], ◌∷◌, length, set, get_or, replicate, Option, Some, None, Result, Ok, Err, cond, unwrap_or, eqb, length-append, nat_lt, if◌then◌else◌, refl, sym, ap, ◌∙◌, ⊎_elim, arith, length-set}
 use Rattle.std.proofs.lemmas.Bool.{cases_eq, eq-eqb, ne_eqb, and_parts}
 use Rattle.std.proofs.lemmas.List.{get_or-set_same, get_or-set_other, get_or-replicate, length-replicate}
 use Rattle.std.proofs.lemmas.List.FromFn.{fill_by_all}
 use Rattle.std.proofs.lemmas.List.Sums.{sum_by-cons}
 use Rattle.std.specs.Cmp.Lexicographic.{nat_list_cmp_total}
-use Rattle.std.specs.List.{list_all, AllByRecursion}
+use Rattle.std.specs.List.{AllByRecursion}
 use Rattle.std.specs.List.Sorted.{IsStrictlySortedBy}
 use Rattle.std.specs.Map.{keys_of, lookup}
 use Rattle.std.specs.BTreeMap.{is_at}
@@ -15,17 +15,17 @@ use Rattle.std.specs.declared.cmp.Ordering.{Ordering}
 use Rattle.std.specs.declared.cmp.Ordering.TheVariants.{Less, Equal, Greater}
 use Rattle.bucket_core.specs.Point.{point_of}
 use Rattle.bucket_core.proofs.Hashes.{point_of-below}
-use Rattle.book_core.specs.Book.{Inputs, Contents, IsBook, inputs_on, most_inputs, most_bytes}
+use Rattle.book_core.specs.Book.{Inputs, Contents, inputs_on, most_inputs, most_bytes}
 use Rattle.book_core.specs.Counts.{inputs_at, counts_of}
 use Rattle.book_core.specs.Page.{PageName, bytes_cmp, page_cmp, page_eq}
 use Rattle.book_core.specs.PageOrder.{pages_total}
-use Rattle.book_core.specs.Reading.{FileLine, begins, adds, neither, Standing, is_above, input_fault, page_fault, first_fault, leading, pages_in, unless, lines_book}
+use Rattle.book_core.specs.Reading.{FileLine, begins, adds, neither, is_above, input_fault, page_fault, first_fault, leading, pages_in, unless, lines_book}
 use Rattle.book_core.specs.declared.fault.BookFileFault.{BookFileFault}
-use Rattle.book_core.specs.declared.fault.BookFileFault.TheVariants.{Line, Order, InputTooLong, PageFull}
+use Rattle.book_core.specs.declared.fault.BookFileFault.TheVariants.{Order, InputTooLong, PageFull}
 use Rattle.book_core.proofs.Lawful.{lawful_lines}
 use Rattle.book_core.proofs.Ordered.{All-weaker}
 use Rattle.book_core.proofs.Taken.{is_less}
-use Rattle.page_tally.specs.Folding.{Kept, counted, counted_if, with_input, with_inputs, begun, starting, passing, next_fault, is_above_last, or_fault, standing, tally_from, tally_after}
+use Rattle.page_tally.specs.Folding.{Kept, counted, counted_if, with_input, begun, starting, passing, next_fault, is_above_last, or_fault, tally_from, tally_after}
 use Rattle.page_tally.specs.Tally.{page_counts, if_book}
 
 -- ---- counts
@@ -200,7 +200,7 @@ flip_eq a Less e = ap is_eq e
 flip_eq a Equal e = ap is_eq e
 flip_eq a Greater e = ap is_eq e
 
-is_equal : (r : Ordering) → is_eq r ≡ true → r ≡ Equal
+pub is_equal : (r : Ordering) → is_eq r ≡ true → r ≡ Equal
 is_equal Less e = cc
 is_equal Equal e = refl
 is_equal Greater e = cc

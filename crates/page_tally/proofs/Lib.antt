@@ -3,3 +3,4 @@ mod Plainly
 mod Running
 mod Joined
 mod Paging
+mod Filed

@@ -7,9 +7,8 @@ use Rattle.bucket_core.specs.Point.{point_of}
 use Rattle.book_core.specs.Book.{Inputs, most_inputs, most_bytes}
 use Rattle.book_core.specs.Page.{PageName, bytes_cmp}
 use Rattle.book_core.specs.Reading.{FileLine, adds}
-use Rattle.book_core.specs.declared.fault.BookFileFault.{BookFileFault}
 use Rattle.book_core.specs.declared.fault.BookFileFault.TheVariants.{Order, InputTooLong, PageFull}
-use Rattle.page_tally.specs.Folding.{Kept, counted, counted_if, with_input, with_inputs, next_fault, is_above_last, or_fault, tally_from}
+use Rattle.page_tally.specs.Folding.{Kept, counted, counted_if, with_input, with_inputs, next_fault, or_fault, tally_from}
 use Rattle.page_tally.specs.Runs.{IsRun, last_of_run, with_lines, TakesRun}
 
 -- one input more, as the counter does it

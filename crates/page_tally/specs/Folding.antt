@@ -1,5 +1,5 @@
 -- Reading as a fold over the lines of a book: what is kept of those before decides what the next one changes.
-use Rattle.std.specs.Prelude.{◌≡◌, ℕ, ◌<◌, ◌≤◌, ◌+◌, List, [], ◌∷◌, length, set, get_or, replicate, Bool, true, nat_lt, if◌then◌else◌, Option, Some, None, option_map, IfSome, Result, Ok, Err}
+use Rattle.std.specs.Prelude.{◌≡◌, ℕ, ◌≤◌, ◌+◌, List, [], ◌∷◌, length, set, get_or, replicate, Bool, true, nat_lt, if◌then◌else◌, Option, Some, None, option_map, IfSome, Result, Ok, Err}
 use Rattle.std.specs.Ordering.{is_lt}
 use Rattle.bucket_core.specs.Point.{point_of}
 use Rattle.bucket_core.specs.Rule.{IsRuleTotal}

@@ -1,3 +1,4 @@
+pub mod File
 pub mod Folding
 pub mod Inputs
 pub mod Lines

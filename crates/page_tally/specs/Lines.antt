@@ -1,5 +1,5 @@
 -- The lines of the program, without where their texts lie in memory.
-use Rattle.std.specs.Prelude.{ℕ, List, [], ◌∷◌, Option, Some, None}
+use Rattle.std.specs.Prelude.{List, [], ◌∷◌, Option, Some, None}
 use Rattle.book_core.specs.Page.{PageName}
 use Rattle.book_core.specs.Reading.{FileLine, begins, adds, neither}
 use Rattle.page_tally.specs.Inputs.{input_view}

@@ -7,11 +7,15 @@
 #![tactic(auto)]
 
 mod counter;
+mod file;
 mod input;
 mod line;
 mod lines;
 mod plain;
 mod read;
+mod recorded;
 mod run;
 
+pub use file::BookFile;
 pub use read::read_tally;
+pub use recorded::Recorded;

@@ -1,4 +1,4 @@
-use Rattle.std.proofs.Common.{◌≡◌, ◌-◌, ◌∷◌, length, drop, sym, ◌∙◌, arith, length-drop}
+use Rattle.std.proofs.Common.{◌-◌, length, drop, sym, ◌∙◌, arith, length-drop}
 use Rattle.std.proofs.lemmas.List.{take_all}
 use Rattle.page_tally.proofs.Plainly.{plain_first}
 use Rattle.page_tally.proofs.plain.plain_line.Goals as goal

@@ -1,4 +1,4 @@
-use Rattle.std.proofs.Common.{◌≡◌, ℕ, ◌+◌, length, None, replicate, option_to_list}
+use Rattle.std.proofs.Common.{◌≡◌, ◌+◌, length, None, replicate, option_to_list}
 use Rattle.book_core.specs.Page.{PageName}
 use Rattle.book_core.specs.Reading.{lines_of}
 use Rattle.page_tally.specs.Folding.{tally_after}

@@ -1,4 +1,4 @@
-use Rattle.std.proofs.Common.{◌≡◌, ◌<◌, Some, length, sym, ap, ◌∙◌, arith, subst, IfSome}
+use Rattle.std.proofs.Common.{◌≡◌, ◌<◌, length, ap, ◌∙◌, arith, subst, IfSome}
 use Rattle.bucket_core.specs.Point.{scale, point_of}
 use Rattle.page_tally.specs.Folding.{Kept, IsCounting, with_input}
 use Rattle.page_tally.proofs.Running.{counted_more}
