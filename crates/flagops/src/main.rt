@@ -70,7 +70,7 @@ where
     S: AsStr + Drop,
     F: FileSet,
     O: Outlet,
-    E: Outlet,
+    E: Outlet + Drop,
     requires out_whole { O.is_broken out.old ≡ false }
     requires err_whole { E.is_broken err.old ≡ false }
     ensures answers { OnFiles (λ w. map S.text w.items) words (λ l.
@@ -92,7 +92,8 @@ where
     ensures serves { OnServe (λ w. map S.text w.items) words (λ l.
         ServesAsked O.bytes O.is_broken out.old out.new E.bytes E.is_broken err.old err.new (exit_status result) l) }
     ensures serve_unread { OnServe (λ w. map S.text w.items) words (λ l.
-        RefusesUnread O.bytes O.is_broken out.old out.new (exit_status result) F.has_failed files.old files.new) }
+        RefusesUnread O.bytes O.is_broken out.old out.new E.bytes E.is_broken err.old err.new (exit_status result)
+        F.has_failed files.old files.new) }
     ensures serve_tells { OnServe (λ w. map S.text w.items) words (λ l.
         TellsServe O.bytes O.is_broken out.old out.new E.bytes E.is_broken err.old err.new (exit_status result) l) }
     ensures serve_kept { OnServe (λ w. map S.text w.items) words (λ l.
@@ -127,7 +128,7 @@ where
     S: AsStr,
     F: FileSet,
     O: Outlet,
-    E: Outlet,
+    E: Outlet + Drop,
     requires out_whole { O.is_broken out.old ≡ false }
     requires err_whole { E.is_broken err.old ≡ false }
     ensures answers { WhereFiles (map S.text words.now)
@@ -149,7 +150,8 @@ where
     ensures serves { WhereServe (map S.text words.now)
         (ServesAsked O.bytes O.is_broken out.old out.new E.bytes E.is_broken err.old err.new result (map S.text words.now)) }
     ensures serve_unread { WhereServe (map S.text words.now)
-        (RefusesUnread O.bytes O.is_broken out.old out.new result F.has_failed files.old files.new) }
+        (RefusesUnread O.bytes O.is_broken out.old out.new E.bytes E.is_broken err.old err.new result
+        F.has_failed files.old files.new) }
     ensures serve_tells { WhereServe (map S.text words.now)
         (TellsServe O.bytes O.is_broken out.old out.new E.bytes E.is_broken err.old err.new result (map S.text words.now)) }
     ensures serve_kept { WhereServe (map S.text words.now)

@@ -1,9 +1,9 @@
 -- Documents that are loaded, one after the other, and served.
-use Rattle.std.proofs.Common.{◌≡◌, ◌+◌, ◌<◌, ◌∙◌, ◌⊎◌, ℕ, false, List, ◌∷◌, Option, Some, None, Result, Ok, Err, IfSome, inl, refl, add-one, ap, drop, get_or, length, map, subst, sym}
+use Rattle.std.proofs.Common.{◌≡◌, ◌+◌, ◌<◌, ◌∙◌, ◌⊎◌, ℕ, false, List, [], ◌∷◌, Option, Some, None, Result, Ok, Err, IfSome, inl, refl, add-one, ap, drop, get_or, length, map, subst, sym}
 use Rattle.std.proofs.Math.Seq.{drop-cons}
 use Rattle.flagops_files.specs.Files.{Holding}
 use Rattle.flagops_files.specs.Loading.{◌>>=◌}
-use Rattle.flagops_streams.specs.Documents.{ServesTo}
+use Rattle.flagops_streams.specs.Documents.{Answer, ServesTo}
 use Rattle.flagops_streams.specs.Refusal.{is_want}
 use Rattle.flagops_streams.specs.declared.refusal.Refusal.{Refusal}
 use Rattle.flagops_network.specs.Loading.{AnswersTo, Loaded, ServesLoaded, loaded_at, loaded_from, loaded_next}
@@ -35,8 +35,8 @@ refused_next at d path paths rest all refusal so_far next first =
     sym so_far ∙ ap (loaded_from at d) first ∙ ap (λ (r : Result Loaded Refusal). r >>= λ more. loaded_from at more rest) next
 
 -- what serving the documents that were loaded gives is what the words and the files give
-pub loaded_served : (at : Holding) (s : Serving) (d : Loaded) (answer : Result ℕ Refusal) → loaded_at at s.documents ≡ Ok d → ServesTo s.subscribers 1 d.sources d.texts answer → AnswersTo at s answer
-loaded_served at s d (Ok n) loaded served = subst (λ (r : Result Loaded Refusal). ServesLoaded s.subscribers r (Ok n)) (sym loaded) served
+pub loaded_served : (at : Holding) (s : Serving) (d : Loaded) (answer : Answer) → loaded_at at s.documents ≡ Ok d → ServesTo s.subscribers d.sources d.texts [] answer → AnswersTo at s answer
+loaded_served at s d (Ok published) loaded served = subst (λ (r : Result Loaded Refusal). ServesLoaded s.subscribers r (Ok published)) (sym loaded) served
 loaded_served at s d (Err refusal) loaded served = λ _. subst (λ (r : Result Loaded Refusal). ServesLoaded s.subscribers r (Err refusal)) (sym loaded) served
 
 -- and so is why they were not loaded
@@ -44,19 +44,19 @@ pub not_loaded : (at : Holding) (s : Serving) (refusal : Refusal) → (is_want r
 not_loaded at s refusal loaded = λ other. subst (λ (r : Result Loaded Refusal). ServesLoaded s.subscribers r (Err refusal)) (sym (loaded other)) refl
 
 -- an answer to words that ask for this, and its report
-pub answered : (holding : Option Holding) (asked : Option Serving) (s : Serving) (answer : Result ℕ Refusal) (Reported : Result ℕ Refusal → Type 0) (Wanted : Type 0)
-    → asked ≡ Some s → IfSome holding (λ at. AnswersTo at s answer) → Reported answer
-    → IfSome asked (λ t. IfSome holding (λ at. ((r : Result ℕ Refusal) × AnswersTo at t r × Reported r) ⊎ Wanted))
+pub answered : (holding : Option Holding) (asked : Option Serving) (s : Serving) (answer : Answer) (Reported : Serving → Answer → Type 0) (Wanted : Type 0)
+    → asked ≡ Some s → IfSome holding (λ at. AnswersTo at s answer) → Reported s answer
+    → IfSome asked (λ t. IfSome holding (λ at. ((r : Answer) × AnswersTo at t r × Reported t r) ⊎ Wanted))
 answered holding asked s answer Reported Wanted is answers report =
-    subst (λ (o : Option Serving). IfSome o (λ t. IfSome holding (λ at. ((r : Result ℕ Refusal) × AnswersTo at t r × Reported r) ⊎ Wanted))) (sym is)
-    (where_known holding (λ at. AnswersTo at s answer) (λ at. ((r : Result ℕ Refusal) × AnswersTo at s r × Reported r) ⊎ Wanted) (λ at h. inl (answer, h, report)) answers)
+    subst (λ (o : Option Serving). IfSome o (λ t. IfSome holding (λ at. ((r : Answer) × AnswersTo at t r × Reported t r) ⊎ Wanted))) (sym is)
+    (where_known holding (λ at. AnswersTo at s answer) (λ at. ((r : Answer) × AnswersTo at s r × Reported s r) ⊎ Wanted) (λ at h. inl (answer, h, report)) answers)
 
 -- the same over the words' own paths, of which the slice was taken
 module _ {X : Type 0} (now : X → List ℕ) (slice items : List X) (same : slice ≡ items) (holding : Option Holding) (s : Serving) (paths : s.documents ≡ map now items) where
   named : map now slice ≡ s.documents
   named = ap (map now) same ∙ sym paths
 
-  pub all_served : (d : Loaded) (answer : Result ℕ Refusal) → IfSome holding (λ at. loaded_at at (map now slice) ≡ Ok d) → ServesTo s.subscribers 1 d.sources d.texts answer → IfSome holding (λ at. AnswersTo at s answer)
+  pub all_served : (d : Loaded) (answer : Answer) → IfSome holding (λ at. loaded_at at (map now slice) ≡ Ok d) → ServesTo s.subscribers d.sources d.texts [] answer → IfSome holding (λ at. AnswersTo at s answer)
   all_served d answer loaded served =
       where_known holding (λ at. loaded_at at (map now slice) ≡ Ok d) (λ at. AnswersTo at s answer) (λ at e. loaded_served at s d answer (ap (loaded_at at) (sym named) ∙ e) served) loaded
 

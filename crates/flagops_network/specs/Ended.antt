@@ -1,33 +1,37 @@
 -- What `serve` and `follow` come to, by what the two outlets show before and after, what the files show, and the status.
-use Rattle.std.specs.Prelude.{◌≡◌, ◌⊎◌, ℕ, Bool, true, false, List, length, Option, None, IfSome, Result}
+use Rattle.std.specs.Prelude.{◌≡◌, ◌⊎◌, ℕ, Bool, true, false, List, length, Option, None, IfSome}
 use Rattle.clap.specs.Walk.{Text}
 use Rattle.flagops_commands.specs.Ended.{WantsAt}
 use Rattle.flagops_files.specs.Files.{Holding}
 use Rattle.flagops_network.specs.Loading.{AnswersTo}
 use Rattle.flagops_network.specs.Mistakes.{TellsOne}
 use Rattle.flagops_network.specs.Words.{follow_by, follow_faults, serve_by, serve_faults}
+use Rattle.flagops_streams.specs.Documents.{Answer, count_of}
 use Rattle.flagops_streams.specs.Printed.{Follows}
-use Rattle.flagops_streams.specs.Report.{RefusesBy, Reports, Serves}
-use Rattle.flagops_streams.specs.declared.refusal.Refusal.{Refusal}
-use Rattle.flagops_streams.specs.declared.refusal.Refusal.TheVariants.{Unreachable, Unreadable}
+use Rattle.flagops_streams.specs.Report.{FindsNobody, RefusesBy, Reports, Serves}
+use Rattle.flagops_streams.specs.Told.{IsOfSubscribers, TellsText}
+use Rattle.flagops_streams.specs.declared.refusal.Refusal.TheVariants.{Unreadable}
 
 -- the output and what is told beside it, each by the bytes that are known of it and by whether it is broken
 module _ {O E : Type 0} (bytes : O → Option (List ℕ)) (is_broken : O → Bool) (out out' : O) (told : E → Option (List ℕ)) (is_mute : E → Bool) (err err' : E) (status : ℕ) where
-  -- over files whose bytes are known, the line of what the documents at the paths make
+  -- Over files whose bytes are known, the line of what the documents at the paths make. Subscribers are told of, and a refusal.
   abbrev pub AnswersServe : {F : Type 0} → (F → Option Holding) → F → List Text → Type 0
   AnswersServe holding files words = IfSome (serve_by words) (λ s. IfSome (holding files) (λ at.
-      ((answer : Result ℕ Refusal) × AnswersTo at s answer × Reports answer (bytes out) (bytes out') (is_broken out') status)
+      ((answer : Answer) × AnswersTo at s answer
+      × Reports (IsOfSubscribers s.port s.subscribers) (count_of answer) (bytes out) (bytes out') (is_broken out') (told err) (told err') (is_mute err') status)
       ⊎ WantsAt bytes is_broken out out' told is_mute err err' status))
 
   -- all documents were published, or there was a refusal
   abbrev pub ServesAsked : List Text → Type 0
   ServesAsked words = IfSome (serve_by words) (λ s.
-      Serves (length s.documents) (bytes out) (bytes out') (is_broken out') status ⊎ WantsAt bytes is_broken out out' told is_mute err err' status)
+      Serves (IsOfSubscribers s.port s.subscribers) (length s.documents) (bytes out) (bytes out') (is_broken out') (told err) (told err') (is_mute err') status
+      ⊎ WantsAt bytes is_broken out out' told is_mute err err' status)
 
-  -- the lines of a stream, or no connection
+  -- the lines of a stream, beside which nothing is told; or no connection, which is told
   abbrev pub FollowsAsked : List Text → Type 0
   FollowsAsked words = IfSome (follow_by words) (λ f.
-      Follows (bytes out) (bytes out') (is_broken out') status ⊎ RefusesBy Unreachable (bytes out) (bytes out') (is_broken out') status
+      (Follows (bytes out) (bytes out') (is_broken out') status × (told err' ≡ told err))
+      ⊎ FindsNobody (bytes out) (bytes out') (is_broken out') (told err) (told err') (is_mute err') status
       ⊎ WantsAt bytes is_broken out out' told is_mute err err' status)
 
   -- words with a mistake are told by one of their mistakes
@@ -37,7 +41,7 @@ module _ {O E : Type 0} (bytes : O → Option (List ℕ)) (is_broken : O → Boo
   abbrev pub TellsFollow : List Text → Type 0
   TellsFollow words = follow_by words ≡ None → TellsOne (bytes out) (bytes out') (is_broken out') (told err) (told err') (is_mute err') status (follow_faults words)
 
--- whatever the files hold, a read that failed is what is reported
-abbrev pub RefusesUnread : {O F : Type 0} → (O → Option (List ℕ)) → (O → Bool) → O → O → ℕ → (F → Bool) → F → F → Type 0
-RefusesUnread bytes is_broken out out' status has_failed files files' =
-    has_failed files ≡ false → has_failed files' ≡ true → RefusesBy Unreadable (bytes out) (bytes out') (is_broken out') status
+  -- whatever the files hold, a read that failed is what is reported, and it is told
+  abbrev pub RefusesUnread : {F : Type 0} → (F → Bool) → F → F → Type 0
+  RefusesUnread has_failed files files' = has_failed files ≡ false → has_failed files' ≡ true
+      → RefusesBy Unreadable (bytes out) (bytes out') (is_broken out') status × TellsText (told err) (told err') (is_mute err')

@@ -6,7 +6,7 @@ use Rattle.flagops_files.specs.Files.{Holding, load_of}
 use Rattle.flagops_files.specs.Loading.{◌>>=◌, max_text}
 use Rattle.flagops_files.specs.declared.files.LoadFault.{LoadFault}
 use Rattle.flagops_files.specs.declared.files.LoadFault.TheVariants as load
-use Rattle.flagops_streams.specs.Documents.{ServesTo, source_added, texts_of}
+use Rattle.flagops_streams.specs.Documents.{Answer, ServesTo, source_added, texts_of}
 use Rattle.flagops_streams.specs.Refusal.{is_unreadable, is_want}
 use Rattle.flagops_streams.specs.declared.documents.Documents.{Documents}
 use Rattle.flagops_streams.specs.declared.refusal.Refusal.{Refusal}
@@ -52,14 +52,14 @@ LoadsTo (Ok d) wanted = wanted ≡ Ok (documents_view d)
 LoadsTo (Err u) wanted = is_want u.refusal ≡ false → wanted ≡ Err u.refusal
 
 -- what serving them gives, or why they were not loaded
-abbrev pub ServesLoaded : ℕ → Result Loaded Refusal → Result ℕ Refusal → Type 0
+abbrev pub ServesLoaded : ℕ → Result Loaded Refusal → Answer → Type 0
 ServesLoaded subscribers (Err refusal) answer = answer ≡ Err refusal
-ServesLoaded subscribers (Ok d) answer = ServesTo subscribers 1 d.sources d.texts answer
+ServesLoaded subscribers (Ok d) answer = ServesTo subscribers d.sources d.texts [] answer
 
 -- What `serve` answers: what serving the documents at the paths of its words gives, to as many subscribers as they say,
 -- unless memory ran out.
-abbrev pub AnswersTo : Holding → Serving → Result ℕ Refusal → Type 0
-AnswersTo at s (Ok n) = ServesLoaded s.subscribers (loaded_at at s.documents) (Ok n)
+abbrev pub AnswersTo : Holding → Serving → Answer → Type 0
+AnswersTo at s (Ok published) = ServesLoaded s.subscribers (loaded_at at s.documents) (Ok published)
 AnswersTo at s (Err r) = is_want r ≡ false → ServesLoaded s.subscribers (loaded_at at s.documents) (Err r)
 
 -- a file could not be read

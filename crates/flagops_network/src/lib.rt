@@ -18,7 +18,8 @@
 //! Proved, over the definitions in `specs/`: of words with a mistake, that it is told; of `serve`, that the output is one
 //! line, the number of the documents that the words name with status 0 or a refusal with status 1, that it is a line which
 //! the documents at these paths make, and which one where a file can't be read, and that files are only read; of `follow`,
-//! that the output is the lines of the snapshots of some stream and how it ended, or that nobody listens.
+//! that the output is the lines of the snapshots of some stream and how it ended, or that nobody listens. A refusal is told
+//! on the error outlet too; beside what went well `serve` tells of its subscribers alone, and `follow` nothing.
 #![tactic(auto)]
 
 mod asked;

@@ -1,15 +1,16 @@
 //! The command `serve`.
 ghost use Rattle.std.specs.Prelude.{◌≡◌, false, map};
 ghost use Rattle.flagops_network.specs.Ended.{AnswersServe, RefusesUnread, ServesAsked, TellsServe};
+ghost use Rattle.flagops_streams.specs.Told.{TellsText};
 
 use crate::loading::{Unloaded, loaded};
 use crate::words::read_serve;
 use flag_defs::DefFault;
 use flag_text::Outlet;
 use flagops_commands::explain;
-use flagops_files::FileSet;
+use flagops_files::{FileSet, tell};
 use flagops_remarks::{of_document, of_unreadable};
-use flagops_streams::{Refusal, Remarks, refuse, say, say_refused, serve_documents};
+use flagops_streams::{Refusal, Remarks, refuse, say_refused, serve_documents};
 use std::alloc::{AllocError, Global};
 use std::convert::AsStr;
 use std::net::{Net, TcpListener, TcpStream};
@@ -25,14 +26,15 @@ where
     S: AsStr,
     F: FileSet,
     O: Outlet,
-    E: Outlet,
+    E: Outlet + Drop,
     requires out_whole { O.is_broken out.old ≡ false }
     requires err_whole { E.is_broken err.old ≡ false }
     ensures answers { AnswersServe O.bytes O.is_broken out.old out.new E.bytes E.is_broken err.old err.new result
         F.holding files.old (map S.text words.now) }
     ensures serves { ServesAsked O.bytes O.is_broken out.old out.new E.bytes E.is_broken err.old err.new result (map S.text words.now) }
-    // Whatever the files hold, a read that failed is what is reported.
-    ensures unread { RefusesUnread O.bytes O.is_broken out.old out.new result F.has_failed files.old files.new }
+    // Whatever the files hold, a read that failed is what is reported and told.
+    ensures unread { RefusesUnread O.bytes O.is_broken out.old out.new E.bytes E.is_broken err.old err.new result
+        F.has_failed files.old files.new }
     ensures tells { TellsServe O.bytes O.is_broken out.old out.new E.bytes E.is_broken err.old err.new result (map S.text words.now) }
     ensures kept { F.holding files.new ≡ F.holding files.old }
 {
@@ -53,7 +55,7 @@ where
             err,
         ),
         Err(unloaded) => {
-            tell(alloc, err, &unloaded);
+            tell_unloaded(alloc, err, &unloaded);
             refuse(alloc, out, unloaded.refusal)
         }
     }
@@ -82,13 +84,23 @@ impl Remarks for AtPaths<'_, '_> {
 }
 
 /// Tells a person why documents were not loaded.
-fn tell<E: Outlet>(alloc: Global, err: &mut E, unloaded: &Unloaded<'_>) {
+fn tell_unloaded<E: Outlet>(alloc: Global, err: &mut E, unloaded: &Unloaded<'_>)
+    requires { E.is_broken err.old ≡ false }
+    ensures { TellsText (E.bytes err.old) (E.bytes err.new) (E.is_broken err.new) }
+{
     match unloaded.refusal {
-        Refusal::Unreadable => {
-            if let Ok(text) = of_unreadable(alloc, unloaded.path) {
-                say(err, text.as_str());
-            }
-        }
+        Refusal::Unreadable => tell_unreadable(alloc, err, unloaded.path),
         refusal => say_refused(alloc, err, refusal),
+    }
+}
+
+/// Tells a person of a file that can't be read.
+fn tell_unreadable<E: Outlet>(alloc: Global, err: &mut E, path: &str)
+    requires { E.is_broken err.old ≡ false }
+    ensures { TellsText (E.bytes err.old) (E.bytes err.new) (E.is_broken err.new) }
+{
+    match of_unreadable(alloc, path) {
+        Ok(text) => tell(err, text.as_str()),
+        Err(AllocError) => say_refused(alloc, err, Refusal::Unloaded),
     }
 }

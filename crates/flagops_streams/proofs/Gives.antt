@@ -1,64 +1,82 @@
 -- Documents that are published one after the other.
-use Rattle.std.proofs.Common.{◌≡◌, ◌↔◌, ◌+◌, ◌-◌, ◌<◌, ◌∙◌, ℕ, suc, List, [], ◌∷◌, Bool, Option, Result, Ok, Err, inl, inr, refl, add-one, ap, arith, drop, get_or, length, map, subst, sym}
+use Rattle.std.proofs.Common.{◌≡◌, ◌≢◌, ◌↔◌, ◌+◌, ◌-◌, ◌<◌, ◌∙◌, ℕ, suc, List, [], ◌∷◌, ◌++◌, Bool, true, Option, Result, Ok, Err, inl, inr, refl, add-one, ap, arith, drop, get_or, length, length-append, length-drop, map, subst, sym, take}
 use Rattle.std.proofs.Math.Seq.{drop-cons}
-use Rattle.std.specs.Fmt.{decimal}
+use Rattle.std.proofs.lemmas.List.{take_all}
 use Rattle.flag_documents.specs.Document.{Definitions}
+use Rattle.snap_share.specs.Fault.{is_of_publish, is_of_share}
 use Rattle.snap_share.specs.declared.fault.ShareFault.{ShareFault}
 use Rattle.snap_share.specs.declared.fault.ShareFault.TheVariants as share
-use Rattle.source_merge.specs.Merge.{merged_of}
-use Rattle.source_merge.specs.Sources.{Sets, SourceList}
-use Rattle.flagops_streams.specs.Documents.{Gives, MayFail, MayRefuse, ServesTo}
-use Rattle.flagops_streams.specs.Report.{Reports, Serves, Writes, published_line}
+use Rattle.source_merge.specs.Sources.{SourceList}
+use Rattle.flagops_streams.specs.Documents.{Answer, Gives, IsAccepted, MayFail, MayRefuse, Merges, ServesTo, count_of}
+use Rattle.flagops_streams.specs.Report.{Publishes, Reports, Serves}
 use Rattle.flagops_streams.specs.declared.refusal.Refusal.{Refusal}
-use Rattle.flagops_streams.specs.declared.refusal.Refusal.TheVariants.{Share, WantOfMemory}
+use Rattle.flagops_streams.specs.declared.refusal.Refusal.TheVariants.{Publish, Share, WantOfMemory}
 
-module _ {X : Type 0} (bytes : X → List ℕ) (xs : List X) (i : ℕ) (x : X) (inside : i < length xs) (is : x ≡ get_or xs i x) (number : ℕ) (sources : SourceList) where
+module _ {X : Type 0} (bytes : X → List ℕ) (xs : List X) (i : ℕ) (x : X) (inside : i < length xs) (is : x ≡ get_or xs i x) (sources : SourceList) (published : List Definitions) where
   from_here : drop i xs ≡ x ∷ drop (i + 1) xs
   from_here = rw add-one (drop-cons xs i x inside ∙ ap (λ y. y ∷ drop (suc i) xs) (sym is))
 
   -- the document at a place is published, and those behind it give the answer
-  pub one_more : (next : SourceList) (flags : Definitions) (answer : Result ℕ Refusal)
-      → Sets sources (decimal number) (bytes x) (Ok next) → merged_of next ≡ Ok flags → Gives (number + 1) next (map bytes (drop (i + 1) xs)) answer
-      → Gives number sources (map bytes (drop i xs)) answer
-  one_more next flags answer set merged rest = subst (λ (ys : List X). Gives number sources (map bytes ys) answer) (sym from_here) (inr (next, flags, set, merged, rest))
+  pub one_more : (number : ℕ) (next : SourceList) (flags : Definitions) (answer : Answer)
+      → number ≡ length published + 1 → Merges number sources (bytes x) next flags → Gives next (map bytes (drop (i + 1) xs)) (published ++ flags ∷ []) answer
+      → Gives sources (map bytes (drop i xs)) published answer
+  one_more number next flags answer same merges rest =
+      subst (λ (ys : List X). Gives sources (map bytes ys) published answer) (sym from_here)
+      (inr (next, flags, subst (λ (n : ℕ). Merges n sources (bytes x) next flags) same merges, rest))
 
   -- it is refused
-  pub refused_here : (refusal : Refusal) → MayRefuse number sources (bytes x) refusal → Gives number sources (map bytes (drop i xs)) (Err refusal)
-  refused_here refusal may = subst (λ (ys : List X). Gives number sources (map bytes ys) (Err refusal)) (sym from_here) (inl (refusal, refl, may))
+  pub refused_here : (number : ℕ) (refusal : Refusal) → number ≡ length published + 1 → MayRefuse number sources (bytes x) refusal → Gives sources (map bytes (drop i xs)) published (Err refusal)
+  refused_here number refusal same may =
+      subst (λ (ys : List X). Gives sources (map bytes ys) published (Err refusal)) (sym from_here)
+      (inl (refusal, refl, subst (λ (n : ℕ). MayRefuse n sources (bytes x) refusal) same may))
+
+-- a list that is not empty is its first item and the rest, as a slice pattern cuts it
+pub first_of : {X : Type 0} (xs : List X) (x : X) → 0 < length xs → x ≡ get_or xs 0 x → xs ≡ x ∷ take (length xs - 1) (drop 1 xs)
+first_of xs x inside is = drop-cons xs 0 x inside ∙ ap (λ y. y ∷ drop 1 xs) (sym is) ∙ ap (λ ys. x ∷ ys) (sym (take_all (length xs - 1) (drop 1 xs) (omega (arith, length-drop 1 xs))))
+
+-- the merge of a document was not published, where a number is left
+pub not_published : (number : ℕ) (sources : SourceList) (text : List ℕ) (fault : ShareFault) → is_of_publish fault ≡ true → fault ≢ share.LastNumber → IsAccepted number sources text → MayRefuse number sources text (Publish fault)
+not_published number sources text share.WantOfMemory is other accepted = accepted
+not_published number sources text share.Closed is other accepted = accepted
+not_published number sources text share.LastNumber is other accepted = absurd (other refl)
+not_published number sources text share.NoSeats is other accepted = absurd (cc (is))
+not_published number sources text share.TooManySeats is other accepted = absurd (cc (is))
+not_published number sources text share.NoReader is other accepted = absurd (cc (is))
 
 -- the first document is published, and serving those behind it gives the answer
-pub first_served : (subscribers number : ℕ) (sources next : SourceList) (flags : Definitions) (text : List ℕ) (texts : List (List ℕ)) (answer : Result ℕ Refusal)
-    → Sets sources (decimal number) text (Ok next) → merged_of next ≡ Ok flags → ServesTo subscribers (number + 1) next texts answer → ServesTo subscribers number sources (text ∷ texts) answer
-first_served subscribers number sources next flags text texts answer set merged (inl fails) = inl fails
-first_served subscribers number sources next flags text texts answer set merged (inr gives) = inr (inr (next, flags, set, merged, gives))
+pub first_served : (subscribers : ℕ) (sources next : SourceList) (flags : Definitions) (text : List ℕ) (texts : List (List ℕ)) (answer : Answer)
+    → Merges 1 sources text next flags → ServesTo subscribers next texts (flags ∷ []) answer → ServesTo subscribers sources (text ∷ texts) [] answer
+first_served subscribers sources next flags text texts answer merges (inl fails) = inl fails
+first_served subscribers sources next flags text texts answer merges (inr gives) = inr (inr (next, flags, merges, gives))
 
 -- why flags were not shared among so many seats
 pub not_shared : {X : Type 0} (seats : ℕ) (fault : ShareFault) (result : Result X ShareFault) → result ≡ Err fault
-    → ((result ≡ Err share.NoSeats) ↔ (seats ≡ 0)) → ((result ≡ Err share.TooManySeats) ↔ (64 < seats)) → MayFail seats (Share fault)
-not_shared seats share.WantOfMemory result is none many = tt
-not_shared seats share.NoSeats result is none many = none.0 is
-not_shared seats share.TooManySeats result is none many = many.0 is
-not_shared seats share.NoReader result is none many = tt
-not_shared seats share.LastNumber result is none many = tt
-not_shared seats share.Closed result is none many = tt
+    → ((result ≡ Err share.NoSeats) ↔ (seats ≡ 0)) → ((result ≡ Err share.TooManySeats) ↔ (64 < seats)) → is_of_share fault ≡ true → MayFail seats (Share fault)
+not_shared seats share.WantOfMemory result is none many of = tt
+not_shared seats share.NoSeats result is none many of = none.0 is
+not_shared seats share.TooManySeats result is none many of = many.0 is
+not_shared seats share.NoReader result is none many of = tt
+not_shared seats share.LastNumber result is none many of = absurd (cc (of))
+not_shared seats share.Closed result is none many of = absurd (cc (of))
 
--- the last number is that of the last document
-pub counted : (number : ℕ) (sources : SourceList) (texts : List (List ℕ)) (n : ℕ) → Gives (number + 1) sources texts (Ok n) → n ≡ number + length texts
-counted number sources [] n is =
-    let e : n ≡ number + 1 - 1 = cc (is) in
-    omega (arith, e)
-counted number sources (text ∷ texts) n (inl (refusal, is, may)) = absurd (cc (is))
-counted number sources (text ∷ texts) n (inr (next, flags, set, merged, rest)) = omega (arith, counted (number + 1) next texts n rest)
+-- what is published behind some flags are as many as there are documents
+pub counted : (sources : SourceList) (texts : List (List ℕ)) (published all : List Definitions) → Gives sources texts published (Ok all) → length all ≡ length published + length texts
+counted sources [] published all is =
+    let same : all ≡ published = cc (is) in
+    omega (arith, ap length same)
+counted sources (text ∷ texts) published all (inl (refusal, is, may)) = absurd (cc (is))
+counted sources (text ∷ texts) published all (inr (next, flags, merges, rest)) =
+    omega (arith, counted next texts (published ++ flags ∷ []) all rest, length-append published (flags ∷ []))
 
--- where documents were served, the answer is how many there are
-pub count_served : (subscribers : ℕ) (sources : SourceList) (texts : List (List ℕ)) (n : ℕ) → ServesTo subscribers 1 sources texts (Ok n) → n ≡ length texts
-count_served subscribers sources texts n (inl (refusal, is, may)) = absurd (cc (is))
-count_served subscribers sources texts n (inr gives) = omega (arith, counted 0 sources texts n gives)
+-- where documents were served, there are as many of what was published
+pub count_served : (subscribers : ℕ) (sources : SourceList) (texts : List (List ℕ)) (all : List Definitions) → ServesTo subscribers sources texts [] (Ok all) → length all ≡ length texts
+count_served subscribers sources texts all (inl (refusal, is, may)) = absurd (cc (is))
+count_served subscribers sources texts all (inr gives) = omega (arith, counted sources texts [] all gives)
 
 -- what is reported of an answer is one line: the number of the documents, or a refusal
-pub reported : (subscribers : ℕ) (sources : SourceList) (texts : List (List ℕ)) (answer : Result ℕ Refusal) (old new : Option (List ℕ)) (broken : Bool) (status count : ℕ)
-    → length texts ≡ count → ServesTo subscribers 1 sources texts answer → Reports answer old new broken status → Serves count old new broken status
-reported subscribers sources texts (Ok n) old new broken status count is served (inl line) =
-    inl (subst (λ (m : ℕ). Writes old new broken status (published_line m) 0) (count_served subscribers sources texts n served ∙ is) line)
-reported subscribers sources texts (Ok n) old new broken status count is served (inr want) = inr (WantOfMemory, want)
-reported subscribers sources texts (Err refusal) old new broken status count is served line = inr (refusal, line)
+pub reported : (Is : List ℕ → Type 0) (subscribers : ℕ) (sources : SourceList) (texts : List (List ℕ)) (answer : Answer) (old new : Option (List ℕ)) (broken : Bool) (err err_after : Option (List ℕ)) (is_mute : Bool) (status count : ℕ)
+    → length texts ≡ count → ServesTo subscribers sources texts [] answer → Reports Is (count_of answer) old new broken err err_after is_mute status → Serves Is count old new broken err err_after is_mute status
+reported Is subscribers sources texts (Ok all) old new broken err err_after is_mute status count is served (inl line) =
+    inl (subst (λ (m : ℕ). Publishes Is m old new broken err err_after is_mute status) (count_served subscribers sources texts all served ∙ is) line)
+reported Is subscribers sources texts (Ok all) old new broken err err_after is_mute status count is served (inr want) = inr (WantOfMemory, want)
+reported Is subscribers sources texts (Err refusal) old new broken err err_after is_mute status count is served line = inr (refusal, line)

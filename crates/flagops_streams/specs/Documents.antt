@@ -1,6 +1,8 @@
--- Documents that are published one after the other.
-use Rattle.std.specs.Prelude.{◌≡◌, ◌≢◌, ◌⊎◌, ◌<◌, ℕ, ◌+◌, ◌-◌, List, [], ◌∷◌, map, decimal, if◌then◌else◌, nat_lt, vec_len, Vec, Result, Ok, Err}
+-- Documents that are published one after the other, each merged over those before it.
+use Rattle.std.specs.Prelude.{◌≡◌, ◌≢◌, ◌⊎◌, ◌<◌, ℕ, ◌+◌, List, [], ◌∷◌, ◌++◌, length, map, decimal, if◌then◌else◌, nat_lt, vec_len, Vec, Result, Ok, Err}
 use Rattle.std.specs.declared.alloc.Global.{Global}
+use Rattle.flag_defs.specs.Flags.{flags_view}
+use Rattle.flag_defs.specs.declared.flags.Flags.{Flags}
 use Rattle.flag_documents.specs.Document.{Definitions}
 use Rattle.snap_share.specs.declared.fault.ShareFault.TheVariants as share
 use Rattle.source_merge.specs.Merge.{merged_of}
@@ -29,22 +31,36 @@ by_add (Err fault) = Err (Add fault)
 abbrev pub source_added : SourceList → ℕ → Result SourceList Refusal
 source_added sources number = if nat_lt most_sources number then Err (Add source.TooMany) else by_add (added sources (decimal number))
 
--- Why the document of a number is not published: it is not accepted, its merge is too large; or there is no memory for it.
+-- The document of a number is accepted by its source, and these flags are the merge of it and those before it.
+abbrev pub Merges : ℕ → SourceList → List ℕ → SourceList → Definitions → Type 0
+Merges number sources text next flags = Sets sources (decimal number) text (Ok next) × (merged_of next ≡ Ok flags)
+
+-- the same of some flags
+abbrev pub IsAccepted : ℕ → SourceList → List ℕ → Type 0
+IsAccepted number sources text = (next : SourceList) × (flags : Definitions) × Merges number sources text next flags
+
+-- Why the document of a number is not published: it is not accepted, its merge is too large; or there is no memory for it,
+-- or its merge can't be put behind those before it. Numbers are not used up by the documents that there are sources for.
 abbrev pub MayRefuse : ℕ → SourceList → List ℕ → Refusal → Type 0
 MayRefuse number sources text (Set fault place) = (place ≡ number) × (fault ≢ source.WantOfMemory → Sets sources (decimal number) text (Err fault))
 MayRefuse number sources text (Merged fault) =
     fault ≢ source.WantOfMemory → (next : SourceList) × Sets sources (decimal number) text (Ok next) × (merged_of next ≡ Err fault)
-MayRefuse number sources text (Publish fault) = Unit {0}
+MayRefuse number sources text (Publish share.WantOfMemory) = IsAccepted number sources text
+MayRefuse number sources text (Publish share.Closed) = IsAccepted number sources text
 MayRefuse number sources text WantOfMemory = Unit {0}
 MayRefuse number sources text refusal = ⊥
 
--- What publishing documents gives, of which the first has this number: each is accepted by the source of its number, and
--- merged with those before it, and the last number is the answer; or one refuses, and none behind it counts.
-abbrev pub Gives : ℕ → SourceList → List (List ℕ) → Result ℕ Refusal → Type 0
-Gives number sources [] answer = answer ≡ Ok (number - 1)
-Gives number sources (text ∷ texts) answer =
-    ((refusal : Refusal) × (answer ≡ Err refusal) × MayRefuse number sources text refusal)
-    ⊎ ((next : SourceList) × (flags : Definitions) × Sets sources (decimal number) text (Ok next) × (merged_of next ≡ Ok flags) × Gives (number + 1) next texts answer)
+-- the merges that were published, in order, or why not all documents were
+abbrev pub Answer : Type 0
+Answer = Result (List Definitions) Refusal
+
+-- What publishing documents behind these flags gives: each document is accepted by the source of its number and its merge
+-- published behind all others, and all that were published are the answer; or one refuses, and none behind it counts.
+abbrev pub Gives : SourceList → List (List ℕ) → List Definitions → Answer → Type 0
+Gives sources [] published answer = answer ≡ Ok published
+Gives sources (text ∷ texts) published answer =
+    ((refusal : Refusal) × (answer ≡ Err refusal) × MayRefuse (length published + 1) sources text refusal)
+    ⊎ ((next : SourceList) × (flags : Definitions) × Merges (length published + 1) sources text next flags × Gives next texts (published ++ flags ∷ []) answer)
 
 -- why so many subscribers are not served: the network, the threads, the seats or memory
 abbrev pub MayFail : ℕ → Refusal → Type 0
@@ -54,13 +70,29 @@ MayFail subscribers NoThread = Unit {0}
 MayFail subscribers WantOfMemory = Unit {0}
 MayFail subscribers (Share share.NoSeats) = subscribers ≡ 0
 MayFail subscribers (Share share.TooManySeats) = 64 < subscribers
-MayFail subscribers (Share fault) = Unit {0}
+MayFail subscribers (Share share.NoReader) = Unit {0}
+MayFail subscribers (Share share.WantOfMemory) = Unit {0}
 MayFail subscribers refusal = ⊥
 
--- what serving gives: one of these refusals, or what publishing the documents gives
-abbrev pub ServesTo : ℕ → ℕ → SourceList → List (List ℕ) → Result ℕ Refusal → Type 0
-ServesTo subscribers number sources texts answer = ((refusal : Refusal) × (answer ≡ Err refusal) × MayFail subscribers refusal) ⊎ Gives number sources texts answer
+-- what serving documents behind these flags gives: one of these refusals, or what publishing them gives
+abbrev pub ServesTo : ℕ → SourceList → List (List ℕ) → List Definitions → Answer → Type 0
+ServesTo subscribers sources texts published answer =
+    ((refusal : Refusal) × (answer ≡ Err refusal) × MayFail subscribers refusal) ⊎ Gives sources texts published answer
 
 -- the same of documents that were loaded, with their sources, from the first on
-abbrev pub ServesAll : ℕ → Documents → Result ℕ Refusal → Type 0
-ServesAll subscribers d answer = ServesTo subscribers 1 (sources_view d.sources) (texts_of d.texts.items) answer
+abbrev pub ServesAll : ℕ → Documents → Answer → Type 0
+ServesAll subscribers d answer = ServesTo subscribers (sources_view d.sources) (texts_of d.texts.items) [] answer
+
+-- what was published, as a publisher told it, or why not all was
+abbrev pub told_view : Result (List Flags) Refusal → Answer
+told_view (Ok told) = Ok (map flags_view told)
+told_view (Err refusal) = Err refusal
+
+-- how many were published
+abbrev pub count_of : Answer → Result ℕ Refusal
+count_of (Ok published) = Ok (length published)
+count_of (Err refusal) = Err refusal
+
+-- the number of what was published in an answer of these
+abbrev pub Counts : (Answer → Type 0) → Result ℕ Refusal → Type 0
+Counts IsAnswer counted = (answer : Answer) × IsAnswer answer × (counted ≡ count_of answer)

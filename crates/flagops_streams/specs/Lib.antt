@@ -2,3 +2,4 @@ pub mod Documents
 pub mod Printed
 pub mod Refusal
 pub mod Report
+pub mod Told

@@ -4,7 +4,8 @@ use Rattle.std.specs.Io.KnownBytes.{Appends}
 use Rattle.flag_text.specs.Outlet.{AppendsPart}
 use Rattle.flagops_streams.specs.Refusal.{call_of, line_of, want_line}
 use Rattle.flagops_streams.specs.declared.refusal.Refusal.{Refusal}
-use Rattle.flagops_streams.specs.declared.refusal.Refusal.TheVariants.{WantOfMemory}
+use Rattle.flagops_streams.specs.Told.{TellsLines, TellsText, TellsWhy}
+use Rattle.flagops_streams.specs.declared.refusal.Refusal.TheVariants.{Unreachable, WantOfMemory}
 
 -- The text was written and this status given; or the outlet broke, and a front of it is there with status 1.
 abbrev pub Writes : Option (List ℕ) → Option (List ℕ) → Bool → ℕ → List ℕ → ℕ → Type 0
@@ -15,19 +16,33 @@ Writes old new true status text wanted = AppendsPart old new text × (status ≡
 abbrev pub RefusesBy : Refusal → Option (List ℕ) → Option (List ℕ) → Bool → ℕ → Type 0
 RefusesBy refusal old new broken status = Writes old new broken status (line_of refusal) 1 ⊎ Writes old new broken status (want_line (call_of refusal)) 1
 
+-- The same, and why is told beside it, behind lines of which each is one of these.
+abbrev pub RefusesBeside : (List ℕ → Type 0) → Refusal → Option (List ℕ) → Option (List ℕ) → Bool → Option (List ℕ) → Option (List ℕ) → Bool → ℕ → Type 0
+RefusesBeside Is refusal old new broken err err_after is_mute status = RefusesBy refusal old new broken status × TellsWhy Is err err_after is_mute
+
 -- that of some refusal
-abbrev pub Refuses : Option (List ℕ) → Option (List ℕ) → Bool → ℕ → Type 0
-Refuses old new broken status = (refusal : Refusal) × RefusesBy refusal old new broken status
+abbrev pub Refuses : (List ℕ → Type 0) → Option (List ℕ) → Option (List ℕ) → Bool → Option (List ℕ) → Option (List ℕ) → Bool → ℕ → Type 0
+Refuses Is old new broken err err_after is_mute status = (refusal : Refusal) × RefusesBeside Is refusal old new broken err err_after is_mute status
 
 -- the line of so many publications
 unfoldable pub published_line : ℕ → List ℕ
 published_line n = codes "published " ++ (decimal n ++ codes "\n")
 
--- all of so many documents were published, which is one line with status 0, or there was a refusal
-abbrev pub Serves : ℕ → Option (List ℕ) → Option (List ℕ) → Bool → ℕ → Type 0
-Serves n old new broken status = Writes old new broken status (published_line n) 0 ⊎ Refuses old new broken status
+-- that line with status 0, beside which nothing is told but such lines
+abbrev pub Publishes : (List ℕ → Type 0) → ℕ → Option (List ℕ) → Option (List ℕ) → Bool → Option (List ℕ) → Option (List ℕ) → Bool → ℕ → Type 0
+Publishes Is n old new broken err err_after is_mute status = Writes old new broken status (published_line n) 0 × TellsLines Is err err_after is_mute
 
--- the line of what `serve` answered: so many publications with status 0, unless there is no memory for the line, or a refusal
-abbrev pub Reports : Result ℕ Refusal → Option (List ℕ) → Option (List ℕ) → Bool → ℕ → Type 0
-Reports (Ok n) old new broken status = Writes old new broken status (published_line n) 0 ⊎ RefusesBy WantOfMemory old new broken status
-Reports (Err refusal) old new broken status = RefusesBy refusal old new broken status
+-- all of so many documents were published, or there was a refusal
+abbrev pub Serves : (List ℕ → Type 0) → ℕ → Option (List ℕ) → Option (List ℕ) → Bool → Option (List ℕ) → Option (List ℕ) → Bool → ℕ → Type 0
+Serves Is n old new broken err err_after is_mute status =
+    Publishes Is n old new broken err err_after is_mute status ⊎ Refuses Is old new broken err err_after is_mute status
+
+-- what `serve` answered: so many publications, unless there is no memory for the line, or a refusal
+abbrev pub Reports : (List ℕ → Type 0) → Result ℕ Refusal → Option (List ℕ) → Option (List ℕ) → Bool → Option (List ℕ) → Option (List ℕ) → Bool → ℕ → Type 0
+Reports Is (Ok n) old new broken err err_after is_mute status =
+    Publishes Is n old new broken err err_after is_mute status ⊎ RefusesBeside Is WantOfMemory old new broken err err_after is_mute status
+Reports Is (Err refusal) old new broken err err_after is_mute status = RefusesBeside Is refusal old new broken err err_after is_mute status
+
+-- nobody listens, which is told alone
+abbrev pub FindsNobody : Option (List ℕ) → Option (List ℕ) → Bool → Option (List ℕ) → Option (List ℕ) → Bool → ℕ → Type 0
+FindsNobody old new broken err err_after is_mute status = RefusesBy Unreachable old new broken status × TellsText err err_after is_mute

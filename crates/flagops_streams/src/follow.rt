@@ -6,8 +6,7 @@ ghost use Rattle.std.specs.Io.KnownBytes.{Appends};
 ghost use Rattle.snap_core.specs.HubView.{snapshot_view};
 ghost use Rattle.sync_server.specs.Reads.{ReadUpTo};
 ghost use Rattle.flagops_streams.specs.Printed.{Follows, Printed, last_line, snapshot_line, start_of, status_of, word_of};
-ghost use Rattle.flagops_streams.specs.Report.{RefusesBy, Writes};
-ghost use Rattle.flagops_streams.specs.declared.refusal.Refusal.TheVariants.{Unreachable};
+ghost use Rattle.flagops_streams.specs.Report.{FindsNobody, Writes};
 
 use crate::refusal::Refusal;
 use crate::remark::say_unreachable;
@@ -27,7 +26,8 @@ const TRIES: u32 = 100;
 /// The milliseconds between two tries.
 const PAUSE: u64 = 50;
 
-/// Follows the stream that somebody serves on a port of this host, as [`follow_lines`] does.
+/// Follows the stream that somebody serves on a port of this host, as [`follow_lines`] does, and tells a person nothing. Where
+/// nobody listens, that is written and told.
 pub fn follow_port<R: AllocGlobal + Net + Clock, O: Outlet, E: Outlet>(
     rt: &R,
     port: u16,
@@ -36,7 +36,8 @@ pub fn follow_port<R: AllocGlobal + Net + Clock, O: Outlet, E: Outlet>(
     err: &mut E,
 ) -> u8
     requires { O.is_broken out.old ≡ false }
-    ensures { Follows (O.bytes out.old) (O.bytes out.new) (O.is_broken out.new) result ⊎ RefusesBy Unreachable (O.bytes out.old) (O.bytes out.new) (O.is_broken out.new) result }
+    ensures { (Follows (O.bytes out.old) (O.bytes out.new) (O.is_broken out.new) result × (E.bytes err.new ≡ E.bytes err.old))
+        ⊎ FindsNobody (O.bytes out.old) (O.bytes out.new) (O.is_broken out.new) (E.bytes err.old) (E.bytes err.new) (E.is_broken err.new) result }
 {
     let alloc = rt.alloc();
     match connect(rt, port) {

@@ -20,8 +20,10 @@
 //! last line that says how these ended, with its status; or a front of that with status 1 where the output failed
 //! (`Printed`). Of [`serve_documents`]: its answer is one that the documents make, their number or the refusal of the first that
 //! is not accepted, or a refusal of the network, the threads or memory (`Documents`); it is written as one line (`Report`).
+//! What was published are the merges of the documents, in order.
 //!
-//! What is told a person on the error outlet changes nothing of this.
+//! What is told a person on the error outlet changes nothing of this. Where there is a refusal, something is told; else nothing
+//! is but that subscribers come and go, by `serve` (`Told`).
 #![tactic(auto)]
 
 mod board;
@@ -36,6 +38,6 @@ mod subscriber;
 pub use documents::Documents;
 pub use follow::{follow_lines, follow_port};
 pub use refusal::Refusal;
-pub use remark::{Remarks, say, say_refused};
+pub use remark::{Remarks, say_refused};
 pub use report::refuse;
 pub use serve::serve_documents;

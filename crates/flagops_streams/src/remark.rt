@@ -1,4 +1,8 @@
-//! What a person is told on the error outlet. It changes no answer: a line that can't be made or written is left out.
+//! What a person is told on the error outlet. It changes no answer. A line of a subscriber that can't be made is left out; why
+//! there was a refusal is told in any case, by a fixed sentence where there is no memory to say more.
+ghost use Rattle.std.specs.Prelude.{◌≡◌, ◌<◌, false, length, IfErr, IfOk, string_bytes};
+ghost use Rattle.flagops_streams.specs.Told.{IsCame, IsGone, Says, TellsLines, TellsText, came_line, gone_line, listening_line, reason_of};
+
 use crate::refusal::Refusal;
 use flag_defs::DefFault;
 use flag_text::Outlet;
@@ -10,19 +14,33 @@ use sync_server::StreamEnd;
 const PUBLISHED_BEFORE: &str = "  the subscribers have what was published before it\n";
 
 /// Where subscribers may come.
-pub(crate) fn say_listening<E: Outlet>(alloc: Global, err: &mut E, port: u16, subscribers: usize) {
-    if let Ok(line) = format!(in alloc;
-        "serve: listens on 127.0.0.1:{port}, waits for {subscribers} subscribers\n"
-    ) {
-        say(err, line.as_str());
-    }
+pub(crate) fn say_listening<E: Outlet>(alloc: Global, err: &mut E, port: u16, subscribers: usize)
+    ensures lines { TellsLines (λ line. line ≡ listening_line port subscribers) (E.bytes err.old) (E.bytes err.new) (E.is_broken err.new) }
+    ensures stays { E.is_broken err.new ≡ false → E.is_broken err.old ≡ false }
+{
+    say_made(err, listening_line(alloc, port, subscribers));
+}
+
+#[tactic(auto, unfolding(crate::specs::Told::listening_line))]
+fn listening_line(alloc: Global, port: u16, subscribers: usize) -> Result<String, AllocError>
+    ensures { IfOk result (λ s. string_bytes s ≡ listening_line port subscribers) }
+{
+    format!(in alloc; "serve: listens on 127.0.0.1:{port}, waits for {subscribers} subscribers\n")
 }
 
 /// A subscriber has come.
-pub(crate) fn say_came<E: Outlet>(alloc: Global, err: &mut E, number: usize, subscribers: usize) {
-    if let Ok(line) = format!(in alloc; "serve: subscriber {number} of {subscribers} has come\n") {
-        say(err, line.as_str());
-    }
+pub(crate) fn say_came<E: Outlet>(alloc: Global, err: &mut E, number: usize, subscribers: usize)
+    ensures lines { TellsLines (IsCame subscribers) (E.bytes err.old) (E.bytes err.new) (E.is_broken err.new) }
+    ensures stays { E.is_broken err.new ≡ false → E.is_broken err.old ≡ false }
+{
+    say_made(err, came_line(alloc, number, subscribers));
+}
+
+#[tactic(auto, unfolding(crate::specs::Told::came_line))]
+fn came_line(alloc: Global, number: usize, subscribers: usize) -> Result<String, AllocError>
+    ensures { IfOk result (λ s. string_bytes s ≡ came_line number subscribers) }
+{
+    format!(in alloc; "serve: subscriber {number} of {subscribers} has come\n")
 }
 
 /// A subscriber has gone.
@@ -31,18 +49,31 @@ pub(crate) fn say_gone<E: Outlet>(
     err: &mut E,
     number: usize,
     end: StreamEnd,
-    frames: u64,
-) {
+    snapshots: u64,
+)
+    ensures lines { TellsLines IsGone (E.bytes err.old) (E.bytes err.new) (E.is_broken err.new) }
+    ensures stays { E.is_broken err.new ≡ false → E.is_broken err.old ≡ false }
+{
+    say_made(err, gone_line(alloc, number, end, snapshots));
+}
+
+#[tactic(auto, unfolding(crate::specs::Told::gone_line))]
+fn gone_line(
+    alloc: Global,
+    number: usize,
+    end: StreamEnd,
+    snapshots: u64,
+) -> Result<String, AllocError>
+    ensures { IfOk result (λ s. string_bytes s ≡ gone_line number snapshots end) }
+{
     let why = reason(end);
-    if let Ok(line) = format!(in alloc;
-        "serve: subscriber {number} has gone after {frames} snapshots: {why}\n"
-    ) {
-        say(err, line.as_str());
-    }
+    format!(in alloc; "serve: subscriber {number} has gone after {snapshots} snapshots: {why}\n")
 }
 
 /// Why a subscriber's stream ended, for a person.
-fn reason(end: StreamEnd) -> &'static str {
+fn reason(end: StreamEnd) -> &'static str
+    ensures { result.now ≡ reason_of end }
+{
     match end {
         StreamEnd::Closed => "it was sent the last one",
         StreamEnd::Limit => "it was sent 1000, the most that one subscriber is sent",
@@ -71,28 +102,58 @@ pub(crate) fn say_why<D: Remarks, E: Outlet>(
     remarks: &D,
     texts: &[Vec<u8>],
     refusal: Refusal,
-) {
-    let Refusal::Set(SourceFault::Refused(fault), place) = refusal else {
-        return say_refused(alloc, err, refusal);
-    };
-    let Some(text) = texts.iter().nth(place.saturating_sub(1) as usize) else {
-        return say_refused(alloc, err, refusal);
-    };
-    if let Ok(lines) = remarks.of_document(alloc, place, text.as_slice(), fault) {
-        say(err, lines.as_str());
-        say(err, PUBLISHED_BEFORE);
-    }
+)
+    ensures told { TellsText (E.bytes err.old) (E.bytes err.new) (E.is_broken err.new) }
+    ensures stays { E.is_broken err.new ≡ false → E.is_broken err.old ≡ false }
+{
+    say_lines(err, lines_by(alloc, remarks, texts, refusal));
 }
 
 /// Why a command was refused.
-pub fn say_refused<E: Outlet>(alloc: Global, err: &mut E, refusal: Refusal) {
-    if let Ok(lines) = lines_of(alloc, refusal) {
-        say(err, lines.as_str());
-    }
+pub fn say_refused<E: Outlet>(alloc: Global, err: &mut E, refusal: Refusal)
+    ensures told { TellsText (E.bytes err.old) (E.bytes err.new) (E.is_broken err.new) }
+    ensures stays { E.is_broken err.new ≡ false → E.is_broken err.old ≡ false }
+{
+    say_lines(err, lines_of(alloc, refusal));
+}
+
+/// Nobody listens on the port.
+pub(crate) fn say_unreachable<E: Outlet>(alloc: Global, err: &mut E, port: u16)
+    ensures { TellsText (E.bytes err.old) (E.bytes err.new) (E.is_broken err.new) }
+{
+    say_lines(err, nobody(alloc, port));
+}
+
+fn nobody(alloc: Global, port: u16) -> Result<String, AllocError>
+    ensures { IfOk result (λ s. 0 < length (string_bytes s)) }
+{
+    format!(in alloc; "error: nobody listens on 127.0.0.1:{port}; 'flagops serve {port} ..' does\n")
+}
+
+/// What a person is told of a refusal, of a document by whoever knows where it was read from.
+fn lines_by<D: Remarks>(
+    alloc: Global,
+    remarks: &D,
+    texts: &[Vec<u8>],
+    refusal: Refusal,
+) -> Result<String, AllocError>
+    ensures { IfOk result (λ s. 0 < length (string_bytes s)) }
+{
+    let Refusal::Set(SourceFault::Refused(fault), place) = refusal else {
+        return lines_of(alloc, refusal);
+    };
+    let Some(text) = texts.iter().nth(place.saturating_sub(1) as usize) else {
+        return lines_of(alloc, refusal);
+    };
+    let mut lines = remarks.of_document(alloc, place, text.as_slice(), fault)?;
+    lines.push_str(PUBLISHED_BEFORE)?;
+    Ok(lines)
 }
 
 /// What a person is told of a refusal.
-fn lines_of(alloc: Global, refusal: Refusal) -> Result<String, AllocError> {
+fn lines_of(alloc: Global, refusal: Refusal) -> Result<String, AllocError>
+    ensures { IfOk result (λ s. 0 < length (string_bytes s)) }
+{
     if let Refusal::Set(fault, place) = refusal {
         let why = match fault {
             SourceFault::Refused(fault) => fault.name(),
@@ -124,22 +185,45 @@ fn reason_of(refusal: Refusal) -> &'static str {
     }
 }
 
-/// Nobody listens on the port.
-pub(crate) fn say_unreachable<E: Outlet>(alloc: Global, err: &mut E, port: u16) {
-    if let Ok(line) = format!(in alloc;
-        "error: nobody listens on 127.0.0.1:{port}; 'flagops serve {port} ..' does\n"
-    ) {
+/// Tells a line where it could be made.
+fn say_made<E: Outlet>(err: &mut E, line: Result<String, AllocError>)
+    ensures says { IfOk line (λ s. Says (E.bytes err.old) (E.bytes err.new) (E.is_broken err.new) (string_bytes s)) }
+    ensures none { IfErr line (λ _. E.bytes err.new ≡ E.bytes err.old) }
+    ensures stays { E.is_broken err.new ≡ false → E.is_broken err.old ≡ false }
+{
+    if let Ok(line) = line {
         say(err, line.as_str());
     }
 }
 
+/// Tells lines, or where they could not be made a fixed sentence.
+fn say_lines<E: Outlet>(err: &mut E, lines: Result<String, AllocError>)
+    requires { IfOk lines (λ s. 0 < length (string_bytes s)) }
+    ensures told { TellsText (E.bytes err.old) (E.bytes err.new) (E.is_broken err.new) }
+    ensures stays { E.is_broken err.new ≡ false → E.is_broken err.old ≡ false }
+{
+    match lines {
+        Ok(lines) => say(err, lines.as_str()),
+        Err(AllocError) => say(err, "error: out of memory\n"),
+    }
+}
+
 /// Writes a text, or a front of it where the outlet fails.
-pub fn say<E: Outlet>(err: &mut E, text: &str) {
+#[tactic(auto, using(crate::proofs::Told::whole_said, crate::proofs::Told::front_said))]
+fn say<E: Outlet>(err: &mut E, text: &str)
+    ensures says { Says (E.bytes err.old) (E.bytes err.new) (E.is_broken err.new) text.now }
+    ensures stays { E.is_broken err.new ≡ false → E.is_broken err.old ≡ false }
+{
     let mut rest = text.as_bytes();
     while !rest.is_empty() {
         match err.write(rest) {
-            Ok(n) if n > 0 => rest = &rest[n..],
-            _ => return,
+            Ok(n) => {
+                if n == 0 {
+                    return;
+                }
+                rest = &rest[n..];
+            }
+            Err(_) => return,
         }
     }
 }

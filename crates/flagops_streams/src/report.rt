@@ -7,6 +7,7 @@ ghost use Rattle.flagops_streams.specs.Refusal.{want_line};
 ghost use Rattle.flagops_streams.specs.Report.{Reports, RefusesBy, Writes, published_line};
 
 use crate::refusal::Refusal;
+use crate::remark::{Remarks, say_refused, say_why};
 use flag_text::{Outlet, write_whole};
 use std::alloc::{AllocError, Global};
 
@@ -48,21 +49,32 @@ fn want<O: Outlet>(out: &mut O, call: &str) -> u8
     }
 }
 
-/// Writes what `serve` answered: how many documents were published, with status 0, or the line of a refusal with status 1.
-pub(crate) fn report_answer<O: Outlet>(
+/// Writes what `serve` answered: how many documents were published, with status 0, or the line of a refusal with status 1,
+/// and then a person is told why.
+pub(crate) fn report_answer<D: Remarks, O: Outlet, E: Outlet>(
     alloc: Global,
     out: &mut O,
+    err: &mut E,
+    remarks: &D,
+    texts: &[Vec<u8>],
     answer: Result<u64, Refusal>,
 ) -> u8
     requires { O.is_broken out.old ≡ false }
-    ensures { Reports answer (O.bytes out.old) (O.bytes out.new) (O.is_broken out.new) result }
+    ensures reports { Reports (λ _. ⊥) answer (O.bytes out.old) (O.bytes out.new) (O.is_broken out.new) (E.bytes err.old) (E.bytes err.new) (E.is_broken err.new) result }
+    ensures stays { E.is_broken err.new ≡ false → E.is_broken err.old ≡ false }
 {
     match answer {
         Ok(count) => match line_of(alloc, count) {
             Ok(line) => write_line(out, line.as_str(), 0),
-            Err(AllocError) => refuse(alloc, out, Refusal::WantOfMemory),
+            Err(AllocError) => {
+                say_refused(alloc, err, Refusal::WantOfMemory);
+                refuse(alloc, out, Refusal::WantOfMemory)
+            }
         },
-        Err(refusal) => refuse(alloc, out, refusal),
+        Err(refusal) => {
+            say_why(alloc, err, remarks, texts, refusal);
+            refuse(alloc, out, refusal)
+        }
     }
 }
 

@@ -1,19 +1,22 @@
 //! The command `serve`: documents published to subscribers.
-ghost use Rattle.std.specs.Prelude.{◌≡◌, ◌⊎◌, ◌<◌, ℕ, Err, Result, false, length, vec_len, IfErr, IfOk};
+ghost use Rattle.std.specs.Prelude.{◌≡◌, ◌⊎◌, ◌<◌, ◌∷◌, [], Err, false, length, map, vec_len, IfErr, IfOk};
 ghost use denote.Param.Send.{IsSend, IsSync};
+ghost use Rattle.flag_defs.specs.Flags.{flags_view};
 ghost use Rattle.source_merge.specs.View.{sources_view};
-ghost use Rattle.flagops_streams.specs.Documents.{Gives, MayFail, ServesAll, ServesTo, documents_in, texts_of};
+ghost use Rattle.flagops_streams.specs.Documents.{Answer, Counts, Gives, MayFail, ServesAll, ServesTo, count_of, documents_in, texts_of, told_view};
 ghost use Rattle.flagops_streams.specs.Report.{Reports, Serves};
+ghost use Rattle.flagops_streams.specs.Told.{IsGone, IsOfSubscribers, TellsLines};
 
 use crate::board::Board;
 use crate::documents::{Documents, merge_next};
 use crate::refusal::Refusal;
-use crate::remark::{Remarks, say_came, say_gone, say_listening, say_why};
+use crate::remark::{Remarks, say_came, say_gone, say_listening};
 use crate::report::report_answer;
 use crate::subscriber::attend;
+use core::mem::replace_with;
 use flag_defs::Flags;
 use flag_text::Outlet;
-use snap_share::{History, Publisher, ReadSeat, ShareName, share};
+use snap_share::{History, Publisher, ReadSeat, ShareName, Told, share};
 use source_merge::Sources;
 use std::alloc::Global;
 use std::marker::Brand;
@@ -38,20 +41,17 @@ where
     R: AllocGlobal + Net<Listener = TcpListener, Stream = TcpStream> + Threads + Wait + Sync,
     D: Remarks,
     O: Outlet,
-    E: Outlet,
+    E: Outlet + Drop,
     requires whole { O.is_broken out.old ≡ false }
     requires some { 0 < documents_in documents }
-    ensures serves { Serves (documents_in documents) (O.bytes out.old) (O.bytes out.new) (O.is_broken out.new) result }
-    ensures documents { (answer : Result ℕ Refusal) × ServesAll subscribers documents answer × Reports answer (O.bytes out.old) (O.bytes out.new) (O.is_broken out.new) result }
+    ensures serves { Serves (IsOfSubscribers port subscribers) (documents_in documents) (O.bytes out.old) (O.bytes out.new) (O.is_broken out.new) (E.bytes err.old) (E.bytes err.new) (E.is_broken err.new) result }
+    ensures documents { (answer : Answer) × ServesAll subscribers documents answer × Reports (IsOfSubscribers port subscribers) (count_of answer) (O.bytes out.old) (O.bytes out.new) (O.is_broken out.new) (E.bytes err.old) (E.bytes err.new) (E.is_broken err.new) result }
 {
     let alloc = rt.alloc();
     let Documents { sources, texts } = documents;
     let texts = texts.as_slice();
     let answer = publish_documents(rt, port, subscribers, sources, texts, err);
-    if let Err(refusal) = &answer {
-        say_why(alloc, err, remarks, texts, *refusal);
-    }
-    report_answer(alloc, out, answer)
+    report_answer(alloc, out, err, remarks, texts, answer)
 }
 
 /// Publishes documents, of which there is one at least, one after the other, to so many subscribers, which it first waits for
@@ -70,9 +70,11 @@ fn publish_documents<R, E>(
 ) -> Result<u64, Refusal>
 where
     R: AllocGlobal + Net<Listener = TcpListener, Stream = TcpStream> + Threads + Wait + Sync,
-    E: Outlet,
+    E: Outlet + Drop,
     requires { 0 < length texts.now }
-    ensures { ServesTo subscribers 1 (sources_view sources) (texts_of texts.now) result }
+    ensures serves { Counts (ServesTo subscribers (sources_view sources) (texts_of texts.now) []) result }
+    ensures lines { TellsLines (IsOfSubscribers port subscribers) (E.bytes err.old) (E.bytes err.new) (E.is_broken err.new) }
+    ensures stays { E.is_broken err.new ≡ false → E.is_broken err.old ≡ false }
 {
     let alloc = rt.alloc();
     let streams = connections(rt, alloc, port, subscribers, err)?;
@@ -98,6 +100,8 @@ where
     E: Outlet,
     ensures came { IfOk result (λ streams. vec_len streams ≡ subscribers) }
     ensures refused { IfErr result (λ refusal. MayFail subscribers refusal) }
+    ensures lines { TellsLines (IsOfSubscribers port subscribers) (E.bytes err.old) (E.bytes err.new) (E.is_broken err.new) }
+    ensures stays { E.is_broken err.new ≡ false → E.is_broken err.old ≡ false }
 {
     let address = SocketAddr::from(([127, 0, 0, 1], port));
     let Ok(listener) = TcpListener::bind(rt, address) else {
@@ -115,8 +119,9 @@ where
     Ok(streams)
 }
 
-/// Shares flags, and publishes the other documents to a thread for each connection. All threads have ended when it answers.
-fn publish_to<J: ShareName + Send + Sync, R: Threads + Wait + Sync, E: Outlet>(
+/// Shares flags, and publishes the other documents to a thread for each connection. It answers how many were published with
+/// the flags. All threads have ended when it answers.
+fn publish_to<J: ShareName + Send + Sync, R: Threads + Wait + Sync, E: Outlet + Drop>(
     rt: &R,
     alloc: Global,
     history: History,
@@ -127,7 +132,9 @@ fn publish_to<J: ShareName + Send + Sync, R: Threads + Wait + Sync, E: Outlet>(
     err: &mut E,
 ) -> Result<u64, Refusal>
     requires { history.seen.book ≡ J.book }
-    ensures { ServesTo (vec_len streams) 2 (sources_view sources) (texts_of texts.now) result }
+    ensures serves { Counts (ServesTo (vec_len streams) (sources_view sources) (texts_of texts.now) (flags_view flags ∷ [])) result }
+    ensures lines { TellsLines IsGone (E.bytes err.old) (E.bytes err.new) (E.is_broken err.new) }
+    ensures stays { E.is_broken err.new ≡ false → E.is_broken err.old ≡ false }
 {
     let (mut publisher, seats) = match share::<J, R>(rt, alloc, history, flags, streams.len()) {
         Ok(shared) => shared,
@@ -144,11 +151,15 @@ fn publish_to<J: ShareName + Send + Sync, R: Threads + Wait + Sync, E: Outlet>(
         err,
     );
     publisher.close(rt);
-    outcome
+    match outcome {
+        Ok(told) => Ok(told.number()),
+        Err(refusal) => Err(refusal),
+    }
 }
 
-/// Publishes the documents behind the first, which was shared, to a thread for each connection.
-fn publish_shared<J: ShareName + Send + Sync, R: Threads + Wait + Sync, E: Outlet>(
+/// Publishes the documents behind the first, which was shared, to a thread for each connection, and answers all that were
+/// published.
+fn publish_shared<J: ShareName + Send + Sync, R: Threads + Wait + Sync, E: Outlet + Drop>(
     rt: &R,
     alloc: Global,
     publisher: &mut Publisher<J>,
@@ -157,9 +168,11 @@ fn publish_shared<J: ShareName + Send + Sync, R: Threads + Wait + Sync, E: Outle
     texts: &[Vec<u8>],
     streams: Vec<TcpStream>,
     err: &mut E,
-) -> Result<u64, Refusal>
+) -> Result<Told<J>, Refusal>
     requires { length publisher.old ≡ 1 }
-    ensures { ServesTo (vec_len streams) 2 (sources_view sources) (texts_of texts.now) result }
+    ensures serves { ServesTo (vec_len streams) (sources_view sources) (texts_of texts.now) (map flags_view publisher.old) (told_view result) }
+    ensures lines { TellsLines IsGone (E.bytes err.old) (E.bytes err.new) (E.is_broken err.new) }
+    ensures stays { E.is_broken err.new ≡ false → E.is_broken err.old ≡ false }
 {
     let told = publisher.tell();
     let board = Board::new(alloc, told, streams.len())?;
@@ -175,15 +188,15 @@ fn publish_shared<J: ShareName + Send + Sync, R: Threads + Wait + Sync, E: Outle
 }
 
 /// What is done beside the threads of the subscribers.
-trait Publishing {
-    ghost use Rattle.flagops_streams.specs.declared.refusal.Refusal.{Refusal};
+trait Publishing<J: ShareName> {
+    ghost use Rattle.flagops_streams.specs.Documents.{Answer, told_view};
 
     // What it may answer.
-    ghost gives: { Self → Result ℕ Refusal → Type 0 };
+    ghost gives: { Self → Answer → Type 0 };
 
-    /// Publishes, and answers the last number.
-    fn publish(self) -> Result<u64, Refusal>
-        ensures { gives self result };
+    /// Publishes, and answers all that were published.
+    fn publish(self) -> Result<Told<J>, Refusal>
+        ensures { gives self (told_view result) };
 }
 
 /// The documents but the first, which was shared, with all that it takes to publish them.
@@ -198,13 +211,15 @@ struct Others<'a, J: ShareName, R: Wait> {
     ghost shared: { length publisher.now ≡ 1 },
 }
 
-impl<J: ShareName, R: Wait> Publishing for Others<'_, J, R> {
+impl<J: ShareName, R: Wait> Publishing<J> for Others<'_, J, R> {
+    ghost use Rattle.std.specs.Prelude.{map};
+    ghost use Rattle.flag_defs.specs.Flags.{flags_view};
     ghost use Rattle.source_merge.specs.View.{sources_view};
     ghost use Rattle.flagops_streams.specs.Documents.{Gives, texts_of};
 
-    ghost gives = { λ o answer. Gives 2 (sources_view o.sources) (texts_of o.texts.now) answer };
+    ghost gives = { λ o answer. Gives (sources_view o.sources) (texts_of o.texts.now) (map flags_view o.publisher.now) answer };
 
-    fn publish(self) -> Result<u64, Refusal> {
+    fn publish(self) -> Result<Told<J>, Refusal> {
         let Others {
             rt,
             alloc,
@@ -217,8 +232,8 @@ impl<J: ShareName, R: Wait> Publishing for Others<'_, J, R> {
     }
 }
 
-/// Publishes the documents behind the first, which was shared, each merged over those before it, and answers the last
-/// number.
+/// Publishes the documents behind the first, which was shared, each merged over those before it, and answers all that were
+/// published.
 fn publish_others<J: ShareName, R: Wait>(
     rt: &R,
     alloc: Global,
@@ -226,10 +241,10 @@ fn publish_others<J: ShareName, R: Wait>(
     publisher: &mut Publisher<J>,
     sources: Sources,
     texts: &[Vec<u8>],
-) -> Result<u64, Refusal>
+) -> Result<Told<J>, Refusal>
     requires { length publisher.old ≡ 1 }
-    ensures gives { Gives 2 (sources_view sources) (texts_of texts.now) result }
-    ensures published { IfOk result (λ n. n ≡ length publisher.new) }
+    ensures gives { Gives (sources_view sources) (texts_of texts.now) (map flags_view publisher.old) (told_view result) }
+    ensures published { IfOk result (λ told. told ≡ publisher.new) }
 {
     let mut sources = sources;
     let mut number = 1;
@@ -241,15 +256,15 @@ fn publish_others<J: ShareName, R: Wait>(
         };
         board.tell(rt, publisher.tell());
     }
-    Ok(number)
+    Ok(publisher.tell())
 }
 
 /// Publishes beside a thread for each connection, and tells a person of each that has ended. All have ended when it answers.
 fn serve_beside<
     J: ShareName + Send + Sync,
     R: Threads + Wait + Sync,
-    P: Publishing + Drop,
-    E: Outlet,
+    P: Publishing<J> + Drop,
+    E: Outlet + Drop,
 >(
     rt: &R,
     alloc: Global,
@@ -258,16 +273,51 @@ fn serve_beside<
     streams: Vec<TcpStream>,
     publishing: P,
     err: &mut E,
-) -> Result<u64, Refusal>
-    ensures { (result ≡ Err Refusal.NoThread) ⊎ P.gives publishing result }
+) -> Result<Told<J>, Refusal>
+    ensures gives { (result ≡ Err Refusal.NoThread) ⊎ P.gives publishing (told_view result) }
+    ensures lines { TellsLines IsGone (E.bytes err.old) (E.bytes err.new) (E.is_broken err.new) }
+    ensures stays { E.is_broken err.new ≡ false → E.is_broken err.old ≡ false }
+{
+    replace_with(
+        err,
+        publishing,
+        |err: E, publishing: P| -> (E, Result<Told<J>, Refusal>)
+            requires { IsSend J.row × IsSync J.row × IsSync R.row }
+            ensures gives { (result.1 ≡ Err Refusal.NoThread) ⊎ P.gives publishing (told_view result.1) }
+            ensures lines { TellsLines IsGone (E.bytes err) (E.bytes result.0) (E.is_broken result.0) }
+            ensures stays { E.is_broken result.0 ≡ false → E.is_broken err ≡ false }
+        { serve_in_scope(rt, alloc, board, seats, streams, publishing, err) },
+    )
+}
+
+/// The same with an outlet of its own, which it gives back: one that is lent to the scope may be anything after it.
+fn serve_in_scope<
+    J: ShareName + Send + Sync,
+    R: Threads + Wait + Sync,
+    P: Publishing<J> + Drop,
+    E: Outlet + Drop,
+>(
+    rt: &R,
+    alloc: Global,
+    board: &Board<J>,
+    seats: Vec<ReadSeat<J>>,
+    streams: Vec<TcpStream>,
+    publishing: P,
+    err: E,
+) -> (E, Result<Told<J>, Refusal>)
+    ensures gives { (result.1 ≡ Err Refusal.NoThread) ⊎ P.gives publishing (told_view result.1) }
+    ensures lines { TellsLines IsGone (E.bytes err) (E.bytes result.0) (E.is_broken result.0) }
+    ensures stays { E.is_broken result.0 ≡ false → E.is_broken err ≡ false }
 {
     let count = streams.len();
     thread::scope(
         thread::scope_env(),
         rt,
-        move |scope| -> Result<u64, Refusal>
+        move |scope| -> (E, Result<Told<J>, Refusal>)
             requires { IsSend J.row × IsSync J.row × IsSync R.row }
-            ensures { (result ≡ Err Refusal.NoThread) ⊎ P.gives publishing result }
+            ensures gives { (result.1 ≡ Err Refusal.NoThread) ⊎ P.gives publishing (told_view result.1) }
+            ensures lines { TellsLines IsGone (E.bytes err) (E.bytes result.0) (E.is_broken result.0) }
+            ensures stays { E.is_broken result.0 ≡ false → E.is_broken err ≡ false }
         {
             let mut all = true;
             for (place, (seat, stream)) in seats.into_iter().zip(streams).enumerate() {
@@ -285,8 +335,9 @@ fn serve_beside<
                 Err(Refusal::NoThread)
             };
             board.close(rt);
-            tell_gone(rt, alloc, board, count, err);
-            outcome
+            let mut err = err;
+            tell_gone(rt, alloc, board, count, &mut err);
+            (err, outcome)
         },
     )
 }
@@ -298,7 +349,10 @@ fn tell_gone<J: ShareName, R: Wait, E: Outlet>(
     board: &Board<J>,
     count: usize,
     err: &mut E,
-) {
+)
+    ensures lines { TellsLines IsGone (E.bytes err.old) (E.bytes err.new) (E.is_broken err.new) }
+    ensures stays { E.is_broken err.new ≡ false → E.is_broken err.old ≡ false }
+{
     for _subscriber in 0..count {
         if let Some((place, gone)) = board.next_gone(rt) {
             say_gone(alloc, err, place.saturating_add(1), gone.end, gone.frames);

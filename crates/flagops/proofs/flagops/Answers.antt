@@ -1,4 +1,4 @@
-use Rattle.std.proofs.Common.{◌≡◌, ◌⊎◌, ℕ, None, Result, false, true, map, List, IfSome}
+use Rattle.std.proofs.Common.{◌≡◌, ◌⊎◌, ℕ, None, false, true, map, List, IfSome}
 use Rattle.flagops.specs.First.{WhereFiles, WhereFollow, WhereServe}
 use Rattle.flagops_commands.specs.Commands.{can_want, IsRunOutcome}
 use Rattle.flagops_commands.specs.Telling.{TellsWords, Wants}
@@ -8,8 +8,9 @@ use Rattle.flagops_commands.specs.Subjects.{subjects_of}
 use Rattle.flagops_network.specs.Loading.{AnswersTo}
 use Rattle.flagops_network.specs.Mistakes.{TellsOne}
 use Rattle.flagops_network.specs.Words.{follow_by, follow_faults, serve_by, serve_faults}
+use Rattle.flagops_streams.specs.Documents.{Answer, count_of}
 use Rattle.flagops_streams.specs.Report.{Reports}
-use Rattle.flagops_streams.specs.declared.refusal.Refusal.{Refusal}
+use Rattle.flagops_streams.specs.Told.{IsOfSubscribers}
 use Rattle.flagops_words.specs.Words.{asked_by}
 use Rattle.flagops.proofs.Carried.{carried}
 use Rattle.flagops.proofs.flagops.Goals as goal
@@ -45,7 +46,8 @@ returns-in-Ok-clause-stored g c =
 pub returns-in-Ok-clause-serve_answers : goal.returns-in-Ok-clause-serve_answers
 returns-in-Ok-clause-serve_answers g c =
     carried (λ (l : List g.row.S.Denot) (s : ℕ). WhereServe (map g.S.AsStr.text l) (IfSome (serve_by (map g.S.AsStr.text l)) (λ asked. IfSome (g.F.FileSet.holding c.args.files.now) (λ at.
-    ((answer : Result ℕ Refusal) × AnswersTo at asked answer × Reports answer (g.O.Outlet.bytes c.args.out.now) (g.O.Outlet.bytes c.status_of.new.out) (g.O.Outlet.is_broken c.status_of.new.out) s)
+    ((answer : Answer) × AnswersTo at asked answer × Reports (IsOfSubscribers asked.port asked.subscribers) (count_of answer) (g.O.Outlet.bytes c.args.out.now) (g.O.Outlet.bytes c.status_of.new.out) (g.O.Outlet.is_broken c.status_of.new.out)
+    (g.E.Outlet.bytes c.args.err.now) (g.E.Outlet.bytes c.status_of.new.err) (g.E.Outlet.is_broken c.status_of.new.err) s)
     ⊎ Wants (g.O.Outlet.bytes c.args.out.now) (g.O.Outlet.bytes c.status_of.new.out) (g.O.Outlet.is_broken c.status_of.new.out)
     (g.E.Outlet.bytes c.args.err.now) (g.E.Outlet.bytes c.status_of.new.err) (g.E.Outlet.is_broken c.status_of.new.err) s))))
     (λ w. w.items) _ _ _ _ _ c.in-Ok.is c.as_slice.ensures.value c.from.ensures c.status_of.ensures.serve_answers

@@ -5,7 +5,7 @@ use denote.Param.Send.{param_send}
 use denote.Ref.{NamedLft}
 use Rattle.std.proofs.Common.{[]}
 use Rattle.flagops_streams.proofs.Crossings.{Attending, attend_send}
-use Rattle.flagops_streams.proofs.serve.fn.serve_beside.scope.Goals as goal
+use Rattle.flagops_streams.proofs.serve.fn.serve_in_scope.scope.Goals as goal
 
 abbrev at_life : Lft → NamedLft
 at_life κ = record { mir = erased; lft = κ }

@@ -1,0 +1,78 @@
+-- What is told, one text after the other.
+use Rattle.std.proofs.Common.{◌≡◌, ℕ, List, [], ◌∷◌, ◌++◌, Bool, true, false, Option, Result, Ok, Err, IfOk, IfErr, inl, inr, refl, sym, subst, length, arith}
+use Rattle.std.proofs.lemmas.Bool.{true≢false}
+use Rattle.std.proofs.lemmas.List.{take_all}
+use Rattle.std.specs.Io.KnownBytes.{Appends}
+use Rattle.flag_text.specs.Outlet.{AppendsPart}
+use Rattle.flagops_streams.specs.Report.{RefusesBeside, Reports}
+use Rattle.flagops_streams.specs.Told.{Says, SaysEach, TellsLines}
+use Rattle.flagops_streams.specs.declared.refusal.Refusal.{Refusal}
+use Rattle.flagops_streams.specs.declared.refusal.Refusal.TheVariants.{WantOfMemory}
+
+-- a text that was written whole, whatever becomes of the outlet
+pub whole_said : (old new : Option (List ℕ)) (is_mute : Bool) (text : List ℕ) → Appends old new text → Says old new is_mute text
+whole_said old new false text all = all
+whole_said old new true text all = (length text, omega arith, subst (Appends old new) (sym (take_all (length text) text (omega arith))) all)
+
+-- a front of it, where the outlet has failed
+pub front_said : (old new : Option (List ℕ)) (is_mute : Bool) (text : List ℕ) → is_mute ≡ true → AppendsPart old new text → Says old new is_mute text
+front_said old new false text is part = absurd (true≢false (sym is))
+front_said old new true text is part = part
+
+-- what was told stays told when the outlet fails later
+pub still_said : (old new : Option (List ℕ)) (before after : Bool) (text : List ℕ) → (after ≡ false → before ≡ false) → Says old new before text → Says old new after text
+still_said old new false after text stays said = whole_said old new after text said
+still_said old new true false text stays said = absurd (true≢false (stays refl))
+still_said old new true true text stays said = said
+
+-- such lines, and others behind them
+module _ (Is : List ℕ → Type 0) where
+  still_each : (old new : Option (List ℕ)) (before after : Bool) (lines : List (List ℕ)) → (after ≡ false → before ≡ false) → SaysEach Is old new before lines → SaysEach Is old new after lines
+  still_each old new before after [] stays each = each
+  still_each old new before after (line ∷ lines) stays (between, is, said, each) =
+      (between, is, still_said old between before after line stays said, still_each between new before after lines stays each)
+
+  each_behind : (old mid new : Option (List ℕ)) (is_mute : Bool) (lines more : List (List ℕ)) → SaysEach Is old mid is_mute lines → SaysEach Is mid new is_mute more → SaysEach Is old new is_mute (lines ++ more)
+  each_behind old mid new is_mute [] more each others = subst (λ (o : Option (List ℕ)). SaysEach Is o new is_mute more) each others
+  each_behind old mid new is_mute (line ∷ lines) more (between, is, said, each) others =
+      (between, is, said, each_behind between mid new is_mute lines more each others)
+
+  pub still_told : (old new : Option (List ℕ)) (before after : Bool) → (after ≡ false → before ≡ false) → TellsLines Is old new before → TellsLines Is old new after
+  still_told old new before after stays (lines, each) = (lines, still_each old new before after lines stays each)
+
+  pub nothing_told : (old new : Option (List ℕ)) (is_mute : Bool) → new ≡ old → TellsLines Is old new is_mute
+  nothing_told old new is_mute same = ([], same)
+
+  pub one_told : (old new : Option (List ℕ)) (is_mute : Bool) (line : List ℕ) → Is line → Says old new is_mute line → TellsLines Is old new is_mute
+  one_told old new is_mute line is said = (line ∷ [], (new, is, said, refl))
+
+  pub lines_behind : (old mid new : Option (List ℕ)) (before after : Bool) → (after ≡ false → before ≡ false) → TellsLines Is old mid before → TellsLines Is mid new after → TellsLines Is old new after
+  lines_behind old mid new before after stays (lines, each) (more, others) =
+      (lines ++ more, each_behind old mid new after lines more (still_each old mid before after lines stays each) others)
+
+  -- a line that could be made was told, else nothing was
+  pub made_told : {X E : Type 0} (bytes : X → List ℕ) (line : Result X E) (text : List ℕ) (old new : Option (List ℕ)) (is_mute : Bool)
+      → Is text → IfOk line (λ s. bytes s ≡ text) → IfOk line (λ s. Says old new is_mute (bytes s)) → IfErr line (λ _. new ≡ old) → TellsLines Is old new is_mute
+  made_told bytes (Ok s) text old new is_mute is exact said none = one_told old new is_mute (bytes s) (subst Is (sym exact) is) said
+  made_told bytes (Err e) text old new is_mute is exact said none = nothing_told old new is_mute none
+
+-- such lines are lines of another kind
+pub lines_as : (Is As : List ℕ → Type 0) → ((line : List ℕ) → Is line → As line) → (old new : Option (List ℕ)) (is_mute : Bool) → TellsLines Is old new is_mute → TellsLines As old new is_mute
+lines_as Is As more old new is_mute (lines, each) = (lines, go old lines each)
+  where
+    go : (from : Option (List ℕ)) (lines : List (List ℕ)) → SaysEach Is from new is_mute lines → SaysEach As from new is_mute lines
+    go from [] each = each
+    go from (line ∷ lines) (between, is, said, each) = (between, more line is, said, go between lines each)
+
+-- ---- a report behind lines
+
+module _ (Is : List ℕ → Type 0) (old new : Option (List ℕ)) (broken : Bool) (err mid err_after : Option (List ℕ)) (before is_mute : Bool) (stays : is_mute ≡ false → before ≡ false) (lines : TellsLines Is err mid before) (status : ℕ) where
+  refused_behind : (refusal : Refusal) → RefusesBeside (λ _. ⊥) refusal old new broken mid err_after is_mute status → RefusesBeside Is refusal old new broken err err_after is_mute status
+  refused_behind refusal (by, (between, none, text)) =
+      (by, (between, lines_behind Is err mid between before is_mute stays lines (lines_as (λ _. ⊥) Is (λ line never. absurd never) mid between is_mute none), text))
+
+  pub reported_behind : (answer : Result ℕ Refusal) → Reports (λ _. ⊥) answer old new broken mid err_after is_mute status → Reports Is answer old new broken err err_after is_mute status
+  reported_behind (Ok n) (inl (line, none)) =
+      inl (line, lines_behind Is err mid err_after before is_mute stays lines (lines_as (λ _. ⊥) Is (λ line never. absurd never) mid err_after is_mute none))
+  reported_behind (Ok n) (inr want) = inr (refused_behind WantOfMemory want)
+  reported_behind (Err refusal) refuses = refused_behind refusal refuses

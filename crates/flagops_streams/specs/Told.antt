@@ -1,0 +1,62 @@
+-- What a person is told beside the output, on an outlet of its own.
+use Rattle.std.specs.Prelude.{◌≡◌, ◌⊎◌, ◌<◌, ℕ, Bool, true, false, List, [], ◌∷◌, ◌++◌, codes, decimal, length, Option}
+use Rattle.std.specs.Io.KnownBytes.{Appends}
+use Rattle.flag_text.specs.Outlet.{AppendsPart}
+use Rattle.sync_server.specs.declared.end.StreamEnd.{StreamEnd}
+use Rattle.sync_server.specs.declared.end.StreamEnd.TheVariants.{Closed, Limit, WriteFault, ReadSeatFault, WantOfMemory}
+
+-- the text was told, or a front of it where the outlet has failed
+abbrev pub Says : Option (List ℕ) → Option (List ℕ) → Bool → List ℕ → Type 0
+Says old new false text = Appends old new text
+Says old new true text = AppendsPart old new text
+
+-- these lines were told so, one after the other, and each is one of those that may be told
+abbrev pub SaysEach : (List ℕ → Type 0) → Option (List ℕ) → Option (List ℕ) → Bool → List (List ℕ) → Type 0
+SaysEach Is old new is_mute [] = new ≡ old
+SaysEach Is old new is_mute (line ∷ lines) = (between : Option (List ℕ)) × Is line × Says old between is_mute line × SaysEach Is between new is_mute lines
+
+-- nothing but such lines was told
+abbrev pub TellsLines : (List ℕ → Type 0) → Option (List ℕ) → Option (List ℕ) → Bool → Type 0
+TellsLines Is old new is_mute = (lines : List (List ℕ)) × SaysEach Is old new is_mute lines
+
+-- a text that is not empty was told
+abbrev pub TellsText : Option (List ℕ) → Option (List ℕ) → Bool → Type 0
+TellsText old new is_mute = (text : List ℕ) × (0 < length text) × Says old new is_mute text
+
+-- such lines, and behind them why there was a refusal
+abbrev pub TellsWhy : (List ℕ → Type 0) → Option (List ℕ) → Option (List ℕ) → Bool → Type 0
+TellsWhy Is old new is_mute = (between : Option (List ℕ)) × TellsLines Is old between is_mute × TellsText between new is_mute
+
+-- ---- the lines of `serve`
+
+-- so many subscribers may come on a port
+unfoldable pub listening_line : ℕ → ℕ → List ℕ
+listening_line port subscribers =
+    codes "serve: listens on 127.0.0.1:" ++ (decimal port ++ (codes ", waits for " ++ (decimal subscribers ++ codes " subscribers\n")))
+
+-- one of them has come
+unfoldable pub came_line : ℕ → ℕ → List ℕ
+came_line number subscribers = codes "serve: subscriber " ++ (decimal number ++ (codes " of " ++ (decimal subscribers ++ codes " has come\n")))
+
+-- why a subscriber's stream ended
+abbrev pub reason_of : StreamEnd → List ℕ
+reason_of Closed = codes "it was sent the last one"
+reason_of Limit = codes "it was sent 1000, the most that one subscriber is sent"
+reason_of WriteFault = codes "it takes no more bytes"
+reason_of ReadSeatFault = codes "the current snapshot can't be read"
+reason_of WantOfMemory = codes "memory ran out"
+
+-- one has gone, after so many snapshots
+unfoldable pub gone_line : ℕ → ℕ → StreamEnd → List ℕ
+gone_line number snapshots end =
+    codes "serve: subscriber " ++ (decimal number ++ (codes " has gone after " ++ (decimal snapshots ++ (codes " snapshots: " ++ (reason_of end ++ codes "\n")))))
+
+abbrev pub IsCame : ℕ → List ℕ → Type 0
+IsCame subscribers line = (number : ℕ) × (line ≡ came_line number subscribers)
+
+abbrev pub IsGone : List ℕ → Type 0
+IsGone line = (number : ℕ) × (snapshots : ℕ) × (end : StreamEnd) × (line ≡ gone_line number snapshots end)
+
+-- what `serve` tells of its subscribers: where it listens for so many, that one has come, that one has gone
+abbrev pub IsOfSubscribers : ℕ → ℕ → List ℕ → Type 0
+IsOfSubscribers port subscribers line = (line ≡ listening_line port subscribers) ⊎ IsCame subscribers line ⊎ IsGone line
