@@ -1,15 +1,11 @@
 -- What is answered is a plan.
-use Rattle.std.proofs.Common.{◌≡◌, ◌≢◌, ℕ, pos, ◌<◌, ◌^◌, List, [], ◌∷◌, true, Result, Ok, Err, Less, Equal, Greater, Ordering, refl, sym, subst, arith}
+use Rattle.std.proofs.Common.{◌≡◌, ◌≢◌, ℕ, ◌<◌, List, Result, Ok, Err, refl, sym, subst}
 use Rattle.std.specs.Cmp.Lexicographic.{slice_cmp}
-use Rattle.std.specs.List.{AllByRecursion}
 use Rattle.std.specs.List.Sorted.{IsStrictlySortedBy}
-use Rattle.std.specs.Ordering.{is_lt, nat_cmp}
+use Rattle.std.specs.Ordering.{nat_cmp}
 use Rattle.std.specs.Prelude.{MatchResult}
-use Rattle.std.proofs.lemmas.Cmp.{nat_list_cmp_total}
-use Rattle.flag_text.proofs.Bools.{left, right}
-use Rattle.book_core.proofs.Ordered.{below_all}
 use Rattle.bucket_core.specs.Canonical.{IsCanonical}
-use Rattle.bucket_core.specs.Rule.{Entries, IsRuleTotal, total_weight, names_view}
+use Rattle.bucket_core.specs.Rule.{Entries, total_weight, names_view}
 use Rattle.price_core.specs.Limits.{AreLimits}
 use Rattle.price_core.specs.Pricing.{Pricing}
 use Rattle.transport_instance.specs.Assignment.{HasAssignment, flows_of}
@@ -27,8 +23,7 @@ use Rattle.transport_instance.proofs.Deficits.{deficient_fits_none}
 use Rattle.transport_plan.specs.Solved.{IsCut, IsNeverOver}
 use Rattle.transport_plan.specs.Solved.{IsPlan as IsSolved}
 use Rattle.plan_text.specs.Answer.{emit, none_exists, IsOrdered, planned_view}
-use Rattle.rollout_checks.specs.Lawful.{Problem, IsLawful}
-use Rattle.plan_text.specs.PlanFile.{rises}
+use Rattle.rollout_checks.specs.Lawful.{Problem}
 use Rattle.rollout.specs.Planned.{IsUnderLast, IsPlan, IsPlanned}
 use Rattle.rollout_checks.specs.declared.fault.RolloutFault.{RolloutFault}
 use Rattle.rollout_checks.specs.declared.fault.RolloutFault.TheVariants.{WantOfMemory}

@@ -1,5 +1,5 @@
 -- What is planned is told as valid.
-use Rattle.std.proofs.Common.{◌≡◌, ◌≢◌, ℕ, zero, suc, Option, Some, None, ◌*◌, ◌/◌, ◌%◌, ◌==◌, ◌<◌, List, true, cond, nat_lt, Result, Ok, Err, refl, sym, ap, ◌∙◌, subst, arith}
+use Rattle.std.proofs.Common.{◌≡◌, ◌≢◌, ℕ, zero, suc, Some, None, ◌*◌, ◌==◌, ◌<◌, List, cond, Result, Ok, Err, refl, sym, ap, ◌∙◌, subst, arith}
 use Rattle.std.proofs.Math.Nat.{mul-div_cancel_left, mul-mod_right}
 use Rattle.bucket_core.specs.Rule.{Entries, total_weight, refinement}
 use Rattle.bucket_core.proofs.Refined.{total_weight-refinement}
@@ -14,15 +14,14 @@ use Rattle.plan_text.specs.Answer.{Answer, emit, none_exists}
 use Rattle.rollout_checks.specs.Lawful.{Problem, Place, and_then, by_price, place_of, limits_for, factor, sized, weighed, problem_at, problem_of}
 use Rattle.rollout.specs.Planned.{IsPlan}
 use Rattle.rollout_checks.specs.Refined.{problem_refined, problem_checked}
-use Rattle.rollout_checks.specs.Verified.{Proves, Denies, IsOutcome, IsValid}
+use Rattle.rollout_checks.specs.Verified.{Proves, IsOutcome, IsValid}
 use Rattle.rollout_checks.specs.declared.fault.RolloutFault.{RolloutFault}
 use Rattle.rollout_checks.specs.declared.fault.RolloutFault.TheVariants as rollout
 use Rattle.rollout_checks.specs.declared.refining.Refining.{Refining}
 use Rattle.rollout_checks.specs.declared.refining.Refining.TheVariants.{Times, ToTotal}
 use Rattle.rollout_checks.specs.declared.verify_fault.VerifyFault.{VerifyFault}
 use Rattle.rollout_checks.specs.declared.verify_fault.VerifyFault.TheVariants.{Request, Check}
-use Rattle.rollout_checks.specs.VerifyFault.{number_of}
-use Rattle.rollout_checks.proofs.Bounded.{Came, came}
+use Rattle.rollout_checks.proofs.Bounded.{came}
 use Rattle.transport_instance.specs.Fault as check_numbers
 use Rattle.rollout_checks.specs.Fault as rollout_numbers
 

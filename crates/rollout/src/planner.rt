@@ -4,6 +4,7 @@ ghost use Rattle.std.specs.Cmp.Lexicographic.{slice_cmp};
 ghost use Rattle.std.specs.List.Sorted.{IsStrictlySortedBy};
 ghost use Rattle.std.specs.Ordering.{nat_cmp};
 ghost use Rattle.std.specs.Str.{is_utf8};
+ghost use Rattle.book_core.specs.Book.{Inputs};
 ghost use Rattle.bucket_core.specs.Rule.{names_view, total_weight};
 ghost use Rattle.flag_defs.specs.Flags.{flags_view};
 ghost use Rattle.price_core.specs.Request.{max_request};
@@ -12,8 +13,9 @@ ghost use Rattle.transport_instance.specs.Assignment.{IsProved};
 ghost use Rattle.transport_instance.specs.Certificate.{certificate_view};
 ghost use Rattle.transport_instance.specs.Groups.{AreSizes};
 ghost use Rattle.transport_instance.specs.Instance.{AreListed, MissTotal, max_planned_total, max_names};
+ghost use Rattle.transport_instance.specs.Tally.{IsTally};
 ghost use Rattle.plan_text.specs.Answer.{IsOrdered, planned_view};
-ghost use Rattle.rollout_checks.specs.Lawful.{IsRefining, problem_of, problem_view};
+ghost use Rattle.rollout_checks.specs.Lawful.{IsCounted, IsRefining, problem_of, problem_view};
 ghost use Rattle.plan_text.specs.PlanFile.{has_whole_numbers, IsWhole};
 ghost use Rattle.rollout.specs.Effort.{Spends, SpendsOn};
 ghost use Rattle.rollout.specs.Planned.{IsPlan, IsPlanned};
@@ -23,8 +25,8 @@ ghost use Rattle.rollout_checks.specs.declared.fault.RolloutFault.TheVariants.{W
 ghost use Rattle.rollout_checks.specs.declared.refining.Refining.TheVariants.{Times};
 
 use assignment_rule::spread;
-use book_core::Book;
 use flag_defs::Flags;
+use page_tally::Recorded;
 use plan_text::Planned;
 use rollout_checks::{Problem, Refining, RolloutFault, problem_of};
 use search_effort::Effort;
@@ -36,26 +38,28 @@ use transport_core::{CutKind, Instance};
 use transport_plan::{Solved, solve};
 
 /// The rule that meets a request and costs the recorded inputs the least, with its certificate, or a set of names which
-/// shows that no rule does: a set over its high limits where there is one, and else one under its low limits. Beside the
-/// search it takes `O(log n)` steps for each point and input, at n entries and inputs.
+/// shows that no rule does: a set over its high limits where there is one, and else one under its low limits. Of what was
+/// recorded only how many inputs of the page fall on each point is asked for. Beside that and the search it takes `O(log n)`
+/// steps for each point, at n points.
 ///
 /// It refuses an unlawful request, in this order, with `Request`, `UnknownFlag`, `NoSite`, `Computed`, `NoWeight`,
 /// `UnknownVariant`, `TotalsSum` and `TotalTooLarge`. One above its limit or that is not UTF-8 is refused before memory is
 /// taken. A lawful one is always decided, unless memory runs out.
-pub fn plan(
-    _rt: &(impl Threads + Sync),
+pub fn plan<R: Threads + Sync, B: Recorded>(
+    rt: &R,
     alloc: Global,
     flags: &Flags,
     request: &[u8],
-    book: &Book,
+    book: &B,
 ) -> Result<Planned, RolloutFault>
-    ensures exact { IsPlanned (problem_of (Times 1) (flags_view flags.now) request.now book.now) result }
+    ensures exact { IsPlanned (problem_of (Times 1) (flags_view flags.now) request.now (B.contents book.now)) result }
     ensures ordered { IfOk result (λ a. IsOrdered (planned_view a)) }
     ensures whole { IfOk result (λ a. IsWhole (planned_view a)) }
     ensures large { max_request < length request.now → IsErrOf result (RolloutFault.Request BadRequest) }
     ensures no_text { length request.now ≤ max_request → is_utf8 request.now ≡ false → IsErrOf result (RolloutFault.Request BadRequest) }
 {
-    plan_over::<Brand>(
+    plan_over::<Brand, R, B>(
+        rt,
         alloc,
         Refining::Times(1),
         flags,
@@ -66,22 +70,23 @@ pub fn plan(
 }
 
 /// As [`plan`], on the site's rule refined by m. The condition is m from 1.
-pub fn plan_refined(
-    _rt: &(impl Threads + Sync),
+pub fn plan_refined<R: Threads + Sync, B: Recorded>(
+    rt: &R,
     alloc: Global,
     flags: &Flags,
     request: &[u8],
-    book: &Book,
+    book: &B,
     m: u32,
 ) -> Result<Planned, RolloutFault>
     requires { 0 < m }
-    ensures exact { IsPlanned (problem_of (Times m) (flags_view flags.now) request.now book.now) result }
+    ensures exact { IsPlanned (problem_of (Times m) (flags_view flags.now) request.now (B.contents book.now)) result }
     ensures ordered { IfOk result (λ a. IsOrdered (planned_view a)) }
     ensures whole { IfOk result (λ a. IsWhole (planned_view a)) }
     ensures large { max_request < length request.now → IsErrOf result (RolloutFault.Request BadRequest) }
     ensures no_text { length request.now ≤ max_request → is_utf8 request.now ≡ false → IsErrOf result (RolloutFault.Request BadRequest) }
 {
-    plan_over::<Brand>(
+    plan_over::<Brand, R, B>(
+        rt,
         alloc,
         Refining::Times(m),
         flags,
@@ -94,68 +99,70 @@ pub fn plan_refined(
 /// As [`plan_refined`], with m 1 as [`plan`], for a caller that counts: what the search takes is counted as by [`solve`], at W
 /// points at most 2 W augmentations and at most (2 W + 2) (groups + names) settlings, and nothing of a request that is
 /// refused. The condition is m from 1.
-pub fn plan_counted<L: Ledger>(
-    _rt: &(impl Threads + Sync),
+pub fn plan_counted<L: Ledger, R: Threads + Sync, B: Recorded>(
+    rt: &R,
     alloc: Global,
     flags: &Flags,
     request: &[u8],
-    book: &Book,
+    book: &B,
     m: u32,
     effort: &mut Effort<L>,
 ) -> Result<Planned, RolloutFault>
     requires { 0 < m }
-    ensures exact { IsPlanned (problem_of (Times m) (flags_view flags.now) request.now book.now) result }
+    ensures exact { IsPlanned (problem_of (Times m) (flags_view flags.now) request.now (B.contents book.now)) result }
     ensures ordered { IfOk result (λ a. IsOrdered (planned_view a)) }
     ensures whole { IfOk result (λ a. IsWhole (planned_view a)) }
     ensures large { max_request < length request.now → IsErrOf result (RolloutFault.Request BadRequest) }
     ensures no_text { length request.now ≤ max_request → is_utf8 request.now ≡ false → IsErrOf result (RolloutFault.Request BadRequest) }
-    ensures spent { Spends (problem_of (Times m) (flags_view flags.now) request.now book.now) effort.old effort.new }
+    ensures spent { Spends (problem_of (Times m) (flags_view flags.now) request.now (B.contents book.now)) effort.old effort.new }
 {
-    plan_by(alloc, Refining::Times(m), flags, request, book, effort)
+    plan_by(rt, alloc, Refining::Times(m), flags, request, book, effort)
 }
 
 /// As [`plan_counted`], over a counter of its own.
-fn plan_over<L: Ledger>(
+fn plan_over<L: Ledger, R: Threads + Sync, B: Recorded>(
+    rt: &R,
     alloc: Global,
     refining: Refining,
     flags: &Flags,
     request: &[u8],
-    book: &Book,
+    book: &B,
     blank: Blank,
 ) -> Result<Planned, RolloutFault>
     requires lawful { IsRefining refining }
     requires name { blank.name ≡ L.name }
     requires parts { blank.parts ≡ L.parts }
     requires two { blank.parts ≡ 2 }
-    ensures exact { IsPlanned (problem_of refining (flags_view flags.now) request.now book.now) result }
+    ensures exact { IsPlanned (problem_of refining (flags_view flags.now) request.now (B.contents book.now)) result }
     ensures ordered { IfOk result (λ a. IsOrdered (planned_view a)) }
     ensures whole { IfOk result (λ a. IsWhole (planned_view a)) }
     ensures large { max_request < length request.now → IsErrOf result (RolloutFault.Request BadRequest) }
     ensures no_text { length request.now ≤ max_request → is_utf8 request.now ≡ false → IsErrOf result (RolloutFault.Request BadRequest) }
 {
     let mut effort = Effort::<L>::none(blank);
-    plan_by(alloc, refining, flags, request, book, &mut effort)
+    plan_by(rt, alloc, refining, flags, request, book, &mut effort)
 }
 
-fn plan_by<L: Ledger>(
+fn plan_by<L: Ledger, R: Threads + Sync, B: Recorded>(
+    rt: &R,
     alloc: Global,
     refining: Refining,
     flags: &Flags,
     request: &[u8],
-    book: &Book,
+    book: &B,
     effort: &mut Effort<L>,
 ) -> Result<Planned, RolloutFault>
     requires { IsRefining refining }
-    ensures exact { IsPlanned (problem_of refining (flags_view flags.now) request.now book.now) result }
+    ensures exact { IsPlanned (problem_of refining (flags_view flags.now) request.now (B.contents book.now)) result }
     ensures ordered { IfOk result (λ a. IsOrdered (planned_view a)) }
     ensures whole { IfOk result (λ a. IsWhole (planned_view a)) }
     ensures large { max_request < length request.now → IsErrOf result (RolloutFault.Request BadRequest) }
     ensures no_text { length request.now ≤ max_request → is_utf8 request.now ≡ false → IsErrOf result (RolloutFault.Request BadRequest) }
-    ensures spent { Spends (problem_of refining (flags_view flags.now) request.now book.now) effort.old effort.new }
+    ensures spent { Spends (problem_of refining (flags_view flags.now) request.now (B.contents book.now)) effort.old effort.new }
 {
     // Called for what its contract says: flags have at most 64 variants.
     let _count = flags.len();
-    let problem = problem_of(alloc, refining, flags, request, book)?;
+    let problem = problem_of(rt, alloc, refining, flags, request, book)?;
     plan_on(alloc, &problem, effort)
 }
 
@@ -169,19 +176,21 @@ fn plan_on<L: Ledger>(
     requires few { length problem.now.totals ≤ max_names }
     requires listed { AreListed problem.now.old problem.now.totals }
     requires met { ¬ (MissTotal problem.now.old problem.now.totals) }
-    ensures exact { MatchResult result (λ a. IsPlan (problem_view problem.now) (planned_view a)) (λ e. e ≡ WantOfMemory) }
+    requires tally { IsTally (total_weight problem.now.old) problem.now.counts.items }
+    ensures exact { (inputs : Inputs) → IsCounted problem.now inputs → MatchResult result (λ a. IsPlan (problem_view problem.now inputs) (planned_view a)) (λ e. e ≡ WantOfMemory) }
     ensures ordered { IfOk result (λ a. IsOrdered (planned_view a)) }
     ensures whole { IfOk result (λ a. IsWhole (planned_view a)) }
-    ensures spent { SpendsOn (problem_view problem.now) effort.old effort.new }
+    ensures spent { (inputs : Inputs) → IsCounted problem.now inputs → SpendsOn (problem_view problem.now inputs) effort.old effort.new }
 {
     let prices = problem.request.prices();
     let Problem {
         old,
         totals,
-        exposure,
+        counts,
         ..
     } = problem;
-    let instance = Instance::make(alloc, old, totals, prices, exposure)?;
+    let counts = counts.as_slice();
+    let instance = Instance::make(alloc, old, totals, prices, counts)?;
     let solved = solve(alloc, &instance, effort)?;
     Ok(answer(alloc, problem, &instance, solved)?)
 }
@@ -193,7 +202,8 @@ fn answer(
     instance: &Instance<'_>,
     solved: Solved,
 ) -> Result<Planned, AllocError>
-    requires groups { AreSizes problem.now.old problem.now.exposure instance.now.groups }
+    requires tally { IsTally (total_weight problem.now.old) problem.now.counts.items }
+    requires groups { (inputs : Inputs) → IsCounted problem.now inputs → AreSizes problem.now.old inputs instance.now.groups }
     requires limits { instance.now.limits ≡ problem.now.totals }
     requires pricing { instance.now.pricing ≡ problem.now.request.prices }
     requires proved { IfPlan solved (λ assignment certificate. IsProved instance.now assignment.numbers.items (certificate_view certificate)) }
@@ -202,14 +212,14 @@ fn answer(
     requires deficient { IfNone solved (IsCut instance.now) }
     requires under { IfNone solved (λ cut. cut.kind ≡ CutKind.Under → IsNeverOver instance.now) }
     requires ordered { IfNone solved (λ cut. IsStrictlySortedBy (slice_cmp nat_cmp) (names_view cut.names.items)) }
-    ensures plan { IfOk result (λ a. IsPlan (problem_view problem.now) (planned_view a)) }
+    ensures plan { IfOk result (λ a. (inputs : Inputs) → IsCounted problem.now inputs → IsPlan (problem_view problem.now inputs) (planned_view a)) }
     ensures ordered { IfOk result (λ a. IsOrdered (planned_view a)) }
     ensures whole { IfOk result (λ a. IsWhole (planned_view a)) }
 {
     let Problem {
         old,
         totals,
-        exposure,
+        counts,
         ..
     } = problem;
     // Called for what their contracts say: a rule's total is from 1 to 2^31-1, and limits are lawful.
@@ -217,7 +227,8 @@ fn answer(
     let _limits = totals.entries();
     match solved {
         Solved::Plan(assignment, certificate) => {
-            let rule = spread(alloc, old, exposure, instance, assignment)?;
+            let counts = counts.as_slice();
+            let rule = spread(alloc, old, counts, instance, assignment)?;
             // Called for the same of the new rule, which a plan file is to hold.
             let _total = rule.total();
             Ok(Planned::Emit(rule, certificate))

@@ -1,5 +1,5 @@
 -- What is told of an answer, by what its parts told.
-use Rattle.std.proofs.Common.{◌≡◌, ◌≢◌, Result, Ok, Err, refl, sym, ap, subst}
+use Rattle.std.proofs.Common.{◌≡◌, ◌≢◌, Result, Ok, Err, refl}
 use Rattle.transport_instance.specs.declared.fault.CheckFault.{CheckFault}
 use Rattle.plan_text.specs.Answer.{Answer}
 use Rattle.rollout_checks.specs.Lawful.{Problem, IsLawful}

@@ -1,8 +1,8 @@
 -- Entries of a total that is planned on make a rule, however they are refined.
-use Rattle.std.proofs.Common.{◌≡◌, ◌≢◌, ℕ, ◌*◌, ◌<◌, ◌≤◌, ◌^◌, Result, Ok, Err, refl, sym, ap, ◌∙◌, arith}
+use Rattle.std.proofs.Common.{◌≡◌, ◌≢◌, ℕ, ◌*◌, ◌<◌, ◌≤◌, Result, Ok, Err, ap, arith}
 use Rattle.std.proofs.Math.Nat.{mul-pos}
 use Rattle.bucket_core.specs.Reading.{rule_of_entries}
-use Rattle.bucket_core.specs.Rule.{Entries, IsRuleTotal, total_weight, refinement}
+use Rattle.bucket_core.specs.Rule.{Entries, total_weight, refinement}
 use Rattle.bucket_core.specs.declared.fault.RuleFault.{RuleFault}
 use Rattle.bucket_core.specs.declared.fault.RuleFault.TheVariants as rule
 use Rattle.bucket_core.proofs.Refined.{total_weight-refinement}

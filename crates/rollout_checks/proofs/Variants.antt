@@ -1,5 +1,5 @@
 -- Each name of the rule that is planned on has limits: it is a variant of the flag.
-use Rattle.std.proofs.Common.{◌≡◌, ℕ, zero, suc, ◌+◌, ◌*◌, ◌<◌, ⊎_elim, List, [], ◌∷◌, length, get_or, Bool, true, false, cond, Option, Some, None, is_some, Less, Equal, Greater, Ordering, refl, sym, ap, ◌∙◌, subst, arith}
+use Rattle.std.proofs.Common.{◌≡◌, ℕ, zero, suc, ⊎_elim, List, [], ◌∷◌, length, get_or, true, false, Some, is_some, Less, Equal, Greater, Ordering, refl, sym, ap, ◌∙◌, subst, arith}
 use Rattle.std.specs.BTreeMap.{insert_entry}
 use Rattle.std.specs.Cmp.Lexicographic.{slice_cmp}
 use Rattle.std.specs.List.{All, Contains, list_all}

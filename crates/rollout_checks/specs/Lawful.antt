@@ -1,5 +1,5 @@
 -- Which requests are lawful, and what they ask: the rule that is planned on, limits, prices, and the inputs that count.
-use Rattle.std.specs.Prelude.{ℕ, ◌<◌, ◌*◌, ◌/◌, ◌%◌, ◌==◌, ◌&&◌, ◌||◌, nat_lt, Bool, List, map, sum_by, is_some, Option, Some, None, if◌then◌else◌, Result, Ok, Err}
+use Rattle.std.specs.Prelude.{◌≡◌, ◌≢◌, ℕ, ◌<◌, ◌≤◌, ◌*◌, ◌/◌, ◌%◌, ◌==◌, ◌||◌, nat_lt, Bool, List, length, sum_by, is_some, Option, Some, None, if◌then◌else◌, Result, Ok, Err}
 use Rattle.std.specs.List.{list_all}
 use Rattle.std.specs.Map.{keys_of, lookup}
 use Rattle.std.specs.Str.{bytes_eq}
@@ -10,7 +10,8 @@ use Rattle.logic_ast.specs.declared.fault.LogicFault.{LogicFault}
 use Rattle.flag_documents.specs.Definition.{Definition}
 use Rattle.flag_documents.specs.Document.{Definitions}
 use Rattle.flag_documents.specs.Flag.{flag_view, variant_of, variant_names, targeting_in}
-use Rattle.book_core.specs.Book.{Contents, Inputs, inputs_on}
+use Rattle.book_core.specs.Book.{Contents, Inputs, inputs_on, most_inputs}
+use Rattle.book_core.specs.Counts.{counts_of}
 use Rattle.book_core.specs.Page.{PageName}
 use Rattle.book_core.specs.Site.{page_at}
 use Rattle.price_core.specs.Limits.{Limits, AreLimits}
@@ -130,5 +131,22 @@ IsRefining (ToTotal n) = 0 < n
 abbrev pub place_view : program.Place → Place
 place_view p = record { flag = flag_view p.flag.now; entries = entries_view p.entries.items; page = p.page }
 
-abbrev pub problem_view : program_problem.Problem → Problem
-problem_view p = record { old = p.old; limits = p.totals; pricing = p.request.prices; inputs = p.exposure }
+-- what is asked, with these inputs
+abbrev pub problem_view : program_problem.Problem → Inputs → Problem
+problem_view p inputs = record { old = p.old; limits = p.totals; pricing = p.request.prices; inputs = inputs }
+
+-- so many of these inputs fall on each point of the rule that is planned on
+abbrev pub IsCounted : program_problem.Problem → Inputs → Type 0
+IsCounted p inputs = p.counts.items ≡ counts_of inputs (total_weight p.old)
+
+-- what is asked is this, with inputs of which so many fall on each point, and no more than a page takes
+pub record IsPosed (p : program_problem.Problem) (asked : Result Problem RolloutFault) : Type 0 where
+  pub inputs : Inputs
+  pub is : asked ≡ Ok (problem_view p inputs)
+  pub counted : IsCounted p inputs
+  pub few : length inputs ≤ most_inputs
+
+-- What is posed of a request: what it asks, with how many of its inputs fall on each point, or its refusal, unless that is want of memory.
+abbrev pub PosesUnless : RolloutFault → Result program_problem.Problem RolloutFault → Result Problem RolloutFault → Type 0
+PosesUnless want (Ok p) asked = IsPosed p asked
+PosesUnless want (Err e) asked = e ≢ want → asked ≡ Err e

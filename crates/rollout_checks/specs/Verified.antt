@@ -1,5 +1,5 @@
 -- When an answer to a rollout request is right, and what is told where it is not.
-use Rattle.std.specs.Prelude.{◌≡◌, ◌≢◌, ℕ, List, Result, Ok, Err}
+use Rattle.std.specs.Prelude.{◌≡◌, ◌≢◌, Result, Ok, Err}
 use Rattle.bucket_core.specs.Rule.{Entries, total_weight}
 use Rattle.transport_instance.specs.Certificate.{IsCertified}
 use Rattle.transport_instance.specs.Deficient.{IsDeficient}

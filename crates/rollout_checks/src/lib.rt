@@ -1,4 +1,4 @@
-//! What a rollout request asks of a flag document and a book, and whether an answer to it is right, whoever made it.
+//! What a rollout request asks of a flag document and of recorded inputs, and whether an answer to it is right, whoever made it.
 //!
 //! [`problem_of`] looks up the flag, its site and the page of its inputs, and refuses what is no lawful request; [`verify`] and
 //! [`verify_refined`] check an answer on it. The planner, and what puts a rule at a site, stand above, in the crate rollout.

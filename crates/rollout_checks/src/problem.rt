@@ -7,16 +7,17 @@ ghost use Rattle.flag_documents.specs.Flag.{flag_view, is_broken};
 ghost use Rattle.flag_defs.specs.Flags.{flags_view};
 ghost use Rattle.price_core.specs.Request.{max_request};
 ghost use Rattle.price_core.specs.declared.fault.PriceFault.TheVariants.{BadRequest};
-ghost use Rattle.rollout_checks.specs.Lawful.{IsRefining, max_planned, problem_of, problem_at, sized, place_view, problem_view};
+ghost use Rattle.rollout_checks.specs.Lawful.{IsRefining, PosesUnless, max_planned, problem_of, problem_at, sized, place_view};
 
 use crate::fault::RolloutFault;
 use crate::place::{Place, limits_for, place_of};
 use crate::refining::Refining;
-use book_core::{Book, Exposure};
 use bucket_core::{Rule, total_weight};
 use flag_defs::Flags;
+use page_tally::Recorded;
 use price_core::{Request, Totals};
 use std::alloc::Global;
+use std::thread::Threads;
 
 /// The largest total that is planned on.
 const MAX_PLANNED: u128 = 1_000_000;
@@ -30,42 +31,45 @@ pub struct Problem {
     pub totals: Totals,
     /// What is asked, with its prices.
     pub request: Request,
-    /// The inputs that count.
-    pub exposure: Exposure,
+    /// How many of the inputs that count fall on each of that rule's points.
+    pub counts: Vec<u32>,
 }
 
-/// What the bytes of a request ask of the flags and the book, where it is lawful. The condition is a factor from 1.
+/// What the bytes of a request ask of the flags and of what was recorded, where it is lawful. The condition is a factor
+/// from 1.
 ///
 /// It refuses an unlawful request, in this order, with `Request`, `UnknownFlag`, `NoSite`, `Computed`, `NoWeight`,
 /// `UnknownVariant`, `TotalsSum` and `TotalTooLarge`. A request above its limit or that is not UTF-8 is refused before memory
 /// is taken.
-pub fn problem_of(
+pub fn problem_of<R: Threads + Sync, B: Recorded>(
+    rt: &R,
     alloc: Global,
     refining: Refining,
     flags: &Flags,
     request: &[u8],
-    book: &Book,
+    book: &B,
 ) -> Result<Problem, RolloutFault>
     requires { IsRefining refining }
-    ensures exact { GivesUnless RolloutFault.WantOfMemory problem_view result (problem_of refining (flags_view flags.now) request.now book.now) }
+    ensures exact { PosesUnless RolloutFault.WantOfMemory result (problem_of refining (flags_view flags.now) request.now (B.contents book.now)) }
     ensures large { max_request < length request.now → IsErrOf result (RolloutFault.Request BadRequest) }
     ensures no_text { length request.now ≤ max_request → is_utf8 request.now ≡ false → IsErrOf result (RolloutFault.Request BadRequest) }
 {
     let request = Request::read(alloc, request)?;
     let place = place_of(alloc, flags, request.flag(), request.site())?;
-    problem_at(alloc, refining, book, request, place)
+    problem_at(rt, alloc, refining, book, request, place)
 }
 
-fn problem_at(
+fn problem_at<R: Threads + Sync, B: Recorded>(
+    rt: &R,
     alloc: Global,
     refining: Refining,
-    book: &Book,
+    book: &B,
     request: Request,
     place: Place<'_>,
 ) -> Result<Problem, RolloutFault>
     requires lawful { IsRefining refining }
     requires good { is_broken (flag_view place.flag.now) ≡ false }
-    ensures { GivesUnless RolloutFault.WantOfMemory problem_view result (problem_at refining book.now request (place_view place.entry)) }
+    ensures { PosesUnless RolloutFault.WantOfMemory result (problem_at refining (B.contents book.now) request (place_view place.entry)) }
 {
     let total = total_weight(place.entries.as_slice());
     if total == 0 {
@@ -76,12 +80,12 @@ fn problem_at(
     check_size(&totals, total, factor)?;
     let Place { entries, page, .. } = place;
     let old = refined(alloc, entries, factor)?;
-    let exposure = book.exposure(alloc, &page)?;
+    let counts = book.tally(rt, alloc, &page, old.total())?;
     Ok(Problem {
         old,
         totals,
         request,
-        exposure,
+        counts,
     })
 }
 

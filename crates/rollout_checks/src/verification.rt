@@ -1,11 +1,14 @@
 //! Whether an answer is right, whoever made it.
 ghost use Rattle.std.specs.Prelude.{◌≡◌, ◌<◌, ◌≤◌, false, length, OnOk, IsErrOf, MatchResult};
 ghost use Rattle.std.specs.Str.{is_utf8};
+ghost use Rattle.book_core.specs.Book.{Inputs};
+ghost use Rattle.bucket_core.specs.Rule.{total_weight};
 ghost use Rattle.flag_defs.specs.Flags.{flags_view};
 ghost use Rattle.price_core.specs.Request.{max_request};
 ghost use Rattle.price_core.specs.declared.fault.PriceFault.TheVariants.{BadRequest};
 ghost use Rattle.plan_text.specs.Answer.{planned_view};
-ghost use Rattle.rollout_checks.specs.Lawful.{IsLawful, IsRefining, problem_of, problem_view};
+ghost use Rattle.transport_instance.specs.Tally.{IsTally};
+ghost use Rattle.rollout_checks.specs.Lawful.{IsCounted, IsLawful, IsRefining, problem_of, problem_view};
 ghost use Rattle.rollout_checks.specs.Verified.{IsOutcome, Proves, Shows, Denies, IsShown, refining_for};
 ghost use Rattle.rollout_checks.specs.declared.fault.RolloutFault.{RolloutFault};
 ghost use Rattle.rollout_checks.specs.declared.refining.Refining.TheVariants.{Times};
@@ -13,8 +16,8 @@ ghost use Rattle.rollout_checks.specs.declared.refining.Refining.TheVariants.{Ti
 use crate::problem::{Problem, problem_of};
 use crate::refining::Refining;
 use crate::verify_fault::VerifyFault;
-use book_core::Book;
 use flag_defs::Flags;
+use page_tally::Recorded;
 use plan_text::Planned;
 use std::alloc::Global;
 use std::thread::Threads;
@@ -25,16 +28,16 @@ use transport_core::{CheckFault, check_cut, check_plan};
 ///
 /// It refuses with `Request` where the request is refused, and then with `Check` as [`check_plan`] or [`check_cut`] does. A
 /// request above its limit or that is not UTF-8 is refused before memory is taken.
-pub fn verify(
-    rt: &(impl Threads + Sync),
+pub fn verify<R: Threads + Sync, B: Recorded>(
+    rt: &R,
     alloc: Global,
     flags: &Flags,
     request: &[u8],
-    book: &Book,
+    book: &B,
     planned: &Planned,
 ) -> Result<(), VerifyFault>
-    ensures exact { IsOutcome (problem_of (refining_for (planned_view planned.now)) (flags_view flags.now) request.now book.now) (planned_view planned.now) result }
-    ensures shown { OnOk result (IsShown (problem_of (refining_for (planned_view planned.now)) (flags_view flags.now) request.now book.now) (planned_view planned.now)) }
+    ensures exact { IsOutcome (problem_of (refining_for (planned_view planned.now)) (flags_view flags.now) request.now (B.contents book.now)) (planned_view planned.now) result }
+    ensures shown { OnOk result (IsShown (problem_of (refining_for (planned_view planned.now)) (flags_view flags.now) request.now (B.contents book.now)) (planned_view planned.now)) }
     ensures large { max_request < length request.now → IsErrOf result (VerifyFault.Request (RolloutFault.Request BadRequest)) }
     ensures no_text { length request.now ≤ max_request → is_utf8 request.now ≡ false → IsErrOf result (VerifyFault.Request (RolloutFault.Request BadRequest)) }
 {
@@ -50,18 +53,18 @@ pub fn verify(
 }
 
 /// As [`verify`], with the site's rule refined by m for both kinds of answer. The condition is m from 1.
-pub fn verify_refined(
-    rt: &(impl Threads + Sync),
+pub fn verify_refined<R: Threads + Sync, B: Recorded>(
+    rt: &R,
     alloc: Global,
     flags: &Flags,
     request: &[u8],
-    book: &Book,
+    book: &B,
     planned: &Planned,
     m: u32,
 ) -> Result<(), VerifyFault>
     requires { 0 < m }
-    ensures exact { IsOutcome (problem_of (Times m) (flags_view flags.now) request.now book.now) (planned_view planned.now) result }
-    ensures shown { OnOk result (IsShown (problem_of (Times m) (flags_view flags.now) request.now book.now) (planned_view planned.now)) }
+    ensures exact { IsOutcome (problem_of (Times m) (flags_view flags.now) request.now (B.contents book.now)) (planned_view planned.now) result }
+    ensures shown { OnOk result (IsShown (problem_of (Times m) (flags_view flags.now) request.now (B.contents book.now)) (planned_view planned.now)) }
     ensures large { max_request < length request.now → IsErrOf result (VerifyFault.Request (RolloutFault.Request BadRequest)) }
     ensures no_text { length request.now ≤ max_request → is_utf8 request.now ≡ false → IsErrOf result (VerifyFault.Request (RolloutFault.Request BadRequest)) }
 {
@@ -78,35 +81,31 @@ fn refining_for(planned: &Planned) -> Refining
     }
 }
 
-fn verify_by(
-    rt: &(impl Threads + Sync),
+fn verify_by<R: Threads + Sync, B: Recorded>(
+    rt: &R,
     alloc: Global,
     refining: Refining,
     flags: &Flags,
     request: &[u8],
-    book: &Book,
+    book: &B,
     planned: &Planned,
 ) -> Result<(), VerifyFault>
     requires { IsRefining refining }
-    ensures exact { IsOutcome (problem_of refining (flags_view flags.now) request.now book.now) (planned_view planned.now) result }
-    ensures shown { OnOk result (IsShown (problem_of refining (flags_view flags.now) request.now book.now) (planned_view planned.now)) }
+    ensures exact { IsOutcome (problem_of refining (flags_view flags.now) request.now (B.contents book.now)) (planned_view planned.now) result }
+    ensures shown { OnOk result (IsShown (problem_of refining (flags_view flags.now) request.now (B.contents book.now)) (planned_view planned.now)) }
     ensures large { max_request < length request.now → IsErrOf result (VerifyFault.Request (RolloutFault.Request BadRequest)) }
     ensures no_text { length request.now ≤ max_request → is_utf8 request.now ≡ false → IsErrOf result (VerifyFault.Request (RolloutFault.Request BadRequest)) }
 {
-    let problem = problem_of(alloc, refining, flags, request, book)?;
-    check(rt, alloc, &problem, planned)?;
+    let problem = problem_of(rt, alloc, refining, flags, request, book)?;
+    check(alloc, &problem, planned)?;
     Ok(())
 }
 
-fn check(
-    rt: &(impl Threads + Sync),
-    alloc: Global,
-    problem: &Problem,
-    planned: &Planned,
-) -> Result<(), CheckFault>
-    ensures exact { MatchResult result (λ _. Proves (problem_view problem.now) (planned_view planned.now)) (Denies (problem_view problem.now) (planned_view planned.now)) }
-    ensures shown { OnOk result (Shows (problem_view problem.now) (planned_view planned.now)) }
-    ensures lawful { IsLawful (problem_view problem.now) }
+fn check(alloc: Global, problem: &Problem, planned: &Planned) -> Result<(), CheckFault>
+    requires { IsTally (total_weight problem.now.old) problem.now.counts.items }
+    ensures exact { (inputs : Inputs) → IsCounted problem.now inputs → MatchResult result (λ _. Proves (problem_view problem.now inputs) (planned_view planned.now)) (Denies (problem_view problem.now inputs) (planned_view planned.now)) }
+    ensures shown { OnOk result ((inputs : Inputs) → IsCounted problem.now inputs → Shows (problem_view problem.now inputs) (planned_view planned.now)) }
+    ensures lawful { (inputs : Inputs) → IsLawful (problem_view problem.now inputs) }
 {
     // Called for what their contracts say: a rule's total is from 1 to 2^31-1, and limits are lawful.
     let _weight = problem.old.total();
@@ -114,13 +113,12 @@ fn check(
     let prices = problem.request.prices();
     match planned {
         Planned::Emit(rule, certificate) => check_plan(
-            rt,
             alloc,
             &problem.old,
             rule,
             &problem.totals,
             prices,
-            &problem.exposure,
+            problem.counts.as_slice(),
             certificate,
         ),
         Planned::NoneExists(cut) => { check_cut(alloc, &problem.old, &problem.totals, prices, cut) }

@@ -6,24 +6,24 @@ use Rattle.rollout.proofs.planner.plan_by.Goals as goal
 
 pub plan_on-requires-clause-small : goal.plan_on-requires-clause-small
 plan_on-requires-clause-small g c =
-    (lawful_small c.args.refining (flags_view c.args.flags.now) c.args.request.now c.args.book.now (problem_view c.in_ok-problem.problem) c.len-count.ensures.lawful c.in_ok-problem.ensures.exact).small
+    (lawful_small c.args.refining (flags_view c.args.flags.now) c.args.request.now (g.B.Recorded.contents c.args.book.now) (problem_view c.in_ok-problem.problem c.in_ok-problem.ensures.exact.inputs) c.len-count.ensures.lawful c.in_ok-problem.ensures.exact.is).small
 
 pub plan_on-requires-clause-few : goal.plan_on-requires-clause-few
 plan_on-requires-clause-few g c =
-    (lawful_small c.args.refining (flags_view c.args.flags.now) c.args.request.now c.args.book.now (problem_view c.in_ok-problem.problem) c.len-count.ensures.lawful c.in_ok-problem.ensures.exact).few
+    (lawful_small c.args.refining (flags_view c.args.flags.now) c.args.request.now (g.B.Recorded.contents c.args.book.now) (problem_view c.in_ok-problem.problem c.in_ok-problem.ensures.exact.inputs) c.len-count.ensures.lawful c.in_ok-problem.ensures.exact.is).few
 
 pub plan_on-requires-clause-listed : goal.plan_on-requires-clause-listed
 plan_on-requires-clause-listed g c =
-    (lawful_small c.args.refining (flags_view c.args.flags.now) c.args.request.now c.args.book.now (problem_view c.in_ok-problem.problem) c.len-count.ensures.lawful c.in_ok-problem.ensures.exact).listed
+    (lawful_small c.args.refining (flags_view c.args.flags.now) c.args.request.now (g.B.Recorded.contents c.args.book.now) (problem_view c.in_ok-problem.problem c.in_ok-problem.ensures.exact.inputs) c.len-count.ensures.lawful c.in_ok-problem.ensures.exact.is).listed
 
 pub plan_on-requires-clause-met : goal.plan_on-requires-clause-met
 plan_on-requires-clause-met g c =
-    (lawful_small c.args.refining (flags_view c.args.flags.now) c.args.request.now c.args.book.now (problem_view c.in_ok-problem.problem) c.len-count.ensures.lawful c.in_ok-problem.ensures.exact).met
+    (lawful_small c.args.refining (flags_view c.args.flags.now) c.args.request.now (g.B.Recorded.contents c.args.book.now) (problem_view c.in_ok-problem.problem c.in_ok-problem.ensures.exact.inputs) c.len-count.ensures.lawful c.in_ok-problem.ensures.exact.is).met
 
 pub returns-in_err-problem-clause-spent : goal.returns-in_err-problem-clause-spent
-returns-in_err-problem-clause-spent g c = spends_none (problem_of c.args.refining (flags_view c.args.flags.now) c.args.request.now c.args.book.now) c.args.effort.now
+returns-in_err-problem-clause-spent g c = spends_none (problem_of c.args.refining (flags_view c.args.flags.now) c.args.request.now (g.B.Recorded.contents c.args.book.now)) c.args.effort.now
 
 pub returns-clause-spent : goal.returns-clause-spent
 returns-clause-spent g c =
-    spends_of (problem_of c.args.refining (flags_view c.args.flags.now) c.args.request.now c.args.book.now) (problem_view c.in_ok-problem.problem) c.args.effort.now c.plan_on.new.effort
-    c.in_ok-problem.ensures.exact c.plan_on.ensures.spent
+    spends_of (problem_of c.args.refining (flags_view c.args.flags.now) c.args.request.now (g.B.Recorded.contents c.args.book.now)) (problem_view c.in_ok-problem.problem c.in_ok-problem.ensures.exact.inputs) c.args.effort.now c.plan_on.new.effort
+    c.in_ok-problem.ensures.exact.is (c.plan_on.ensures.spent c.in_ok-problem.ensures.exact.inputs c.in_ok-problem.ensures.exact.counted)

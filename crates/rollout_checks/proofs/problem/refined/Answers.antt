@@ -1,4 +1,4 @@
-use Rattle.std.proofs.Common.{sym, ap}
+use Rattle.std.proofs.Common.{ap}
 use Rattle.std.proofs.lemmas.Result.{err_from_is_err_and}
 use Rattle.bucket_core.specs.Reading.{rule_of_entries}
 use Rattle.bucket_core.specs.Rule.{refinement, entries_view}
