@@ -9,8 +9,10 @@
 //!   refusal comes first in its order.
 //! - [`problem_of`] gives what a lawful request asks, or its first refusal (`Lawful`, `Refined`); [`has_names_of`] tells whether
 //!   each name of a rule's entries is a variant of the flag.
+//! - [`read_book_for`] gives the book of a file, or that file's first fault, and has counted what a request asks of it.
 #![tactic(auto)]
 
+mod asked;
 mod fault;
 mod place;
 mod problem;
@@ -18,6 +20,7 @@ mod refining;
 mod verification;
 mod verify_fault;
 
+pub use asked::read_book_for;
 pub use fault::RolloutFault;
 pub use place::has_names_of;
 pub use problem::{Problem, problem_of};

@@ -20,7 +20,7 @@ use std::alloc::Global;
 use std::thread::Threads;
 
 /// The largest total that is planned on.
-const MAX_PLANNED: u128 = 1_000_000;
+pub(crate) const MAX_PLANNED: u128 = 1_000_000;
 
 /// What a lawful request asks: what is planned on, or an answer is checked against.
 #[derive(Drop)]
