@@ -7,9 +7,9 @@ use Rattle.flagops_commands.specs.Drive.{KeepsUnlessDone}
 use Rattle.flagops_files.specs.Files.{Holding}
 use Rattle.flagops_files.specs.Refusal.{call_of, is_unread, is_want, unreadable, unwritable}
 use Rattle.flagops_files.specs.Report.{IsFileRefusal, Report, outcome_view, report_of}
-use Rattle.flagops_files.specs.Told.{NamesOne, RemarksOrWants}
+use Rattle.flagops_files.specs.Told.{NamesOne, RemarksOrWants, Says}
 use Rattle.flagops_files.specs.declared.refused.Remark.{Remark}
-use Rattle.flagops_commands.specs.Subjects.{subjects_of}
+use Rattle.flagops_commands.specs.Subjects.{notes_of, remark_of, subjects_of}
 use Rattle.flagops_files.specs.declared.files.LoadFault.TheVariants as load
 use Rattle.flagops_files.specs.declared.files.StoreFault.TheVariants as store
 use Rattle.flagops_files.specs.declared.outcome.Outcome.{Outcome}
@@ -77,24 +77,24 @@ not_of_file r (inl e) = cc
 not_of_file r (inr e) = cc
 
 module _ (files after : Option Holding) (failed : Bool) (asked : Asked) where
-  pub done : (o : Outcome) → IfSome files (λ at. IsOutcome at after asked (Ok (outcome_view o)))
-      → IfSome files (λ at. RemarksOrWants (calls_of asked) (NamesOne (subjects_of asked)) (Ok o) (IsRunOutcome at after failed asked))
-  done o is = go files is
+  pub done : (o : Outcome) → IfSome files (λ at. IsOutcome at after asked (Ok (outcome_view o))) → IfSome files (λ at. IfSome o.remark (Says (notes_of at asked)))
+      → IfSome files (λ at. RemarksOrWants (calls_of asked) (remark_of at asked) (Ok o) (IsRunOutcome at after failed asked))
+  done o is noted = go files is noted
     where
-      go : (h : Option Holding) → IfSome h (λ at. IsOutcome at after asked (Ok (outcome_view o)))
-          → IfSome h (λ at. RemarksOrWants (calls_of asked) (NamesOne (subjects_of asked)) (Ok o) (IsRunOutcome at after failed asked))
-      go None is = tt
-      go (Some at) is = (Ok (outcome_view o), (is, not_of_file (outcome_view o)), refl, tt)
+      go : (h : Option Holding) → IfSome h (λ at. IsOutcome at after asked (Ok (outcome_view o))) → IfSome h (λ at. IfSome o.remark (Says (notes_of at asked)))
+          → IfSome h (λ at. RemarksOrWants (calls_of asked) (remark_of at asked) (Ok o) (IsRunOutcome at after failed asked))
+      go None is noted = tt
+      go (Some at) is noted = (Ok (outcome_view o), (is, not_of_file (outcome_view o)), refl, noted)
 
   pub refused : (was : Bool) (e : Refused) (r : Result Outcome Call) → IfSome files (λ at. is_want e.refusal ≡ false → IsOutcome at after asked (Err e.refusal)) → calls_of asked (call_of e.refusal) ≡ true
       → failed ≡ (was || is_unread e.refusal) → (is_want e.refusal ≡ false → NamesOne (subjects_of asked) e.refusal e.remark)
       → IfOk r (λ o. (is_want e.refusal ≡ false) × (outcome_view o ≡ report_of (Err e.refusal))) → IfErr r (λ c. c ≡ call_of e.refusal) → IfOk r (λ o. o.remark ≡ Some e.remark)
-      → IfSome files (λ at. RemarksOrWants (calls_of asked) (NamesOne (subjects_of asked)) r (IsRunOutcome at after failed asked))
+      → IfSome files (λ at. RemarksOrWants (calls_of asked) (remark_of at asked) r (IsRunOutcome at after failed asked))
   refused was e r is calls fails told line named kept = go files r is line named kept
     where
       go : (h : Option Holding) (r : Result Outcome Call) → IfSome h (λ at. is_want e.refusal ≡ false → IsOutcome at after asked (Err e.refusal))
           → IfOk r (λ o. (is_want e.refusal ≡ false) × (outcome_view o ≡ report_of (Err e.refusal))) → IfErr r (λ c. c ≡ call_of e.refusal) → IfOk r (λ o. o.remark ≡ Some e.remark)
-          → IfSome h (λ at. RemarksOrWants (calls_of asked) (NamesOne (subjects_of asked)) r (IsRunOutcome at after failed asked))
+          → IfSome h (λ at. RemarksOrWants (calls_of asked) (remark_of at asked) r (IsRunOutcome at after failed asked))
       go None r is line named kept = tt
       go (Some at) (Ok o) is line named kept =
           (Err e.refusal, (is line.0, has_failed was failed e.refusal fails), line.1, subst (λ (m : Option Remark). IfSome m (NamesOne (subjects_of asked) e.refusal)) (sym kept) (told line.0))

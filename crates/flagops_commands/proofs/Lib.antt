@@ -5,6 +5,7 @@ mod Distinct
 mod Gathered
 pub mod Hexadecimal
 pub mod Leaving
+mod Noted
 pub mod Refusing
 pub mod Valid
 pub mod Verdicts

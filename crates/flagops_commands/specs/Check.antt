@@ -1,15 +1,16 @@
 -- What the command `check` answers.
-use Rattle.std.specs.Prelude.{◌≡◌, ℕ, Bool, false, ◌||◌, List, [], ◌∷◌, ◌++◌, codes, if◌then◌else◌, Result}
+use Rattle.std.specs.Prelude.{◌≡◌, ℕ, Bool, false, ◌||◌, List, [], ◌∷◌, ◌++◌, codes, if◌then◌else◌, Result, Ok}
 use Rattle.flag_text.specs.Shape.{text}
 use Rattle.flag_text.specs.Printing.{text_of}
 use Rattle.flag_documents.specs.Definition.{Definition}
 use Rattle.flag_documents.specs.Document.{Definitions}
 use Rattle.flag_documents.specs.Flag.{is_broken}
 use Rattle.flagops_files.specs.Documents.{IsDocumentAt}
-use Rattle.flagops_files.specs.Files.{Holding}
-use Rattle.flagops_files.specs.Loading.{◌>>=◌}
+use Rattle.flagops_files.specs.Files.{Holding, load_of}
+use Rattle.flagops_files.specs.Loading.{◌>>=◌, max_text}
 use Rattle.flagops_files.specs.Report.{Outcomes, Report, beside, done}
 use Rattle.flagops_files.specs.declared.refusal.Refusal.{Refusal}
+use Rattle.flagops_remarks.specs.Broken.{TellsBroken}
 
 abbrev pub good_or_broken : Definition → List ℕ
 good_or_broken d = if is_broken d then codes " broken\n" else codes " good\n"
@@ -23,6 +24,10 @@ check_text (f ∷ fs) = text_of (text f.0) ++ (good_or_broken f.1 ++ check_text 
 abbrev pub has_broken : Definitions → Bool
 has_broken [] = false
 has_broken (f ∷ fs) = is_broken f.1 || has_broken fs
+
+-- what is told of the broken flags of the document at a path
+abbrev pub TellsBrokenAt : Holding → List ℕ → List ℕ → Type 0
+TellsBrokenAt at path lines = (bytes : List ℕ) × (load_of at path max_text ≡ Ok bytes) × TellsBroken bytes lines
 
 -- these lines; a person is told beside them where a flag is broken
 abbrev pub check_report : Definitions → Result Report Refusal

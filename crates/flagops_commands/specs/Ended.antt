@@ -2,11 +2,11 @@
 use Rattle.std.specs.Prelude.{◌≡◌, ◌⊎◌, ℕ, Bool, true, false, List, Option, None, IfSome}
 use Rattle.clap.specs.Walk.{Text}
 use Rattle.flagops_commands.specs.Commands.{can_want, IsRunOutcome}
-use Rattle.flagops_commands.specs.Subjects.{subjects_of}
+use Rattle.flagops_commands.specs.Subjects.{remark_of}
 use Rattle.flagops_commands.specs.Telling.{Complains, TellsWords, Wants}
 use Rattle.flagops_files.specs.Files.{Holding}
 use Rattle.flagops_files.specs.Report.{Answers, IsFileRefusal, Outcomes, Report, ReportsAll, is_of_file}
-use Rattle.flagops_files.specs.Told.{AnswersTold, NamesOne}
+use Rattle.flagops_files.specs.Told.{AnswersTold}
 use Rattle.flagops_files.specs.declared.refusal.Call.{Call}
 use Rattle.flagops_words.specs.Words.{asked_by}
 
@@ -33,10 +33,10 @@ module _ {O E : Type 0} (bytes : O → Option (List ℕ)) (is_broken : O → Boo
   TellsUnasked words = asked_by words ≡ None → TellsWords (bytes out) (bytes out') (is_broken out') (told err) (told err') (is_mute err') status words
 
   module _ {F : Type 0} (holding : F → Option Holding) (has_failed : F → Bool) (files files' : F) where
-    -- over files whose bytes are known, the report of what the command comes to; a person is told what was refused, by its name
+    -- over files whose bytes are known, the report of what the command comes to; a person is told what was refused, by its name, or which flags are broken
     abbrev pub AnswersAsked : List Text → Type 0
     AnswersAsked words = IfSome (asked_by words) (λ asked. IfSome (holding files) (λ at.
-        AnswersTold (can_want asked) (NamesOne (subjects_of asked)) (bytes out) (bytes out') (is_broken out') (told err) (told err') (is_mute err') status
+        AnswersTold (can_want asked) (remark_of at asked) (bytes out) (bytes out') (is_broken out') (told err) (told err') (is_mute err') status
         (IsRunOutcome at (holding files') (has_failed files') asked)))
 
     -- whatever the files hold, a read or a write that failed is what is reported

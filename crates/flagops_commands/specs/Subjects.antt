@@ -1,16 +1,19 @@
--- What each command may be refused for: the files at its paths and its words, each with the refusals that are of it. By their
--- names a person is told what was refused.
-use Rattle.std.specs.Prelude.{ℕ, Bool, true, false, List, [], ◌∷◌, ◌++◌, ◌||◌, codes}
+-- What a person is told. Of a refusal it is the name of what was refused: of each command the files at its paths and its words
+-- stand here, each with the refusals that are of it.
+use Rattle.std.specs.Prelude.{ℕ, Bool, true, false, List, [], ◌∷◌, ◌++◌, Ok, Err, Result, codes}
 use Rattle.flagops_drive.specs.declared.fault.DriveRefusal.{DriveRefusal}
 use Rattle.flagops_drive.specs.declared.fault.DriveRefusal.TheVariants as driving
 use Rattle.flagops_files.specs.Question.{question_subjects}
 use Rattle.flagops_files.specs.Refusal.{loads_flags, loads_plan, loads_rule, loads_tree, stores_file}
-use Rattle.flagops_files.specs.Told.{Subjects, by, file, word, neither}
+use Rattle.flagops_files.specs.Told.{NamesOne, Remarks, Says, Subjects, by, file, word, neither}
 use Rattle.flagops_files.specs.declared.refusal.Call.{Call}
 use Rattle.flagops_files.specs.declared.refusal.Call.TheVariants as call
 use Rattle.flagops_files.specs.declared.refusal.PriceMismatch.TheVariants.{Weight, BadKeys}
 use Rattle.flagops_files.specs.declared.refusal.Refusal.{Refusal}
 use Rattle.flagops_files.specs.declared.refusal.Refusal.TheVariants.{Note, Price, Plan, PrintPlanned, Verify, Apply, Drive}
+use Rattle.flagops_files.specs.Files.{Holding}
+use Rattle.flagops_files.specs.declared.refused.Remark.{Remark}
+use Rattle.flagops_commands.specs.Check.{TellsBrokenAt}
 use Rattle.flagops_commands.specs.Calls.{loads_request}
 use Rattle.flagops_remarks.specs.Named.{Names}
 use Rattle.flagops_words.specs.Asked.{Asked, bucket, price, check, resolve, verify, apply, plan, drive, completions}
@@ -108,3 +111,16 @@ subjects_of (plan document request book refine) = plan_subjects document request
 subjects_of (apply document answer key site) = apply_subjects document answer
 subjects_of (drive document asks workers book) = drive_subjects document asks book
 subjects_of (completions shell) = []
+
+-- what a person is told beside the report of a command that was not refused: which flags are broken, and that the book has
+-- no input for the request
+abbrev pub notes_of : Holding → Asked → List ℕ → Type 0
+notes_of at (check document) = TellsBrokenAt at document
+notes_of at (verify document request book answer refine) = Names book
+notes_of at (plan document request book refine) = Names book
+notes_of at asked = λ lines. Unit {0}
+
+-- the remark on what a command comes to
+abbrev pub remark_of : Holding → Asked → Remarks
+remark_of at asked (Ok report) remark = Says (notes_of at asked) remark
+remark_of at asked (Err e) remark = NamesOne (subjects_of asked) e remark

@@ -1,12 +1,12 @@
 //! The table of the commands, and what each answers.
-ghost use Rattle.std.specs.Prelude.{◌≡◌, ◌||◌, false, IfSome};
+ghost use Rattle.std.specs.Prelude.{◌≡◌, ◌||◌, false, IfOk, IfSome};
 ghost use Rattle.flagops_commands.specs.Commands.{calls_of, IsOutcome, Leaves, waits};
 ghost use Rattle.flagops_commands.specs.Drive.{KeepsUnlessDone};
 ghost use Rattle.flagops_words.specs.Asked.{asked_view};
 ghost use Rattle.flagops_files.specs.Refusal.{ComesFrom, GivesOne, is_file_fault};
 ghost use Rattle.flagops_files.specs.Report.{outcome_view};
-ghost use Rattle.flagops_files.specs.Told.{TellsOfOne};
-ghost use Rattle.flagops_commands.specs.Subjects.{subjects_of};
+ghost use Rattle.flagops_files.specs.Told.{Says, TellsOfOne};
+ghost use Rattle.flagops_commands.specs.Subjects.{notes_of, subjects_of};
 
 use crate::books::drive::drive;
 use crate::completions::completions;
@@ -25,7 +25,7 @@ use std::thread::Threads;
 
 /// What the command answers, or why it is refused. `drive` waits for its workers; each other command is done without a
 /// handle to wait by, so it returns.
-#[tactic(auto, using(crate::proofs::Refusing::all_kept))]
+#[tactic(auto, using(crate::proofs::Noted::nothing, crate::proofs::Noted::anyway, crate::proofs::Refusing::all_kept))]
 pub fn outcome<R: Threads + Wait + Sync, F: FileSet>(
     rt: &R,
     alloc: Global,
@@ -38,6 +38,7 @@ pub fn outcome<R: Threads + Wait + Sync, F: FileSet>(
     ensures left { Leaves (asked_view asked.now) (F.holding files.old) (F.holding files.new) }
     ensures kept { KeepsUnlessDone (F.holding files.old) (F.holding files.new) result }
     ensures names { TellsOfOne (subjects_of (asked_view asked.now)) result }
+    ensures notes { IfSome (F.holding files.old) (λ at. IfOk result (λ o. IfSome o.remark (Says (notes_of at (asked_view asked.now))))) }
 {
     match asked {
         Asked::Drive {
@@ -51,7 +52,7 @@ pub fn outcome<R: Threads + Wait + Sync, F: FileSet>(
 }
 
 /// The same of a command that waits for nobody.
-#[tactic(auto, using(crate::proofs::Refusing::all_kept))]
+#[tactic(auto, using(crate::proofs::Noted::nothing, crate::proofs::Noted::anyway, crate::proofs::Refusing::all_kept))]
 fn outcome_at_once<R: Threads + Sync, F: FileSet>(
     rt: &R,
     alloc: Global,
@@ -65,6 +66,7 @@ fn outcome_at_once<R: Threads + Sync, F: FileSet>(
     ensures left { Leaves (asked_view asked.now) (F.holding files.old) (F.holding files.new) }
     ensures kept { KeepsUnlessDone (F.holding files.old) (F.holding files.new) result }
     ensures names { TellsOfOne (subjects_of (asked_view asked.now)) result }
+    ensures notes { IfSome (F.holding files.old) (λ at. IfOk result (λ o. IfSome o.remark (Says (notes_of at (asked_view asked.now))))) }
 {
     match asked {
         Asked::Bucket { rule, key } => bucket(alloc, files, rule, key),

@@ -6,8 +6,8 @@ ghost use Rattle.flagops_commands.specs.Ended.{AnswersAsked, AnswersStored, Answ
 ghost use Rattle.flagops_commands.specs.Commands.{calls_of, IsRunOutcome, Leaves, LeavesAsked};
 ghost use Rattle.flagops_commands.specs.Drive.{KeepsUnlessDone};
 ghost use Rattle.flagops_files.specs.Refusal.{call_of, is_want};
-ghost use Rattle.flagops_files.specs.Told.{NamesOne, RemarksOrWants};
-ghost use Rattle.flagops_commands.specs.Subjects.{subjects_of};
+ghost use Rattle.flagops_files.specs.Told.{RemarksOrWants};
+ghost use Rattle.flagops_commands.specs.Subjects.{remark_of};
 ghost use Rattle.flagops_files.specs.Report.{AnswersOrWants, PutsText, is_of_file, IsFileRefusal, outcome_view, report_of};
 ghost use Rattle.flagops_commands.specs.Telling.{Tells};
 ghost use Rattle.flagops_words.specs.Words.{asked_by};
@@ -67,7 +67,7 @@ fn answer<R: Threads + Wait + Sync, F: FileSet>(
     files: &mut F,
     asked: &Asked<'_>,
 ) -> Result<Outcome, Call>
-    ensures exact { IfSome (F.holding files.old) (λ at. RemarksOrWants (calls_of (asked_view asked.now)) (NamesOne (subjects_of (asked_view asked.now))) result (IsRunOutcome at (F.holding files.new) (F.has_failed files.new) (asked_view asked.now))) }
+    ensures exact { IfSome (F.holding files.old) (λ at. RemarksOrWants (calls_of (asked_view asked.now)) (remark_of at (asked_view asked.now)) result (IsRunOutcome at (F.holding files.new) (F.has_failed files.new) (asked_view asked.now))) }
     ensures unread { F.has_failed files.old ≡ false → F.has_failed files.new ≡ true → AnswersOrWants is_of_file result IsFileRefusal }
     ensures left { Leaves (asked_view asked.now) (F.holding files.old) (F.holding files.new) }
     ensures kept { KeepsUnlessDone (F.holding files.old) (F.holding files.new) result }

@@ -64,27 +64,21 @@ abbrev pub PutsRemark : Option (List ℕ) → Option (List ℕ) → Bool → Opt
 PutsRemark old new is_broken None = new ≡ old
 PutsRemark old new is_broken (Some remark) = Puts old new is_broken (spoken (remark_text remark))
 
--- a remark on a refusal says this of it
+-- a remark on what a command comes to says this of it
 abbrev pub Remarks : Type 1
-Remarks = Refusal → Remark → Type 0
+Remarks = Result Report Refusal → Remark → Type 0
 
--- what a command comes to has such a remark, where it is a refusal
-abbrev pub HasRemark : Remarks → Result Report Refusal → Option Remark → Type 0
-HasRemark Says (Ok report) remark = Unit {0}
-HasRemark Says (Err e) remark = IfSome remark (Says e)
-
--- and the remark is told
+-- where a person is told something of it, such a remark is told
 abbrev pub TellsRemark : Remarks → Option (List ℕ) → Option (List ℕ) → Bool → Result Report Refusal → Type 0
-TellsRemark Says old new is_broken (Ok report) = Unit {0}
-TellsRemark Says old new is_broken (Err e) = (remark : Remark) × Says e remark × PutsRemark old new is_broken (Some remark)
+TellsRemark IsRemark old new is_broken r = (report_of r).is_told ≡ true → (remark : Remark) × IsRemark r remark × PutsRemark old new is_broken (Some remark)
 
--- `AnswersOrWants`, with the remark on a refusal
+-- `AnswersOrWants`, with the remark
 abbrev pub RemarksOrWants : (Call → Bool) → Remarks → Result Outcome Call → Outcomes → Type 0
-RemarksOrWants calls Says (Ok o) IsOutcome = (r : Result Report Refusal) × IsOutcome r × (outcome_view o ≡ report_of r) × HasRemark Says r o.remark
-RemarksOrWants calls Says (Err c) IsOutcome = calls c ≡ true
+RemarksOrWants calls IsRemark (Ok o) IsOutcome = (r : Result Report Refusal) × IsOutcome r × (outcome_view o ≡ report_of r) × IfSome o.remark (IsRemark r)
+RemarksOrWants calls IsRemark (Err c) IsOutcome = calls c ≡ true
 
--- `Answers`, with what is told of a refusal
+-- `Answers`, with what is told
 abbrev pub AnswersTold : (Call → Bool) → Remarks → Option (List ℕ) → Option (List ℕ) → Bool → Option (List ℕ) → Option (List ℕ) → Bool → ℕ → Outcomes → Type 0
-AnswersTold calls Says out out_after is_broken err err_after is_err_broken status IsOutcome =
-    ((r : Result Report Refusal) × IsOutcome r × ReportsAll out out_after is_broken err err_after is_err_broken status (report_of r) × TellsRemark Says err err_after is_err_broken r)
+AnswersTold calls IsRemark out out_after is_broken err err_after is_err_broken status IsOutcome =
+    ((r : Result Report Refusal) × IsOutcome r × ReportsAll out out_after is_broken err err_after is_err_broken status (report_of r) × TellsRemark IsRemark err err_after is_err_broken r)
     ⊎ ((c : Call) × (calls c ≡ true) × ReportsAll out out_after is_broken err err_after is_err_broken status (want_report c))

@@ -1,7 +1,9 @@
 //! From the path of a flag document to its flags.
-ghost use Rattle.std.specs.Prelude.{◌≡◌, ◌||◌, false, IfSome};
+ghost use Rattle.std.specs.Prelude.{◌≡◌, ◌||◌, false, IfOk, IfSome, Ok};
 ghost use Rattle.flag_defs.specs.Flags.{flags_view};
 ghost use Rattle.flagops_files.specs.Documents.{IsDocumentAt, IsDocumentIn};
+ghost use Rattle.flagops_files.specs.Files.{load_of};
+ghost use Rattle.flagops_files.specs.Loading.{max_text};
 ghost use Rattle.flagops_files.specs.Refusal.{ComesFrom, GivesOne, is_file_fault, loads_flags, reads_flags};
 ghost use Rattle.flagops_files.specs.Told.{TellsOf, file};
 
@@ -40,6 +42,7 @@ pub fn load_document<F: FileSet>(
     path: &str,
 ) -> Result<Document, Refused>
     ensures exact { IfSome (F.holding files.old) (λ at. GivesOne (λ d. flags_view d.flags) result (IsDocumentAt at path.now)) }
+    ensures bytes { IfSome (F.holding files.old) (λ at. IfOk result (λ d. load_of at path.now max_text ≡ Ok d.bytes.items)) }
     ensures calls { ComesFrom loads_flags result }
     ensures failed { F.has_failed files.new ≡ (F.has_failed files.old || is_file_fault result) }
     ensures kept { F.holding files.new ≡ F.holding files.old }

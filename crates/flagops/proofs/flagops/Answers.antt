@@ -3,8 +3,8 @@ use Rattle.flagops.specs.First.{WhereFiles, WhereFollow, WhereServe}
 use Rattle.flagops_commands.specs.Commands.{can_want, IsRunOutcome}
 use Rattle.flagops_commands.specs.Telling.{TellsWords, Wants}
 use Rattle.flagops_files.specs.Report.{Answers, IsFileRefusal, Report, ReportsAll, is_of_file}
-use Rattle.flagops_files.specs.Told.{AnswersTold, NamesOne}
-use Rattle.flagops_commands.specs.Subjects.{subjects_of}
+use Rattle.flagops_files.specs.Told.{AnswersTold}
+use Rattle.flagops_commands.specs.Subjects.{remark_of}
 use Rattle.flagops_network.specs.Loading.{AnswersTo}
 use Rattle.flagops_network.specs.Mistakes.{TellsOne}
 use Rattle.flagops_network.specs.Words.{follow_by, follow_faults, serve_by, serve_faults}
@@ -18,7 +18,7 @@ use Rattle.flagops.proofs.flagops.Goals as goal
 pub returns-in-Ok-clause-answers : goal.returns-in-Ok-clause-answers
 returns-in-Ok-clause-answers g c =
     carried (λ (l : List g.row.S.Denot) (s : ℕ). WhereFiles (map g.S.AsStr.text l) (IfSome (asked_by (map g.S.AsStr.text l)) (λ asked. IfSome (g.F.FileSet.holding c.args.files.now) (λ at.
-    AnswersTold (can_want asked) (NamesOne (subjects_of asked)) (g.O.Outlet.bytes c.args.out.now) (g.O.Outlet.bytes c.status_of.new.out) (g.O.Outlet.is_broken c.status_of.new.out)
+    AnswersTold (can_want asked) (remark_of at asked) (g.O.Outlet.bytes c.args.out.now) (g.O.Outlet.bytes c.status_of.new.out) (g.O.Outlet.is_broken c.status_of.new.out)
     (g.E.Outlet.bytes c.args.err.now) (g.E.Outlet.bytes c.status_of.new.err) (g.E.Outlet.is_broken c.status_of.new.err) s (IsRunOutcome at (g.F.FileSet.holding c.status_of.new.files) (g.F.FileSet.has_failed c.status_of.new.files) asked)))))
     (λ w. w.items) _ _ _ _ _ c.in-Ok.is c.as_slice.ensures.value c.from.ensures c.status_of.ensures.answers
 

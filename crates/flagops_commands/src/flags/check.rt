@@ -2,11 +2,12 @@
 ghost use Rattle.std.specs.Prelude.{◌≡◌, ◌++◌, ◌||◌, false, drop, is_some, IfOk, IfSome, string_bytes};
 ghost use Rattle.flag_documents.specs.Flag.{flag_view};
 ghost use Rattle.flag_defs.specs.Flags.{flags_view};
-ghost use Rattle.flagops_commands.specs.Check.{IsCheckReport, check_report, check_text, good_or_broken, has_broken};
+ghost use Rattle.flagops_remarks.specs.Broken.{TellsBroken};
+ghost use Rattle.flagops_commands.specs.Check.{IsCheckReport, TellsBrokenAt, check_report, check_text, good_or_broken, has_broken};
 ghost use Rattle.flagops_commands.specs.Calls.{check_calls, check_itself};
 ghost use Rattle.flagops_files.specs.Refusal.{ComesFrom, GivesOne, GivesUnlessWant, is_file_fault};
 ghost use Rattle.flagops_files.specs.Report.{outcome_view};
-ghost use Rattle.flagops_files.specs.Told.{TellsOfOne};
+ghost use Rattle.flagops_files.specs.Told.{Says, TellsOfOne};
 ghost use Rattle.flagops_commands.specs.Subjects.{check_subjects};
 
 use flag_defs::{Flag, Flags};
@@ -17,13 +18,14 @@ use flagops_remarks::of_breaches;
 use std::alloc::{AllocError, Global};
 
 /// A line for each flag of a document, by key: whether it is good or broken. A person is told why each broken one is.
-#[tactic(auto, unfolding(crate::specs::Check::IsCheckReport))]
+#[tactic(auto, using(crate::proofs::Noted::read), unfolding(crate::specs::Check::IsCheckReport))]
 pub fn check<F: FileSet>(alloc: Global, files: &mut F, document: &str) -> Result<Outcome, Refused>
     ensures exact { IfSome (F.holding files.old) (λ at. GivesOne outcome_view result (IsCheckReport at document.now)) }
     ensures calls { ComesFrom check_calls result }
     ensures failed { F.has_failed files.new ≡ (F.has_failed files.old || is_file_fault result) }
     ensures kept { F.holding files.new ≡ F.holding files.old }
     ensures names { TellsOfOne (check_subjects document.now) result }
+    ensures notes { IfSome (F.holding files.old) (λ at. IfOk result (λ o. IfSome o.remark (Says (TellsBrokenAt at document.now)))) }
 {
     let Document { bytes, flags } = load_document(alloc, files, document)?;
     checked(alloc, &flags, bytes.as_slice())
@@ -34,6 +36,7 @@ fn checked(alloc: Global, flags: &Flags, document: &[u8]) -> Result<Outcome, Ref
     ensures exact { GivesUnlessWant outcome_view result (check_report (flags_view flags.now)) }
     ensures calls { ComesFrom check_itself result }
     ensures read { is_file_fault result ≡ false }
+    ensures notes { IfOk result (λ o. IfSome o.remark (Says (TellsBroken document.now))) }
 {
     match lines(alloc, flags) {
         Ok(text) => Ok(Outcome {
@@ -49,8 +52,10 @@ fn checked(alloc: Global, flags: &Flags, document: &[u8]) -> Result<Outcome, Ref
 }
 
 /// Why each broken flag is broken, where there is one.
+#[tactic(auto, using(flagops_files::proofs::Told::says))]
 fn remark(alloc: Global, flags: &Flags, document: &[u8]) -> Option<Remark>
-    ensures { is_some result ≡ has_broken (flags_view flags.now) }
+    ensures told { is_some result ≡ has_broken (flags_view flags.now) }
+    ensures notes { IfSome result (Says (TellsBroken document.now)) }
 {
     if has_broken(flags) {
         Some(Remark::of(of_breaches(alloc, document)))

@@ -7,7 +7,8 @@ ghost use Rattle.flagops_files.specs.Question.{question_view};
 ghost use Rattle.flagops_commands.specs.Calls.{plan_calls, prints_plan};
 ghost use Rattle.flagops_files.specs.Refusal.{ComesFrom, GivesOne, GivesUnlessWant, is_file_fault};
 ghost use Rattle.flagops_files.specs.Report.{beside, outcome_view, status_number};
-ghost use Rattle.flagops_files.specs.Told.{TellsOfOne, file, neither};
+ghost use Rattle.flagops_remarks.specs.Named.{Names};
+ghost use Rattle.flagops_files.specs.Told.{Says, TellsOfOne, file, neither};
 ghost use Rattle.flagops_commands.specs.Subjects.{is_of_request, is_of_size, plan_subjects};
 
 use crate::rollouts::unrecorded::unrecorded;
@@ -38,6 +39,7 @@ pub fn plan<R: Threads + Sync, F: FileSet>(
     ensures failed { F.has_failed files.new ≡ (F.has_failed files.old || is_file_fault result) }
     ensures kept { F.holding files.new ≡ F.holding files.old }
     ensures names { TellsOfOne (plan_subjects document.now request.now book.now) result }
+    ensures notes { IfOk result (λ o. IfSome o.remark (Says (Names book.now))) }
 {
     let question = load_question(alloc, files, document, request, book)?;
     answer(rt, alloc, request, book, &question, refine)
@@ -57,6 +59,7 @@ fn answer(
     ensures calls { ComesFrom prints_plan result }
     ensures read { is_file_fault result ≡ false }
     ensures names { TellsOfOne ((file request.now, is_of_request) ∷ (neither, is_of_size) ∷ []) result }
+    ensures notes { IfOk result (λ o. IfSome o.remark (Says (Names book.now))) }
 {
     let planned = match planned(rt, alloc, question, refine) {
         Ok(planned) => planned,
@@ -104,6 +107,7 @@ fn printed(alloc: Global, planned: &Planned, remark: Option<Remark>) -> Result<O
     ensures calls { ComesFrom prints_plan result }
     ensures read { is_file_fault result ≡ false }
     ensures names { TellsOfOne ((neither, is_of_size) ∷ []) result }
+    ensures remark { IfOk result (λ o. o.remark ≡ remark) }
 {
     match print_planned_line(alloc, planned) {
         Ok(text) => Ok(Outcome {

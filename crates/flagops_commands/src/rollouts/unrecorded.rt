@@ -1,10 +1,12 @@
 //! Whether the book has no input for a request, which a person is told.
-ghost use Rattle.std.specs.Prelude.{◌≡◌, Some, is_some, option_map, IfOk};
+ghost use Rattle.std.specs.Prelude.{◌≡◌, Some, is_some, option_map, IfOk, IfSome, string_bytes};
 ghost use Rattle.logic_ast.specs.Expr.{view};
 ghost use Rattle.flag_documents.specs.Flag.{flag_view};
 ghost use Rattle.flag_defs.specs.Flags.{flags_view};
 ghost use Rattle.flagops_commands.specs.Unrecorded.{is_bare, is_unrecorded, page_asked, page_in};
 ghost use Rattle.flagops_files.specs.Question.{question_view};
+ghost use Rattle.flagops_files.specs.Told.{Says};
+ghost use Rattle.flagops_remarks.specs.Named.{Names};
 
 use book_core::{Book, Page};
 use flag_defs::{Flag, Flags};
@@ -20,7 +22,8 @@ pub fn unrecorded(
     path: &str,
     question: &Question,
 ) -> Result<Option<Remark>, AllocError>
-    ensures { IfOk result (λ r. is_some r ≡ is_unrecorded (question_view question.now)) }
+    ensures told { IfOk result (λ r. is_some r ≡ is_unrecorded (question_view question.now)) }
+    ensures notes { IfOk result (λ r. IfSome r (Says (Names path.now))) }
 {
     match Request::read(alloc, question.request.as_slice()) {
         Ok(request) => {
@@ -63,8 +66,10 @@ fn page_in(
 }
 
 /// What is told of a page without inputs.
+#[tactic(auto, using(flagops_files::proofs::Told::says))]
 fn remark(alloc: Global, path: &str, book: &Book, page: Option<Page>) -> Option<Remark>
-    ensures { is_some result ≡ is_bare book.now page }
+    ensures told { is_some result ≡ is_bare book.now page }
+    ensures notes { IfSome result (Says (Names path.now)) }
 {
     match page {
         Some(page) if book.has_none(&page) => Some(Remark::of(lines(alloc, path, book, &page))),
@@ -72,7 +77,9 @@ fn remark(alloc: Global, path: &str, book: &Book, page: Option<Page>) -> Option<
     }
 }
 
-fn lines(alloc: Global, path: &str, book: &Book, page: &Page) -> Result<String, AllocError> {
+fn lines(alloc: Global, path: &str, book: &Book, page: &Page) -> Result<String, AllocError>
+    ensures { IfOk result (λ s. Names path.now (string_bytes s)) }
+{
     let others = book.pages_of(alloc, page.flag.as_str())?;
     of_unrecorded(alloc, path, page, others.as_slice())
 }

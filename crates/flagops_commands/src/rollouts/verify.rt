@@ -6,7 +6,8 @@ ghost use Rattle.flagops_commands.specs.Calls.{verify_calls, verify_itself};
 ghost use Rattle.flagops_files.specs.Refusal.{ComesFrom, GivesOne, GivesUnlessWant, is_file_fault};
 ghost use Rattle.flagops_files.specs.Report.{beside, done, outcome_view};
 ghost use Rattle.flagops_commands.specs.Verify.{IsVerdict, IsVerifyReport, MayBeTold, valid_text};
-ghost use Rattle.flagops_files.specs.Told.{TellsOfOne, file};
+ghost use Rattle.flagops_remarks.specs.Named.{Names};
+ghost use Rattle.flagops_files.specs.Told.{Says, TellsOfOne, file};
 ghost use Rattle.flagops_commands.specs.Subjects.{NamesVerified, is_of_answer, is_of_request, verify_subjects};
 
 use crate::rollouts::plan::factor_of;
@@ -38,6 +39,7 @@ pub fn verify<R: Threads + Sync, F: FileSet>(
     ensures failed { F.has_failed files.new ≡ (F.has_failed files.old || is_file_fault result) }
     ensures kept { F.holding files.new ≡ F.holding files.old }
     ensures names { TellsOfOne (verify_subjects document.now request.now book.now plan.now) result }
+    ensures notes { IfOk result (λ o. IfSome o.remark (Says (Names book.now))) }
 {
     let question = load_question(alloc, files, document, request, book)?;
     let planned = load_planned(alloc, files, plan)?;
@@ -71,6 +73,7 @@ fn verdict(
     ensures calls { ComesFrom verify_itself result }
     ensures read { is_file_fault result ≡ false }
     ensures names { TellsOfOne ((file paths.entry.request.now, is_of_request) ∷ (file paths.entry.plan.now, is_of_answer) ∷ []) result }
+    ensures notes { IfOk result (λ o. IfSome o.remark (Says (Names paths.entry.book.now))) }
 {
     if let Err(fault) = verified(rt, alloc, question, planned, refine) {
         let lines = lines_on(alloc, paths, question, planned, refine, &fault);
@@ -93,6 +96,7 @@ fn valid(alloc: Global, planned: &Planned, remark: Option<Remark>) -> Result<Out
     ensures exact { GivesUnlessWant outcome_view result (beside (is_some remark) (done (valid_text (planned_view planned.now)))) }
     ensures calls { ComesFrom verify_itself result }
     ensures read { is_file_fault result ≡ false }
+    ensures remark { IfOk result (λ o. o.remark ≡ remark) }
 {
     match valid_line(alloc, planned) {
         Ok(text) => Ok(Outcome {

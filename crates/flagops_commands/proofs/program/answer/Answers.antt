@@ -3,7 +3,7 @@ use Rattle.flagops_commands.proofs.Leaving.{done, refused, refused_kept}
 use Rattle.flagops_commands.proofs.program.answer.Goals as goal
 
 pub returns-in-Ok-clause-exact : goal.returns-in-Ok-clause-exact
-returns-in-Ok-clause-exact g c = done _ _ _ (asked_view c.args.asked.now) c.in-Ok.outcome c.in-Ok.ensures.exact
+returns-in-Ok-clause-exact g c = done _ _ _ (asked_view c.args.asked.now) c.in-Ok.outcome c.in-Ok.ensures.exact c.in-Ok.ensures.notes
 
 pub returns-in-Err-clause-exact : goal.returns-in-Err-clause-exact
 returns-in-Err-clause-exact g c =
