@@ -1,5 +1,5 @@
 //! What a rollout is asked over: the flags, a request, and the inputs that were recorded.
-ghost use Rattle.std.specs.Prelude.{◌≡◌, ◌||◌, IfSome};
+ghost use Rattle.std.specs.Prelude.{◌≡◌, ◌<◌, ◌||◌, IfSome};
 ghost use Rattle.flagops_files.specs.Question.{IsQuestionAt, book_at, question_subjects, question_view};
 ghost use Rattle.flagops_files.specs.Refusal.{ComesFrom, GivesOne, GivesUnlessWant, is_file_fault, loads_book, loads_question};
 ghost use Rattle.flagops_files.specs.Told.{TellsOf, TellsOfOne, file};
@@ -9,9 +9,10 @@ use crate::files::FileSet;
 use crate::loading::{TEXT_LIMIT, load};
 use crate::refusal::Refusal;
 use crate::refused::{Refused, Remark};
-use book_core::{Book, read_book};
 use flag_defs::Flags;
 use flagops_remarks::{of_book, of_unreadable};
+use page_tally::BookFile;
+use rollout_checks::{Refining, read_book_for};
 use std::alloc::Global;
 
 /// The largest book file, in bytes.
@@ -22,10 +23,12 @@ const BOOK_LIMIT: u64 = 1 << 40;
 pub struct Question {
     pub flags: Flags,
     pub request: Vec<u8>,
-    pub book: Book,
+    pub book: BookFile,
 }
 
-/// The question of the files at these paths, each loaded and read before the next.
+/// The question of the files at these paths, each loaded and read before the next. The inputs that the request is about are
+/// counted while the book is read, for the site's rule with each weight multiplied by the factor. The condition is a factor
+/// from 1.
 #[tactic(auto, unfolding(crate::specs::Question::IsQuestionAt))]
 pub fn load_question<F: FileSet>(
     alloc: Global,
@@ -33,7 +36,9 @@ pub fn load_question<F: FileSet>(
     document: &str,
     request: &str,
     book: &str,
+    factor: u32,
 ) -> Result<Question, Refused>
+    requires { 0 < factor }
     ensures exact { IfSome (F.holding files.old) (λ at. GivesOne question_view result (IsQuestionAt at document.now request.now book.now)) }
     ensures calls { ComesFrom loads_question result }
     ensures failed { F.has_failed files.new ≡ (F.has_failed files.old || is_file_fault result) }
@@ -42,7 +47,7 @@ pub fn load_question<F: FileSet>(
 {
     let flags = load_flags(alloc, files, document)?;
     let request = load(alloc, files, request, u64::from(TEXT_LIMIT))?;
-    let book = load_book(alloc, files, book)?;
+    let book = load_book(alloc, files, &flags, request.as_slice(), factor, book)?;
     Ok(Question {
         flags,
         request,
@@ -50,9 +55,17 @@ pub fn load_question<F: FileSet>(
     })
 }
 
-/// The book of the file at a path.
+/// The book of the file at a path, read for a request.
 #[tactic(auto, using(crate::proofs::Told::says), unfolding(crate::specs::Question::book_at))]
-fn load_book<F: FileSet>(alloc: Global, files: &mut F, path: &str) -> Result<Book, Refused>
+fn load_book<F: FileSet>(
+    alloc: Global,
+    files: &mut F,
+    flags: &Flags,
+    request: &[u8],
+    factor: u32,
+    path: &str,
+) -> Result<BookFile, Refused>
+    requires { 0 < factor }
     ensures exact { IfSome (F.holding files.old) (λ at. GivesUnlessWant (λ b. b) result (book_at at path.now)) }
     ensures calls { ComesFrom loads_book result }
     ensures failed { F.has_failed files.new ≡ (F.has_failed files.old || is_file_fault result) }
@@ -66,7 +79,7 @@ fn load_book<F: FileSet>(alloc: Global, files: &mut F, path: &str) -> Result<Boo
             remark: Remark::of(of_unreadable(alloc, path)),
         });
     }
-    match read_book(alloc, bytes.as_slice()) {
+    match read_book_for(alloc, Refining::Times(factor), flags, request, bytes) {
         Ok(book) => Ok(book),
         Err(fault) => Err(Refused {
             refusal: Refusal::ReadBook(fault),

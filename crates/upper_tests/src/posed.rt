@@ -1,5 +1,5 @@
 //! The problem of a request on the rule red 5, blue 5: what the checks and the planner are asked.
-use book_core::{Exposure, Page, read_book};
+use book_core::{Exposure, Page, counts, read_book};
 use bucket_core::{Rule, read_rule};
 use flag_text::read_tree;
 use price_core::{Request, Totals};
@@ -87,5 +87,8 @@ pub(crate) fn instance(alloc: Global, posed: &Problem) -> Result<Instance<'_>, C
     if !Instance::lists(old, totals) {
         return Err(CheckFault::Weight);
     }
-    Instance::make(alloc, old, totals, request.prices(), inputs)
+    // Called for what its contract says: there are at most 1,000,000 of them.
+    let _inputs = inputs.inputs();
+    let counts = counts(alloc, inputs, old.total())?;
+    Instance::make(alloc, old, totals, request.prices(), counts.as_slice())
 }

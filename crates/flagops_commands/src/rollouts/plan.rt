@@ -1,5 +1,5 @@
 //! The command `plan`: the answer of the planner to a rollout request.
-ghost use Rattle.std.specs.Prelude.{◌≡◌, ◌||◌, [], ◌∷◌, false, true, is_some, Ok, IfOk, IfSome, option_map};
+ghost use Rattle.std.specs.Prelude.{◌≡◌, ◌<◌, ◌||◌, [], ◌∷◌, false, true, is_some, Ok, IfOk, IfSome, option_map};
 ghost use Rattle.plan_text.specs.Answer.{IsOrdered, planned_view};
 ghost use Rattle.plan_text.specs.PlanFile.{IsWhole};
 ghost use Rattle.flagops_commands.specs.Plan.{Holds, IsPlanOf, IsPlanReport, MayBePlanned, plan_report, plan_status};
@@ -41,7 +41,7 @@ pub fn plan<R: Threads + Sync, F: FileSet>(
     ensures names { TellsOfOne (plan_subjects document.now request.now book.now) result }
     ensures notes { IfOk result (λ o. IfSome o.remark (Says (Names book.now))) }
 {
-    let question = load_question(alloc, files, document, request, book)?;
+    let question = load_question(alloc, files, document, request, book, factor_of(refine))?;
     answer(rt, alloc, request, book, &question, refine)
 }
 
@@ -132,7 +132,9 @@ fn status_of(planned: &Planned) -> Status
 }
 
 /// What the weights of the site are multiplied by.
-pub(crate) fn factor_of(refine: Option<Factor>) -> u32 {
+pub(crate) fn factor_of(refine: Option<Factor>) -> u32
+    ensures { 0 < result }
+{
     match refine {
         Some(m) => m.number,
         None => 1,

@@ -8,11 +8,12 @@ ghost use Rattle.flagops_files.specs.Question.{question_view};
 ghost use Rattle.flagops_files.specs.Told.{Says};
 ghost use Rattle.flagops_remarks.specs.Named.{Names};
 
-use book_core::{Book, Page};
+use book_core::{Book, BookFileFault, Page, read_book};
 use flag_defs::{Flag, Flags};
 use flagops_files::{Question, Remark};
 use flagops_remarks::of_unrecorded;
 use logic_ast::LogicFault;
+use page_tally::BookFile;
 use price_core::{PriceFault, Request};
 use std::alloc::{AllocError, Global};
 
@@ -28,7 +29,7 @@ pub fn unrecorded(
     match Request::read(alloc, question.request.as_slice()) {
         Ok(request) => {
             let page = page_asked(alloc, &question.flags, &request)?;
-            Ok(remark(alloc, path, &question.book, page))
+            remark(alloc, path, &question.book, page)
         }
         Err(PriceFault::WantOfMemory) => Err(AllocError),
         Err(_) => Ok(None),
@@ -67,19 +68,41 @@ fn page_in(
 
 /// What is told of a page without inputs.
 #[tactic(auto, using(flagops_files::proofs::Told::says))]
-fn remark(alloc: Global, path: &str, book: &Book, page: Option<Page>) -> Option<Remark>
-    ensures told { is_some result ≡ is_bare book.now page }
-    ensures notes { IfSome result (Says (Names path.now)) }
+fn remark(
+    alloc: Global,
+    path: &str,
+    book: &BookFile,
+    page: Option<Page>,
+) -> Result<Option<Remark>, AllocError>
+    ensures told { IfOk result (λ r. is_some r ≡ is_bare book.now page) }
+    ensures notes { IfOk result (λ r. IfSome r (Says (Names path.now))) }
 {
-    match page {
-        Some(page) if book.has_none(&page) => Some(Remark::of(lines(alloc, path, book, &page))),
-        _ => None,
+    let Some(page) = page else {
+        return Ok(None);
+    };
+    if book.has_none(alloc, &page)? {
+        Ok(Some(Remark::of(lines(alloc, path, book, &page))))
+    } else {
+        Ok(None)
     }
 }
 
-fn lines(alloc: Global, path: &str, book: &Book, page: &Page) -> Result<String, AllocError>
+fn lines(alloc: Global, path: &str, book: &BookFile, page: &Page) -> Result<String, AllocError>
     ensures { IfOk result (λ s. Names path.now (string_bytes s)) }
 {
+    let book = in_memory(alloc, book)?;
     let others = book.pages_of(alloc, page.flag.as_str())?;
     of_unrecorded(alloc, path, page, others.as_slice())
+}
+
+/// The book with its inputs.
+fn in_memory(alloc: Global, book: &BookFile) -> Result<Book, AllocError> {
+    match read_book(alloc, book.bytes()) {
+        Ok(book) => Ok(book),
+        Err(fault) => match fault {
+            BookFileFault::WantOfMemory => Err(AllocError),
+            // The file was read before.
+            _ => unreachable!(),
+        },
+    }
 }

@@ -41,7 +41,7 @@ pub fn verify<R: Threads + Sync, F: FileSet>(
     ensures names { TellsOfOne (verify_subjects document.now request.now book.now plan.now) result }
     ensures notes { IfOk result (λ o. IfSome o.remark (Says (Names book.now))) }
 {
-    let question = load_question(alloc, files, document, request, book)?;
+    let question = load_question(alloc, files, document, request, book, factor_of(refine))?;
     let planned = load_planned(alloc, files, plan)?;
     let paths = Paths {
         request,
