@@ -1,6 +1,6 @@
 -- What a person is told. Of a refusal it is the name of what was refused: of each command the files at its paths and its words
 -- stand here, each with the refusals that are of it.
-use Rattle.std.specs.Prelude.{ℕ, Bool, true, false, List, [], ◌∷◌, ◌++◌, Ok, Err, Result, codes}
+use Rattle.std.specs.Prelude.{ℕ, Bool, true, false, List, [], ◌∷◌, ◌++◌, Ok, Err, codes}
 use Rattle.flagops_drive.specs.declared.fault.DriveRefusal.{DriveRefusal}
 use Rattle.flagops_drive.specs.declared.fault.DriveRefusal.TheVariants as driving
 use Rattle.flagops_files.specs.Question.{question_subjects}
@@ -12,7 +12,6 @@ use Rattle.flagops_files.specs.declared.refusal.PriceMismatch.TheVariants.{Weigh
 use Rattle.flagops_files.specs.declared.refusal.Refusal.{Refusal}
 use Rattle.flagops_files.specs.declared.refusal.Refusal.TheVariants.{Note, Price, Plan, PrintPlanned, Verify, Apply, Drive}
 use Rattle.flagops_files.specs.Files.{Holding}
-use Rattle.flagops_files.specs.declared.refused.Remark.{Remark}
 use Rattle.flagops_commands.specs.Check.{TellsBrokenAt}
 use Rattle.flagops_commands.specs.Calls.{loads_request}
 use Rattle.flagops_remarks.specs.Named.{Names}
