@@ -13,7 +13,9 @@
 //! ```
 //!
 //! Each function makes the lines of one kind of fault from what is known of it: the path, the bytes, the tree, the names.
-//! Their wording is no one's contract; that something is told, and when, is said by the contracts of `flagops_commands`.
+//! Proved: the lines of a refusal begin with the path or the word that was refused (`specs/Named.antt`), and each broken flag
+//! has a line of its own, with its key and the member that its rule is about (`specs/Broken.antt`). The rest of their wording
+//! is no one's contract; that something is told, and when, is said by the contracts of `flagops_commands`.
 //! Want of memory is the one fault of all: the caller then tells a fixed sentence.
 #![tactic(auto)]
 
