@@ -82,6 +82,11 @@ PLANS = [
     (FIVES, RED_3, plan_of(alpha=GROUPS + ',["red",9,0]'), []),
     (FIVES, RED_3, plan_of(beta='["blue",0],["green",0],["pink",0],["red",0]'), []),
     (FIVES, RED_3, plan_of(rule='[["red",2],["blue",1],["red",2],["blue",5]]'), []),
+    (FIVES, request('"red":3,"blue":7', ',"price":0'), plan_of(rule='[["red",3],["blue",7]]'), []),
+    (FIVES, RED_3, plan_of(rule='[["red",2],["green",0],["blue",2],["red",1],["blue",5]]'), []),
+    (FIVES, RED_3, plan_of(alpha=GROUPS.replace('"red",0,0', '"red",0,-1')), []),
+    (FIVES, UNMET_RANGES, '{"none":["green"],"plan":2}', []),
+    ('["red",500001],["blue",500000]', request('"red":1000001', forbid(("blue", "red"))), none_of("blue"), []),
     (FIVES, request('"red":3,"blue":7', ',"site":1'), FREE, []),
     (FIVES, request('"red":3,"blue":7', ',"site":-1'), FREE, []),
     ('["red",500001],["blue",500000]', request('"red":500000,"blue":500001'), FREE, []),
@@ -238,10 +243,20 @@ class CheckPlan(unittest.TestCase):
                 flag = {"state": "ENABLED", "variants": {"red": 1, "blue": 2}, "targeting": {"if": [False, 1, {"fractional": buckets}]}}
                 files = {"d": json.dumps({"$evaluators": {"by": {"var": "k"}}, "flags": {"color": flag}}), "r": RED_3}
                 ask = {"key": "color", "want": "whole", "default": 0, "context": {"targetingKey": "t", "k": "test"}, "moment": 0}
-                files["b"] = run(["drive", *"da", "1", "b"], {**files, "a": json.dumps([ask])}).files["b"]
+                files["b"] = among_pages(run(["drive", *"da", "1", "b"], {**files, "a": json.dumps([ask])}).files["b"])
                 files["p"] = run(["plan", *"drb"], files).out
                 groups = {count for _, count, _ in json.loads(files["p"])["alpha"]}
                 self.assertEqual((groups, self.assert_agrees(files, [])), ({0, 1}, "valid cost 0\n"))
+
+
+def among_pages(book):
+    """A book of one page, with pages beside it of which each differs in one thing; the user of each lies on point 0 of 10."""
+    head, text = book.split("\n")[1:3]
+    page = json.loads(head)
+    others = [{**page, "flag": "a"}, {**page, "site": 1}, {**page, "by": "!" if page["by"] else '"!"'}]
+    pages = [(page, text), *((other, '""') for other in others)]
+    pages.sort(key=lambda one: (one[0]["flag"], one[0]["site"], one[0]["by"] or ""))
+    return '{"book":1}\n' + "".join(f"{json.dumps(one, ensure_ascii=False)}\n{text}\n" for one, text in pages)
 
 
 def changed(plan):
