@@ -26,7 +26,7 @@ from given import (
     plan_of,
     request,
 )
-from program import PROGRAM, ROOT, SECONDS, run
+from program import PROGRAM, ROOT, SECONDS, run, text_of
 from test_planner import Problem
 
 # The flags of the comparison, and what is asked: a flag for each way to answer.
@@ -198,6 +198,7 @@ class CompareFlagd(unittest.TestCase):
         self.assert_failed(self.compare([("plain", "whole", 9, 302, {})]))
         self.assert_failed(self.compare([("plain", "number", 9, 200, {"value": 1})]))
         self.assert_failed(self.compare(AGREEING, url=self.url + "/elsewhere"))
+        self.assert_failed(self.compare(AGREEING, url=self.url.removeprefix("http://")))
         self.assert_failed(script("compare_flagd.py", ["--program", PROGRAM, "d", "a"], {"d": DOCUMENT, "a": "["}))
 
     def assert_failed(self, ran):
@@ -219,6 +220,13 @@ class CheckPlan(unittest.TestCase):
         for buckets, asked, plan, words in PLANS:
             with self.subTest(buckets=buckets, asked=asked, plan=plan, words=words):
                 self.assert_agrees({"d": document(buckets), "r": asked, "b": BOOK, "p": plan}, words)
+
+    def test_the_demo(self):
+        """A surcharge below 0, once with its plan and once with another rule."""
+        demo = {"d": "flags/shop.json", "r": "rollout/request.json", "b": "rollout/book.txt", "p": "rollout/plan.json"}
+        files = {name: text_of(os.path.join(ROOT, "demo", path)) for name, path in demo.items()}
+        self.assertEqual(self.assert_agrees(files, []), "valid cost 1\n")
+        self.assert_agrees({**files, "p": text_of(os.path.join(ROOT, "demo", "rollout", "next.json"))}, [])
 
     def test_drawn_plans(self):
         """What is planned for drawn problems, and each of its numbers and names changed."""

@@ -18,7 +18,7 @@ import urllib.parse
 from typing import NamedTuple
 
 SHIPPED = os.path.join(os.path.dirname(os.path.dirname(os.path.abspath(__file__))), "release", "x86_64-linux", "flagops")
-ERRORS = (OSError, http.client.HTTPException, LookupError, TypeError, ValueError)
+ERRORS = (OSError, http.client.HTTPException, AttributeError, LookupError, TypeError, ValueError)
 
 
 class Answer(NamedTuple):
@@ -51,6 +51,8 @@ class Flagd:
 
     def __init__(self, url):
         parts = urllib.parse.urlsplit(url)
+        if parts.scheme not in ("http", "https") or not parts.hostname:
+            raise ValueError(f"{url} is no address as http://host:port")
         self.path = parts.path.rstrip("/") + "/ofrep/v1/evaluate/flags/"
         connection = http.client.HTTPSConnection if parts.scheme == "https" else http.client.HTTPConnection
         self.connection = connection(parts.hostname, parts.port, timeout=30)
