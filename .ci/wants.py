@@ -25,7 +25,8 @@ import sys
 # the reason. A line may move within its file; one that is added or taken away changes the number.
 TAKEN = {
     ("crates/book_lock/src/blanks.rt", "Err(Refused { slots: _ }) => Err(SeatsFault::WantOfMemory),"): (1, "a table is refused only where there is no memory for its words or its slots"),
-    ("crates/snap_share/src/publisher.rt", "return Err(ShareFault::WantOfMemory);"): (1, "`append` hands an operation back only where there is no memory"),
+    ("crates/snap_share/src/publisher.rt", "Err(_operation) => Err(ShareFault::WantOfMemory),"): (1, "`append` hands an operation back only where there is no memory"),
+    ("crates/snap_share/src/cell.rt", "Err(AllocError)"): (1, "so `left_right` is told that an operation has no stamp; `show` answers Closed then"),
     ("crates/sync_server/src/follow.rt", "return Some(ReadEnd::WantOfMemory);"): (1, "`vec!` answers no vector only where memory ran out"),
     ("crates/sync_server/src/read.rt", "None => (collected.snapshots, ReadEnd::WantOfMemory),"): (1, "the sink there is a list, which takes a snapshot unless memory ran out"),
     ("crates/sync_server/src/serve.rt", "return Err(StreamEnd::WantOfMemory);"): (1, "`write_frame` fails only where memory runs out"),

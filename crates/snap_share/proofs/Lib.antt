@@ -1,4 +1,5 @@
 pub mod Fronts
 pub mod Adding
 pub mod Numbers
+pub mod Shown
 pub mod Crossings

@@ -29,32 +29,33 @@ impl<J: ShareName> Places<J> {
     }
 }
 
-/// An operation on the copies.
+/// An operation on the copies: the stamp of this number, once its places have it, is current.
 #[derive(Drop)]
 pub struct Handover<J: ShareName> {
+    pub(crate) number: u64,
     pub(crate) places: Rc<Places<J>>,
 }
 
-// A stamp says itself what it is, so the copies need not be told alike. Absorbing never fails: it takes no memory, and an
-// operation without stamps leaves the copy.
+// What the copies have in common is the number of their stamps. An operation without its stamp is not absorbed.
 impl<J: ShareName> Absorb<Handover<J>> for Stamp<J> {
-    type State = ();
+    type State = u64;
 
-    ghost state = { λ stamp. tt };
+    ghost use Rattle.std.specs.Prelude.{length};
 
-    ghost applied = { λ before operation. tt };
+    ghost state = { λ stamp. length stamp };
 
-    ghost never_fails = { Unit {0} };
+    ghost applied = { λ before operation. operation.number };
 
     fn absorb_first(
         &mut self,
         operation: &Handover<J>,
         _other: &Stamp<J>,
     ) -> Result<(), AllocError> {
-        if let Some(stamp) = operation.places.first.replace(None) {
-            *self = stamp;
+        if self.becomes(operation.places.first.replace(None), operation.number) {
+            Ok(())
+        } else {
+            Err(AllocError)
         }
-        Ok(())
     }
 
     fn absorb_second(
@@ -62,10 +63,11 @@ impl<J: ShareName> Absorb<Handover<J>> for Stamp<J> {
         operation: Handover<J>,
         _other: &Stamp<J>,
     ) -> Result<(), Handover<J>> {
-        if let Some(stamp) = operation.places.second.replace(None) {
-            *self = stamp;
+        if self.becomes(operation.places.second.replace(None), operation.number) {
+            Ok(())
+        } else {
+            Err(operation)
         }
-        Ok(())
     }
 }
 

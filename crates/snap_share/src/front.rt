@@ -74,6 +74,14 @@ impl<J: ShareName> Front<J> {
         true
     }
 
+    /// Two of one length are the same.
+    pub(crate) fn agree(&self, other: &Front<J>)
+        requires { length self.now ≡ length other.now }
+        ensures { self.now ≡ other.now }
+    {
+        self.begins(other);
+    }
+
     /// Puts flags behind all that was seen, and says whether it did. It did not where the history is longer, which it is not
     /// while one publisher alone adds to it.
     pub(crate) fn add(&mut self, head: &Head<J>, flags: &Flags) -> bool

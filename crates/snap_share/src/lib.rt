@@ -23,7 +23,8 @@
 //! ```
 //!
 //! What is proved: publisher, seat and what was told each know a list of published flags, a beginning of one history that
-//! exists in proofs alone (`History`). Publishing puts the flags behind that list, and answers its length. A seat's list only
+//! exists in proofs alone (`History`). A publisher's list is the history up to the stamp that the shown copy has (`Shown`).
+//! Publishing puts the flags behind that list, and answers its length. A seat's list only
 //! grows: a snapshot that it answers is the last of its list, with the list's length as its number (`Known`).
 #![tactic(auto)]
 

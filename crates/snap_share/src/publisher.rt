@@ -1,6 +1,7 @@
 //! The one that publishes, and what it tells.
-ghost use Rattle.std.specs.Prelude.{◌≡◌, ◌≢◌, ◌+◌, ◌-◌, ◌<◌, ◌^◌, ◌++◌, ◌∷◌, ◌↔◌, [], true, length, Err, IfErr, IfOk, OnErr};
+ghost use Rattle.std.specs.Prelude.{◌≡◌, ◌≢◌, ◌+◌, ◌-◌, ◌<◌, ◌^◌, ◌++◌, ◌∷◌, ◌↔◌, [], true, drop, fold, length, Err, IfErr, IfOk, OnErr, OnOk};
 ghost use Rattle.snap_share.specs.Fault.{is_of_publish};
+ghost use Rattle.snap_share.specs.Shown.{TakesNumber};
 
 use crate::cell::{Handover, Places, StampWriter};
 use crate::fault::ShareFault;
@@ -11,24 +12,24 @@ use core::mem::replace_with;
 use crossbeam_utils::rule::Unruled;
 use flag_defs::Flags;
 use left_right::Absorb;
-use std::alloc::Global;
+use std::alloc::{AllocError, Global};
 use std::marker::Model;
 use std::rc::Rc;
 use std::sync::{Arc, Wait};
 
-/// Publishes flags. Contracts see it as all that were published. It is not dropped, but closed.
+/// Publishes flags. Contracts see it as the history up to the stamp that readers are shown. It is not dropped, but closed.
 pub struct Publisher<J: ShareName>
 where
-    Stamp<J>: Absorb<Handover<J>, State = ()>,
+    Stamp<J>: Absorb<Handover<J>, State = u64>,
 {
     pub(crate) writer: StampWriter<J>,
     pub(crate) head: Head<J>,
-    pub(crate) front: Front<J>,
+    ghost by_number: { TakesNumber (λ operation. operation.number) ⟦<Stamp<J> as Absorb<Handover<J>>>⟧.state ⟦<Stamp<J> as Absorb<Handover<J>>>⟧.applied },
 }
 
 impl<J: ShareName> Model for Publisher<J>
 where
-    Stamp<J>: Absorb<Handover<J>, State = ()>,
+    Stamp<J>: Absorb<Handover<J>, State = u64>,
 {
     ghost use Rattle.std.specs.Prelude.{List};
     ghost use Rattle.flag_defs.specs.declared.flags.Flags.{Flags};
@@ -39,28 +40,32 @@ where
 
     ghost coded = { Prim.hlevel (codes, entry.the_row.coded) };
 
-    ghost view = { λ publisher. publisher.front };
+    ghost view = { λ publisher. publisher.writer.desk.shown.value };
 
     ghost invariant = { λ publisher. Unit {0} };
 }
 
 impl<J: ShareName> Publisher<J>
 where
-    Stamp<J>: Absorb<Handover<J>, State = ()>,
+    Stamp<J>: Absorb<Handover<J>, State = u64>,
 {
-    pub(crate) fn of(writer: StampWriter<J>, head: Head<J>, front: Front<J>) -> Publisher<J>
-        ensures { result ≡ front }
+    pub(crate) fn of(writer: StampWriter<J>, head: Head<J>) -> Publisher<J>
+        requires { TakesNumber (λ operation. operation.number) ⟦<Stamp<J> as Absorb<Handover<J>>>⟧.state ⟦<Stamp<J> as Absorb<Handover<J>>>⟧.applied }
+        ensures { result ≡ writer.desk.shown.value }
     {
-        Publisher {
-            writer,
-            head,
-            front,
-        }
+        Publisher { writer, head }
+    }
+
+    /// What was published so far.
+    fn front(&self) -> &Front<J>
+        ensures { result.now ≡ self.now }
+    {
+        self.writer.published().front()
     }
 
     /// Publishes flags behind all others, and answers their number. It is refused with LastNumber where no number is left,
     /// and then nothing was published; else with WantOfMemory, or with Closed where another has added to the history, which
-    /// no publisher does. It waits for readers that still copy what was published before the last.
+    /// no publisher does, or the copies did not take the flags. It waits for readers that still copy what was published before the last.
     pub fn publish<R: Wait>(
         &mut self,
         rt: &R,
@@ -72,7 +77,7 @@ where
         ensures last { (result ≡ Err ShareFault.LastNumber) ↔ (length self.old ≡ 2 ^ 64 - 1) }
         ensures faults { IfErr result (λ fault. is_of_publish fault ≡ true) }
     {
-        if self.front.len() == u64::MAX {
+        if self.front().len() == u64::MAX {
             return Err(ShareFault::LastNumber);
         }
         self.publish_next(rt, alloc, flags)
@@ -95,22 +100,20 @@ where
         let first = Arc::new(alloc, flags)?;
         let second = Arc::try_clone(&first)?;
         let places = Rc::new(alloc, Places::empty())?;
+        let mut front = self.front().again();
         let operation = Handover {
+            number: front.len() + 1,
             places: places.clone()?,
         };
-        if self.writer.append(operation).is_err() {
-            return Err(ShareFault::WantOfMemory);
-        }
-        let mut front = self.front.again();
+        hand_over(&mut self.writer, operation)?;
         if !front.add(&self.head, &first) {
             return Err(ShareFault::Closed);
         }
         places.first.set(Some(Stamp::of(first, front.again())));
         places.second.set(Some(Stamp::of(second, front.again())));
-        show(rt, &mut self.writer);
-        let number = front.len();
-        self.front = front;
-        Ok(number)
+        show(rt, &mut self.writer)?;
+        front.agree(self.front());
+        Ok(front.len())
     }
 
     /// Tells what was published, for a seat to learn. It takes no memory.
@@ -119,7 +122,7 @@ where
         ensures stays { self.new ≡ self.old }
     {
         Told {
-            front: self.front.again(),
+            front: self.front().again(),
         }
     }
 
@@ -128,20 +131,45 @@ where
         let Publisher {
             writer,
             head: _head,
-            front: _front,
         } = self;
         writer.take(rt);
     }
 }
 
-/// Shows readers what was handed over.
-fn show<J: ShareName, R: Wait>(rt: &R, writer: &mut StampWriter<J>)
+/// Hands an operation over, which readers do not see yet. It is refused with WantOfMemory alone.
+fn hand_over<J: ShareName>(
+    writer: &mut StampWriter<J>,
+    operation: Handover<J>,
+) -> Result<(), ShareFault>
 where
-    Stamp<J>: Absorb<Handover<J>, State = ()>,
+    Stamp<J>: Absorb<Handover<J>, State = u64>,
+    ensures stays { writer.new.desk ≡ writer.old.desk }
+    ensures last { OnOk result (drop writer.new.behind writer.new.log.items ≡ drop writer.old.behind writer.old.log.items ++ operation ∷ []) }
+    ensures want { IfErr result (λ fault. fault ≡ ShareFault.WantOfMemory) }
 {
-    let _shown = replace_with(writer, rt, |writer: StampWriter<J>, rt: &R| {
+    match writer.append(operation) {
+        Ok(()) => Ok(()),
+        Err(_operation) => Err(ShareFault::WantOfMemory),
+    }
+}
+
+/// Shows readers what was handed over. Where it could not be absorbed it is refused with Closed, and they are shown what they
+/// were.
+fn show<J: ShareName, R: Wait>(rt: &R, writer: &mut StampWriter<J>) -> Result<(), ShareFault>
+where
+    Stamp<J>: Absorb<Handover<J>, State = u64>,
+    requires { TakesNumber (λ operation. operation.number) ⟦<Stamp<J> as Absorb<Handover<J>>>⟧.state ⟦<Stamp<J> as Absorb<Handover<J>>>⟧.applied }
+    ensures shown { OnOk result (length writer.new.desk.shown.value ≡ fold (λ before operation. operation.number) (length writer.old.desk.shown.value) (drop writer.old.behind writer.old.log.items)) }
+    ensures stays { OnErr result (writer.new.desk.shown.value ≡ writer.old.desk.shown.value) }
+    ensures closed { IfErr result (λ fault. fault ≡ ShareFault.Closed) }
+{
+    let shown = replace_with(writer, rt, |writer: StampWriter<J>, rt: &R| {
         writer.publish_as::<Unruled, R>(rt)
     });
+    match shown {
+        Ok(()) => Ok(()),
+        Err(AllocError) => Err(ShareFault::Closed),
+    }
 }
 
 /// What was published, as a publisher told it. Contracts see it as the flags.

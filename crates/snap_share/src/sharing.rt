@@ -1,6 +1,7 @@
 //! Sharing flags.
 ghost use Rattle.std.specs.Prelude.{◌≡◌, ◌≢◌, ◌<◌, ◌≤◌, ◌↔◌, ◌∷◌, [], true, All, vec_len, Err, IfErr, IfOk};
 ghost use Rattle.snap_share.specs.Fault.{is_of_share};
+ghost use Rattle.snap_share.specs.Shown.{TakesNumber};
 
 use crate::cell::{Handover, StampWriter};
 use crate::fault::ShareFault;
@@ -19,8 +20,9 @@ use std::sync::{Arc, Wait};
 const MOST_SEATS: usize = 64;
 
 /// Shares flags with number 1: a publisher, and so many seats that know them. Without seats it is refused with NoSeats, with
-/// more than 64 with TooManySeats, then with NoReader where the copies gave no place for a reader. The condition is that
-/// the name is the history's. It waits only to use the copies up where it refuses after making them.
+/// more than 64 with TooManySeats, then with NoReader where the copies gave no place for a reader. The conditions are that
+/// the name is the history's and, which holds under every name, that a stamp absorbs an operation as `Shown` says. It waits
+/// only to use the copies up where it refuses after making them.
 pub fn share<J: ShareName, R: Wait>(
     rt: &R,
     alloc: Global,
@@ -29,8 +31,9 @@ pub fn share<J: ShareName, R: Wait>(
     seats: usize,
 ) -> Result<(Publisher<J>, Vec<ReadSeat<J>>), ShareFault>
 where
-    Stamp<J>: Absorb<Handover<J>, State = ()>,
-    requires { history.seen.book ≡ J.book }
+    Stamp<J>: Absorb<Handover<J>, State = u64>,
+    requires by_number { TakesNumber (λ operation. operation.number) ⟦<Stamp<J> as Absorb<Handover<J>>>⟧.state ⟦<Stamp<J> as Absorb<Handover<J>>>⟧.applied }
+    requires name { history.seen.book ≡ J.book }
     ensures none { (result ≡ Err ShareFault.NoSeats) ↔ (seats ≡ 0) }
     ensures many { (result ≡ Err ShareFault.TooManySeats) ↔ (64 < seats) }
     ensures faults { IfErr result (λ fault. is_of_share fault ≡ true) }
@@ -56,7 +59,8 @@ fn share_among<J: ShareName, R: Wait>(
     seats: usize,
 ) -> Result<(Publisher<J>, Vec<ReadSeat<J>>), ShareFault>
 where
-    Stamp<J>: Absorb<Handover<J>, State = ()>,
+    Stamp<J>: Absorb<Handover<J>, State = u64>,
+    requires by_number { TakesNumber (λ operation. operation.number) ⟦<Stamp<J> as Absorb<Handover<J>>>⟧.state ⟦<Stamp<J> as Absorb<Handover<J>>>⟧.applied }
     requires name { history.seen.book ≡ J.book }
     requires count { (0 < seats) × (seats ≤ 64) }
     ensures other { IfErr result (λ fault. (fault ≢ ShareFault.NoSeats) × (fault ≢ ShareFault.TooManySeats)) }
@@ -74,7 +78,7 @@ where
     let second = Stamp::of(second, front.again());
     let writer: StampWriter<J> = Writer::new(alloc, first, second, seats)?;
     match seated(alloc, &writer, &front, seats) {
-        Ok(all) => Ok((Publisher::of(writer, head, front), all)),
+        Ok(all) => Ok((Publisher::of(writer, head), all)),
         Err(fault) => {
             writer.take(rt);
             Err(fault)
@@ -90,7 +94,7 @@ fn seated<J: ShareName>(
     seats: usize,
 ) -> Result<Vec<ReadSeat<J>>, ShareFault>
 where
-    Stamp<J>: Absorb<Handover<J>, State = ()>,
+    Stamp<J>: Absorb<Handover<J>, State = u64>,
     ensures other { IfErr result (λ fault. (fault ≢ ShareFault.NoSeats) × (fault ≢ ShareFault.TooManySeats)) }
     ensures faults { IfErr result (λ fault. is_of_share fault ≡ true) }
     ensures seats { IfOk result (λ all. (vec_len all ≡ seats) × All (λ seat. seat ≡ known.now) all.items) }

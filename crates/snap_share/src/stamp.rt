@@ -1,5 +1,6 @@
 //! What readers take: flags, and the history whose last they are.
-ghost use Rattle.std.specs.Prelude.{◌≡◌, Some, IfOk};
+ghost use Rattle.std.specs.Prelude.{◌≡◌, length, Some, IfOk};
+ghost use Rattle.std.specs.Bool.{MatchBool};
 ghost use Rattle.std.specs.Arc.{arc_value};
 ghost use Rattle.snap_core.specs.HubView.{snapshot_view};
 ghost use Rattle.snap_share.specs.Known.{IsLastOf, last_of};
@@ -50,6 +51,19 @@ impl<J: ShareName> Stamp<J> {
     {
         let flags = Arc::try_clone(&self.flags)?;
         Ok(Stamp::of(flags, self.front.again()))
+    }
+
+    /// Takes the place of this one where it is there and has this number, and says whether it did.
+    pub(crate) fn becomes(&mut self, next: Option<Stamp<J>>, number: u64) -> bool
+        ensures { MatchBool result (length self.new ≡ number) (self.new ≡ self.old) }
+    {
+        match next {
+            Some(next) if next.front.len() == number => {
+                *self = next;
+                true
+            }
+            _ => false,
+        }
     }
 
     /// The history up to the flags.
