@@ -1,0 +1,101 @@
+//! A rule in the place of a site's buckets.
+ghost use Rattle.std.specs.Prelude.{◌≡◌, Ok, IfOk, IfErr};
+ghost use Rattle.flag_text.specs.Outcome.{GivesUnless};
+ghost use Rattle.flag_text.specs.Reading.{doc_of};
+ghost use Rattle.flag_text.specs.View.{view as tree_view};
+ghost use Rattle.logic_ast.specs.Expr.{view};
+ghost use Rattle.logic_ast.specs.Writing.{written};
+ghost use Rattle.flag_documents.specs.Document.{DocumentMeans, max_bytes};
+ghost use Rattle.flag_defs.specs.Flags.{flags_view};
+ghost use Rattle.site_places.specs.Place.{site_place};
+ghost use Rattle.kept_document.specs.Kept.{IsRefused, KeptAt, of_reading, of_text, place_in};
+
+use crate::checking::checked;
+use crate::editing::edited;
+use crate::fault::KeepFault;
+use bucket_core::Rule;
+use flag_defs::Flags;
+use flag_documents::MAX_BYTES;
+use flag_text::{TextFault, Tree, read_doc};
+use logic_ast::{Expr, write_expr};
+use site_places::{SitePlace, place_of_site};
+use std::alloc::Global;
+
+/// The bytes of the document with the rule's entries as the buckets of a site, and all else as it was. `flags` are those of
+/// the document, and `wanted` those that it should mean then.
+///
+/// Refusals: `Shared` where the buckets stand in an evaluator; `TooLong` above 4,194,304 bytes; `Differs` where the text with
+/// the rule in this place means other flags, or there is no such place.
+pub fn keep(
+    alloc: Global,
+    document: &str,
+    flags: &Flags,
+    key: &str,
+    site: u32,
+    rule: &Rule,
+    wanted: &Flags,
+) -> Result<Vec<u8>, KeepFault>
+    ensures kept { IfOk result (λ v. KeptAt document.now (place_in document.now (flags_view flags.now) key.now site) rule.now v.items) }
+    ensures means { IfOk result (λ v. DocumentMeans v.items (Ok (flags_view wanted.now))) }
+    ensures refused { IfErr result (IsRefused document.now (place_in document.now (flags_view flags.now) key.now site) rule.now (flags_view wanted.now)) }
+{
+    let Some(flag) = flags.get(key) else {
+        return Err(KeepFault::Differs);
+    };
+    let Some(targeting) = flag.targeting() else {
+        return Err(KeepFault::Differs);
+    };
+    match document_tree(alloc, document) {
+        Ok(tree) => keep_in(alloc, document, &tree, key, targeting, site, rule, wanted),
+        Err(fault) => Err(fault),
+    }
+}
+
+/// The same in a document that was read as this tree, at a site of this targeting.
+fn keep_in(
+    alloc: Global,
+    document: &str,
+    tree: &Tree,
+    key: &str,
+    targeting: &Expr,
+    site: u32,
+    rule: &Rule,
+    wanted: &Flags,
+) -> Result<Vec<u8>, KeepFault>
+    ensures kept { IfOk result (λ v. KeptAt document.now (site_place (tree_view tree.now) key.now (written (view targeting.now)) site) rule.now v.items) }
+    ensures means { IfOk result (λ v. DocumentMeans v.items (Ok (flags_view wanted.now))) }
+    ensures refused { IfErr result (IsRefused document.now (site_place (tree_view tree.now) key.now (written (view targeting.now)) site) rule.now (flags_view wanted.now)) }
+{
+    let form = write_expr(alloc, targeting)?;
+    match place_of_site(alloc, tree, key, &form, site as usize)? {
+        SitePlace::Buckets { list, first, last } => match edited(
+            alloc, document, list, first, last, rule,
+        )? {
+            Some(kept) => checked(alloc, kept, wanted),
+            None => Err(KeepFault::Differs),
+        },
+        SitePlace::Shared(_) => Err(KeepFault::Shared),
+        SitePlace::Nowhere => Err(KeepFault::Differs),
+    }
+}
+
+/// The tree of a document.
+fn document_tree(alloc: Global, document: &str) -> Result<Tree, KeepFault>
+    ensures { GivesUnless KeepFault.WantOfMemory tree_view result (of_reading (doc_of document.now max_bytes)) }
+{
+    match read_doc(alloc, document.as_bytes(), MAX_BYTES) {
+        Ok(tree) => Ok(tree),
+        Err(fault) => Err(of_text(fault)),
+    }
+}
+
+/// The fault of a text that is not read as a document.
+fn of_text(fault: TextFault) -> KeepFault
+    ensures { result ≡ of_text fault }
+{
+    match fault {
+        TextFault::WantOfMemory => KeepFault::WantOfMemory,
+        TextFault::NotJson | TextFault::NotWhole | TextFault::TooLarge | TextFault::TooDeep =>
+            KeepFault::Differs,
+    }
+}
