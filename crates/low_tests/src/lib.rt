@@ -9,6 +9,8 @@ mod evaluation_tests;
 #[cfg(test)]
 mod expression_tests;
 #[cfg(test)]
+mod kept_tests;
+#[cfg(test)]
 mod murmur_tests;
 #[cfg(test)]
 mod resolution_tests;
