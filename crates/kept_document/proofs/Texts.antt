@@ -9,7 +9,7 @@ use Rattle.logic_ast.specs.Writing.{pair}
 use Rattle.text_spans.specs.Path.{Stands, Step, index}
 use Rattle.text_spans.specs.View.{IsFound, old_of}
 use Rattle.text_spans.specs.declared.finding.Span.{Span}
-use Rattle.text_spans.proofs.Laws.{one_place}
+use Rattle.text_spans.proofs.Placed.{one_place}
 use Rattle.kept_document.specs.Kept.{IsKept, IsMark, entries_text}
 
 pub pair_is_whole : (s : List ℕ) (n : ℕ) → n < 2 ^ 53 → is_whole (pair (text s) (whole (pos n))) ≡ true

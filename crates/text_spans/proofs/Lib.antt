@@ -1,4 +1,4 @@
 mod Found
-pub mod Laws
 mod Located
+pub mod Placed
 pub mod Taken

@@ -45,3 +45,9 @@ place_of path text = option_and_then (λ j. place path j text) (document text)
 pub record Stands (text : List ℕ) (path : List Step) (front old back : List ℕ) : Type 0 where
   pub whole : text ≡ front ++ (old ++ back)
   pub there : place_of path text ≡ Some (old ++ back, back)
+
+-- a value stands at one place
+abbrev pub StandsOnce : Type 0
+StandsOnce =
+    (text : List ℕ) (path : List Step) (front old back other_front other other_back : List ℕ) → Stands text path front old back → Stands text path other_front other other_back
+    → (front ≡ other_front) × (old ≡ other) × (back ≡ other_back)

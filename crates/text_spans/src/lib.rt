@@ -10,12 +10,14 @@
 //!
 //! What is proved, over the grammar that `json` states (RFC 8259): the bytes are those of the value at the path, from its
 //! first one to its last one (`Stands` of `specs/Path.antt`), where of members of one name the last counts; and there is no
-//! answer only where no value stands at the path. There is one such place at most (`one_place` of `proofs/Laws.antt`).
+//! answer only where no value stands at the path. There is one such place at most ([`a_value_stands_once`]).
 #![tactic(auto)]
 
 mod finding;
+mod laws;
 mod places;
 mod steps;
 
 pub use finding::{Span, find};
+pub use laws::a_value_stands_once;
 pub use steps::Step;

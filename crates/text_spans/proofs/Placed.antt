@@ -1,10 +1,9 @@
--- What holds of the place of a value.
+-- A value stands at one place.
 use Rattle.std.proofs.Common.{◌≡◌, List, ◌++◌, ℕ, sym, ap, ◌∙◌}
 use Rattle.std.proofs.lemmas.List.{append_cancel_right}
 use Rattle.text_spans.specs.Path.{Stands, Step, place_of}
 use Rattle.text_spans.proofs.Taken.{same_pair}
 
--- A value stands at one place.
 pub one_place : (text : List ℕ) (path : List Step) (front old back other_front other other_back : List ℕ) → Stands text path front old back → Stands text path other_front other other_back
     → (front ≡ other_front) × (old ≡ other) × (back ≡ other_back)
 one_place text path front old back other_front other other_back a b =
