@@ -1,3 +1,4 @@
+pub mod Agreement
 pub mod Following
 pub mod Place
 pub mod Seeking

@@ -5,11 +5,14 @@
 //! to the list in the document whose items are its buckets, or tells in which evaluator they stand.
 //!
 //! What is proved: the answer is `site_place` of `specs/Place.antt`, the way to the site in the targeting's written form
-//! followed through the document, as long as it meets no reference.
+//! followed through the document, as long as it meets no reference. Past the written form as many sites are passed as the
+//! targeting has ([`a_form_has_the_sites_of_its_expression`]).
 #![tactic(auto)]
 
 mod following;
+mod laws;
 mod locating;
 mod seeking;
 
+pub use laws::a_form_has_the_sites_of_its_expression;
 pub use locating::{SitePlace, place_of_site};
