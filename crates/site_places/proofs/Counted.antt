@@ -1,5 +1,5 @@
 -- The written form of an expression has as many sites as the expression.
-use Rattle.std.proofs.Common.{◌≡◌, ℕ, zero, suc, ◌+◌, Bool, true, false, not, cond, ◌&&◌, List, [], refl, sym, ap, ◌∙◌, arith}
+use Rattle.std.proofs.Common.{◌≡◌, ℕ, suc, ◌+◌, true, false, List, ap, ◌∙◌, arith}
 use Rattle.std.proofs.lemmas.Bool.{false≢true, and_parts}
 use Rattle.flag_text.specs.Shape as shape
 use Rattle.flag_text.specs.Shape.{Shape, null, boolean, whole, other, text, object, Items, no_items, item, no_members, member}
@@ -8,10 +8,9 @@ use Rattle.logic_ast.specs.Formed.{is_literal, is_formed, are_formed, by_is_form
 use Rattle.logic_ast.specs.Operator.{is_fractional, operator_name}
 use Rattle.logic_ast.specs.Sites.{sites, sites_in, sites_in_by, sites_in_buckets, sites_in_bucket}
 use Rattle.logic_ast.specs.Writing.{written, all_written, by_written, buckets_written, bucket_written}
-use Rattle.logic_ast.specs.declared.operator.Operator.{Operator}
 use Rattle.logic_ast.proofs.Operators.{is_fractional-operator_name, is_fractional-fractional}
 use Rattle.text_spans.specs.Path.{name, index}
-use Rattle.site_places.specs.Seeking.{Sought, later, under, or_next, of_operation, find_site, find_in_items}
+use Rattle.site_places.specs.Seeking.{later, under, or_next, of_operation, find_site, find_in_items}
 
 -- a tree that has these sites is passed, and then the next items
 next_item : (i a b n : ℕ) (t : Shape) (ts : Items) → ((m : ℕ) → find_site (a + m) t ≡ later m) → ((m : ℕ) → find_in_items (suc i) (b + m) ts ≡ later m) → find_in_items i ((a + b) + n) (item t ts) ≡ later n

@@ -5,7 +5,8 @@
 //! to the list in the document whose items are its buckets, or tells in which evaluator they stand.
 //!
 //! What is proved: the answer is `site_place` of `specs/Place.antt`, the way to the site in the targeting's written form
-//! followed through the document, as long as it meets no reference. Past the written form as many sites are passed as the
+//! followed through the document, as long as it meets no reference. The way to a site's number leads to the arguments of the
+//! targeting's site of this number ([`the_way_leads_to_the_site`]), and past the written form as many sites are passed as the
 //! targeting has ([`a_form_has_the_sites_of_its_expression`]).
 #![tactic(auto)]
 
@@ -14,5 +15,5 @@ mod laws;
 mod locating;
 mod seeking;
 
-pub use laws::a_form_has_the_sites_of_its_expression;
+pub use laws::{a_form_has_the_sites_of_its_expression, the_way_leads_to_the_site};
 pub use locating::{SitePlace, place_of_site};
