@@ -23,9 +23,24 @@ rule_member breach.TargetingSize = codes ".targeting"
 rule_member breach.TargetingPart = codes ".targeting"
 rule_member breach.Expression = codes ".targeting"
 
--- the line of a broken flag: its key, the member that is wrong, and why
+-- the name of a rule
+abbrev pub rule_name : Breach → List ℕ
+rule_name breach.Definition = codes "Definition"
+rule_name breach.State = codes "State"
+rule_name breach.Variants = codes "Variants"
+rule_name breach.Kinds = codes "Kinds"
+rule_name breach.VariantNumber = codes "VariantNumber"
+rule_name breach.VariantLevels = codes "VariantLevels"
+rule_name breach.DefaultVariant = codes "DefaultVariant"
+rule_name breach.Targeting = codes "Targeting"
+rule_name breach.Reference = codes "Reference"
+rule_name breach.TargetingSize = codes "TargetingSize"
+rule_name breach.TargetingPart = codes "TargetingPart"
+rule_name breach.Expression = codes "Expression"
+
+-- the line of a broken flag: its key, the member that is wrong, why, and the rule by its name
 unfoldable pub IsBrokenLine : List ℕ → Breach → List ℕ → Type 0
-IsBrokenLine key b line = (why : List ℕ) × (line ≡ codes "broken: flags" ++ (step key ++ (rule_member b ++ (why ++ codes "\n"))))
+IsBrokenLine key b line = (why : List ℕ) × (line ≡ codes "broken: flags" ++ (step key ++ (rule_member b ++ (why ++ (codes " (" ++ (rule_name b ++ codes ")\n"))))))
 
 -- such a line for each flag of which a breach was found, in the order of the keys, and nothing else
 abbrev pub BrokenLines : Members → List (Option Breach) → List ℕ → Type 0

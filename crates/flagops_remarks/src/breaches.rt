@@ -3,7 +3,7 @@ ghost use Rattle.std.specs.Prelude.{◌≡◌, IfOk, length, option_and_then, st
 ghost use Rattle.flag_documents.specs.Document.{or_no_members};
 ghost use Rattle.flag_text.specs.Readers.{as_object, member_of};
 ghost use Rattle.flag_text.specs.View.{members_view, view};
-ghost use Rattle.flagops_remarks.specs.Broken.{BrokenLines, IsBrokenLine, TellsBroken, rule_member};
+ghost use Rattle.flagops_remarks.specs.Broken.{BrokenLines, IsBrokenLine, TellsBroken, rule_member, rule_name};
 
 use crate::lines::{Lines, step};
 use crate::referred::Referred;
@@ -109,9 +109,9 @@ fn line(
     let mut lines = Lines::new(alloc);
     put_breach(&mut lines, definition, causes, breach);
     let flag = step(alloc, key)?;
-    let member = rule_member(breach);
+    let (member, rule) = (rule_member(breach), rule_name(breach));
     let lines = lines.finish()?;
-    format!(in alloc; "broken: flags{flag}{member}{lines}\n")
+    format!(in alloc; "broken: flags{flag}{member}{lines} ({rule})\n")
 }
 
 /// The member of a flag's definition that a rule is about, behind a point; nothing where it is about the definition.
@@ -130,6 +130,26 @@ fn rule_member(breach: Breach) -> &'static str
         | Breach::TargetingSize
         | Breach::TargetingPart
         | Breach::Expression => ".targeting",
+    }
+}
+
+/// The name of a rule: the variant's.
+fn rule_name(breach: Breach) -> &'static str
+    ensures { result.now ≡ rule_name breach }
+{
+    match breach {
+        Breach::Definition => "Definition",
+        Breach::State => "State",
+        Breach::Variants => "Variants",
+        Breach::Kinds => "Kinds",
+        Breach::VariantNumber => "VariantNumber",
+        Breach::VariantLevels => "VariantLevels",
+        Breach::DefaultVariant => "DefaultVariant",
+        Breach::Targeting => "Targeting",
+        Breach::Reference => "Reference",
+        Breach::TargetingSize => "TargetingSize",
+        Breach::TargetingPart => "TargetingPart",
+        Breach::Expression => "Expression",
     }
 }
 
