@@ -62,7 +62,7 @@ FAULTS = [
     ('{"fractional":[["a"],[{"!":[]},{"nand":1}]]}', '.fractional[1][0]: the operator "!" does not take 0 arguments'),
 ]
 
-TOO_BIG = " has more than 10,000 nodes or 100 levels, with its references replaced"
+TOO_BIG = " has more than 10,000 nodes or 100 levels, with its references replaced (TargetingSize)"
 
 
 def levels(front, middle, back, count):
@@ -81,7 +81,7 @@ LEVELS = [
     (listed("", 99), TOO_BIG),
     (levels('{"!":', "1", "}", 50), None),
     (levels('{"!":', "1", "}", 51), TOO_BIG),
-    (levels('{"nand":', "1", "}", 50), ': the operator "nand" is unknown'),
+    (levels('{"nand":', "1", "}", 50), ': the operator "nand" is unknown (Expression)'),
     (levels('{"nand":', "1", "}", 51), TOO_BIG),
     (listed('{"fractional":[["a"]]}', 96), None),
     (listed('{"fractional":[["a"]]}', 97), TOO_BIG),
@@ -214,7 +214,7 @@ class Expressions(ProgramTest):
                     report.append(f'"{key}" {"good" if is_taken else "broken"}\n')
                     if not is_taken:
                         what = f'the operator "{name}" does not take {count} arguments'
-                        told.append(f'broken: flags.{key}.targeting: {what}\n')
+                        told.append(f'broken: flags.{key}.targeting: {what} (Expression)\n')
         ran = run(["check", "d"], {"d": json.dumps({"flags": flags})})
         self.assertEqual((ran.status, ran.out), (0, "".join(report)))
         self.assertEqual(ran.err, "".join(told))
@@ -222,7 +222,7 @@ class Expressions(ProgramTest):
     def test_faults_in_preorder(self):
         for targeting, told in FAULTS:
             with self.subTest(targeting=targeting):
-                self.assert_checked(targeting, told)
+                self.assert_checked(targeting, f"{told} (Expression)")
 
     def test_levels(self):
         for targeting, told in LEVELS:

@@ -100,35 +100,35 @@ REFUSED = [
 BROKEN = [
     (
         '{"e":{"if":[{"nand":[1,2]},true]}}',
-        'broken: flags.a.targeting refers to $evaluators.e.if[0]: the operator "nand" is unknown',
+        'broken: flags.a.targeting refers to $evaluators.e.if[0]: the operator "nand" is unknown (Expression)',
     ),
     (
         '{"d":{"nand":[]},"e":{"!":{"$ref":"f"}},"f":{"==":[1]}}',
-        'broken: flags.a.targeting refers to $evaluators.f: the operator "==" does not take 1 arguments',
+        'broken: flags.a.targeting refers to $evaluators.f: the operator "==" does not take 1 arguments (Expression)',
     ),
     (
         '{"e":{"==":[1,{"$ref":"lost"}]}}',
-        'broken: flags.a.targeting refers to $evaluators.e["=="][1], which refers to "lost", no evaluator; there are "e"',
+        'broken: flags.a.targeting refers to $evaluators.e["=="][1], which refers to "lost", no evaluator; there are "e" (Reference)',
     ),
     (
         '{"e":{"+":[1,1.5]}}',
-        'broken: flags.a.targeting refers to $evaluators.e["+"][1], which is a number that is not whole',
+        'broken: flags.a.targeting refers to $evaluators.e["+"][1], which is a number that is not whole (TargetingPart)',
     ),
     (
         '{"e":{"!":{"$ref":"e"}}}',
-        'broken: flags.a.targeting, or what it refers to (first "e"), has a $ref back to itself, or to no evaluator',
+        'broken: flags.a.targeting, or what it refers to (first "e"), has a $ref back to itself, or to no evaluator (Reference)',
     ),
 ]
 
 # What the last of a chain of evaluators is, and what is told of each flag that refers to the first.
 CHAINS = [
-    ('{"$ref":"0"}', ', or what it refers to (first "0"), has a $ref back to itself, or to no evaluator'),
+    ('{"$ref":"0"}', ', or what it refers to (first "0"), has a $ref back to itself, or to no evaluator (Reference)'),
     (
         '{"$ref":"lost"}',
         ' refers to $evaluators.99999, which refers to "lost", no evaluator; there are "0", "1", "10", "100", "1000", '
-        '"10000", "10001", "10002", "10003", "10004" and 99990 more',
+        '"10000", "10001", "10002", "10003", "10004" and 99990 more (Reference)',
     ),
-    ('{"nand":[1]}', ' refers to $evaluators.99999: the operator "nand" is unknown'),
+    ('{"nand":[1]}', ' refers to $evaluators.99999: the operator "nand" is unknown (Expression)'),
 ]
 
 LINKS = 100_000
