@@ -1,0 +1,90 @@
+//! From a tree to the note that it stands for.
+ghost use Rattle.std.specs.Prelude.{◌≡◌, option_map, IfOk};
+ghost use Rattle.std.specs.Option.{option_copied};
+ghost use Rattle.flag_text.specs.Shape.{no_items, item};
+ghost use Rattle.flag_text.specs.View.{view, items_view};
+ghost use Rattle.book_core.specs.Reading.{site_of, by_of};
+ghost use Rattle.note_lines.specs.Reading.{parts_note, shape_note};
+
+use crate::note::Note;
+use book_core::Page;
+use flag_text::Tree;
+use std::alloc::{AllocError, Global};
+
+/// The numbers of sites are below this.
+const SITES: i64 = 1 << 32;
+
+/// The note of a list `[FLAG,SITE,BY,INPUT]`.
+pub(crate) fn tree_note(alloc: Global, tree: &Tree) -> Result<Option<Note>, AllocError>
+    ensures { IfOk result (λ note. note ≡ shape_note (view tree.now)) }
+{
+    match tree {
+        Tree::List(parts) => parts_note(alloc, parts.as_slice()),
+        _ => Ok(None),
+    }
+}
+
+fn parts_note(alloc: Global, parts: &[Tree]) -> Result<Option<Note>, AllocError>
+    ensures { IfOk result (λ note. note ≡ parts_note (items_view parts.now)) }
+{
+    match parts {
+        [] => Ok(None),
+        [_] => Ok(None),
+        [_, _] => Ok(None),
+        [_, _, _] => Ok(None),
+        [flag, site, by, input] => four_note(alloc, flag, site, by, input),
+        [_, _, _, _, _, ..] => Ok(None),
+    }
+}
+
+fn four_note(
+    alloc: Global,
+    flag: &Tree,
+    site: &Tree,
+    by: &Tree,
+    input: &Tree,
+) -> Result<Option<Note>, AllocError>
+    ensures { IfOk result (λ note. note ≡ parts_note (item (view flag.now) (item (view site.now) (item (view by.now) (item (view input.now) no_items))))) }
+{
+    let Some(flag) = flag.as_text() else {
+        return Ok(None);
+    };
+    let Some(site) = site_in(site) else {
+        return Ok(None);
+    };
+    let Some(by) = by_in(by) else {
+        return Ok(None);
+    };
+    let Some(input) = input.as_text() else {
+        return Ok(None);
+    };
+    let by = match by {
+        None => None,
+        Some(text) => Some(String::from_str(alloc, text)?),
+    };
+    let flag = String::from_str(alloc, flag)?;
+    let input = String::from_str(alloc, input)?;
+    Ok(Some(Note {
+        page: Page { flag, site, by },
+        input,
+    }))
+}
+
+fn site_in(tree: &Tree) -> Option<u32>
+    ensures { result ≡ site_of (view tree.now) }
+{
+    match tree {
+        Tree::Whole(n) if 0 <= *n && *n < SITES => Some(*n as u32),
+        _ => None,
+    }
+}
+
+fn by_in(tree: &Tree) -> Option<Option<&str>>
+    ensures { option_map option_copied result ≡ by_of (view tree.now) }
+{
+    match tree {
+        Tree::Null => Some(None),
+        Tree::Text(text) => Some(Some(text.as_str())),
+        _ => None,
+    }
+}
