@@ -1,0 +1,21 @@
+use Rattle.std.proofs.Common.{◌≡◌, ◌≢◌, Some, Err, IfErr, true, rules, sym, subst}
+use Rattle.book_core.specs.Page.{page_eq}
+use Rattle.page_tally.specs.Folding.{is_above_last}
+use Rattle.note_lines.specs.Note.{IsNote, note_line}
+use Rattle.note_lines.specs.Reading.{Reads}
+use Rattle.line_tally.specs.Lines.{with_input}
+use Rattle.line_tally.specs.declared.fault.LineTallyFault.TheVariants.{WantOfMemory}
+use Rattle.line_tally.proofs.Refused.{refused_note}
+use Rattle.line_tally.proofs.tally.LineTally.take.Goals as goal
+
+pub returns-then-eq-clause-refused : goal.returns-then-eq-clause-refused
+returns-then-eq-clause-refused c =
+    let t = c.args.self.now in
+    let line = c.args.line.now in
+    let note = c.in-Some.note in
+    let reads : Reads line (Some note) = subst (Reads line) c.in-Some.is c.in_ok-note.ensures.exact in
+    let above : is_above_last t.before line ≡ true = search rules in
+    let page : page_eq note.page t.page ≡ true = search rules in
+    let inputs : c.as_str.result.now ≡ note.input = search rules in
+    let why = subst (λ i. IfErr c.count.result (λ fault. fault ≢ WantOfMemory → with_input t line i ≡ Err fault)) inputs c.count.ensures.refused in
+    refused_note t line note c.count.result reads.0 reads.1 above page why

@@ -1,0 +1,5 @@
+pub use Rattle.bucket_core.specs.Rule
+pub use Rattle.book_core.specs.Page
+pub use Rattle.note_lines.specs.Note
+pub mod Lines
+pub mod Refusals

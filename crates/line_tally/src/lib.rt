@@ -1,0 +1,14 @@
+//! The tally of one page of note lines that come in rising order, each once: how many of its inputs fall on each point.
+//!
+//! It is fed a line at a time and keeps three lines and a count for each point, however many lines there are. That the
+//! lines rise shows that each is there once, so no input is counted twice, whoever sorted them.
+//!
+//! Proved, over the definitions of `specs/`: what each line changes, or why it is refused (`Lines`, `Refusals`); a
+//! refused line leaves the tally as it was.
+#![tactic(auto)]
+
+mod fault;
+mod tally;
+
+pub use fault::LineTallyFault;
+pub use tally::LineTally;

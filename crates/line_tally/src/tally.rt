@@ -1,0 +1,128 @@
+//! A tally, line by line.
+ghost use Rattle.std.specs.Prelude.{◌≡◌, ◌≢◌, false, IfOk, OnOk, OnErr, IfErr, Ok, Err};
+ghost use Rattle.bucket_core.specs.Rule.{IsRuleTotal};
+ghost use Rattle.page_tally.specs.Folding.{is_above_last};
+ghost use Rattle.note_lines.specs.Note.{Noted, IsNote, note_line};
+ghost use Rattle.line_tally.specs.Lines.{untallied, passed, has_room, with_input, with_note};
+ghost use Rattle.line_tally.specs.Refusals.{Refuses};
+
+use crate::fault::LineTallyFault;
+use book_core::Page;
+use bucket_core::point;
+use note_lines::read_note;
+use std::alloc::{AllocError, Global};
+use std::marker::Model;
+
+/// The most inputs on one point.
+const MOST_AT_POINT: u32 = 67_108_864;
+
+/// The most inputs in all.
+const MOST_IN_ALL: u64 = 8_589_934_592;
+
+/// How many inputs of one page fall on each of so many points, of the note lines so far.
+#[derive(Drop)]
+pub struct LineTally {
+    page: Page,
+    total: u32,
+    before: Option<Vec<u8>>,
+    first: Option<Vec<u8>>,
+    last: Option<Vec<u8>>,
+    inputs: u64,
+    counts: Vec<u32>,
+}
+
+impl Model for LineTally {
+    ghost use Rattle.std.specs.Prelude.{option_map};
+    ghost use Rattle.line_tally.specs.Lines.{Tallied, IsTally};
+
+    ghost Value = { Tallied };
+
+    ghost view = { λ t. record { page = t.page; total = t.total; before = option_map (λ v. v.items) t.before; first = option_map (λ v. v.items) t.first; last = option_map (λ v. v.items) t.last; inputs = t.inputs; counts = t.counts.items } };
+
+    ghost invariant = { λ t. IsTally (record { page = t.page; total = t.total; before = option_map (λ v. v.items) t.before; first = option_map (λ v. v.items) t.first; last = option_map (λ v. v.items) t.last; inputs = t.inputs; counts = t.counts.items }) };
+}
+
+impl LineTally {
+    /// The tally of no line. The condition is a total of a rule.
+    pub fn new(alloc: Global, page: Page, total: u32) -> Result<LineTally, AllocError>
+        requires { IsRuleTotal total }
+        ensures { IfOk result (λ tally. tally ≡ untallied page total) }
+    {
+        let counts = vec![in alloc; 0u32; total as usize]?;
+        Ok(LineTally {
+            page,
+            total,
+            before: None,
+            first: None,
+            last: None,
+            inputs: 0,
+            counts,
+        })
+    }
+
+    /// Takes the next line, with its line feed. A line of the page is counted at the point of its input, a line of
+    /// another page is passed over.
+    ///
+    /// Refusals, in this order: `Line` where it is the line of no note; `Order` where it is not above the line before it;
+    /// `TooMany`. A refused line leaves the tally as it was.
+    pub fn take(&mut self, alloc: Global, line: &[u8]) -> Result<(), LineTallyFault>
+        ensures taken { OnOk result ((note : Noted) × IsNote note × (line.now ≡ note_line note) × (with_note self.old note ≡ Ok self.new)) }
+        ensures refused { IfErr result (λ fault. Refuses self.old line.now fault) }
+        ensures same { OnErr result (self.new ≡ self.old) }
+    {
+        let Some(note) = read_note(alloc, line)? else {
+            return Err(LineTallyFault::Line);
+        };
+        if !self.is_next(line) {
+            return Err(LineTallyFault::Order);
+        }
+        if note.page == self.page {
+            self.count(alloc, line, note.input.as_str())
+        } else {
+            self.pass(alloc, line)
+        }
+    }
+
+    /// Whether a line is above the one before it.
+    fn is_next(&self, line: &[u8]) -> bool
+        ensures { result ≡ is_above_last self.now.before line.now }
+    {
+        match &self.before {
+            None => true,
+            Some(before) => before.as_slice().cmp(line).is_lt(),
+        }
+    }
+
+    /// Passes over a line.
+    fn pass(&mut self, alloc: Global, line: &[u8]) -> Result<(), LineTallyFault>
+        ensures passed { OnOk result (self.new ≡ passed self.old line.now) }
+        ensures want { IfErr result (λ fault. fault ≡ LineTallyFault.WantOfMemory) }
+        ensures same { OnErr result (self.new ≡ self.old) }
+    {
+        self.before = Some(line.to_vec(alloc)?);
+        Ok(())
+    }
+
+    /// Counts the input of a line.
+    fn count(&mut self, alloc: Global, line: &[u8], input: &str) -> Result<(), LineTallyFault>
+        ensures counted { OnOk result (with_input self.old line.now input.now ≡ Ok self.new) }
+        ensures refused { IfErr result (λ fault. fault ≢ LineTallyFault.WantOfMemory → with_input self.old line.now input.now ≡ Err fault) }
+        ensures full { has_room self.old input.now ≡ false → result ≡ Err LineTallyFault.TooMany }
+        ensures same { OnErr result (self.new ≡ self.old) }
+    {
+        let at = point(self.total, input) as usize;
+        if self.inputs >= MOST_IN_ALL || self.counts[at] >= MOST_AT_POINT {
+            return Err(LineTallyFault::TooMany);
+        }
+        let before = line.to_vec(alloc)?;
+        let last = line.to_vec(alloc)?;
+        if self.first.is_none() {
+            self.first = Some(line.to_vec(alloc)?);
+        }
+        self.before = Some(before);
+        self.last = Some(last);
+        self.inputs += 1;
+        self.counts[at] += 1;
+        Ok(())
+    }
+}
