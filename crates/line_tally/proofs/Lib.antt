@@ -1,1 +1,3 @@
+mod Counted
 pub mod Refused
+mod Tallying

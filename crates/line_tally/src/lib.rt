@@ -8,7 +8,9 @@
 #![tactic(auto)]
 
 mod fault;
+mod laws;
 mod tally;
 
 pub use fault::LineTallyFault;
+pub use laws::a_tally_is_of_its_lines;
 pub use tally::LineTally;
