@@ -48,6 +48,6 @@ pub counts_from_nothing : (xs : Inputs) (total : ℕ) → 0 < total → counts_o
 counts_from_nothing xs total some =
     let whole : length (replicate total 0) ≡ total = length-replicate {A = ℕ} total 0 in
     fill_by_all (inputs_at xs total) (counts_on total (replicate total 0) xs) total 0 (length-counts_on xs total (replicate total 0) ∙ whole) (λ p below.
-    let each = at_each xs total (replicate total 0) p some whole in
+    let each : get_or (counts_on total (replicate total 0) xs) p 0 ≡ get_or (replicate total 0) p 0 + inputs_at xs total p = at_each xs total (replicate total 0) p some whole in
     let none = get_or-replicate {A = ℕ} total p 0 0 below in
     omega (arith, each, none))

@@ -1,5 +1,5 @@
 -- A note of the page is refused only where there is no room for its input.
-use Rattle.std.proofs.Common.{◌≡◌, ◌≢◌, Bool, true, false, if◌then◌else◌, List, ℕ, Result, Ok, Err, IfErr, refl, sym, ap, ap₂, ◌∙◌, subst}
+use Rattle.std.proofs.Common.{◌≡◌, ◌≢◌, Bool, true, false, if◌then◌else◌, List, ℕ, Result, Ok, Err, IfErr, refl, sym, ap, ◌∙◌, subst}
 use Rattle.book_core.specs.Page.{page_eq}
 use Rattle.page_tally.specs.Folding.{is_above_last}
 use Rattle.note_lines.specs.Note.{Noted, IsNote, note_line}

@@ -1,17 +1,17 @@
 -- What was tallied of many notes is the tally of them.
-use Rattle.std.proofs.Common.{◌≡◌, ◌<◌, ◌+◌, ℕ, Bool, true, false, if◌then◌else◌, List, [], ◌∷◌, map, length, replicate, Option, Some, None, Result, Ok, Err, refl, sym, ap, ◌∙◌, arith}
+use Rattle.std.proofs.Common.{◌≡◌, ◌<◌, ◌+◌, ℕ, Bool, true, false, if◌then◌else◌, List, [], ◌∷◌, map, length, Option, Some, None, Result, Ok, Err, refl, sym, ap, ◌∙◌, arith}
 use Rattle.std.specs.Cmp.Lexicographic.{nat_list_cmp_total}
 use Rattle.std.specs.List.{AllByRecursion}
 use Rattle.std.specs.List.Sorted.{IsStrictlySortedBy}
-use Rattle.std.specs.Ordering.{is_lt}
+use Rattle.std.specs.Option.{option_or}
 use Rattle.std.specs.declared.cmp.Ordering.TheVariants.{Less}
 use Rattle.book_core.specs.Page.{PageName, bytes_cmp, page_eq}
 use Rattle.book_core.proofs.Ordered.{All-weaker}
 use Rattle.book_core.proofs.Taken.{is_less}
-use Rattle.page_tally.specs.Folding.{is_above_last, counted}
+use Rattle.page_tally.specs.Folding.{is_above_last}
 use Rattle.note_lines.specs.Note.{Noted, note_line}
-use Rattle.line_tally.specs.Law.{with_notes, inputs_of, IsTallyOf}
-use Rattle.line_tally.specs.Lines.{Tallied, untallied, passed, tallied, has_room, with_note}
+use Rattle.line_tally.specs.Law.{with_notes, inputs_of, lines_of, first_line, last_line, IsTallyOf}
+use Rattle.line_tally.specs.Lines.{Tallied, untallied, passed, tallied, has_room}
 use Rattle.line_tally.specs.declared.fault.LineTallyFault.{LineTallyFault}
 use Rattle.line_tally.specs.declared.fault.LineTallyFault.TheVariants.{Order, TooMany}
 use Rattle.line_tally.proofs.Counted.{counts_on, counts_from_nothing}
@@ -39,6 +39,8 @@ rise (x ∷ xs) before follows = (above_all x xs follows.1, rise xs (Some x) fol
 record Goes (t : Tallied) (notes : List Noted) (u : Tallied) : Type 0 where
   counts : u.counts ≡ counts_on t.total t.counts (inputs_of t.page notes)
   inputs : u.inputs ≡ t.inputs + length (inputs_of t.page notes)
+  first : u.first ≡ option_or t.first (first_line (lines_of t.page notes))
+  last : u.last ≡ option_or (last_line (lines_of t.page notes)) t.last
   rising : Follows t.before (map note_line notes)
 
 inputs_here : (page : PageName) (note : Noted) (notes : List Noted) → page_eq note.page page ≡ true → inputs_of page (note ∷ notes) ≡ note.input ∷ inputs_of page notes
@@ -47,10 +49,32 @@ inputs_here page note notes same = rw same refl
 inputs_there : (page : PageName) (note : Noted) (notes : List Noted) → page_eq note.page page ≡ false → inputs_of page (note ∷ notes) ≡ inputs_of page notes
 inputs_there page note notes other = rw other refl
 
+lines_here : (page : PageName) (note : Noted) (notes : List Noted) → page_eq note.page page ≡ true → lines_of page (note ∷ notes) ≡ note_line note ∷ lines_of page notes
+lines_here page note notes same = rw same refl
+
+lines_there : (page : PageName) (note : Noted) (notes : List Noted) → page_eq note.page page ≡ false → lines_of page (note ∷ notes) ≡ lines_of page notes
+lines_there page note notes other = rw other refl
+
+first_more : (had : Option (List ℕ)) (x : List ℕ) (later : Option (List ℕ)) → option_or (option_or had (Some x)) later ≡ option_or had (Some x)
+first_more None x later = refl
+first_more (Some y) x later = refl
+
+last_more : (later : Option (List ℕ)) (x : List ℕ) (had : Option (List ℕ)) → option_or later (Some x) ≡ option_or (option_or later (Some x)) had
+last_more None x had = refl
+last_more (Some y) x had = refl
+
+none_before : (o : Option (List ℕ)) → option_or o None ≡ o
+none_before None = refl
+none_before (Some x) = refl
+
 one_more : (t u : Tallied) (note : Noted) (notes : List Noted) → is_above_last t.before (note_line note) ≡ true → page_eq note.page t.page ≡ true → Goes (tallied t (note_line note) note.input) notes u → Goes t (note ∷ notes) u
 one_more t u note notes above same later =
     let here = inputs_here t.page note notes same in
+    let line = lines_here t.page note notes same in
+    let rest = lines_of t.page notes in
     record {
+      first = later.first ∙ first_more t.first (note_line note) (first_line rest) ∙ ap (λ ls. option_or t.first (first_line ls)) (sym line);
+      last = later.last ∙ last_more (last_line rest) (note_line note) t.last ∙ ap (λ ls. option_or (last_line ls) t.last) (sym line);
       counts = later.counts ∙ ap (counts_on t.total t.counts) (sym here);
       inputs = later.inputs ∙ (let many = ap length here in omega (arith, many));
       rising = (above, later.rising);
@@ -59,7 +83,10 @@ one_more t u note notes above same later =
 one_other : (t u : Tallied) (note : Noted) (notes : List Noted) → is_above_last t.before (note_line note) ≡ true → page_eq note.page t.page ≡ false → Goes (passed t (note_line note)) notes u → Goes t (note ∷ notes) u
 one_other t u note notes above other later =
     let there = inputs_there t.page note notes other in
+    let line = lines_there t.page note notes other in
     record {
+      first = later.first ∙ ap (λ ls. option_or t.first (first_line ls)) (sym line);
+      last = later.last ∙ ap (λ ls. option_or (last_line ls) t.last) (sym line);
       counts = later.counts ∙ ap (counts_on t.total t.counts) (sym there);
       inputs = later.inputs ∙ ap (λ xs. t.inputs + length xs) (sym there);
       rising = (above, later.rising);
@@ -80,6 +107,8 @@ goes : (notes : List Noted) (t u : Tallied) → with_notes (Ok t) notes ≡ Ok u
 goes [] t u e =
     let same = end_same t u e in
     record {
+      first = sym (none_before u.first) ∙ ap (λ (v : Tallied). option_or v.first None) (sym same);
+      last = sym (ap (λ (v : Tallied). v.last) same);
       counts = sym (ap (λ (v : Tallied). v.counts) same);
       inputs = (let many = ap (λ (v : Tallied). v.inputs) same in omega (arith, many));
       rising = tt;
@@ -92,6 +121,8 @@ tally_of_notes page total notes t some e =
     let g = goes notes (untallied page total) t e in
     record {
       rising = rise (map note_line notes) None g.rising;
+      first = g.first;
+      last = g.last ∙ none_before (last_line (lines_of page notes));
       inputs = g.inputs ∙ omega arith;
       counts = g.counts ∙ counts_from_nothing (inputs_of page notes) total some;
     }

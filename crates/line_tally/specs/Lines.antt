@@ -1,11 +1,9 @@
 -- The tally of one page of note lines that come in rising order: how many of the page's inputs fall on each point.
-use Rattle.std.specs.Prelude.{◌≡◌, ℕ, ◌+◌, List, [], ◌∷◌, length, get_or, replicate, Bool, ◌&&◌, nat_lt, if◌then◌else◌, Option, Some, None, Result, Ok, Err}
+use Rattle.std.specs.Prelude.{◌≡◌, ℕ, ◌+◌, List, length, get_or, replicate, Bool, ◌&&◌, nat_lt, if◌then◌else◌, Option, Some, None, Result, Ok, Err}
 use Rattle.std.specs.Option.{option_or}
-use Rattle.std.specs.List.Sorted.{IsStrictlySortedBy}
 use Rattle.bucket_core.specs.Point.{point_of}
 use Rattle.bucket_core.specs.Rule.{IsRuleTotal}
-use Rattle.book_core.specs.Book.{Inputs}
-use Rattle.book_core.specs.Page.{PageName, bytes_cmp, page_eq}
+use Rattle.book_core.specs.Page.{PageName, page_eq}
 use Rattle.page_tally.specs.Folding.{counted, is_above_last}
 use Rattle.note_lines.specs.Note.{Noted, note_line}
 use Rattle.line_tally.specs.declared.fault.LineTallyFault.{LineTallyFault}

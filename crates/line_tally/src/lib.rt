@@ -4,13 +4,16 @@
 //! lines rise shows that each is there once, so no input is counted twice, whoever sorted them.
 //!
 //! Proved, over the definitions of `specs/`: what each line changes, or why it is refused (`Lines`, `Refusals`); a
-//! refused line leaves the tally as it was.
+//! refused line leaves the tally as it was; and where none was refused, what was tallied is the number of the page's
+//! inputs and how many are on each point, each input there once ([`a_tally_is_of_its_lines`], `Law`).
 #![tactic(auto)]
 
 mod fault;
+mod finished;
 mod laws;
 mod tally;
 
 pub use fault::LineTallyFault;
+pub use finished::PageTally;
 pub use laws::a_tally_is_of_its_lines;
 pub use tally::LineTally;

@@ -3,10 +3,12 @@ ghost use Rattle.std.specs.Prelude.{◌≡◌, ◌≢◌, false, IfOk, OnOk, OnE
 ghost use Rattle.bucket_core.specs.Rule.{IsRuleTotal};
 ghost use Rattle.page_tally.specs.Folding.{is_above_last};
 ghost use Rattle.note_lines.specs.Note.{Noted, IsNote, note_line};
+ghost use Rattle.line_tally.specs.Finished.{finished};
 ghost use Rattle.line_tally.specs.Lines.{untallied, passed, has_room, with_input, with_note};
 ghost use Rattle.line_tally.specs.Refusals.{Refuses};
 
 use crate::fault::LineTallyFault;
+use crate::finished::PageTally;
 use book_core::Page;
 use bucket_core::point;
 use note_lines::read_note;
@@ -80,6 +82,20 @@ impl LineTally {
             self.count(alloc, line, note.input.as_str())
         } else {
             self.pass(alloc, line)
+        }
+    }
+
+    /// The tally of the lines so far.
+    pub fn finish(self) -> PageTally
+        ensures { result ≡ finished self }
+    {
+        PageTally {
+            page: self.page,
+            total: self.total,
+            first: self.first,
+            last: self.last,
+            inputs: self.inputs,
+            counts: self.counts,
         }
     }
 

@@ -1,7 +1,6 @@
-use Rattle.std.proofs.Common.{◌≡◌, ◌≢◌, Some, Err, IfErr, true, rules, sym, subst}
+use Rattle.std.proofs.Common.{◌≡◌, ◌≢◌, Some, Err, IfErr, true, rules, subst}
 use Rattle.book_core.specs.Page.{page_eq}
 use Rattle.page_tally.specs.Folding.{is_above_last}
-use Rattle.note_lines.specs.Note.{IsNote, note_line}
 use Rattle.note_lines.specs.Reading.{Reads}
 use Rattle.line_tally.specs.Lines.{with_input}
 use Rattle.line_tally.specs.declared.fault.LineTallyFault.TheVariants.{WantOfMemory}
