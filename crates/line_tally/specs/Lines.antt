@@ -1,5 +1,5 @@
 -- The tally of one page of note lines that come in rising order: how many of the page's inputs fall on each point.
-use Rattle.std.specs.Prelude.{◌≡◌, ℕ, ◌+◌, List, length, get_or, replicate, Bool, ◌&&◌, nat_lt, if◌then◌else◌, Option, Some, None, Result, Ok, Err}
+use Rattle.std.specs.Prelude.{◌≡◌, ℕ, ◌+◌, ◌≤◌, List, length, get_or, replicate, Bool, ◌&&◌, nat_lt, if◌then◌else◌, Option, Some, None, Result, Ok, Err}
 use Rattle.std.specs.Option.{option_or}
 use Rattle.bucket_core.specs.Point.{point_of}
 use Rattle.bucket_core.specs.Rule.{IsRuleTotal}
@@ -51,7 +51,9 @@ abbrev pub with_note : Tallied → Noted → Result Tallied LineTallyFault
 with_note t note =
     if is_above_last t.before (note_line note) then (if page_eq note.page t.page then with_input t (note_line note) note.input else Ok (passed t (note_line note))) else Err Order
 
--- a count for each point
+-- a count for each point, and no more inputs than are counted, on a point and in all
 pub record IsTally (t : Tallied) : Type 0 where
   pub allowed : IsRuleTotal t.total
   pub whole : length t.counts ≡ t.total
+  pub few : t.inputs ≤ most_in_all
+  pub small : (p : ℕ) → get_or t.counts p 0 ≤ most_at_point

@@ -1,10 +1,10 @@
 //! A tally, line by line.
-ghost use Rattle.std.specs.Prelude.{◌≡◌, ◌≢◌, false, IfOk, OnOk, OnErr, IfErr, Ok, Err};
+ghost use Rattle.std.specs.Prelude.{◌≡◌, ◌≢◌, ◌≤◌, ℕ, length, get_or, false, IfOk, OnOk, OnErr, IfErr, Ok, Err};
 ghost use Rattle.bucket_core.specs.Rule.{IsRuleTotal};
 ghost use Rattle.page_tally.specs.Folding.{is_above_last};
 ghost use Rattle.note_lines.specs.Note.{Noted, IsNote, note_line};
 ghost use Rattle.line_tally.specs.Finished.{finished};
-ghost use Rattle.line_tally.specs.Lines.{untallied, passed, has_room, with_input, with_note};
+ghost use Rattle.line_tally.specs.Lines.{most_at_point, most_in_all, untallied, passed, has_room, with_input, with_note};
 ghost use Rattle.line_tally.specs.Refusals.{Refuses};
 
 use crate::fault::LineTallyFault;
@@ -87,7 +87,10 @@ impl LineTally {
 
     /// The tally of the lines so far.
     pub fn finish(self) -> PageTally
-        ensures { result ≡ finished self }
+        ensures tally { result ≡ finished self }
+        ensures whole { length result.counts ≡ result.total }
+        ensures few { result.inputs ≤ most_in_all }
+        ensures small { (p : ℕ) → get_or result.counts p 0 ≤ most_at_point }
     {
         PageTally {
             page: self.page,
