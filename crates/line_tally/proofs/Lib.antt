@@ -1,3 +1,4 @@
 mod Counted
 pub mod Refused
+pub mod Summed
 mod Tallying

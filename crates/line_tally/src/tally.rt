@@ -16,10 +16,10 @@ use std::alloc::{AllocError, Global};
 use std::marker::Model;
 
 /// The most inputs on one point.
-const MOST_AT_POINT: u32 = 67_108_864;
+pub(crate) const MOST_AT_POINT: u32 = 67_108_864;
 
 /// The most inputs in all.
-const MOST_IN_ALL: u64 = 8_589_934_592;
+pub(crate) const MOST_IN_ALL: u64 = 8_589_934_592;
 
 /// How many inputs of one page fall on each of so many points, of the note lines so far.
 #[derive(Drop)]
