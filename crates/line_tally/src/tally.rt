@@ -1,5 +1,5 @@
 //! A tally, line by line.
-ghost use Rattle.std.specs.Prelude.{◌≡◌, ◌≢◌, ◌≤◌, ℕ, length, get_or, false, IfOk, OnOk, OnErr, IfErr, Ok, Err};
+ghost use Rattle.std.specs.Prelude.{◌≡◌, ◌≢◌, ◌≤◌, ◌++◌, ◌∷◌, [], ℕ, List, length, get_or, false, IfOk, OnOk, OnErr, IfErr, Ok, Err};
 ghost use Rattle.bucket_core.specs.Rule.{IsRuleTotal};
 ghost use Rattle.page_tally.specs.Folding.{is_above_last};
 ghost use Rattle.note_lines.specs.Note.{Noted, IsNote, note_line};
@@ -66,10 +66,11 @@ impl LineTally {
     /// another page is passed over.
     ///
     /// Refusals, in this order: `Line` where it is the line of no note; `Order` where it is not above the line before it;
-    /// `TooMany`. A refused line leaves the tally as it was.
+    /// `TooMany`. A refused line leaves the tally as it was. That a line without a line feed is none takes no memory.
     pub fn take(&mut self, alloc: Global, line: &[u8]) -> Result<(), LineTallyFault>
         ensures taken { OnOk result ((note : Noted) × IsNote note × (line.now ≡ note_line note) × (with_note self.old note ≡ Ok self.new)) }
         ensures refused { IfErr result (λ fault. Refuses self.old line.now fault) }
+        ensures unended { ((text : List ℕ) → line.now ≢ text ++ 10 ∷ []) → result ≡ Err LineTallyFault.Line }
         ensures same { OnErr result (self.new ≡ self.old) }
     {
         let Some(note) = read_note(alloc, line)? else {
