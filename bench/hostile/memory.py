@@ -4,11 +4,12 @@
     bench/hostile/memory.py [COUNT]
 
 For each command on the files of the demo, over `memory.c` that is loaded before it: the N-th request is refused, and once more
-each from the N-th on, for each N (for the first COUNT where it is given). A run is bad where it is ended by a signal, goes on after
-10 seconds, prints or leaves anything but what it does with memory enough, unless it is refused by `refused CALL 0 WantOfMemory` with
-status 1, its files as they were and none beside them. A thread that can't be made is a request, too. Prints of each command its
-requests, those of the loader and the C library before its start, and how often each answer came. 17,046 cases took two minutes of
-a busy machine. The last line is 'N cases, M bad'; ends with 1 where M is not 0."""
+each from the N-th on, for each N (for the first COUNT where it is given). A thread that can't be made is a request, too. The stack
+and what the loader maps before the program's start are none, and are met by address spaces that grow by 4 KB. A run is bad where it
+is ended by a signal, goes on after 10 seconds, prints or leaves anything but what it does with memory enough, unless it is refused
+by `refused CALL 0 WantOfMemory` with status 1, or by the loader with status 127, its files as they were and none beside them. Prints
+of each command its requests, those of the loader and the C library before its start, and how often each answer came. 18,436 cases
+took two minutes of a busy machine. The last line is 'N cases, M bad'; ends with 1 where M is not 0."""
 import os
 import re
 import struct
@@ -19,6 +20,9 @@ from collections import Counter
 from preload import COMMANDS, built, changed, fill, run, write
 
 WANT = re.compile(rb"refused [\w:]+ 0 WantOfMemory\n")
+
+# Kilobytes of address space in which the loader can't map the C library.
+SPACE = 3400
 
 
 def counted(words, folder, library, counts, **settings):
@@ -50,6 +54,20 @@ def kept(folder, texts):
             os.remove(os.path.join(folder, name))
 
 
+def spaces(words, folder, right, before, after, most):
+    """Each answer in address spaces that grow by 4 KB, with whether it is bad, until 32 in succession suffice."""
+    enough, kilobytes = 0, SPACE
+    while enough < 32 and kilobytes < SPACE + 4 * most:
+        kept(folder, before)
+        ran = run(words, folder, kilobytes=kilobytes)
+        said = answer(ran, right, folder, before, after)
+        if ran.status == 127 and ran.out == b"" and not changed(folder, before):
+            said = ("the loader refuses, status 127", False)
+        enough = enough + 1 if said == ("the answer", False) else 0
+        yield (f"in a small address space: {said[0]}", said[1]), f"{kilobytes} KB"
+        kilobytes += 4
+
+
 def tried(words, folder, library, counts, most):
     """How often each answer of a command came, with whether it is bad and at which requests; how many requests it makes, and before its start."""
     before = fill(folder)
@@ -64,10 +82,13 @@ def tried(words, folder, library, counts, most):
             kept(folder, before)
             ran, (made, _) = counted(words, folder, library, counts, REFUSE_AT=number, **every)
             said = answer(ran, right, folder, before, after)
-            if made < number:
-                said = ("too few requests", False)
+            if made < number and said == ("the answer", False):
+                said = ("the answer, with fewer requests", False)
             answers[said] += 1
             places.setdefault(said, []).append(number)
+    for said, place in spaces(words, folder, right, before, after, most):
+        answers[said] += 1
+        places.setdefault(said, []).append(place)
     return whole, early, answers, places
 
 

@@ -1,6 +1,7 @@
 """What the scripts beside share: the demo's files, a library that is loaded before the program, and a run over both."""
 import json
 import os
+import resource
 import subprocess
 from typing import NamedTuple
 
@@ -60,10 +61,11 @@ def few(asks):
     return json.dumps(json.loads(asks)[:5]).encode()
 
 
-def run(words, folder, library=None, **settings):
-    """A run in a folder, over a library with its settings; it is ended after 10 seconds."""
+def run(words, folder, library=None, kilobytes=None, **settings):
+    """A run in a folder, over a library with its settings, or within an address space; it is ended after 10 seconds."""
+    limit = (lambda: resource.setrlimit(resource.RLIMIT_AS, (kilobytes * 1024,) * 2)) if kilobytes else None
     how = {"LD_PRELOAD": library, **{name: str(value) for name, value in settings.items()}} if library else {}
-    child = subprocess.Popen([PROGRAM, *words], cwd=folder, env=how, stdin=subprocess.DEVNULL, stdout=subprocess.PIPE, stderr=subprocess.PIPE)
+    child = subprocess.Popen([PROGRAM, *words], cwd=folder, env=how, stdin=subprocess.DEVNULL, preexec_fn=limit, stdout=subprocess.PIPE, stderr=subprocess.PIPE)
     try:
         out, err = child.communicate(timeout=SECONDS)
     except subprocess.TimeoutExpired:
