@@ -22,7 +22,7 @@ class Hostile(unittest.TestCase):
 
     @unittest.skipUnless(shutil.which("cc"), "no compiler of C is here")
     def test_refused_requests_for_memory(self):
-        self.assertEqual(self.last("memory.py", 2), "44 cases, 0 bad")
+        self.assertEqual(self.last("memory.py", 2), "66 cases, 0 bad")
 
     @unittest.skipUnless(shutil.which("cc"), "no compiler of C is here")
     def test_failing_devices(self):
