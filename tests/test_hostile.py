@@ -23,6 +23,7 @@ class Hostile(unittest.TestCase):
     @unittest.skipUnless(shutil.which("cc"), "no compiler of C is here")
     def test_refused_requests_for_memory(self):
         self.assertEqual(self.last("memory.py", 2), "66 cases, 0 bad")
+        self.assertEqual(self.last("streams.py", 2), "8 cases, 0 bad")
 
     @unittest.skipUnless(shutil.which("cc"), "no compiler of C is here")
     def test_failing_devices(self):
