@@ -13,6 +13,8 @@ mod kept_tests;
 #[cfg(test)]
 mod murmur_tests;
 #[cfg(test)]
+mod note_tests;
+#[cfg(test)]
 mod resolution_tests;
 #[cfg(test)]
 mod rows;

@@ -1,0 +1,93 @@
+//! Note lines, and what is tallied of them.
+use crate::rows::each;
+use book_core::Page;
+use line_tally::{LineTally, PageTally, join};
+use note_lines::{note_line, read_note};
+use std::alloc::{AllocError, Global};
+use std::test::Fail;
+
+/// A line without its line feed, with it.
+fn ended(alloc: Global, line: &str) -> Result<Vec<u8>, AllocError> {
+    let mut line = String::from_str(alloc, line)?.into_bytes();
+    line.push(b'\n')?;
+    Ok(line)
+}
+
+/// The input of the note whose line this is, where it is printed so again.
+fn input_of(alloc: Global, line: &str) -> Option<String> {
+    let line = ended(alloc, line).ok()?;
+    let note = read_note(alloc, line.as_slice()).ok()??;
+    let again = note_line(alloc, &note.page, note.input.as_str()).ok()?;
+    if again.as_slice() == line.as_slice() {
+        Some(note.input)
+    } else {
+        None
+    }
+}
+
+/// Whether this is the line of a note of this input, or of no note.
+fn notes(alloc: Global, line: &str, want: &str) -> bool {
+    match input_of(alloc, line) {
+        Some(input) => input.as_str() == want,
+        None => want == "none",
+    }
+}
+
+const LINES: &str = r#"["color",0,null,"test"] -> test
+["color",4294967295,"{\"var\":[\"email\"]}","x"] -> x
+["a\"b",1,null,"/é"] -> /é
+["color",4294967296,null,"test"] -> none
+["color",0, null,"test"] -> none
+["color",0,null,"\u0074est"] -> none
+["color",0,null,"test",1] -> none
+["color",0,null] -> none
+{"flag":"color"} -> none"#;
+
+#[test]
+fn lines_of_notes(rt: HostRuntime) -> Result<(), Fail> {
+    each(rt.alloc(), LINES, notes)
+}
+
+/// The tally of lines without their line feeds, on the page of a flag without a name, at ten points.
+fn tallied(alloc: Global, lines: &str) -> Option<PageTally> {
+    let page = Page {
+        flag: String::new(alloc),
+        site: 0,
+        by: None,
+    };
+    let mut tally = LineTally::new(alloc, page, 10).ok()?;
+    for line in lines.lines() {
+        let line = ended(alloc, line).ok()?;
+        tally.take(alloc, line.as_slice()).ok()?;
+    }
+    Some(tally.finish())
+}
+
+/// Inputs on the points 1, 4, 4 and 0, after one of another page.
+const FRONT: &str = r#"["",0,"x","!"]
+["",0,null,"!"]
+["",0,null,"!C"]
+["",0,null,"!Ce"]
+["",0,null,""]"#;
+
+/// Inputs on the points 6, 7 and 7, before one of another page.
+const BACK: &str = r#"["",0,null,"Hello, world!"]
+["",0,null,"The quick brown fox jumps over the lazy dog"]
+["",0,null,"test"]
+["",1,null,"test"]"#;
+
+/// The counts of lines in two parts, joined; none where a line or the join is refused.
+fn counts(alloc: Global, one: &str, other: &str) -> Option<Vec<u32>> {
+    let (one, other) = (tallied(alloc, one)?, tallied(alloc, other)?);
+    Some(join(one, other).ok()?.counts)
+}
+
+#[test]
+fn parts_are_joined(rt: HostRuntime) -> Result<(), Fail> {
+    let alloc = rt.alloc();
+    let Some(counts) = counts(alloc, FRONT, BACK) else {
+        return Err("the parts are joined")?;
+    };
+    assert!(rt; counts.as_slice() == [1, 1, 0, 0, 2, 0, 1, 2, 0, 0].as_slice());
+    Ok(())
+}
