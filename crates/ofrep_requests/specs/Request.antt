@@ -1,4 +1,4 @@
--- What a request asks for (OpenFeature Remote Evaluation Protocol, 0.2.0: paths of flag evaluation; RFC 9110, 9.1 and 15.5.6: methods; RFC 3986, 2.1: percent-encoding).
+-- What a request asks for (OpenFeature Remote Evaluation Protocol: paths of flag evaluation; RFC 9110, 9.1 and 15.5.6: methods; RFC 3986, 2.1: percent-encoding).
 use Rattle.std.specs.Prelude.{ℕ, ◌==◌, Bool, ◌||◌, List, length, take, drop, codes, Option, Some, None, if◌then◌else◌}
 use Rattle.std.specs.List.{list_any}
 use Rattle.std.specs.Str.{is_utf8, bytes_eq}
@@ -39,9 +39,13 @@ method_at Nowhere = None
 abbrev pub text_if : List ℕ → Option (List ℕ)
 text_if bytes = if is_utf8 bytes then Some bytes else None
 
+-- a segment of a path that is no key, whatever its escapes
+abbrev pub is_no_key : List ℕ → Bool
+is_no_key segment = length segment == 0 || list_any (λ b. b == 47) segment
+
 -- the key that the rest of a path stands for, its escapes decoded: one segment of the path, not empty
 abbrev pub key_of : List ℕ → Option (List ℕ)
-key_of segment = if length segment == 0 || list_any (λ b. b == 47) segment then None else text_if (percent_decode segment)
+key_of segment = if is_no_key segment then None else text_if (percent_decode segment)
 
 -- the key in a path
 abbrev pub key_in : List ℕ → Option (List ℕ)

@@ -3,6 +3,7 @@ ghost use Rattle.std.specs.Prelude.{◌≡◌, option_map};
 ghost use Rattle.ofrep_requests.specs.Request as spec;
 
 const EVERY_FLAG_PATH: &str = "/ofrep/v1/evaluate/flags";
+
 pub(crate) const ONE_FLAG_ROUTE: &[u8] = b"/ofrep/v1/evaluate/flags/";
 
 /// What a path leads to.
