@@ -1,9 +1,8 @@
 //! Sharing flags.
 ghost use Rattle.std.specs.Prelude.{◌≡◌, ◌≢◌, ◌<◌, ◌≤◌, ◌↔◌, ◌∷◌, [], true, All, vec_len, Err, IfErr, IfOk};
 ghost use Rattle.snap_share.specs.Fault.{is_of_share};
-ghost use Rattle.snap_share.specs.Shown.{TakesNumber};
 
-use crate::cell::{Handover, StampWriter};
+use crate::cell::StampWriter;
 use crate::fault::ShareFault;
 use crate::front::Front;
 use crate::history::{History, ShareName};
@@ -11,7 +10,6 @@ use crate::publisher::Publisher;
 use crate::seat::ReadSeat;
 use crate::stamp::Stamp;
 use flag_defs::Flags;
-use left_right::Absorb;
 use left_right::writer::Writer;
 use std::alloc::Global;
 use std::sync::{Arc, Wait};
@@ -20,9 +18,8 @@ use std::sync::{Arc, Wait};
 const MOST_SEATS: usize = 64;
 
 /// Shares flags with number 1: a publisher, and so many seats that know them. Without seats it is refused with NoSeats, with
-/// more than 64 with TooManySeats, then with NoReader where the copies gave no place for a reader. The conditions are that
-/// the name is the history's and, which holds under every name, that a stamp absorbs an operation as `Shown` says. It waits
-/// only to use the copies up where it refuses after making them.
+/// more than 64 with TooManySeats, then with NoReader where the copies gave no place for a reader. The condition is that
+/// the name is the history's. It waits only to use the copies up where it refuses after making them.
 pub fn share<J: ShareName, R: Wait>(
     rt: &R,
     alloc: Global,
@@ -30,10 +27,7 @@ pub fn share<J: ShareName, R: Wait>(
     flags: Flags,
     seats: usize,
 ) -> Result<(Publisher<J>, Vec<ReadSeat<J>>), ShareFault>
-where
-    Stamp<J>: Absorb<Handover<J>, State = u64>,
-    requires by_number { TakesNumber (λ operation. operation.number) ⟦<Stamp<J> as Absorb<Handover<J>>>⟧.state ⟦<Stamp<J> as Absorb<Handover<J>>>⟧.applied }
-    requires name { history.seen.book ≡ J.book }
+    requires { history.seen.book ≡ J.book }
     ensures none { (result ≡ Err ShareFault.NoSeats) ↔ (seats ≡ 0) }
     ensures many { (result ≡ Err ShareFault.TooManySeats) ↔ (64 < seats) }
     ensures faults { IfErr result (λ fault. is_of_share fault ≡ true) }
@@ -58,9 +52,6 @@ fn share_among<J: ShareName, R: Wait>(
     flags: Flags,
     seats: usize,
 ) -> Result<(Publisher<J>, Vec<ReadSeat<J>>), ShareFault>
-where
-    Stamp<J>: Absorb<Handover<J>, State = u64>,
-    requires by_number { TakesNumber (λ operation. operation.number) ⟦<Stamp<J> as Absorb<Handover<J>>>⟧.state ⟦<Stamp<J> as Absorb<Handover<J>>>⟧.applied }
     requires name { history.seen.book ≡ J.book }
     requires count { (0 < seats) × (seats ≤ 64) }
     ensures other { IfErr result (λ fault. (fault ≢ ShareFault.NoSeats) × (fault ≢ ShareFault.TooManySeats)) }
@@ -93,8 +84,6 @@ fn seated<J: ShareName>(
     known: &Front<J>,
     seats: usize,
 ) -> Result<Vec<ReadSeat<J>>, ShareFault>
-where
-    Stamp<J>: Absorb<Handover<J>, State = u64>,
     ensures other { IfErr result (λ fault. (fault ≢ ShareFault.NoSeats) × (fault ≢ ShareFault.TooManySeats)) }
     ensures faults { IfErr result (λ fault. is_of_share fault ≡ true) }
     ensures seats { IfOk result (λ all. (vec_len all ≡ seats) × All (λ seat. seat ≡ known.now) all.items) }
