@@ -5,7 +5,7 @@ use Rattle.flagops_drive.specs.declared.fault.DriveRefusal.{DriveRefusal}
 use Rattle.flagops_drive.specs.declared.fault.DriveRefusal.TheVariants as driving
 use Rattle.flagops_files.specs.Question.{question_subjects}
 use Rattle.flagops_files.specs.Refusal.{loads_flags, loads_plan, loads_rule, loads_tree, stores_file}
-use Rattle.flagops_files.specs.Told.{NamesOne, Remarks, Says, Subjects, by, file, word, neither}
+use Rattle.flagops_files.specs.Told.{NamesOne, Remarks, Says, Subjects, by, file, word}
 use Rattle.flagops_files.specs.declared.refusal.Call.{Call}
 use Rattle.flagops_files.specs.declared.refusal.Call.TheVariants as call
 use Rattle.flagops_files.specs.declared.refusal.PriceMismatch.TheVariants.{Weight, BadKeys}
@@ -14,7 +14,7 @@ use Rattle.flagops_files.specs.declared.refusal.Refusal.TheVariants.{Note, Price
 use Rattle.flagops_files.specs.Files.{Holding}
 use Rattle.flagops_commands.specs.Check.{TellsBrokenAt}
 use Rattle.flagops_commands.specs.Calls.{loads_request}
-use Rattle.flagops_remarks.specs.Named.{Names}
+use Rattle.flagops_remarks.specs.Named.{Names, NamesWord}
 use Rattle.flagops_words.specs.Asked.{Asked, bucket, price, check, resolve, verify, apply, plan, drive, completions}
 use Rattle.rollout_checks.specs.declared.verify_fault.VerifyFault.{VerifyFault}
 use Rattle.rollout_checks.specs.declared.verify_fault.VerifyFault.TheVariants as verdict
@@ -28,14 +28,17 @@ is_of_keys (Price BadKeys) = true
 is_of_keys (Note e) = true
 is_of_keys e = by loads_tree e
 
--- two rules are refused together
+-- two rules are refused together, by the weights of the old one
 abbrev pub is_of_rules : Refusal → Bool
 is_of_rules (Price Weight) = true
 is_of_rules e = false
 
+abbrev pub old_weights : List ℕ
+old_weights = codes "the weights of OLD"
+
 abbrev pub price_subjects : List ℕ → List ℕ → List ℕ → List ℕ → Subjects
 price_subjects old new request keys =
-    (file old, by loads_rule) ∷ (file new, by loads_rule) ∷ (file request, by loads_request) ∷ (file keys, is_of_keys) ∷ (neither, is_of_rules) ∷ []
+    (file old, by loads_rule) ∷ (file new, by loads_rule) ∷ (file request, by loads_request) ∷ (file keys, is_of_keys) ∷ (word old_weights, is_of_rules) ∷ []
 
 abbrev pub check_subjects : List ℕ → Subjects
 check_subjects document = (file document, by loads_flags) ∷ []
@@ -79,8 +82,11 @@ abbrev pub is_of_size : Refusal → Bool
 is_of_size (PrintPlanned e) = true
 is_of_size e = false
 
+abbrev pub the_plan : List ℕ
+the_plan = codes "the plan"
+
 abbrev pub plan_subjects : List ℕ → List ℕ → List ℕ → Subjects
-plan_subjects document request book = question_subjects document request book ++ (file request, is_of_request) ∷ (neither, is_of_size) ∷ []
+plan_subjects document request book = question_subjects document request book ++ (file request, is_of_request) ∷ (word the_plan, is_of_size) ∷ []
 
 -- asks are refused as a file, or for what it holds
 abbrev pub is_of_asks : Refusal → Bool
@@ -92,13 +98,16 @@ abbrev pub is_of_driving : Refusal → Bool
 is_of_driving (Drive (driving.Drive e)) = true
 is_of_driving e = false
 
+abbrev pub the_workers : List ℕ
+the_workers = codes "WORKERS"
+
 -- what is said of asks that are refused
 abbrev pub NamesDriven : List ℕ → DriveRefusal → List ℕ → Type 0
 NamesDriven asks driving.BadAsks lines = Names asks lines
-NamesDriven asks (driving.Drive e) lines = Unit {0}
+NamesDriven asks (driving.Drive e) lines = NamesWord the_workers lines
 
 abbrev pub drive_subjects : List ℕ → List ℕ → List ℕ → Subjects
-drive_subjects document asks book = (file document, by loads_flags) ∷ (file asks, is_of_asks) ∷ (neither, is_of_driving) ∷ (file book, by stores_file) ∷ []
+drive_subjects document asks book = (file document, by loads_flags) ∷ (file asks, is_of_asks) ∷ (word the_workers, is_of_driving) ∷ (file book, by stores_file) ∷ []
 
 abbrev pub subjects_of : Asked → Subjects
 subjects_of (bucket rule key) = bucket_subjects rule

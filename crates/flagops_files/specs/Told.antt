@@ -10,17 +10,15 @@ use Rattle.flagops_files.specs.declared.refused.Refused.{Refused}
 use Rattle.flagops_files.specs.declared.refused.Remark.{Remark}
 use Rattle.flagops_files.specs.declared.refused.Remark.TheVariants.{Short, Lines}
 
--- what is refused: the file at a path, a word of the command, or neither of them alone
+-- what is refused: the file at a path, or a word of the command
 pub data Subject : Type 0 where
   file : List ℕ → Subject
   word : List ℕ → Subject
-  neither : Subject
 
 -- lines name it
 abbrev pub NamesSubject : Subject → List ℕ → Type 0
 NamesSubject (file path) lines = Names path lines
 NamesSubject (word name) lines = NamesWord name lines
-NamesSubject neither lines = Unit {0}
 
 -- a remark says this; where there was no memory for its lines it is a fixed sentence
 abbrev pub Says : (List ℕ → Type 0) → Remark → Type 0

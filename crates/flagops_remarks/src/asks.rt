@@ -1,6 +1,6 @@
 //! What a person is told of an asks file, and of a book that is not written.
-ghost use Rattle.std.specs.Prelude.{IfOk, string_bytes};
-ghost use Rattle.flagops_remarks.specs.Named.{Names};
+ghost use Rattle.std.specs.Prelude.{IfOk, codes, string_bytes};
+ghost use Rattle.flagops_remarks.specs.Named.{Names, NamesWord};
 
 use crate::lines::{Lines, Opening};
 use flag_text::Tree;
@@ -86,22 +86,24 @@ fn is_kind(word: &str) -> bool {
 }
 
 /// Of asks that were read and not driven, by the name of the fault.
-pub fn of_workers(alloc: Global, workers: usize, fault: &str) -> Result<String, AllocError> {
+pub fn of_workers(alloc: Global, workers: usize, fault: &str) -> Result<String, AllocError>
+    ensures names { IfOk result (λ s. NamesWord (codes "WORKERS") (string_bytes s)) }
+{
     let mut lines = Lines::new(alloc);
     if workers == 0 || workers > MOST_WORKERS {
-        lines.put("error: WORKERS is ");
+        lines.put(" is ");
         lines.put_shown(&workers);
         lines.put(
             ", and 1 to 64 threads can answer the asks\n  as many as there are processors serve best\n",
         );
     } else {
         lines.put_all(&[
-            "error: the asks were not driven: ",
+            " drove no asks: ",
             fault,
             "\n  docs/REFUSALS.md, part Asks, tells what to do\n",
         ]);
     }
-    lines.finish()
+    lines.behind_word("WORKERS")
 }
 
 /// Of a path at which no file is written.

@@ -1,6 +1,6 @@
 //! What a person is told of the other files: one that is not read, a rule, keys.
-ghost use Rattle.std.specs.Prelude.{IfOk, string_bytes};
-ghost use Rattle.flagops_remarks.specs.Named.{Names};
+ghost use Rattle.std.specs.Prelude.{IfOk, codes, string_bytes};
+ghost use Rattle.flagops_remarks.specs.Named.{Names, NamesWord};
 
 use crate::lines::{Lines, Opening};
 use book_core::BookFault;
@@ -122,12 +122,14 @@ pub fn of_noted(
 }
 
 /// Of two rules that differ in their totals.
-pub fn of_weights(alloc: Global, old: u32, new: u32) -> Result<String, AllocError> {
+pub fn of_weights(alloc: Global, old: u32, new: u32) -> Result<String, AllocError>
+    ensures names { IfOk result (λ s. NamesWord (codes "the weights of OLD") (string_bytes s)) }
+{
     let mut lines = Lines::new(alloc);
-    lines.put("error: the weights of OLD sum to ");
+    lines.put(" sum to ");
     lines.put_shown(&old);
     lines.put(" and those of NEW to ");
     lines.put_shown(&new);
     lines.put("\n  write both rules with weights of one sum\n");
-    lines.finish()
+    lines.behind_word("the weights of OLD")
 }

@@ -1,6 +1,6 @@
 //! What a person is told of plan files.
-ghost use Rattle.std.specs.Prelude.{IfOk, string_bytes};
-ghost use Rattle.flagops_remarks.specs.Named.{Names};
+ghost use Rattle.std.specs.Prelude.{IfOk, codes, string_bytes};
+ghost use Rattle.flagops_remarks.specs.Named.{Names, NamesWord};
 
 use crate::lines::{Lines, Opening};
 use crate::requests::pairs;
@@ -131,9 +131,12 @@ fn is_item(item: &Tree, name: &str) -> bool {
 }
 
 /// Of an answer that no plan file takes.
-pub fn of_large_plan(alloc: Global) -> Result<String, AllocError> {
-    String::from_str(
-        alloc,
-        "error: the plan has more than 67,108,864 bytes\n  divide the weights of the site by a common factor\n",
-    )
+pub fn of_large_plan(alloc: Global) -> Result<String, AllocError>
+    ensures names { IfOk result (λ s. NamesWord (codes "the plan") (string_bytes s)) }
+{
+    let mut lines = Lines::new(alloc);
+    lines.put(
+        " has more than 67,108,864 bytes\n  divide the weights of the site by a common factor\n",
+    );
+    lines.behind_word("the plan")
 }

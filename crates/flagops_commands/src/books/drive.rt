@@ -12,8 +12,8 @@ ghost use Rattle.flagops_files.specs.Files.{KeepsOthers};
 ghost use Rattle.flagops_files.specs.Refusal.{ComesFrom, GivesOne, is_file_fault, stores_file};
 ghost use Rattle.flagops_files.specs.Report.{outcome_view};
 ghost use Rattle.flagops_files.specs.declared.refusal.Refusal.TheVariants.{Drive};
-ghost use Rattle.flagops_files.specs.Told.{TellsOfOne, by, file, neither};
-ghost use Rattle.flagops_commands.specs.Subjects.{NamesDriven, drive_subjects, is_of_asks, is_of_driving};
+ghost use Rattle.flagops_files.specs.Told.{TellsOfOne, by, file, word};
+ghost use Rattle.flagops_commands.specs.Subjects.{NamesDriven, drive_subjects, is_of_asks, is_of_driving, the_workers};
 
 use flag_defs::Flags;
 use flag_text::Tree;
@@ -68,7 +68,7 @@ fn drove<R: Threads + Wait + Sync>(
     ensures calls { ComesFrom drive_itself result }
     ensures read { is_file_fault result ≡ false }
     ensures refused { (e : Reason) → refusal_of (asks_of (view tree.now)) workers ≡ Some e → IsErrAnd result (λ r. r.refusal ≡ Drive e) }
-    ensures names { TellsOfOne ((file path.now, is_of_asks) ∷ (neither, is_of_driving) ∷ []) result }
+    ensures names { TellsOfOne ((file path.now, is_of_asks) ∷ (word the_workers, is_of_driving) ∷ []) result }
 {
     let workers = usize::from(workers);
     match drive_asks(rt, alloc, flags, tree, workers) {

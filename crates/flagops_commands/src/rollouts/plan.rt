@@ -8,8 +8,8 @@ ghost use Rattle.flagops_commands.specs.Calls.{plan_calls, prints_plan};
 ghost use Rattle.flagops_files.specs.Refusal.{ComesFrom, GivesOne, GivesUnlessWant, is_file_fault};
 ghost use Rattle.flagops_files.specs.Report.{beside, outcome_view, status_number};
 ghost use Rattle.flagops_remarks.specs.Named.{Names};
-ghost use Rattle.flagops_files.specs.Told.{Says, TellsOfOne, file, neither};
-ghost use Rattle.flagops_commands.specs.Subjects.{is_of_request, is_of_size, plan_subjects};
+ghost use Rattle.flagops_files.specs.Told.{Says, TellsOfOne, file, word};
+ghost use Rattle.flagops_commands.specs.Subjects.{is_of_request, is_of_size, plan_subjects, the_plan};
 
 use crate::rollouts::unrecorded::unrecorded;
 use flagops_files::{
@@ -58,7 +58,7 @@ fn answer(
     ensures exact { GivesOne outcome_view result (IsPlanOf (option_map (λ m. m.number) refine) (Ok (question_view question.now))) }
     ensures calls { ComesFrom prints_plan result }
     ensures read { is_file_fault result ≡ false }
-    ensures names { TellsOfOne ((file request.now, is_of_request) ∷ (neither, is_of_size) ∷ []) result }
+    ensures names { TellsOfOne ((file request.now, is_of_request) ∷ (word the_plan, is_of_size) ∷ []) result }
     ensures notes { IfOk result (λ o. IfSome o.remark (Says (Names book.now))) }
 {
     let planned = match planned(rt, alloc, question, refine) {
@@ -99,6 +99,7 @@ fn planned(
     }
 }
 
+#[tactic(auto, using(flagops_files::proofs::Told::says))]
 fn printed(alloc: Global, planned: &Planned, remark: Option<Remark>) -> Result<Outcome, Refused>
     requires ordered { IsOrdered (planned_view planned.now) }
     requires whole { IsWhole (planned_view planned.now) }
@@ -106,7 +107,7 @@ fn printed(alloc: Global, planned: &Planned, remark: Option<Remark>) -> Result<O
     ensures reads_back { IfOk result (λ o. Holds (planned_view planned.now) o.text.items) }
     ensures calls { ComesFrom prints_plan result }
     ensures read { is_file_fault result ≡ false }
-    ensures names { TellsOfOne ((neither, is_of_size) ∷ []) result }
+    ensures names { TellsOfOne ((word the_plan, is_of_size) ∷ []) result }
     ensures remark { IfOk result (λ o. o.remark ≡ remark) }
 {
     match print_planned_line(alloc, planned) {

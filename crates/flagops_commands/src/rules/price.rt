@@ -8,8 +8,8 @@ ghost use Rattle.flagops_files.specs.Refusal.{ComesFrom, GivesUnlessWant, is_fil
 ghost use Rattle.flagops_files.specs.Report.{outcome_view};
 ghost use Rattle.flagops_files.specs.declared.refusal.PriceMismatch.TheVariants.{BadKeys};
 ghost use Rattle.flagops_files.specs.declared.refusal.Refusal.TheVariants.{Price};
-ghost use Rattle.flagops_files.specs.Told.{NamesSubject, Says, TellsOf, TellsOfOne, file, neither};
-ghost use Rattle.flagops_commands.specs.Subjects.{is_of_keys, is_of_rules, price_subjects};
+ghost use Rattle.flagops_files.specs.Told.{NamesSubject, Says, TellsOf, TellsOfOne, file, word};
+ghost use Rattle.flagops_commands.specs.Subjects.{is_of_keys, is_of_rules, old_weights, price_subjects};
 
 use crate::rules::totals::totals_by_name;
 use book_core::{Book, Exposure, Page};
@@ -148,7 +148,7 @@ fn weigh_keys<R: Threads + Sync>(
     ensures exact { GivesUnlessWant outcome_view result (weighed_keys old.now new.now prices.now (map string_bytes keys.items)) }
     ensures calls { ComesFrom notes_keys result }
     ensures read { is_file_fault result ≡ false }
-    ensures names { TellsOfOne ((file path.now, is_of_keys) ∷ (neither, is_of_rules) ∷ []) result }
+    ensures names { TellsOfOne ((file path.now, is_of_keys) ∷ (word old_weights, is_of_rules) ∷ []) result }
 {
     if are_taken(keys.as_slice()) {
         keys.sort_unstable();
@@ -222,7 +222,7 @@ fn priced(
     ensures exact { GivesUnlessWant outcome_view result (weighed old.now new.now prices.now (map string_bytes inputs.now)) }
     ensures calls { ComesFrom price_itself result }
     ensures read { is_file_fault result ≡ false }
-    ensures names { TellsOfOne ((neither, is_of_rules) ∷ []) result }
+    ensures names { TellsOfOne ((word old_weights, is_of_rules) ∷ []) result }
 {
     if old.total() != new.total() {
         let lines = of_weights(alloc, old.total(), new.total());
