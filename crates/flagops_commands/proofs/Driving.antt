@@ -1,6 +1,7 @@
 -- What was loaded in turn, driven and then stored, as the report of `drive`.
-use Rattle.std.proofs.Common.{◌≡◌, ℕ, List, Option, Some, None, true, false, IfSome, is_some, inl, inr, refl, ap, ◌∙◌, subst}
+use Rattle.std.proofs.Common.{◌≡◌, ℕ, Bool, List, Option, Some, None, true, false, IfSome, is_some, inl, inr, refl, ap, ◌∙◌, subst}
 use Rattle.std.specs.Prelude.{Result, Ok, Err, option_map}
+use Rattle.book_core.specs.Book.{Contents}
 use Rattle.flag_documents.specs.Document.{Definitions}
 use Rattle.flag_text.specs.Shape.{Shape}
 use Rattle.flagops_drive.specs.Asks.{Ask, asks_of}
@@ -16,7 +17,7 @@ use Rattle.flagops_files.specs.declared.outcome.Outcome.{Outcome}
 use Rattle.flagops_files.specs.declared.refused.Refused.{Refused}
 use Rattle.flagops_files.specs.declared.refusal.Refusal.{Refusal}
 use Rattle.flagops_files.specs.declared.refusal.Refusal.TheVariants.{Drive}
-use Rattle.flagops_commands.specs.Drive.{AreRead, IsDriveReport, IsDroveOf, IsWritten, KeepsUnlessDone, LeavesBook}
+use Rattle.flagops_commands.specs.Drive.{AreRead, IsDriveReport, IsDroveOf, IsWritten, KeepsUnlessDone, LeavesBook, before_at}
 
 -- files that stayed until the storing
 pub kept_after : {E : Type 0} (old mid last new : Option Holding) (r : Result Outcome E) → mid ≡ old → last ≡ mid → KeepsUnlessDone last new r → KeepsUnlessDone old new r
@@ -40,9 +41,13 @@ book_refused (Some at) new book d e fault same = λ wanted. inr (rw (fault wante
 
 -- ---- the whole
 
-module _ (path asks : List ℕ) (workers : ℕ) (book : List ℕ) where
+-- what is known of the files at first, where they stayed
+pub at_first : {A : Type 0} (old mid : Option A) (P : A → Type 0) → mid ≡ old → IfSome mid P → IfSome old P
+at_first old mid P same h = subst (λ o. IfSome o P) same h
+
+module _ (path asks : List ℕ) (workers : ℕ) (book : List ℕ) (add : Bool) where
   abbrev Is : Option Holding → Option Holding → Result Outcome Refused → Type 0
-  Is old after r = IfSome old (λ at. GivesOne outcome_view r (IsDriveReport at after path asks workers book))
+  Is old after r = IfSome old (λ at. GivesOne outcome_view r (IsDriveReport at after path asks workers book add))
 
   pub no_document : (old after : Option Holding) (e : Refused) → after ≡ old → IfSome old (λ at. is_want e.refusal ≡ false → IsDocumentAt at path (Err e.refusal)) → Is old after (Err e)
   unfolding IsDriveReport
@@ -50,60 +55,56 @@ module _ (path asks : List ℕ) (workers : ℕ) (book : List ℕ) where
   no_document (Some at) after e same loaded = λ wanted. (Err e.refusal, loaded wanted, Err e.refusal, refl, (refl, same))
 
   module _ (flags : Definitions) where
-    pub no_asks : (old mid after : Option Holding) (e : Refused) → mid ≡ old → after ≡ mid → IfSome old (λ at. IsDocumentAt at path (Ok flags))
-        → IfSome mid (λ at. is_want e.refusal ≡ false → tree_at at asks max_text ≡ Err e.refusal) → Is old after (Err e)
+    pub no_asks : (old after : Option Holding) (e : Refused) → after ≡ old → IfSome old (λ at. IsDocumentAt at path (Ok flags))
+        → IfSome old (λ at. is_want e.refusal ≡ false → tree_at at asks max_text ≡ Err e.refusal) → Is old after (Err e)
     unfolding IsDriveReport
-    no_asks old mid after e first second document tree = go old document (subst (λ (h : Option Holding). IfSome h (λ at. is_want e.refusal ≡ false → tree_at at asks max_text ≡ Err e.refusal)) first tree) (second ∙ first)
-      where
-        go : (h : Option Holding) → IfSome h (λ at. IsDocumentAt at path (Ok flags)) → IfSome h (λ at. is_want e.refusal ≡ false → tree_at at asks max_text ≡ Err e.refusal) → after ≡ h → Is h after (Err e)
-        go None document tree same = tt
-        go (Some at) document tree same = λ wanted. (Ok flags, document, Err e.refusal, rw (tree wanted) refl, (refl, same))
+    no_asks None after e same document tree = tt
+    no_asks (Some at) after e same document tree = λ wanted. (Ok flags, document, Err e.refusal, rw (tree wanted) refl, (refl, same))
 
     module _ (t : Shape) where
-      pub not_driven : (old mid after : Option Holding) (e : Refused) → mid ≡ old → after ≡ mid → IfSome old (λ at. IsDocumentAt at path (Ok flags)) → IfSome mid (λ at. tree_at at asks max_text ≡ Ok t)
-          → (is_want e.refusal ≡ false → IsDroveOf (Ok flags) (Ok t) workers (Err e.refusal)) → Is old after (Err e)
+      pub no_book : (old after : Option Holding) (e : Refused) → after ≡ old → IfSome old (λ at. IsDocumentAt at path (Ok flags)) → IfSome old (λ at. tree_at at asks max_text ≡ Ok t)
+          → IfSome old (λ at. is_want e.refusal ≡ false → before_at at book add ≡ Err e.refusal) → Is old after (Err e)
       unfolding IsDriveReport
-      not_driven old mid after e first second document tree drove = go old document (subst (λ (h : Option Holding). IfSome h (λ at. tree_at at asks max_text ≡ Ok t)) first tree) (second ∙ first)
-        where
-          go : (h : Option Holding) → IfSome h (λ at. IsDocumentAt at path (Ok flags)) → IfSome h (λ at. tree_at at asks max_text ≡ Ok t) → after ≡ h → Is h after (Err e)
-          go None document tree same = tt
-          go (Some at) document tree same = λ wanted. (Ok flags, document, Err e.refusal, rw tree (drove wanted), (refl, same))
+      no_book None after e same document tree before = tt
+      no_book (Some at) after e same document tree before = λ wanted. (Ok flags, document, Err e.refusal, rw (tree, before wanted) refl, (refl, same))
 
-      pub driven : (old mid last after : Option Holding) (d : Drove) (r : Result Outcome Refused) → mid ≡ old → last ≡ mid → IfSome old (λ at. IsDocumentAt at path (Ok flags)) → IfSome mid (λ at. tree_at at asks max_text ≡ Ok t)
-          → IsDroveOf (Ok flags) (Ok t) workers (Ok d) → IfSome last (λ at. GivesOne outcome_view r (IsWritten at after book (Ok d))) → Is old after r
-      unfolding IsDriveReport
-      driven old mid last after d r first second document tree drove written =
-          go old document (subst (λ (h : Option Holding). IfSome h (λ at. tree_at at asks max_text ≡ Ok t)) first tree)
-          (subst (λ (h : Option Holding). IfSome h (λ at. GivesOne outcome_view r (IsWritten at after book (Ok d)))) (second ∙ first) written)
-        where
-          ends : (at : Holding) (s : Result Outcome Refused) → IsDocumentAt at path (Ok flags) → tree_at at asks max_text ≡ Ok t → GivesOne outcome_view s (IsWritten at after book (Ok d))
-              → GivesOne outcome_view s (IsDriveReport at after path asks workers book)
-          ends at (Ok o) document tree written = (Ok flags, document, Ok d, rw tree drove, written)
-          ends at (Err e) document tree written = λ wanted. (Ok flags, document, Ok d, rw tree drove, written wanted)
+      module _ (before : Option Contents) where
+        pub not_driven : (old after : Option Holding) (e : Refused) → after ≡ old → IfSome old (λ at. IsDocumentAt at path (Ok flags)) → IfSome old (λ at. tree_at at asks max_text ≡ Ok t)
+            → IfSome old (λ at. before_at at book add ≡ Ok before) → (is_want e.refusal ≡ false → IsDroveOf (Ok flags) (Ok t) (Ok before) workers (Err e.refusal)) → Is old after (Err e)
+        unfolding IsDriveReport
+        not_driven None after e same document tree had drove = tt
+        not_driven (Some at) after e same document tree had drove = λ wanted. (Ok flags, document, Err e.refusal, rw (tree, had) (drove wanted), (refl, same))
 
-          go : (h : Option Holding) → IfSome h (λ at. IsDocumentAt at path (Ok flags)) → IfSome h (λ at. tree_at at asks max_text ≡ Ok t) → IfSome h (λ at. GivesOne outcome_view r (IsWritten at after book (Ok d))) → Is h after r
-          go None document tree written = tt
-          go (Some at) document tree written = ends at r document tree written
+        pub driven : (old after : Option Holding) (d : Drove) (r : Result Outcome Refused) → IfSome old (λ at. IsDocumentAt at path (Ok flags)) → IfSome old (λ at. tree_at at asks max_text ≡ Ok t)
+            → IfSome old (λ at. before_at at book add ≡ Ok before) → IsDroveOf (Ok flags) (Ok t) (Ok before) workers (Ok d)
+            → IfSome old (λ at. GivesOne outcome_view r (IsWritten at after book (Ok d))) → Is old after r
+        unfolding IsDriveReport
+        driven None after d r document tree had drove written = tt
+        driven (Some at) after d (Ok o) document tree had drove written = (Ok flags, document, Ok d, rw (tree, had) drove, written)
+        driven (Some at) after d (Err e) document tree had drove written = λ wanted. (Ok flags, document, Ok d, rw (tree, had) drove, written wanted)
 
 -- ---- what is left
 
-made : (flags : Definitions) (o : Option (List Ask)) (workers : ℕ) (d : Drove) → IsDriveOf flags o workers (Ok d) → (workers_refusal workers ≡ None) × (is_some o ≡ true)
-made flags None workers d is = cc
-made flags (Some asks) workers d is = (ap (option_map reason.Drive) is.0, refl)
+made : (flags : Definitions) (o : Option (List Ask)) (workers : ℕ) (before : Option Contents) (d : Drove) → IsDriveOf flags o workers before (Ok d) → (workers_refusal workers ≡ None) × (is_some o ≡ true)
+made flags None workers before d is = cc
+made flags (Some asks) workers before d is = (ap (option_map reason.Drive) is.0, refl)
 
-drove_by : (flags : Definitions) (t : Shape) (workers : ℕ) (d : Drove) → IsDroveOf (Ok flags) (Ok t) workers (Ok d) → (workers_refusal workers ≡ None) × (is_some (asks_of t) ≡ true)
-drove_by flags t workers d drove = go drove.0 drove.1 drove.2
+drove_by : (flags : Definitions) (t : Shape) (workers : ℕ) (before : Option Contents) (d : Drove) → IsDroveOf (Ok flags) (Ok t) (Ok before) workers (Ok d)
+    → (workers_refusal workers ≡ None) × (is_some (asks_of t) ≡ true)
+drove_by flags t workers before d drove = go drove.0 drove.1 drove.2
   where
-    go : (r : Result Drove DriveRefusal) → IsDriveOf flags (asks_of t) workers r → Ok d ≡ refused_by Drive r → (workers_refusal workers ≡ None) × (is_some (asks_of t) ≡ true)
-    go (Ok x) is same = made flags (asks_of t) workers x is
+    go : (r : Result Drove DriveRefusal) → IsDriveOf flags (asks_of t) workers before r → Ok d ≡ refused_by Drive r → (workers_refusal workers ≡ None) × (is_some (asks_of t) ≡ true)
+    go (Ok x) is same = made flags (asks_of t) workers before x is
     go (Err e) is same = cc
 
-pub left_by_storing : (path asks : List ℕ) (workers : ℕ) (book : List ℕ) (flags : Definitions) (t : Shape) (old mid last after : Option Holding) (d : Drove) → mid ≡ old → last ≡ mid
-    → IfSome old (λ at. IsDocumentAt at path (Ok flags)) → IfSome mid (λ at. tree_at at asks max_text ≡ Ok t) → IsDroveOf (Ok flags) (Ok t) workers (Ok d) → KeepsOthers last after book → LeavesBook old after path asks workers book
-left_by_storing path asks workers book flags t old mid last after d first second document tree drove kept =
-    let fit : (workers_refusal workers ≡ None) × (is_some (asks_of t) ≡ true) = drove_by flags t workers d drove in
-    inr (fit.0, read old document (subst (λ (h : Option Holding). IfSome h (λ at. tree_at at asks max_text ≡ Ok t)) first tree) fit.1, others_after old last after book (second ∙ first) kept)
+pub left_by_storing : (path asks : List ℕ) (workers : ℕ) (book : List ℕ) (add : Bool) (flags : Definitions) (t : Shape) (before : Option Contents) (old after : Option Holding) (d : Drove)
+    → IfSome old (λ at. IsDocumentAt at path (Ok flags)) → IfSome old (λ at. tree_at at asks max_text ≡ Ok t) → IfSome old (λ at. before_at at book add ≡ Ok before)
+    → IsDroveOf (Ok flags) (Ok t) (Ok before) workers (Ok d) → KeepsOthers old after book → LeavesBook old after path asks workers book add
+left_by_storing path asks workers book add flags t before old after d document tree had drove kept =
+    let fit : (workers_refusal workers ≡ None) × (is_some (asks_of t) ≡ true) = drove_by flags t workers before d drove in
+    inr (fit.0, read old document tree had fit.1, kept)
   where
-    read : (h : Option Holding) → IfSome h (λ at. IsDocumentAt at path (Ok flags)) → IfSome h (λ at. tree_at at asks max_text ≡ Ok t) → is_some (asks_of t) ≡ true → IfSome h (λ at. AreRead at path asks)
-    read None document tree some = tt
-    read (Some at) document tree some = (flags, document, t, tree, some)
+    read : (h : Option Holding) → IfSome h (λ at. IsDocumentAt at path (Ok flags)) → IfSome h (λ at. tree_at at asks max_text ≡ Ok t) → IfSome h (λ at. before_at at book add ≡ Ok before)
+        → is_some (asks_of t) ≡ true → IfSome h (λ at. AreRead at path asks book add)
+    read None document tree had some = tt
+    read (Some at) document tree had some = (flags, document, t, tree, some, before, had)

@@ -7,6 +7,7 @@ pub mod Hexadecimal
 pub mod Leaving
 mod Noted
 pub mod Refusing
+pub mod Uniting
 pub mod Valid
 pub mod Verdicts
 pub mod Wants

@@ -5,20 +5,21 @@ use Rattle.flagops_commands.specs.Bucket.{bucket_report}
 use Rattle.flagops_commands.specs.Check.{IsCheckReport}
 use Rattle.flagops_commands.specs.Completions.{completions_report}
 use Rattle.flagops_commands.specs.Drive.{IsDriveReport, LeavesBook}
+use Rattle.flagops_commands.specs.Unite.{IsUniteReport, LeavesUnited}
 use Rattle.flagops_files.specs.Files.{Holding}
 use Rattle.flagops_commands.specs.Plan.{IsPlanReport}
 use Rattle.flagops_commands.specs.Price.{price_report}
-use Rattle.flagops_commands.specs.Calls.{bucket_calls, completions_calls, price_calls, check_calls, resolve_calls, verify_calls, apply_calls, plan_calls, drive_calls}
+use Rattle.flagops_commands.specs.Calls.{bucket_calls, completions_calls, price_calls, check_calls, resolve_calls, verify_calls, apply_calls, plan_calls, drive_calls, unite_calls}
 use Rattle.flagops_files.specs.Report.{IsFileRefusal, Outcomes}
 use Rattle.flagops_commands.specs.Resolve.{IsResolveReport}
 use Rattle.flagops_commands.specs.Verify.{IsVerifyReport}
 use Rattle.flagops_files.specs.declared.refusal.Call.{Call}
 use Rattle.flagops_files.specs.declared.refusal.Call.TheVariants as call
-use Rattle.flagops_words.specs.Asked.{Asked, bucket, price, check, resolve, verify, apply, plan, drive, completions}
+use Rattle.flagops_words.specs.Asked.{Asked, bucket, price, check, resolve, verify, apply, plan, drive, unite, completions}
 
 -- the command waits for others: `drive` for its workers, and no other command
 abbrev pub waits : Asked → Bool
-waits (drive document file workers book) = true
+waits (drive document file workers book add) = true
 waits asked = false
 
 -- what each command comes to over the files, and over those that it leaves
@@ -31,15 +32,17 @@ IsOutcome at after (verify document request book file refine) r = IsVerifyReport
 IsOutcome at after (apply document file key site) r = IsApplyReport at document file key site r
 IsOutcome at after (plan document request book refine) r = IsPlanReport at document request book refine r
 IsOutcome at after (completions shell) r = completions_report shell ≡ r
-IsOutcome at after (drive document file workers book) r = IsDriveReport at after document file workers book r
+IsOutcome at after (drive document file workers book add) r = IsDriveReport at after document file workers book add r
+IsOutcome at after (unite out files) r = IsUniteReport at after out files r
 
 -- the same; and that a file cannot be read or written is told only where one has failed
 abbrev pub IsRunOutcome : Holding → Option Holding → Bool → Asked → Outcomes
 IsRunOutcome at after has_failed asked r = IsOutcome at after asked r × (IsFileRefusal r → has_failed ≡ true)
 
--- a command leaves the files as they are; `drive` changes the file of its book alone, and only where it has a book
+-- a command leaves the files as they are; `drive` and `book` change the file of their book alone, and only where there is a book
 abbrev pub Leaves : Asked → Option Holding → Option Holding → Type 0
-Leaves (drive document file workers book) old new = LeavesBook old new document file workers book
+Leaves (drive document file workers book add) old new = LeavesBook old new document file workers book add
+Leaves (unite out files) old new = LeavesUnited old new out files
 Leaves asked old new = new ≡ old
 
 -- words that ask for no command leave them
@@ -57,7 +60,8 @@ calls_of (verify document request book file refine) c = verify_calls c
 calls_of (apply document file key site) c = apply_calls c
 calls_of (plan document request book refine) c = plan_calls c
 calls_of (completions shell) c = completions_calls c
-calls_of (drive document file workers book) c = drive_calls c
+calls_of (drive document file workers book add) c = drive_calls c
+calls_of (unite out files) c = unite_calls c
 
 -- the calls that may run out of memory: those of the command, and reading the words
 abbrev pub can_want : Asked → Call → Bool

@@ -12,6 +12,7 @@ pub mod Resolve
 pub mod Subjects
 pub mod Telling
 pub mod Totals
+pub mod Unite
 pub mod Unrecorded
 pub mod Valid
 pub mod Verify

@@ -1,10 +1,10 @@
 -- What a person is told. Of a refusal it is the name of what was refused: of each command the files at its paths and its words
 -- stand here, each with the refusals that are of it.
-use Rattle.std.specs.Prelude.{ℕ, Bool, true, false, List, [], ◌∷◌, ◌++◌, Ok, Err, codes}
+use Rattle.std.specs.Prelude.{ℕ, Bool, true, false, List, [], ◌∷◌, ◌++◌, map, Ok, Err, codes}
 use Rattle.flagops_drive.specs.declared.fault.DriveRefusal.{DriveRefusal}
 use Rattle.flagops_drive.specs.declared.fault.DriveRefusal.TheVariants as driving
 use Rattle.flagops_files.specs.Question.{question_subjects}
-use Rattle.flagops_files.specs.Refusal.{loads_flags, loads_plan, loads_rule, loads_tree, stores_file}
+use Rattle.flagops_files.specs.Refusal.{loads_book, loads_flags, loads_plan, loads_rule, loads_tree, stores_file}
 use Rattle.flagops_files.specs.Told.{NamesOne, Remarks, Says, Subjects, by, file, word}
 use Rattle.flagops_files.specs.declared.refusal.Call.{Call}
 use Rattle.flagops_files.specs.declared.refusal.Call.TheVariants as call
@@ -13,9 +13,9 @@ use Rattle.flagops_files.specs.declared.refusal.Refusal.{Refusal}
 use Rattle.flagops_files.specs.declared.refusal.Refusal.TheVariants.{Note, Price, Plan, PrintPlanned, Verify, Apply, Drive}
 use Rattle.flagops_files.specs.Files.{Holding}
 use Rattle.flagops_commands.specs.Check.{TellsBrokenAt}
-use Rattle.flagops_commands.specs.Calls.{loads_request}
+use Rattle.flagops_commands.specs.Calls.{loads_request, unites_books}
 use Rattle.flagops_remarks.specs.Named.{Names, NamesWord}
-use Rattle.flagops_words.specs.Asked.{Asked, bucket, price, check, resolve, verify, apply, plan, drive, completions}
+use Rattle.flagops_words.specs.Asked.{Asked, bucket, price, check, resolve, verify, apply, plan, drive, unite, completions}
 use Rattle.rollout_checks.specs.declared.verify_fault.VerifyFault.{VerifyFault}
 use Rattle.rollout_checks.specs.declared.verify_fault.VerifyFault.TheVariants as verdict
 
@@ -101,13 +101,30 @@ is_of_driving e = false
 abbrev pub the_workers : List ℕ
 the_workers = codes "WORKERS"
 
+-- a book that cannot take what was reached
+abbrev pub is_of_adding : Refusal → Bool
+is_of_adding (Drive driving.PageFull) = true
+is_of_adding e = false
+
 -- what is said of asks that are refused
-abbrev pub NamesDriven : List ℕ → DriveRefusal → List ℕ → Type 0
-NamesDriven asks driving.BadAsks lines = Names asks lines
-NamesDriven asks (driving.Drive e) lines = NamesWord the_workers lines
+abbrev pub NamesDriven : List ℕ → List ℕ → DriveRefusal → List ℕ → Type 0
+NamesDriven asks book driving.BadAsks lines = Names asks lines
+NamesDriven asks book (driving.Drive e) lines = NamesWord the_workers lines
+NamesDriven asks book driving.PageFull lines = Names book lines
+
+-- what is refused of the asks that were read, or of the book that they are noted in
+abbrev pub driven_subjects : List ℕ → List ℕ → Subjects
+driven_subjects asks book = (file asks, is_of_asks) ∷ (word the_workers, is_of_driving) ∷ (file book, is_of_adding) ∷ []
 
 abbrev pub drive_subjects : List ℕ → List ℕ → List ℕ → Subjects
-drive_subjects document asks book = (file document, by loads_flags) ∷ (file asks, is_of_asks) ∷ (word the_workers, is_of_driving) ∷ (file book, by stores_file) ∷ []
+drive_subjects document asks book = (file document, by loads_flags) ∷ (file book, by loads_book) ∷ (file book, by stores_file) ∷ driven_subjects asks book
+
+-- the books that are read, and the one that is written
+abbrev pub united_subjects : List (List ℕ) → Subjects
+united_subjects paths = map (λ path. (file path, by unites_books)) paths
+
+abbrev pub unite_subjects : List ℕ → List (List ℕ) → Subjects
+unite_subjects out paths = (file out, by stores_file) ∷ united_subjects paths
 
 abbrev pub subjects_of : Asked → Subjects
 subjects_of (bucket rule key) = bucket_subjects rule
@@ -117,7 +134,8 @@ subjects_of (resolve document key kind default context moment) = resolve_subject
 subjects_of (verify document request book answer refine) = verify_subjects document request book answer
 subjects_of (plan document request book refine) = plan_subjects document request book
 subjects_of (apply document answer key site) = apply_subjects document answer
-subjects_of (drive document asks workers book) = drive_subjects document asks book
+subjects_of (drive document asks workers book add) = drive_subjects document asks book
+subjects_of (unite out files) = unite_subjects out files
 subjects_of (completions shell) = []
 
 -- what a person is told beside the report of a command that was not refused: which flags are broken, and that the book has

@@ -1,3 +1,4 @@
-//! The command that makes a book.
+//! The commands that make a book.
 
 pub mod drive;
+pub mod unite;

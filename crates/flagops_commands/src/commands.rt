@@ -9,6 +9,7 @@ ghost use Rattle.flagops_files.specs.Told.{Says, TellsOfOne};
 ghost use Rattle.flagops_commands.specs.Subjects.{notes_of, subjects_of};
 
 use crate::books::drive::drive;
+use crate::books::unite::unite;
 use crate::completions::completions;
 use crate::flags::check::check;
 use crate::flags::resolve::resolve;
@@ -46,7 +47,8 @@ pub fn outcome<R: Threads + Wait + Sync, F: FileSet>(
             asks,
             workers,
             book,
-        } => drive(rt, alloc, files, document, asks, *workers, book),
+            add,
+        } => drive(rt, alloc, files, document, asks, *workers, book, *add),
         _ => outcome_at_once(rt, alloc, files, asked),
     }
 }
@@ -107,6 +109,7 @@ fn outcome_at_once<R: Threads + Sync, F: FileSet>(
             key,
             site,
         } => apply(alloc, files, document, plan, key, *site),
+        Asked::Unite { out, files: paths } => unite(alloc, files, out, paths.as_slice()),
         Asked::Drive { .. } => unreachable!(),
     }
 }

@@ -1,12 +1,11 @@
 -- What was driven and what was refused, as what the command comes to.
 use Rattle.std.proofs.Common.{◌≡◌, ◌≢◌, ℕ, List, Option, Some, None, true, map, refl, sym, ap, subst}
-use Rattle.std.specs.Prelude.{Ok, Err}
+use Rattle.std.specs.Prelude.{IfErr, IfOk, Result, Ok, Err}
 use Rattle.flag_documents.specs.Document.{Definitions}
-use Rattle.flag_resolve.specs.Views.{resolution_view}
-use Rattle.book_core.specs.Book.{Contents, input_count}
-use Rattle.book_core.specs.Printing.{book_text}
-use Rattle.book_core.specs.Reading.{book_of}
-use Rattle.flag_resolve.specs.declared.resolution.Resolution.{Resolution}
+use Rattle.book_core.specs.Book.{Contents}
+use Rattle.book_core.specs.Union.{Unites}
+use Rattle.book_core.specs.declared.fault.BookFault.{BookFault}
+use Rattle.book_core.specs.declared.fault.BookFault.TheVariants as book
 use Rattle.book_share.specs.Asked.{long_of, mentions, resolved}
 use Rattle.book_share.specs.Driven.{AreNoted}
 use Rattle.book_share.specs.DriveFault.{is_of_workers, workers_fault}
@@ -14,10 +13,11 @@ use Rattle.book_share.specs.declared.ask.Ask as program
 use Rattle.book_share.specs.declared.drive_fault.DriveFault.{DriveFault}
 use Rattle.book_share.specs.declared.drive_fault.DriveFault.TheVariants.{WantOfMemory, NoWorkers, TooManyWorkers, Stalled}
 use Rattle.flagops_drive.specs.Asks.{Ask, ask_view, if_asks}
-use Rattle.flagops_drive.specs.Driven.{Drove, IsDriveOf, IsRefused}
-use Rattle.flagops_drive.specs.Fault.{want}
-use Rattle.flagops_drive.specs.Lines.{drive_text}
-use Rattle.flagops_drive.specs.declared.fault.DriveRefusal.TheVariants.{Drive}
+use Rattle.flagops_drive.specs.Driven.{Drives, Drove, IsDriveOf, IsOutput, IsReached, IsRefused, IsUnadded, Reached, drove_view}
+use Rattle.flagops_drive.specs.Fault.{of_union, want}
+use Rattle.flagops_drive.specs.declared.command.Drove as program_drove
+use Rattle.flagops_drive.specs.declared.fault.DriveRefusal.{DriveRefusal}
+use Rattle.flagops_drive.specs.declared.fault.DriveRefusal.TheVariants.{Drive, BadAsks, PageFull}
 
 there : (o : Option (List Ask)) (asks : List Ask) → if_asks o ≡ Ok asks → o ≡ Some asks
 there None asks h = cc
@@ -27,40 +27,60 @@ no_fault : (o : Option DriveFault) → ((e : DriveFault) → o ≡ Some e → �
 no_fault None h = refl
 no_fault (Some e) h = absurd (h e refl)
 
+-- what the workers came to, of asks that were read
+pub reached_of : (flags : Definitions) (asks : List Ask) (given items : List program.Ask) (r : Reached) → map ask_view items ≡ asks → given ≡ items → r.answers ≡ map (resolved flags) given
+    → AreNoted (mentions flags given) r.book r.calls r.news r.full → r.long ≡ long_of flags given → IsReached flags asks r
+reached_of flags asks given items r read same answered noted counted =
+    record { given = given; same = ap (map ask_view) same ∙ read; answers = answered; noted = noted; long = counted }
+
 -- the whole output, of asks that were driven
-pub drove_of : (flags : Definitions) (o : Option (List Ask)) (given items : List program.Ask) (workers : ℕ) (answers : List Resolution) (book : Contents) (calls news full long : ℕ) (d : Drove)
-    → if_asks o ≡ Ok (map ask_view items) → given ≡ items → ((e : DriveFault) → workers_fault workers ≡ Some e → ⊥)
-    → map resolution_view answers ≡ map (resolved flags) given → AreNoted (mentions flags given) book calls news full → long ≡ long_of flags given
-    → d.text ≡ drive_text (map resolution_view answers) (input_count book) calls news full long → d.book ≡ book_text book → book_of d.book ≡ Ok book
-    → IsDriveOf flags o workers (Ok d)
-drove_of flags o given items workers answers book calls news full long d read same workers_fit answered noted counted text file back =
-    subst (λ (p : Option (List Ask)). IsDriveOf flags p workers (Ok d)) (sym (there o (map ask_view items) read)) (
-      no_fault (workers_fault workers) workers_fit,
-      record {
-        given = given;
-        same = ap (map ask_view) same;
-        book = book;
-        calls = calls;
-        news = news;
-        full = full;
-        noted = noted;
-        text = rw (← answered, ← counted) text;
-        file = file;
-        reads_back = back;
-      },
-    )
+drove_of : (flags : Definitions) (o : Option (List Ask)) (asks : List Ask) (workers : ℕ) (before : Option Contents) (r : Reached) (d : Drove) → if_asks o ≡ Ok asks
+    → ((e : DriveFault) → workers_fault workers ≡ Some e → ⊥) → IsReached flags asks r → IsOutput before r d → IsDriveOf flags o workers before (Ok d)
+drove_of flags o asks workers before r d read workers_fit reached output =
+    subst (λ (p : Option (List Ask)). IsDriveOf flags p workers before (Ok d)) (sym (there o asks read))
+    (no_fault (workers_fault workers) workers_fit, record { reached = r; is_reached = reached; output = output })
+
+-- what was driven and not added to the book from before
+unadded_of : (flags : Definitions) (o : Option (List Ask)) (asks : List Ask) (workers : ℕ) (before : Option Contents) (r : Reached) (e : DriveRefusal) → if_asks o ≡ Ok asks
+    → ((e : DriveFault) → workers_fault workers ≡ Some e → ⊥) → IsReached flags asks r → IsUnadded before r.book e → e ≢ want → IsDriveOf flags o workers before (Err e)
+unadded_of flags o asks workers before r e read workers_fit reached unadded wanted =
+    subst (λ (p : Option (List Ask)). IsDriveOf flags p workers before (Err e)) (sym (there o asks read)) (go e unadded wanted)
+  where
+    go : (e : DriveRefusal) → IsUnadded before r.book e → e ≢ want → IsRefused flags asks workers before e
+    go (Drive f) is wants = absurd (wants (ap Drive is))
+    go PageFull full wants = (no_fault (workers_fault workers) workers_fit, record { reached = r; is_reached = reached; full = full })
+    go BadAsks is wants = absurd is
+
+-- what was driven, as what the command comes to
+pub output_is : (flags : Definitions) (o : Option (List Ask)) (asks : List Ask) (workers : ℕ) (before : Option Contents) (r : Reached) (result : Result program_drove.Drove DriveRefusal) → if_asks o ≡ Ok asks
+    → ((e : DriveFault) → workers_fault workers ≡ Some e → ⊥) → IsReached flags asks r → IfOk result (λ d. IsOutput before r (drove_view d)) → IfErr result (IsUnadded before r.book)
+    → Drives flags o workers before result
+output_is flags o asks workers before r (Ok d) read workers_fit reached output unadded = drove_of flags o asks workers before r (drove_view d) read workers_fit reached output
+output_is flags o asks workers before r (Err e) read workers_fit reached output unadded = λ wanted. unadded_of flags o asks workers before r e read workers_fit reached unadded wanted
 
 -- the refusals of asks that were read
-refused_so : (workers : ℕ) (e : DriveFault) → (is_of_workers e ≡ true → workers_fault workers ≡ Some e) → e ≢ Stalled → Drive e ≢ want → IsRefused workers (Drive e)
-refused_so workers WantOfMemory number stalls wanted = absurd (wanted refl)
-refused_so workers NoWorkers number stalls wanted = number refl
-refused_so workers TooManyWorkers number stalls wanted = number refl
-refused_so workers Stalled number stalls wanted = absurd (stalls refl)
+refused_so : (flags : Definitions) (asks : List Ask) (workers : ℕ) (before : Option Contents) (e : DriveFault) → (is_of_workers e ≡ true → workers_fault workers ≡ Some e) → e ≢ Stalled → Drive e ≢ want
+    → IsRefused flags asks workers before (Drive e)
+refused_so flags asks workers before WantOfMemory number stalls wanted = absurd (wanted refl)
+refused_so flags asks workers before NoWorkers number stalls wanted = number refl
+refused_so flags asks workers before TooManyWorkers number stalls wanted = number refl
+refused_so flags asks workers before Stalled number stalls wanted = absurd (stalls refl)
 
-pub refused_of : (flags : Definitions) (o : Option (List Ask)) (items : List program.Ask) (workers : ℕ) (e : DriveFault) → if_asks o ≡ Ok (map ask_view items)
-    → (is_of_workers e ≡ true → workers_fault workers ≡ Some e) → e ≢ Stalled → Drive e ≢ want → IsDriveOf flags o workers (Err (Drive e))
-refused_of flags o items workers e read number stalls wanted =
-    subst (λ (p : Option (List Ask)). IsDriveOf flags p workers (Err (Drive e))) (sym (there o (map ask_view items) read)) (refused_so workers e number stalls wanted)
+pub refused_of : (flags : Definitions) (o : Option (List Ask)) (asks : List Ask) (workers : ℕ) (before : Option Contents) (e : DriveFault) → if_asks o ≡ Ok asks
+    → (is_of_workers e ≡ true → workers_fault workers ≡ Some e) → e ≢ Stalled → Drive e ≢ want → IsDriveOf flags o workers before (Err (Drive e))
+refused_of flags o asks workers before e read number stalls wanted =
+    subst (λ (p : Option (List Ask)). IsDriveOf flags p workers before (Err (Drive e))) (sym (there o asks read)) (refused_so flags asks workers before e number stalls wanted)
+
+-- a union that is refused, as why what was reached is not written
+pub unadded_by : (before reached : Contents) (f : BookFault) (e : DriveRefusal) → Unites before reached (Err f) → e ≡ of_union f → IsUnadded (Some before) reached e
+unadded_by before reached f e unites is = subst (IsUnadded (Some before) reached) (sym is) (go f unites)
+  where
+    go : (f : BookFault) → Unites before reached (Err f) → IsUnadded (Some before) reached (of_union f)
+    go book.WantOfMemory unites = refl
+    go book.PageFull unites = unites
+    go book.InputTooLong unites = absurd unites
+    go book.LastCall unites = absurd unites
+    go book.Stranger unites = absurd unites
 
 pub not_both : {X E : Type 0} {x : X} {e : E} → Ok x ≡ Err e → ⊥
 not_both h = cc

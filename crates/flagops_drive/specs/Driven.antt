@@ -1,19 +1,24 @@
 -- What the command `drive` comes to.
 use Rattle.std.specs.Prelude.{◌≡◌, ◌≢◌, ℕ, List, map, Option, Some, None, option_map, Result, Ok, Err}
+use Rattle.flag_resolve.specs.Resolved.{Resolved}
+use Rattle.flag_resolve.specs.Views.{resolution_view}
 use Rattle.flag_documents.specs.Document.{Definitions}
 use Rattle.book_core.specs.Book.{Contents, input_count}
 use Rattle.book_core.specs.Printing.{book_text}
 use Rattle.book_core.specs.Reading.{book_of}
+use Rattle.book_core.specs.Union.{HaveNoUnion, IsUnion}
 use Rattle.book_share.specs.Asked.{long_of, mentions, resolved}
 use Rattle.book_share.specs.Driven.{AreNoted}
 use Rattle.book_share.specs.DriveFault.{workers_fault}
 use Rattle.book_share.specs.declared.ask.Ask as program
+use Rattle.book_share.specs.declared.drive_fault.DriveFault.TheVariants.{WantOfMemory}
+use Rattle.book_share.specs.declared.driving.Driven as program_driven
 use Rattle.flagops_drive.specs.Asks.{Ask, ask_view}
 use Rattle.flagops_drive.specs.Fault.{want}
 use Rattle.flagops_drive.specs.Lines.{drive_text}
 use Rattle.flagops_drive.specs.declared.command.Drove as program_drove
 use Rattle.flagops_drive.specs.declared.fault.DriveRefusal.{DriveRefusal}
-use Rattle.flagops_drive.specs.declared.fault.DriveRefusal.TheVariants.{Drive, BadAsks}
+use Rattle.flagops_drive.specs.declared.fault.DriveRefusal.TheVariants.{Drive, BadAsks, PageFull}
 
 -- the lines that are printed, and the file of the book
 pub record Drove : Type 0 where
@@ -23,19 +28,62 @@ pub record Drove : Type 0 where
 abbrev pub drove_view : program_drove.Drove → Drove
 drove_view d = record { text = d.text.items; book = d.book.items }
 
--- The lines of the resolutions of these asks, in their order, and of the counts of a book in which what they reached was noted, and the file of that book.
-pub record IsDrove (flags : Definitions) (asks : List Ask) (d : Drove) : Type 0 where
-  -- the asks, as the program holds them
-  pub given : List program.Ask
-  pub same : map ask_view given ≡ asks
+-- what asks resolve to, the book in which was noted what they reached, and the counts of the notes
+pub record Reached : Type 0 where
+  pub answers : List Resolved
   pub book : Contents
   pub calls : ℕ
   pub news : ℕ
   pub full : ℕ
-  pub noted : AreNoted (mentions flags given) book calls news full
-  pub text : d.text ≡ drive_text (map (resolved flags) given) (input_count book) calls news full (long_of flags given)
+  pub long : ℕ
+
+abbrev pub reached_view : program_driven.Driven → Reached
+reached_view d = record { answers = map resolution_view d.answers.items; book = d.book; calls = d.calls; news = d.news; full = d.full; long = d.long }
+
+-- the resolutions of these asks, in their order, and a book in which what they reached was noted
+pub record IsReached (flags : Definitions) (asks : List Ask) (r : Reached) : Type 0 where
+  -- the asks, as the program holds them
+  pub given : List program.Ask
+  pub same : map ask_view given ≡ asks
+  pub answers : r.answers ≡ map (resolved flags) given
+  pub noted : AreNoted (mentions flags given) r.book r.calls r.news r.full
+  pub long : r.long ≡ long_of flags given
+
+-- the book that is written: what was reached, and what a book had before
+abbrev pub Adds : Option Contents → Contents → Contents → Type 0
+Adds None reached book = book ≡ reached
+Adds (Some before) reached book = IsUnion before reached book
+
+-- no book holds both
+abbrev pub HaveNoSum : Option Contents → Contents → Type 0
+HaveNoSum None reached = ⊥
+HaveNoSum (Some before) reached = HaveNoUnion before reached
+
+-- the lines of what was reached, with the number of inputs of the book that is written, and its file
+pub record IsOutput (before : Option Contents) (r : Reached) (d : Drove) : Type 0 where
+  pub book : Contents
+  pub adds : Adds before r.book book
+  pub text : d.text ≡ drive_text r.answers (input_count book) r.calls r.news r.full r.long
   pub file : d.book ≡ book_text book
   pub reads_back : book_of d.book ≡ Ok book
+
+-- the output of these asks, whose book keeps what a book had before
+pub record IsDrove (flags : Definitions) (asks : List Ask) (before : Option Contents) (d : Drove) : Type 0 where
+  pub reached : Reached
+  pub is_reached : IsReached flags asks reached
+  pub output : IsOutput before reached d
+
+-- what these asks reached is too much for the book that was there before
+pub record IsOverfull (flags : Definitions) (asks : List Ask) (before : Option Contents) : Type 0 where
+  pub reached : Reached
+  pub is_reached : IsReached flags asks reached
+  pub full : HaveNoSum before reached.book
+
+-- why what was reached is not written
+abbrev pub IsUnadded : Option Contents → Contents → DriveRefusal → Type 0
+IsUnadded before reached (Drive e) = e ≡ WantOfMemory
+IsUnadded before reached PageFull = HaveNoSum before reached
+IsUnadded before reached BadAsks = ⊥
 
 -- why so many workers drive nothing
 abbrev pub workers_refusal : ℕ → Option DriveRefusal
@@ -46,18 +94,19 @@ abbrev pub refusal_of : Option (List Ask) → ℕ → Option DriveRefusal
 refusal_of None workers = Some BadAsks
 refusal_of (Some asks) workers = workers_refusal workers
 
--- why these workers drive nothing: their number
-abbrev pub IsRefused : ℕ → DriveRefusal → Type 0
-IsRefused workers (Drive e) = workers_fault workers ≡ Some e
-IsRefused workers BadAsks = ⊥
+-- why these asks are not driven by so many workers: their number, or what a book had before
+abbrev pub IsRefused : Definitions → List Ask → ℕ → Option Contents → DriveRefusal → Type 0
+IsRefused flags asks workers before (Drive e) = workers_fault workers ≡ Some e
+IsRefused flags asks workers before PageFull = (workers_fault workers ≡ None) × IsOverfull flags asks before
+IsRefused flags asks workers before BadAsks = ⊥
 
--- what comes of these asks, if there are any, by so many workers; want of memory is no part of it
-abbrev pub IsDriveOf : Definitions → Option (List Ask) → ℕ → Result Drove DriveRefusal → Type 0
-IsDriveOf flags None workers r = r ≡ Err BadAsks
-IsDriveOf flags (Some asks) workers (Ok d) = (workers_fault workers ≡ None) × IsDrove flags asks d
-IsDriveOf flags (Some asks) workers (Err e) = IsRefused workers e
+-- what comes of these asks, if there are any, by so many workers, beside a book that was there before; want of memory is no part of it
+abbrev pub IsDriveOf : Definitions → Option (List Ask) → ℕ → Option Contents → Result Drove DriveRefusal → Type 0
+IsDriveOf flags None workers before r = r ≡ Err BadAsks
+IsDriveOf flags (Some asks) workers before (Ok d) = (workers_fault workers ≡ None) × IsDrove flags asks before d
+IsDriveOf flags (Some asks) workers before (Err e) = IsRefused flags asks workers before e
 
 -- what was returned is so, unless memory ran out
-abbrev pub Drives : Definitions → Option (List Ask) → ℕ → Result program_drove.Drove DriveRefusal → Type 0
-Drives flags asks workers (Ok d) = IsDriveOf flags asks workers (Ok (drove_view d))
-Drives flags asks workers (Err e) = e ≢ want → IsDriveOf flags asks workers (Err e)
+abbrev pub Drives : Definitions → Option (List Ask) → ℕ → Option Contents → Result program_drove.Drove DriveRefusal → Type 0
+Drives flags asks workers before (Ok d) = IsDriveOf flags asks workers before (Ok (drove_view d))
+Drives flags asks workers before (Err e) = e ≢ want → IsDriveOf flags asks workers before (Err e)

@@ -1,26 +1,21 @@
 //! The command over what it read.
-ghost use Rattle.std.specs.Prelude.{◌≡◌, ◌<◌, ◌^◌, true, IfOk, IsErrOf, Ok, Some, length, map};
-ghost use Rattle.book_core.specs.Book.{input_count};
-ghost use Rattle.book_core.specs.Printing.{book_text};
-ghost use Rattle.book_core.specs.Reading.{book_of};
+ghost use Rattle.std.specs.Prelude.{◌≡◌, ◌<◌, ◌^◌, true, IfErr, IfOk, IsErrOf, Some, length};
 ghost use Rattle.book_share.specs.DriveFault.{workers_fault};
 ghost use Rattle.flag_defs.specs.Flags.{flags_view};
 ghost use Rattle.flag_text.specs.Shape.{is_whole, items_are_whole};
 ghost use Rattle.flag_text.specs.View.{items_view, view};
-ghost use Rattle.flag_resolve.specs.Views.{resolution_view};
 ghost use Rattle.flagops_drive.specs.Asks.{asks_in, asks_of as asks_of_shape};
-ghost use Rattle.flagops_drive.specs.Driven.{Drives, refusal_of};
-ghost use Rattle.flagops_drive.specs.Lines.{drive_text};
+ghost use Rattle.flagops_drive.specs.Driven.{Adds, Drives, IsOutput, IsUnadded, drove_view, reached_view, refusal_of};
 ghost use Rattle.flagops_drive.specs.declared.fault.DriveRefusal.{DriveRefusal as Refusal};
 
 use crate::asks::{ask_items, asks_in};
 use crate::fault::DriveRefusal;
-use crate::lines::lines;
-use book_core::print_book;
+use crate::lines::{Counts, lines};
+use book_core::{Book, print_book};
 use book_share::{DriveFault, Driven, OpenGate, drive};
 use flag_defs::Flags;
 use flag_text::Tree;
-use std::alloc::{AllocError, Global};
+use std::alloc::Global;
 use std::sync::Wait;
 use std::thread::Threads;
 
@@ -36,9 +31,11 @@ pub struct Drove {
     pub book: Vec<u8>,
 }
 
-/// Answers the asks of a file, in their order, by so many workers, and notes what they reach. It is refused with BadAsks,
-/// then with NoWorkers and TooManyWorkers (more than 64), whatever memory is left. A refusal comes after all workers have ended.
-/// Cost: as `resolve` for each ask, and as a note for each input that it reaches.
+/// Answers the asks of a file, in their order, by so many workers, and notes what they reach; the book keeps what a book had
+/// before, if one is given. It is refused with BadAsks, then with NoWorkers and TooManyWorkers (more than 64), whatever
+/// memory is left, and at last with PageFull where the two have more than 1000000 inputs of a page. A refusal comes after
+/// all workers have ended. Cost: as `resolve` for each ask, as a note for each input that it reaches, and as another for
+/// each input that is added to the book from before.
 #[tactic(auto, using(crate::proofs::Refused::bad_asks, crate::proofs::Refused::bad_asks_first, crate::proofs::Refused::bad_workers, crate::proofs::Refused::bad_workers_first, crate::proofs::Refused::none_first, crate::proofs::Refused::same_asks))]
 pub fn drive_asks<R: Threads + Wait + Sync>(
     rt: &R,
@@ -46,9 +43,10 @@ pub fn drive_asks<R: Threads + Wait + Sync>(
     flags: &Flags,
     asks: &Tree,
     workers: usize,
+    before: Option<Book>,
 ) -> Result<Drove, DriveRefusal>
     requires { is_whole (view asks.now) ≡ true }
-    ensures driven { Drives (flags_view flags.now) (asks_of_shape (view asks.now)) workers result }
+    ensures driven { Drives (flags_view flags.now) (asks_of_shape (view asks.now)) workers before result }
     ensures refused { (e : Refusal) → refusal_of (asks_of_shape (view asks.now)) workers ≡ Some e → IsErrOf result e }
 {
     let Some(items) = ask_items(asks) else {
@@ -57,7 +55,7 @@ pub fn drive_asks<R: Threads + Wait + Sync>(
     if let Some(fault) = fault_of(workers) {
         return Err(DriveRefusal::Drive(fault));
     }
-    drive_items(rt, alloc, flags, items, workers)
+    drive_items(rt, alloc, flags, items, workers, before)
 }
 
 /// Answers the asks that the items of a file are.
@@ -67,14 +65,15 @@ fn drive_items<R: Threads + Wait + Sync>(
     flags: &Flags,
     items: &[Tree],
     workers: usize,
+    before: Option<Book>,
 ) -> Result<Drove, DriveRefusal>
     requires whole { items_are_whole (items_view items.now) ≡ true }
     requires few { length items.now < 2 ^ 32 }
-    ensures { Drives (flags_view flags.now) (asks_in (items_view items.now)) workers result }
+    ensures { Drives (flags_view flags.now) (asks_in (items_view items.now)) workers before result }
 {
     let asks = asks_in(alloc, items)?;
     match drive(rt, alloc, flags, asks.as_slice(), workers, &OpenGate) {
-        Ok(driven) => Ok(output_of(alloc, &driven)?),
+        Ok(driven) => output_of(alloc, driven, before),
         Err(fault) => Err(DriveRefusal::Drive(fault)),
     }
 }
@@ -92,12 +91,40 @@ fn fault_of(workers: usize) -> Option<DriveFault>
     }
 }
 
-fn output_of(alloc: Global, driven: &Driven) -> Result<Drove, AllocError>
-    ensures text { IfOk result (λ d. d.text.items ≡ drive_text (map resolution_view driven.now.answers.items) (input_count driven.now.book) driven.now.calls driven.now.news driven.now.full driven.now.long) }
-    ensures file { IfOk result (λ d. d.book.items ≡ book_text driven.now.book) }
-    ensures reads_back { IfOk result (λ d. book_of d.book.items ≡ Ok driven.now.book) }
+/// What is printed and what is written of what was driven.
+fn output_of(alloc: Global, driven: Driven, before: Option<Book>) -> Result<Drove, DriveRefusal>
+    ensures output { IfOk result (λ d. IsOutput before (reached_view driven) (drove_view d)) }
+    ensures refused { IfErr result (IsUnadded before driven.book) }
 {
-    let text = lines(alloc, driven)?.into_bytes();
-    let book = print_book(alloc, &driven.book)?;
+    let Driven {
+        answers,
+        book,
+        calls,
+        news,
+        full,
+        long,
+    } = driven;
+    let book = added(alloc, before, book)?;
+    let counts = Counts {
+        inputs: book.inputs(),
+        calls,
+        news,
+        full,
+        long,
+    };
+    let text = lines(alloc, answers.as_slice(), &counts)?.into_bytes();
+    let book = print_book(alloc, &book)?;
     Ok(Drove { text, book })
+}
+
+/// The book of what was reached, and of what a book had before.
+#[tactic(auto, using(crate::proofs::Driving::unadded_by))]
+fn added(alloc: Global, before: Option<Book>, reached: Book) -> Result<Book, DriveRefusal>
+    ensures adds { IfOk result (Adds before reached) }
+    ensures refused { IfErr result (IsUnadded before reached) }
+{
+    match before {
+        Some(before) => Ok(before.union(alloc, &reached)?),
+        None => Ok(reached),
+    }
 }

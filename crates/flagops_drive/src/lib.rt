@@ -10,13 +10,14 @@
 //!
 //! let flags = read_flags(alloc, br#"{"flags":{}}"#)?;
 //! let asks = br#"[{"key":"color","want":"text","default":"d","context":{"key":"test"},"moment":0}]"#;
-//! let drove = drive_asks(&rt, alloc, &flags, &read_tree(alloc, asks, 1000)?, 8)?;
+//! let drove = drive_asks(&rt, alloc, &flags, &read_tree(alloc, asks, 1000)?, 8, None)?;
 //! ```
 //!
 //! Proved, over the definitions of `specs/`: the asks are those of `Asks.asks_of`, and are refused with BadAsks exactly where
 //! it gives none; the lines are `Lines.drive_text` of what the flags resolve the asks to, in their order; and the file is that
-//! of a book which, where no page was full, has just the inputs that the asks reached (`Driven.IsDrove`). The gate lets each
-//! ask start at once, so Stalled does not come.
+//! of a book which, where no page was full, has just the inputs that the asks reached, and those that a book had before if
+//! one is given (`Driven.IsDrove`). It is refused with PageFull only where no book holds both. The gate lets each ask start
+//! at once, so Stalled does not come.
 #![tactic(auto)]
 
 mod asks;

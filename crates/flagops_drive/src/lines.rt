@@ -1,27 +1,32 @@
 //! The lines that are printed of what was driven.
 ghost use Rattle.std.specs.Prelude.{◌≡◌, IfOk, map, string_bytes};
-ghost use Rattle.book_core.specs.Book.{input_count};
 ghost use Rattle.flag_resolve.specs.Views.{resolution_view};
 ghost use Rattle.flagops_drive.specs.Lines.{count_lines, drive_text, resolution_lines};
 
-use book_share::Driven;
 use flag_resolve::{Resolution, print_resolution};
 use std::alloc::{AllocError, Global};
 
+/// How many inputs the book that is written has, and the counts of the notes.
+#[derive(Clone, Copy)]
+pub(crate) struct Counts {
+    pub(crate) inputs: u128,
+    pub(crate) calls: u128,
+    pub(crate) news: u128,
+    pub(crate) full: u128,
+    pub(crate) long: u128,
+}
+
 /// A line for each resolution, then the counts.
 #[tactic(auto, unfolding(crate::specs::Lines::drive_text))]
-pub(crate) fn lines(alloc: Global, driven: &Driven) -> Result<String, AllocError>
-    ensures { IfOk result (λ s. string_bytes s ≡ drive_text (map resolution_view driven.now.answers.items) (input_count driven.now.book) driven.now.calls driven.now.news driven.now.full driven.now.long) }
+pub(crate) fn lines(
+    alloc: Global,
+    answers: &[Resolution],
+    counts: &Counts,
+) -> Result<String, AllocError>
+    ensures { IfOk result (λ s. string_bytes s ≡ drive_text (map resolution_view answers.now) counts.now.inputs counts.now.calls counts.now.news counts.now.full counts.now.long) }
 {
-    let mut lines = resolution_lines(alloc, driven.answers.as_slice())?;
-    let counts = count_lines(
-        alloc,
-        driven.book.inputs(),
-        driven.calls,
-        driven.news,
-        driven.full,
-        driven.long,
-    )?;
+    let mut lines = resolution_lines(alloc, answers)?;
+    let counts = count_lines(alloc, counts)?;
     lines.push_str(counts.as_str())?;
     Ok(lines)
 }
@@ -37,15 +42,15 @@ fn resolution_lines(alloc: Global, answers: &[Resolution]) -> Result<String, All
     Ok(lines)
 }
 
-fn count_lines(
-    alloc: Global,
-    inputs: u128,
-    calls: u128,
-    news: u128,
-    full: u128,
-    long: u128,
-) -> Result<String, AllocError>
-    ensures { IfOk result (λ s. string_bytes s ≡ count_lines inputs calls news full long) }
+fn count_lines(alloc: Global, counts: &Counts) -> Result<String, AllocError>
+    ensures { IfOk result (λ s. string_bytes s ≡ count_lines counts.now.inputs counts.now.calls counts.now.news counts.now.full counts.now.long) }
 {
+    let Counts {
+        inputs,
+        calls,
+        news,
+        full,
+        long,
+    } = *counts;
     format!(in alloc; "inputs {inputs}\ncalls {calls}\nnews {news}\nfull {full}\nlong {long}\n")
 }

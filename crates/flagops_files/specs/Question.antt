@@ -31,11 +31,16 @@ max_book = 1099511627776
 abbrev pub if_readable : List ℕ → Result (List ℕ) Refusal
 if_readable bytes = if nat_lt max_book (length bytes) then Err LongBook else Ok bytes
 
+-- the bytes of the book file at a path
+unfoldable pub book_bytes_at : Holding → List ℕ → Result (List ℕ) Refusal
+book_bytes_at at path = do
+  bytes ← refused_by Load (load_of at path max_book)
+  if_readable bytes
+
 -- the book of the file at a path
 unfoldable pub book_at : Holding → List ℕ → Result Contents Refusal
 book_at at path = do
-  bytes ← refused_by Load (load_of at path max_book)
-  whole ← if_readable bytes
+  whole ← book_bytes_at at path
   refused_by ReadBook (book_of whole)
 
 -- the question over these flags: the request is loaded and then the book loaded and read

@@ -17,7 +17,7 @@ use Rattle.flagops_files.specs.declared.refusal.Call.{Call}
 use Rattle.flagops_files.specs.declared.refusal.Call.TheVariants as call
 use Rattle.flagops_files.specs.declared.refusal.Refusal.{Refusal}
 use Rattle.flagops_files.specs.declared.refused.Refused.{Refused}
-use Rattle.flagops_files.specs.declared.refusal.Refusal.TheVariants.{WantOfMemory, Load, LongBook, ReadTree, ReadRule, ReadRequest, Note, Price, ReadFlags, ReadBook, ReadPlanned, Verify, Apply, Plan, PrintPlanned, Drive, Store}
+use Rattle.flagops_files.specs.declared.refusal.Refusal.TheVariants.{WantOfMemory, Load, LongBook, ReadTree, ReadRule, ReadRequest, Note, Price, ReadFlags, ReadBook, FullBook, ReadPlanned, Verify, Apply, Plan, PrintPlanned, Drive, Store}
 use Rattle.flagops_files.specs.declared.refusal.PriceMismatch.{PriceMismatch}
 use Rattle.flagops_files.specs.declared.refusal.PriceMismatch.TheVariants.{Weight, BadKeys}
 
@@ -34,6 +34,7 @@ call_name call.ReadFlags = codes "read_flags"
 call_name call.Check = codes "check"
 call_name call.Resolve = codes "resolve"
 call_name call.ReadBook = codes "read_book"
+call_name call.Book = codes "book"
 call_name call.ReadPlanned = codes "read_planned"
 call_name call.Verify = codes "verify"
 call_name call.Apply = codes "apply"
@@ -98,6 +99,7 @@ call_of (Note e) = call.Note
 call_of (Price e) = call.Price
 call_of (ReadFlags e) = call.ReadFlags
 call_of (ReadBook e) = call.ReadBook
+call_of FullBook = call.Book
 call_of (ReadPlanned e) = call.ReadPlanned
 call_of (Verify e) = call.Verify
 call_of (Apply e) = call.Apply
@@ -127,6 +129,7 @@ number_of (Note e) = books.number_of e
 number_of (Price e) = mismatch_number e
 number_of (ReadFlags e) = documents.number_of e
 number_of (ReadBook e) = books.file_number_of e
+number_of FullBook = 2
 number_of (ReadPlanned e) = plan_files.number_of e
 number_of (Verify e) = verdicts.number_of e
 number_of (Apply e) = rollouts.number_of e
@@ -146,6 +149,7 @@ name_of (Note e) = books.name_of e
 name_of (Price e) = mismatch_name e
 name_of (ReadFlags e) = documents.name_of e
 name_of (ReadBook e) = books.file_name_of e
+name_of FullBook = codes "PageFull"
 name_of (ReadPlanned e) = plan_files.name_of e
 name_of (Verify e) = verdicts.name_of e
 name_of (Apply e) = rollouts.name_of e

@@ -25,6 +25,7 @@
 //! told where there is one, whatever becomes of the output, and changes neither text nor status.
 #![tactic(auto)]
 
+mod books;
 mod documents;
 mod files;
 mod loading;
@@ -40,6 +41,7 @@ mod reports;
 mod storing;
 mod system_files;
 
+pub use books::load_book;
 pub use documents::{Document, load_document, load_flags};
 pub use files::{FileSet, LoadFault, StoreFault};
 pub use loading::{TEXT_LIMIT, load, load_rule, load_tree};

@@ -4,19 +4,17 @@ ghost use Rattle.flagops_files.specs.Question.{IsQuestionAt, book_at, question_s
 ghost use Rattle.flagops_files.specs.Refusal.{ComesFrom, GivesOne, GivesUnlessWant, is_file_fault, loads_book, loads_question};
 ghost use Rattle.flagops_files.specs.Told.{TellsOf, TellsOfOne, file};
 
+use crate::books::load_book_bytes;
 use crate::documents::load_flags;
 use crate::files::FileSet;
 use crate::loading::{TEXT_LIMIT, load};
 use crate::refusal::Refusal;
 use crate::refused::{Refused, Remark};
 use flag_defs::Flags;
-use flagops_remarks::{of_book, of_unreadable};
+use flagops_remarks::of_book;
 use page_tally::BookFile;
 use rollout_checks::{Refining, read_book_for};
 use std::alloc::Global;
-
-/// The largest book file, in bytes.
-const BOOK_LIMIT: u64 = 1 << 40;
 
 /// The flags, the bytes of a request, which are read only by the call that takes them, and the book.
 #[derive(Drop)]
@@ -47,7 +45,7 @@ pub fn load_question<F: FileSet>(
 {
     let flags = load_flags(alloc, files, document)?;
     let request = load(alloc, files, request, u64::from(TEXT_LIMIT))?;
-    let book = load_book(alloc, files, &flags, request.as_slice(), factor, book)?;
+    let book = load_book_for(alloc, files, &flags, request.as_slice(), factor, book)?;
     Ok(Question {
         flags,
         request,
@@ -57,7 +55,7 @@ pub fn load_question<F: FileSet>(
 
 /// The book of the file at a path, read for a request.
 #[tactic(auto, using(crate::proofs::Told::says), unfolding(crate::specs::Question::book_at))]
-fn load_book<F: FileSet>(
+fn load_book_for<F: FileSet>(
     alloc: Global,
     files: &mut F,
     flags: &Flags,
@@ -72,13 +70,7 @@ fn load_book<F: FileSet>(
     ensures kept { F.holding files.new ≡ F.holding files.old }
     ensures names { TellsOf (file path.now) result }
 {
-    let bytes = load(alloc, files, path, BOOK_LIMIT)?;
-    if bytes.len() as u64 > BOOK_LIMIT {
-        return Err(Refused {
-            refusal: Refusal::LongBook,
-            remark: Remark::of(of_unreadable(alloc, path)),
-        });
-    }
+    let bytes = load_book_bytes(alloc, files, path)?;
     match read_book_for(alloc, Refining::Times(factor), flags, request, bytes) {
         Ok(book) => Ok(book),
         Err(fault) => Err(Refused {

@@ -41,6 +41,8 @@ pub enum Call {
     Resolve,
     /// `book_core::read_book`.
     ReadBook,
+    /// The command `book` itself.
+    Book,
     /// `plan_text::read_planned`.
     ReadPlanned,
     /// `rollout::verify` and the command around it.
@@ -75,6 +77,7 @@ impl Call {
             Call::Check => "check",
             Call::Resolve => "resolve",
             Call::ReadBook => "read_book",
+            Call::Book => "book",
             Call::ReadPlanned => "read_planned",
             Call::Verify => "verify",
             Call::Apply => "apply",
@@ -137,6 +140,8 @@ pub enum Refusal {
     ReadFlags(DefFault),
     /// Bytes are no book.
     ReadBook(BookFileFault),
+    /// Books have more than 1000000 inputs of a page together.
+    FullBook,
     /// Bytes are no plan file.
     ReadPlanned(PlanFileFault),
     /// The answer of a plan file is not right, or its request is refused.
@@ -168,6 +173,7 @@ impl Refusal {
             Refusal::Price(_) => Call::Price,
             Refusal::ReadFlags(_) => Call::ReadFlags,
             Refusal::ReadBook(_) => Call::ReadBook,
+            Refusal::FullBook => Call::Book,
             Refusal::ReadPlanned(_) => Call::ReadPlanned,
             Refusal::Verify(_) => Call::Verify,
             Refusal::Apply(_) => Call::Apply,
@@ -193,6 +199,7 @@ impl Refusal {
             Refusal::Price(fault) => fault.number(),
             Refusal::ReadFlags(fault) => fault.number(),
             Refusal::ReadBook(fault) => fault.number(),
+            Refusal::FullBook => 2,
             Refusal::ReadPlanned(fault) => fault.number(),
             Refusal::Verify(fault) => fault.number(),
             Refusal::Apply(fault) => fault.number(),
@@ -218,6 +225,7 @@ impl Refusal {
             Refusal::Price(fault) => fault.name(),
             Refusal::ReadFlags(fault) => fault.name(),
             Refusal::ReadBook(fault) => fault.name(),
+            Refusal::FullBook => "PageFull",
             Refusal::ReadPlanned(fault) => fault.name(),
             Refusal::Verify(fault) => fault.name(),
             Refusal::Apply(fault) => fault.name(),

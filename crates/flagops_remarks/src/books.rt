@@ -36,6 +36,17 @@ fn taken(fault: BookFileFault) -> &'static str {
     }
 }
 
+/// Of a book whose inputs are too many beside those of another.
+pub fn of_full_book(alloc: Global, path: &str) -> Result<String, AllocError>
+    ensures names { IfOk result (λ s. Names path.now (string_bytes s)) }
+{
+    let mut lines = Lines::new(alloc);
+    lines.put(
+        " cannot take the other inputs: a page would have more than 1,000,000\n  begin another book, or plan on a part of the users\n",
+    );
+    lines.headed(Opening::Error, path)
+}
+
 /// Of a request whose page has no input in the book, which has these pages of its flag.
 pub fn of_unrecorded(
     alloc: Global,

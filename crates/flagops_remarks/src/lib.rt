@@ -37,7 +37,7 @@ mod way;
 mod wrongs;
 
 pub use asks::{of_asks, of_unwritable, of_workers};
-pub use books::{of_book, of_unrecorded};
+pub use books::{of_book, of_full_book, of_unrecorded};
 pub use breaches::of_breaches;
 pub use checks::of_check;
 pub use documents::of_document;

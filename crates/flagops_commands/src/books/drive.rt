@@ -7,27 +7,29 @@ ghost use Rattle.flagops_drive.specs.Asks.{asks_of};
 ghost use Rattle.flagops_drive.specs.Driven.{drove_view, refusal_of, workers_refusal};
 ghost use Rattle.flagops_drive.specs.declared.fault.DriveRefusal.{DriveRefusal as Reason};
 ghost use Rattle.flagops_commands.specs.Calls.{drive_calls, drive_itself};
-ghost use Rattle.flagops_commands.specs.Drive.{HasNoAsks, IsDriveReport, IsDroveOf, IsRefusedByName, IsWritten, KeepsUnlessDone, LeavesBook};
+ghost use Rattle.flagops_commands.specs.Drive.{HasNoAsks, IsDriveReport, IsDroveOf, IsRefusedByName, IsWritten, KeepsUnlessDone, LeavesBook, before_at};
 ghost use Rattle.flagops_files.specs.Files.{KeepsOthers};
-ghost use Rattle.flagops_files.specs.Refusal.{ComesFrom, GivesOne, is_file_fault, stores_file};
+ghost use Rattle.flagops_files.specs.Refusal.{ComesFrom, GivesOne, GivesUnlessWant, is_file_fault, loads_book, stores_file};
 ghost use Rattle.flagops_files.specs.Report.{outcome_view};
 ghost use Rattle.flagops_files.specs.declared.refusal.Refusal.TheVariants.{Drive};
-ghost use Rattle.flagops_files.specs.Told.{TellsOfOne, by, file, word};
-ghost use Rattle.flagops_commands.specs.Subjects.{NamesDriven, drive_subjects, is_of_asks, is_of_driving, the_workers};
+ghost use Rattle.flagops_files.specs.Told.{TellsOf, TellsOfOne, by, file};
+ghost use Rattle.flagops_commands.specs.Subjects.{NamesDriven, drive_subjects, driven_subjects};
 
+use book_core::Book;
 use flag_defs::Flags;
 use flag_text::Tree;
 use flagops_drive::{DriveRefusal, Drove, drive_asks};
 use flagops_files::{
-    FileSet, Outcome, Refusal, Refused, Remark, Status, TEXT_LIMIT, load_flags, load_tree, store,
+    FileSet, Outcome, Refusal, Refused, Remark, Status, TEXT_LIMIT, load_book, load_flags,
+    load_tree, store,
 };
-use flagops_remarks::{of_asks, of_workers};
+use flagops_remarks::{of_asks, of_full_book, of_workers};
 use std::alloc::{AllocError, Global};
 use std::sync::Wait;
 use std::thread::Threads;
 
 /// The resolutions of the asks of a file, in their order, and the counts of the book that they make, a line each. The book
-/// is written first.
+/// is written first; where it is added to, it keeps what it had.
 pub fn drive<R: Threads + Wait + Sync, F: FileSet>(
     rt: &R,
     alloc: Global,
@@ -36,11 +38,12 @@ pub fn drive<R: Threads + Wait + Sync, F: FileSet>(
     asks: &str,
     workers: u16,
     book: &str,
+    add: bool,
 ) -> Result<Outcome, Refused>
-    ensures exact { IfSome (F.holding files.old) (λ at. GivesOne outcome_view result (IsDriveReport at (F.holding files.new) document.now asks.now workers book.now)) }
+    ensures exact { IfSome (F.holding files.old) (λ at. GivesOne outcome_view result (IsDriveReport at (F.holding files.new) document.now asks.now workers book.now add)) }
     ensures calls { ComesFrom drive_calls result }
     ensures failed { F.has_failed files.new ≡ (F.has_failed files.old || is_file_fault result) }
-    ensures left { LeavesBook (F.holding files.old) (F.holding files.new) document.now asks.now workers book.now }
+    ensures left { LeavesBook (F.holding files.old) (F.holding files.new) document.now asks.now workers book.now add }
     ensures kept { KeepsUnlessDone (F.holding files.old) (F.holding files.new) result }
     // What is known without taking memory is refused by name, once the files before it were read.
     ensures bad_workers { (e : Reason) → workers_refusal workers ≡ Some e → IsRefusedByName result }
@@ -49,11 +52,33 @@ pub fn drive<R: Threads + Wait + Sync, F: FileSet>(
 {
     let flags = load_flags(alloc, files, document)?;
     let tree = load_tree(alloc, files, asks, TEXT_LIMIT)?;
-    let drove = drove(rt, alloc, &flags, asks, &tree, workers)?;
+    let before = book_before(alloc, files, book, add)?;
+    let drove = drove(rt, alloc, &flags, asks, &tree, workers, book, before)?;
     written(alloc, files, book, drove)
 }
 
-/// The asks of a tree, driven; the tree was loaded from a path.
+/// The book that was there before: that of the file at a path where it is added to, and else none.
+#[tactic(auto, unfolding(crate::specs::Drive::before_at))]
+fn book_before<F: FileSet>(
+    alloc: Global,
+    files: &mut F,
+    path: &str,
+    add: bool,
+) -> Result<Option<Book>, Refused>
+    ensures exact { IfSome (F.holding files.old) (λ at. GivesUnlessWant (λ before. before) result (before_at at path.now add)) }
+    ensures calls { ComesFrom loads_book result }
+    ensures failed { F.has_failed files.new ≡ (F.has_failed files.old || is_file_fault result) }
+    ensures kept { F.holding files.new ≡ F.holding files.old }
+    ensures names { TellsOf (file path.now) result }
+{
+    if add {
+        Ok(Some(load_book(alloc, files, path)?))
+    } else {
+        Ok(None)
+    }
+}
+
+/// The asks of a tree, driven; the tree was loaded from a path, and so was the book that was there before.
 #[tactic(auto, using(flagops_files::proofs::Told::says))]
 fn drove<R: Threads + Wait + Sync>(
     rt: &R,
@@ -62,20 +87,22 @@ fn drove<R: Threads + Wait + Sync>(
     path: &str,
     tree: &Tree,
     workers: u16,
+    book: &str,
+    before: Option<Book>,
 ) -> Result<Drove, Refused>
     requires { is_whole (view tree.now) ≡ true }
-    ensures exact { GivesOne drove_view result (IsDroveOf (Ok (flags_view flags.now)) (Ok (view tree.now)) workers) }
+    ensures exact { GivesOne drove_view result (IsDroveOf (Ok (flags_view flags.now)) (Ok (view tree.now)) (Ok before) workers) }
     ensures calls { ComesFrom drive_itself result }
     ensures read { is_file_fault result ≡ false }
     ensures refused { (e : Reason) → refusal_of (asks_of (view tree.now)) workers ≡ Some e → IsErrAnd result (λ r. r.refusal ≡ Drive e) }
-    ensures names { TellsOfOne ((file path.now, is_of_asks) ∷ (word the_workers, is_of_driving) ∷ []) result }
+    ensures names { TellsOfOne (driven_subjects path.now book.now) result }
 {
     let workers = usize::from(workers);
-    match drive_asks(rt, alloc, flags, tree, workers) {
+    match drive_asks(rt, alloc, flags, tree, workers, before) {
         Ok(drove) => Ok(drove),
         Err(refusal) => Err(Refused {
             refusal: Refusal::Drive(refusal),
-            remark: Remark::of(of_refusal(alloc, path, tree, workers, refusal)),
+            remark: Remark::of(of_refusal(alloc, path, tree, workers, book, refusal)),
         }),
     }
 }
@@ -85,18 +112,20 @@ fn of_refusal(
     path: &str,
     tree: &Tree,
     workers: usize,
+    book: &str,
     refusal: DriveRefusal,
 ) -> Result<String, AllocError>
-    ensures { IfOk result (λ s. NamesDriven path.now refusal (string_bytes s)) }
+    ensures { IfOk result (λ s. NamesDriven path.now book.now refusal (string_bytes s)) }
 {
     match refusal {
         DriveRefusal::BadAsks => of_asks(alloc, path, tree),
         DriveRefusal::Drive(fault) => of_workers(alloc, workers, fault.name()),
+        DriveRefusal::PageFull => of_full_book(alloc, book),
     }
 }
 
-/// The report of what was driven, once its book was written.
-fn written<F: FileSet>(
+/// The report of a book with what is printed beside it, once it was written.
+pub fn written<F: FileSet>(
     alloc: Global,
     files: &mut F,
     book: &str,

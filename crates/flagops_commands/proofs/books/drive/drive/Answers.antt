@@ -2,15 +2,16 @@ use Rattle.flag_defs.specs.Flags.{flags_view}
 use Rattle.flag_text.specs.View.{view}
 use Rattle.flagops_drive.specs.Driven.{drove_view}
 use Rattle.flagops_drive.specs.Asks.{asks_of}
-use Rattle.flagops_files.specs.Refusal.{loads_flags, loads_tree}
-use Rattle.flagops_commands.proofs.Driving.{driven, kept_after, left_by_storing, no_asks, no_document, not_driven}
+use Rattle.flagops_files.specs.Refusal.{is_want, loads_book, loads_flags, loads_tree}
+use Rattle.flagops_commands.specs.Drive.{before_at}
+use Rattle.flagops_commands.proofs.Driving.{at_first, driven, kept_after, left_by_storing, no_asks, no_book, no_document, not_driven, others_after}
 use Rattle.flagops_commands.proofs.Refusing.{by_another, by_asks, by_workers, in_any_case, no_asks_driven, none_driven}
-use Rattle.std.proofs.Common.{◌∙◌, inl, refl, rules}
+use Rattle.std.proofs.Common.{◌≡◌, ◌∙◌, Ok, inl, refl, rules}
 use Rattle.flagops_commands.proofs.books.drive.drive.Goals as goal
 
 pub returns-in_err-flags-clause-exact : goal.returns-in_err-flags-clause-exact
 returns-in_err-flags-clause-exact g c =
-    let told = no_document c.args.document.now c.args.asks.now c.args.workers c.args.book.now _ _ c.in_err-flags.field-0.0 c.load_flags.ensures.kept c.in_err-flags.ensures.exact in search rules
+    let told = no_document c.args.document.now c.args.asks.now c.args.workers c.args.book.now c.args.add _ _ c.in_err-flags.field-0.0 c.load_flags.ensures.kept c.in_err-flags.ensures.exact in search rules
 
 pub returns-in_err-flags-clause-left : goal.returns-in_err-flags-clause-left
 returns-in_err-flags-clause-left g c = inl c.load_flags.ensures.kept
@@ -29,8 +30,8 @@ returns-in_err-flags-clause-bad_asks g c =
 pub returns-in_err-tree-clause-exact : goal.returns-in_err-tree-clause-exact
 returns-in_err-tree-clause-exact g c =
     let told =
-    no_asks c.args.document.now c.args.asks.now c.args.workers c.args.book.now (flags_view c.in_ok-flags.flags) _ _ _ c.in_err-tree.field-0.0 c.load_flags.ensures.kept c.load_tree.ensures.kept
-    c.in_ok-flags.ensures.exact c.in_err-tree.ensures.exact in
+    no_asks c.args.document.now c.args.asks.now c.args.workers c.args.book.now c.args.add (flags_view c.in_ok-flags.flags) _ _ c.in_err-tree.field-0.0 (c.load_tree.ensures.kept ∙ c.load_flags.ensures.kept) c.in_ok-flags.ensures.exact
+    (at_first _ _ _ c.load_flags.ensures.kept c.in_err-tree.ensures.exact) in
     search rules
 
 pub returns-in_err-tree-clause-left : goal.returns-in_err-tree-clause-left
@@ -47,18 +48,39 @@ pub returns-in_err-tree-clause-bad_asks : goal.returns-in_err-tree-clause-bad_as
 returns-in_err-tree-clause-bad_asks g c =
     in_any_case _ _ _ (let told = by_another loads_tree c.in_err-tree.field-0.0.refusal refl c.in_err-tree.ensures.calls in search rules)
 
+pub returns-in_err-before-clause-exact : goal.returns-in_err-before-clause-exact
+returns-in_err-before-clause-exact g c =
+    let told =
+    no_book c.args.document.now c.args.asks.now c.args.workers c.args.book.now c.args.add (flags_view c.in_ok-flags.flags) (view c.in_ok-tree.tree) _ _ c.in_err-before.field-0.0 (c.book_before.ensures.kept ∙ (c.load_tree.ensures.kept ∙ c.load_flags.ensures.kept))
+    c.in_ok-flags.ensures.exact (at_first _ _ _ c.load_flags.ensures.kept c.in_ok-tree.ensures.exact) (at_first _ _ _ (c.load_tree.ensures.kept ∙ c.load_flags.ensures.kept) c.in_err-before.ensures.exact) in
+    search rules
+
+pub returns-in_err-before-clause-left : goal.returns-in_err-before-clause-left
+returns-in_err-before-clause-left g c = inl (c.book_before.ensures.kept ∙ (c.load_tree.ensures.kept ∙ c.load_flags.ensures.kept))
+
+pub returns-in_err-before-clause-kept : goal.returns-in_err-before-clause-kept
+returns-in_err-before-clause-kept g c = inl (c.book_before.ensures.kept ∙ (c.load_tree.ensures.kept ∙ c.load_flags.ensures.kept))
+
+pub returns-in_err-before-clause-bad_workers : goal.returns-in_err-before-clause-bad_workers
+returns-in_err-before-clause-bad_workers g c = λ e wrong.
+    let told = by_another loads_book c.in_err-before.field-0.0.refusal refl c.in_err-before.ensures.calls in search rules
+
+pub returns-in_err-before-clause-bad_asks : goal.returns-in_err-before-clause-bad_asks
+returns-in_err-before-clause-bad_asks g c =
+    in_any_case _ _ _ (let told = by_another loads_book c.in_err-before.field-0.0.refusal refl c.in_err-before.ensures.calls in search rules)
+
 pub returns-in_err-drove-clause-exact : goal.returns-in_err-drove-clause-exact
 returns-in_err-drove-clause-exact g c =
     let told =
-    not_driven c.args.document.now c.args.asks.now c.args.workers c.args.book.now (flags_view c.in_ok-flags.flags) (view c.in_ok-tree.tree) _ _ _ c.in_err-drove.field-0.0 c.load_flags.ensures.kept
-    c.load_tree.ensures.kept c.in_ok-flags.ensures.exact c.in_ok-tree.ensures.exact c.in_err-drove.ensures.exact in
+    not_driven c.args.document.now c.args.asks.now c.args.workers c.args.book.now c.args.add (flags_view c.in_ok-flags.flags) (view c.in_ok-tree.tree) c.in_ok-before.before _ _ c.in_err-drove.field-0.0 (c.book_before.ensures.kept ∙ (c.load_tree.ensures.kept ∙ c.load_flags.ensures.kept))
+    c.in_ok-flags.ensures.exact (at_first _ _ _ c.load_flags.ensures.kept c.in_ok-tree.ensures.exact) (at_first _ _ _ (c.load_tree.ensures.kept ∙ c.load_flags.ensures.kept) c.in_ok-before.ensures.exact) c.in_err-drove.ensures.exact in
     search rules
 
 pub returns-in_err-drove-clause-left : goal.returns-in_err-drove-clause-left
-returns-in_err-drove-clause-left g c = inl (c.load_tree.ensures.kept ∙ c.load_flags.ensures.kept)
+returns-in_err-drove-clause-left g c = inl (c.book_before.ensures.kept ∙ (c.load_tree.ensures.kept ∙ c.load_flags.ensures.kept))
 
 pub returns-in_err-drove-clause-kept : goal.returns-in_err-drove-clause-kept
-returns-in_err-drove-clause-kept g c = inl (c.load_tree.ensures.kept ∙ c.load_flags.ensures.kept)
+returns-in_err-drove-clause-kept g c = inl (c.book_before.ensures.kept ∙ (c.load_tree.ensures.kept ∙ c.load_flags.ensures.kept))
 
 pub returns-in_err-drove-clause-bad_workers : goal.returns-in_err-drove-clause-bad_workers
 returns-in_err-drove-clause-bad_workers g c = λ e wrong.
@@ -71,16 +93,16 @@ returns-in_err-drove-clause-bad_asks g c =
 
 pub returns-clause-exact : goal.returns-clause-exact
 returns-clause-exact g c =
-    driven c.args.document.now c.args.asks.now c.args.workers c.args.book.now (flags_view c.in_ok-flags.flags) (view c.in_ok-tree.tree) _ _ _ _ (drove_view c.in_ok-drove.drove) _
-    c.load_flags.ensures.kept c.load_tree.ensures.kept c.in_ok-flags.ensures.exact c.in_ok-tree.ensures.exact c.in_ok-drove.ensures.exact c.written.ensures.exact
+    driven c.args.document.now c.args.asks.now c.args.workers c.args.book.now c.args.add (flags_view c.in_ok-flags.flags) (view c.in_ok-tree.tree) c.in_ok-before.before _ _ (drove_view c.in_ok-drove.drove) _
+    c.in_ok-flags.ensures.exact (at_first _ _ _ c.load_flags.ensures.kept c.in_ok-tree.ensures.exact) (at_first _ _ _ (c.load_tree.ensures.kept ∙ c.load_flags.ensures.kept) c.in_ok-before.ensures.exact) c.in_ok-drove.ensures.exact (at_first _ _ _ (c.book_before.ensures.kept ∙ (c.load_tree.ensures.kept ∙ c.load_flags.ensures.kept)) c.written.ensures.exact)
 
 pub returns-clause-left : goal.returns-clause-left
 returns-clause-left g c =
-    left_by_storing c.args.document.now c.args.asks.now c.args.workers c.args.book.now (flags_view c.in_ok-flags.flags) (view c.in_ok-tree.tree) _ _ _ _ (drove_view c.in_ok-drove.drove) c.load_flags.ensures.kept
-    c.load_tree.ensures.kept c.in_ok-flags.ensures.exact c.in_ok-tree.ensures.exact c.in_ok-drove.ensures.exact c.written.ensures.others
+    left_by_storing c.args.document.now c.args.asks.now c.args.workers c.args.book.now c.args.add (flags_view c.in_ok-flags.flags) (view c.in_ok-tree.tree) c.in_ok-before.before _ _ (drove_view c.in_ok-drove.drove)
+    c.in_ok-flags.ensures.exact (at_first _ _ _ c.load_flags.ensures.kept c.in_ok-tree.ensures.exact) (at_first _ _ _ (c.load_tree.ensures.kept ∙ c.load_flags.ensures.kept) c.in_ok-before.ensures.exact) c.in_ok-drove.ensures.exact (others_after _ _ _ _ (c.book_before.ensures.kept ∙ (c.load_tree.ensures.kept ∙ c.load_flags.ensures.kept)) c.written.ensures.others)
 
 pub returns-clause-kept : goal.returns-clause-kept
-returns-clause-kept g c = kept_after _ _ _ _ _ c.load_flags.ensures.kept c.load_tree.ensures.kept c.written.ensures.kept
+returns-clause-kept g c = kept_after _ _ _ _ _ (c.load_tree.ensures.kept ∙ c.load_flags.ensures.kept) c.book_before.ensures.kept c.written.ensures.kept
 
 pub returns-clause-bad_workers : goal.returns-clause-bad_workers
 returns-clause-bad_workers g c = λ e wrong. absurd (none_driven (asks_of (view c.in_ok-tree.tree)) c.args.workers e wrong c.in_ok-drove.ensures.refused)

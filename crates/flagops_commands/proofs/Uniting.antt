@@ -1,0 +1,111 @@
+-- What books come to that are read one after the other and united.
+use Rattle.std.proofs.Common.{◌≡◌, ◌+◌, ◌<◌, ◌∙◌, ℕ, suc, Bool, true, false, List, [], ◌∷◌, Option, Some, None, IfSome, inl, inr, refl, add-one, ap, drop, get_or, length, map, subst, sym}
+use Rattle.std.proofs.Math.Seq.{drop-cons}
+use Rattle.std.specs.Prelude.{Result, Ok, Err, zero}
+use Rattle.book_core.specs.Book.{Contents}
+use Rattle.book_core.specs.Union.{HaveNoUnion, IsUnion, Unites}
+use Rattle.book_core.specs.declared.fault.BookFault.{BookFault}
+use Rattle.book_core.specs.declared.fault.BookFault.TheVariants as fault
+use Rattle.flagops_files.specs.Files.{Holding}
+use Rattle.flagops_files.specs.Question.{book_at}
+use Rattle.flagops_files.specs.Refusal.{call_of, is_want}
+use Rattle.flagops_files.specs.Told.{NamesOne, NamesSubject, Says, by, file}
+use Rattle.flagops_files.specs.declared.refusal.Refusal.{Refusal}
+use Rattle.flagops_files.specs.declared.refusal.Refusal.TheVariants.{FullBook}
+use Rattle.flagops_files.specs.declared.refused.Remark.{Remark}
+use Rattle.flagops_commands.specs.Calls.{unites_books}
+use Rattle.flagops_commands.specs.Subjects.{united_subjects}
+use Rattle.flagops_commands.specs.Unite.{IsUnitedWith, IsWithNext, unite_refusal}
+
+not_both : {X E Y : Type 0} {x : X} {e : E} → Ok x ≡ Err e → Y
+not_both h = cc
+
+-- ---- one more book
+
+abbrev pub IsBoth : Contents → Result Contents Refusal → Type 0
+IsBoth both r = r ≡ Ok both
+
+-- a book that is not read
+pub unread : (h : Option Holding) (path : List ℕ) (one : Contents) (e : Refusal) → IfSome h (λ at. is_want e ≡ false → book_at at path ≡ Err e)
+    → IfSome h (λ at. is_want e ≡ false → IsWithNext IsBoth one (book_at at path) (Err e))
+unread None path one e loaded = tt
+unread (Some at) path one e loaded = λ wanted. rw (loaded wanted) refl
+
+pub united : (h : Option Holding) (path : List ℕ) (one other both : Contents) → IfSome h (λ at. book_at at path ≡ Ok other) → IsUnion one other both
+    → IfSome h (λ at. IsWithNext IsBoth one (book_at at path) (Ok both))
+united None path one other both loaded union = tt
+united (Some at) path one other both loaded union = rw loaded (inr (both, union, refl))
+
+full : (one other : Contents) (f : BookFault) → Unites one other (Err f) → is_want (unite_refusal f) ≡ false → (unite_refusal f ≡ FullBook) × HaveNoUnion one other
+full one other fault.WantOfMemory unites wanted = cc
+full one other fault.PageFull unites wanted = (refl, unites)
+full one other fault.InputTooLong unites wanted = absurd unites
+full one other fault.LastCall unites wanted = absurd unites
+full one other fault.Stranger unites wanted = absurd unites
+
+pub refused : (h : Option Holding) (path : List ℕ) (one other : Contents) (f : BookFault) (e : Refusal) → IfSome h (λ at. book_at at path ≡ Ok other) → Unites one other (Err f) → e ≡ unite_refusal f
+    → IfSome h (λ at. is_want e ≡ false → IsWithNext IsBoth one (book_at at path) (Err e))
+refused None path one other f e loaded unites is = tt
+refused (Some at) path one other f e loaded unites is = λ wanted.
+    let why : (unite_refusal f ≡ FullBook) × HaveNoUnion one other = full one other f unites (ap is_want (sym is) ∙ wanted) in
+    rw loaded (inl (ap Err (is ∙ why.0), why.1))
+
+-- ---- the books behind it
+
+next_is : {Later : Contents → Result Contents Refusal → Type 0} (o : Result Contents Refusal) (one both : Contents) (r : Result Contents Refusal) → IsWithNext IsBoth one o (Ok both) → Later both r → IsWithNext Later one o r
+next_is (Err e) one both r is later = not_both is
+next_is (Ok other) one both r (inl full) later = not_both full.0
+next_is {Later} (Ok other) one both r (inr more) later = go more.0 more.1 more.2
+  where
+    go : (b : Contents) → IsUnion one other b → Ok both ≡ Ok b → IsWithNext Later one (Ok other) r
+    go b union same = let is : both ≡ b = cc in inr (b, union, subst (λ (c : Contents). Later c r) is later)
+
+-- what comes of a book with the next one and those behind it
+pub next : (at : Holding) (path : List ℕ) (paths rest : List (List ℕ)) (one both : Contents) (r : Result Contents Refusal) → IsWithNext IsBoth one (book_at at path) (Ok both) → paths ≡ path ∷ rest
+    → IsUnitedWith at rest both r → IsUnitedWith at paths one r
+unfolding IsUnitedWith
+next at path paths rest one both r is first later = subst (λ (ps : List (List ℕ)). IsUnitedWith at ps one r) (sym first) (next_is (book_at at path) one both r is later)
+
+next_refused : {Later : Contents → Result Contents Refusal → Type 0} (o : Result Contents Refusal) (one : Contents) (e : Refusal) → IsWithNext IsBoth one o (Err e) → IsWithNext Later one o (Err e)
+next_refused (Err f) one e is = is
+next_refused (Ok other) one e (inl full) = inl full
+next_refused (Ok other) one e (inr more) = not_both (sym more.2)
+
+pub stops : (at : Holding) (path : List ℕ) (paths rest : List (List ℕ)) (one : Contents) (e : Refusal) → IsWithNext IsBoth one (book_at at path) (Err e) → paths ≡ path ∷ rest → IsUnitedWith at paths one (Err e)
+unfolding IsUnitedWith
+stops at path paths rest one e is first = subst (λ (ps : List (List ℕ)). IsUnitedWith at ps one (Err e)) (sym first) (next_refused (book_at at path) one e is)
+
+-- the first of those that are left, and those behind it
+pub first_left : {X : Type 0} (now : X → List ℕ) (xs : List X) (i : ℕ) (z : X) → i < length xs → map now (drop i xs) ≡ now (get_or xs i z) ∷ map now (drop (i + 1) xs)
+first_left now xs i z inside =
+    let left : drop i xs ≡ get_or xs i z ∷ drop (i + 1) xs = rw add-one (drop-cons xs i z inside) in
+    ap (map now) left
+
+-- ---- what follows for files whose bytes are known
+
+pub where_known : {A : Type 0} (h : Option A) (P Q : A → Type 0) → ((a : A) → P a → Q a) → IfSome h P → IfSome h Q
+where_known None P Q f p = tt
+where_known (Some a) P Q f p = f a p
+
+-- the same of two facts, where the files stay
+pub both_known : {A : Type 0} (h k : Option A) (P S : A → Type 0) → k ≡ h → IfSome h P → {Q : A → Type 0} → IfSome k Q → ((a : A) → P a → Q a → S a) → IfSome h S
+both_known {A} h k P S same p {Q} q f = go h p (subst (λ (o : Option A). IfSome o Q) same q)
+  where
+    go : (o : Option A) → IfSome o P → IfSome o Q → IfSome o S
+    go None p q = tt
+    go (Some a) p q = f a p q
+
+-- ---- whose refusal it is
+
+-- the book at one of the paths is one of them
+pub told_at : {X : Type 0} (now : X → List ℕ) (xs : List X) (i : ℕ) (z : X) (e : Refusal) (remark : Remark) → i < length xs → by unites_books e ≡ true
+    → Says (NamesSubject (file (now (get_or xs i z)))) remark → NamesOne (united_subjects (map now xs)) e remark
+told_at now [] i z e remark inside of says = absurd (no_less i inside)
+  where
+    no_less : (i : ℕ) → i < 0 → ⊥
+    no_less i less = cc
+told_at now (x ∷ xs) zero z e remark inside of says = inl (of, says)
+told_at now (x ∷ xs) (suc i) z e remark inside of says = inr (told_at now xs i z e remark (less inside) of says)
+  where
+    less : suc i < suc (length xs) → i < length xs
+    less h = omega arith
