@@ -55,6 +55,7 @@ file_refusal (refusal.ReadBook f) e = cc
 file_refusal (refusal.ReadPlanned f) e = cc
 file_refusal (refusal.Verify f) e = cc
 file_refusal (refusal.Apply f) e = cc
+file_refusal (refusal.Keep f) e = cc
 file_refusal (refusal.Plan f) e = cc
 file_refusal (refusal.PrintPlanned f) e = cc
 file_refusal (refusal.Drive f) e = cc
