@@ -16,7 +16,7 @@ use Rattle.flagops_files.specs.Files.{Holding}
 use Rattle.flagops_commands.specs.Check.{TellsBrokenAt}
 use Rattle.flagops_commands.specs.Calls.{loads_request}
 use Rattle.flagops_remarks.specs.Named.{Names, NamesWord}
-use Rattle.flagops_words.specs.Asked.{Asked, bucket, price, check, resolve, verify, apply, plan, drive, completions}
+use Rattle.flagops_words.specs.Asked.{Asked, bucket, price, check, resolve, verify, apply, keep, plan, drive, completions}
 use Rattle.rollout_checks.specs.declared.verify_fault.VerifyFault.{VerifyFault}
 use Rattle.rollout_checks.specs.declared.verify_fault.VerifyFault.TheVariants as verdict
 
@@ -135,6 +135,7 @@ subjects_of (resolve document key kind default context moment) = resolve_subject
 subjects_of (verify document request book answer refine) = verify_subjects document request book answer
 subjects_of (plan document request book refine) = plan_subjects document request book
 subjects_of (apply document answer key site) = apply_subjects document answer
+subjects_of (keep document answer request book write refine) = keep_subjects document answer request book
 subjects_of (drive document asks workers book) = drive_subjects document asks book
 subjects_of (completions shell) = []
 
@@ -144,6 +145,7 @@ abbrev pub notes_of : Holding → Asked → List ℕ → Type 0
 notes_of at (check document) = TellsBrokenAt at document
 notes_of at (verify document request book answer refine) = Names book
 notes_of at (plan document request book refine) = Names book
+notes_of at (keep document answer request book write refine) = Names book
 notes_of at asked = λ lines. Unit {0}
 
 -- the remark on what a command comes to
