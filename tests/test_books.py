@@ -161,5 +161,64 @@ class Books(ProgramTest):
         self.assert_read(book + '"1000000"\n', f"5 PageFull {MOST + 3}")
 
 
+def book_of(pages):
+    """A book of pages by their flags, each with inputs in order."""
+    lines = ['{"book":1}']
+    for flag, inputs in sorted(pages.items()):
+        lines.append(f'{{"by":null,"flag":"{flag}","site":0}}')
+        lines += [f'"{text}"' for text in sorted(inputs)]
+    return "".join(line + "\n" for line in lines)
+
+
+class Unions(ProgramTest):
+    def test_one_book_of_several(self):
+        one, other = {"a": {"x", "z"}, "c": {"k"}}, {"a": {"y", "z"}, "b": {"k"}}
+        both = book_of({"a": {"x", "y", "z"}, "b": {"k"}, "c": {"k"}})
+        files = {"e": EMPTY_BOOK, "one": book_of(one), "other": book_of(other)}
+        for words, inputs, book in [
+            (["e"], 0, EMPTY_BOOK),
+            (["one"], 3, book_of(one)),
+            (["one", "other"], 5, both),
+            (["other", "e", "one", "other"], 5, both),
+            (["one", "--", "other"], 5, both),
+        ]:
+            with self.subTest(words=words):
+                count = len([word for word in words if word != "--"])
+                ran = self.assert_ends(["book", "o", *words], files, 0, f"inputs {inputs}\nfiles {count}\n")
+                self.assertEqual(ran.files, {**files, "o": book})
+
+    def test_a_book_that_is_read_may_be_written(self):
+        files = {"one": book_of({"a": {"x"}}), "other": book_of({"a": {"y"}})}
+        ran = self.assert_ends(["book", "one", "one", "other"], files, 0, "inputs 2\nfiles 2\n")
+        self.assertEqual(ran.files, {**files, "one": book_of({"a": {"x", "y"}})})
+
+    def test_a_refusal_changes_no_file(self):
+        files = {"one": book_of({"a": {"x"}}), "bad": '{"book":1}\n"x"\n', "o": "as before"}
+        for out, words, refusal in [
+            ("o", ["none", "bad"], "load 1 Unreadable"),
+            ("o", ["one", "bad", "none"], "read_book 2 Line 2"),
+            ("o", ["one", "none"], "load 1 Unreadable"),
+            ("nowhere/o", ["one"], "store 1 Unwritable"),
+        ]:
+            with self.subTest(words=words):
+                ran = self.assert_ends(["book", out, *words], files, 1, f"refused {refusal}\n")
+                self.assertEqual(ran.files, files)
+
+    def test_a_page_that_is_too_small_for_all(self):
+        front = '{"book":1}\n{"by":null,"flag":"color","site":0}\n'
+        full = front + "".join(f'"{number:06}"\n' for number in range(MOST))
+        more = front + '"n"\n'
+        files = {"d": document(), "a": asks_of("color", [{"key": "n"}]), "full": full, "more": more, "o": "as before"}
+        for words, refusal, named in [
+            (["book", "o", "full", "more"], "book 2 PageFull", '"more"'),
+            (["book", "o", "more", "full"], "book 2 PageFull", '"full"'),
+            (["drive", "--add", "d", "a", "1", "full"], "drive 6 PageFull", '"full"'),
+        ]:
+            with self.subTest(words=words):
+                ran = self.assert_ends(words, files, 1, f"refused {refusal}\n")
+                self.assertEqual(ran.files, files)
+                self.assertIn(f"error: {named}", ran.err)
+
+
 if __name__ == "__main__":
     unittest.main()

@@ -80,6 +80,40 @@ class Drive(ProgramTest):
         files = {"d": document(), "a": "[]"}
         self.assert_ends(["drive", "d", "a", "8", "nowhere/b"], files, 1, "refused store 1 Unwritable\n")
 
+    def test_a_book_is_added_to(self):
+        """The book keeps what it had; the counts but the first are those of the asks."""
+        page = BOOK[len(EMPTY_BOOK) : BOOK.index('""\n')]
+        early = f'{EMPTY_BOOK}{page}"test"\n"zoe"\n'
+        other = '{"by":null,"flag":"other","site":0}\n"a"\n'
+        answers = "".join(answer(key, variant) for key, variant in KEYS)
+        for workers in ["1", "8"]:
+            for before, inputs, after in [
+                (EMPTY_BOOK, 7, BOOK),
+                (BOOK, 7, BOOK),
+                (early, 8, BOOK + '"zoe"\n'),
+                (BOOK + other, 8, BOOK + other),
+            ]:
+                with self.subTest(workers=workers, before=before):
+                    asks = "[" + ",".join(ask(key) for key, _ in KEYS) + "]"
+                    files = {"d": document(), "a": asks, "b": before}
+                    report = f"{answers}inputs {inputs}\ncalls 7\nnews 7\nfull 0\nlong 0\n"
+                    ran = self.assert_ends(["drive", "--add", "d", "a", workers, "b"], files, 0, report)
+                    self.assertEqual(ran.files["b"], after)
+
+    def test_a_book_that_is_not_added_to_stays(self):
+        for book, asks, refusal in [
+            (None, ASKS, "load 1 Unreadable"),
+            ("{}\n", ASKS, "read_book 1 Header"),
+            (EMPTY_BOOK + '"a"\n', ASKS, "read_book 2 Line 2"),
+            ("{}\n", "{}", "read_book 1 Header"),
+            (BOOK, "{}", "drive 5 BadAsks"),
+            ("{}\n", "[", "read_tree 1 NotJson"),
+        ]:
+            with self.subTest(book=book, asks=asks):
+                files = {"d": document(), "a": asks, **({} if book is None else {"b": book})}
+                ran = self.assert_ends(["drive", "d", "a", "2", "b", "--add"], files, 1, f"refused {refusal}\n")
+                self.assertEqual(ran.files.get("b"), book)
+
     def test_an_input_that_is_too_long_is_counted_and_not_noted(self):
         key = "k" * 1025
         report = answer(key, "blue") + "inputs 0\ncalls 0\nnews 0\nfull 0\nlong 1\n"

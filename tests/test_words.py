@@ -17,6 +17,18 @@ MISTAKES = [
     (["--verbose"], "unexpected argument '--verbose'"),
     (["completions"], "Usage: flagops completions <SHELL>"),
     (["completions", "csh"], "it is bash, fish or zsh"),
+    (["apply", "d", "p", "f", "x"], "invalid value for '<SITE>': it is a number from 0 to 4294967295"),
+    (["apply", "d", "p", "f", "4294967296"], "invalid value for '<SITE>'"),
+    (["apply", "--write", "d", "p", "f", "0"], "'--write' and '--refine <M>' go with '--keep'"),
+    (["apply", "--refine", "2", "d", "p", "f", "0"], "'--write' and '--refine <M>' go with '--keep'"),
+    (["apply", "--write", "d", "p", "r", "b"], "'--write' and '--refine <M>' go with '--keep'"),
+    (["apply", "--keep", "--refine", "0", "d", "p", "r", "b"], "invalid value '0' for '--refine <M>'"),
+    (["apply", "--keep", "d", "p", "r"], "<SITE|BOOK>"),
+    (["apply", "--keep=yes", "d", "p", "r", "b"], "unexpected value 'yes' for '--keep'"),
+    (["drive", "--add", "d", "a", "x", "b"], "invalid value 'x' for '<WORKERS>'"),
+    (["drive", "--keep", "d", "a", "1", "b"], "unexpected argument '--keep'"),
+    (["book"], "Usage: flagops book <OUT> <FILE>..."),
+    (["book", "o"], "<FILE>..."),
 ]
 
 # The words, and what is printed within.
@@ -70,6 +82,9 @@ class Words(ProgramTest):
         for line, want in [
             (["flagops", "pl"], ["plan"]),
             (["flagops", "plan", "--re"], ["--refine"]),
+            (["flagops", "apply", "--ke"], ["--keep"]),
+            (["flagops", "drive", "--a"], ["--add"]),
+            (["flagops", "bo"], ["book"]),
             (["flagops", "completions", "f"], ["fish"]),
             (["flagops", "resolve", "d", "k", "wh"], ["whole"]),
             (["flagops", "check", "READM"], ["README.md"]),
