@@ -1,23 +1,23 @@
 -- Words without a fault give each argument that they use a value, and values that its parser takes.
-use Rattle.std.proofs.Common.{◌≡◌, ◌&&◌, ◌++◌, ℕ, Bool, cond, true, false, zero, suc, refl, sym, subst, List, [], ◌∷◌, Option, Some, None, length, nat_lt, is_some}
+use Rattle.std.proofs.Common.{◌≡◌, ◌&&◌, ◌||◌, ◌++◌, ℕ, Bool, cond, true, false, zero, suc, refl, sym, subst, List, [], ◌∷◌, Option, Some, None, length, nat_lt, is_some}
 use Rattle.std.specs.Prelude.{slice_get}
 use Rattle.std.specs.List.{find, fold}
 use Rattle.std.specs.Option.{option_map_or}
 use Rattle.std.specs.Str.{bytes_eq, chars}
 use Rattle.std.proofs.lemmas.Slice.Eq.{bytes_eq-Decides}
-use Rattle.clap.proofs.WalkLemmas.{both}
+use Rattle.clap.proofs.SimpleLemmas.{is_nil}
 use Rattle.clap.specs.Facts.{parser_of_value, unwrap_or_range}
-use Rattle.clap.specs.Faults.{bundle_fault, bundle_step_fault, flags_fault, flag_word_fault, level_fault, long_fault, option_fault, other_fault, positional_fault, react_fault, settle_fault, short_fault, step_fault, turn_fault, action_fault, repeat_fault, use_fault, values_fault, walk_fault, word_fault}
-use Rattle.clap.specs.Kinds.{Kinds, or_else, range_kinds, value_kinds}
+use Rattle.clap.specs.Faults.{bundle_fault, bundle_step_fault, default_fault, defaults_fault, flags_fault, given_default_fault, set_fault, flag_word_fault, level_fault, long_fault, option_fault, other_fault, positional_fault, react_fault, settle_fault, short_fault, step_fault, turn_fault, action_fault, repeat_fault, use_fault, values_fault, walk_fault, word_fault}
+use Rattle.clap.specs.Kinds.{Kinds, or_else, range_kinds, request_kinds, value_kinds}
 use Rattle.clap.specs.Lexer.{long_of, short_of}
 use Rattle.clap.specs.Simple.{Shape}
-use Rattle.clap.specs.Walk.{Held, Names, attached_value, option_word, positional_held, short_or_plain, to_positional, Outcome, Row, Rule, Step, Text, Waiting, Walk, action_of, most_values, after_flag, after_step, arg_by_id, arg_by_index, arg_by_long, arg_by_short, at_row, bundle_met, bundle_step, default_rows, flag_met, has_row, idle, is_pending, long_met, long_or_other, more_values, next, nothing_held, option, option_met, plain, plain_word, positional, reacted, reading_by, rows_after, settled, settled_rows, short_met, subcommand, subcommand_met, subcommand_or_other, takes_several, takes_values, trailing, used, used_as, used_by_id, value, values_or_missing, walk, walk_from, walked, walked_from, with_default, with_values, without, word_met, waits, done, refused}
+use Rattle.clap.specs.Walk.{Held, Names, attached_value, option_word, positional_held, short_or_plain, to_positional, Outcome, Row, Rule, Step, Text, Waiting, Walk, action_of, most_values, after_flag, after_step, arg_by_id, arg_by_index, arg_by_long, arg_by_short, at_row, bundle_met, bundle_step, default_rows, flag_met, has_row, idle, is_empty, is_pending, long_met, long_or_other, more_values, next, nothing_held, option, option_met, plain, plain_word, positional, reacted, reading_by, rows_after, settled, settled_rows, short_met, subcommand, subcommand_met, subcommand_or_other, takes_several, takes_values, trailing, used, used_as, used_by_id, value, values_or_missing, walk, walk_from, walked, walked_from, with_default, with_values, without, word_met, waits, done, refused}
 use Rattle.clap.specs.declared.builder.action.ArgAction.{ArgAction}
 use Rattle.clap.specs.declared.builder.action.ArgAction.TheVariants as action
 use Rattle.clap.specs.declared.builder.value_parser.Reading.{Reading}
 use Rattle.clap.specs.declared.error.kind.ErrorKind.TheVariants as kind
 use Rattle.clap.specs.declared.parser.matches.ValueSource.{ValueSource}
-use Rattle.clap.specs.declared.parser.matches.ValueSource.TheVariants.{CommandLine}
+use Rattle.clap.specs.declared.parser.matches.ValueSource.TheVariants.{CommandLine, DefaultValue}
 
 -- ---- rows that have a value each
 
@@ -43,21 +43,21 @@ none_both (k ∷ ks) b e = cc
 
 -- ---- what an argument stores
 
--- a use of the argument stores a value, or is one at fault; it has no default
-abbrev stores_as : ArgAction → Bool → Bool
-stores_as action.Set b = b
-stores_as action.Append b = b
-stores_as action.SetTrue b = false
-stores_as action.SetFalse b = false
-stores_as action.Count b = false
-stores_as _ b = true
+abbrev has_some : List Text → Bool
+has_some [] = false
+has_some (v ∷ vs) = true
 
-abbrev has_none : List Text → Bool
-has_none [] = true
-has_none (v ∷ vs) = false
+-- a use of the argument stores a value, or is one at fault: it wants a value, or has one that stands for none
+abbrev stores_as : ArgAction → Bool → Bool → Bool
+stores_as action.Set wants has_missing = wants
+stores_as action.Append wants has_missing = wants
+stores_as action.SetTrue wants has_missing = has_missing
+stores_as action.SetFalse wants has_missing = has_missing
+stores_as action.Count wants has_missing = false
+stores_as _ wants has_missing = true
 
 abbrev pub stores : Rule → Bool
-stores a = has_none a.defaults && stores_as (action_of a) (nat_lt 0 (unwrap_or_range a.range).start_inclusive)
+stores a = stores_as (action_of a) (nat_lt 0 (unwrap_or_range a.range).start_inclusive) (has_some a.missing)
 
 -- `P` says what each value of an argument has to be
 module _ (P : Text → Text → Type 0) where
@@ -105,16 +105,16 @@ module _ (P : Text → Text → Type 0) where
   abbrev MayStore : ArgAction → Text → List Text → Type 0
   MayStore action.Set id values = Taken id values
   MayStore action.Append id values = Taken id values
-  MayStore action.SetTrue id values = ⊥
-  MayStore action.SetFalse id values = ⊥
+  MayStore action.SetTrue id values = Taken id values
+  MayStore action.SetFalse id values = Taken id values
   MayStore action.Count id values = ⊥
   MayStore _ id values = Unit {0}
 
   filled_used_as : (x : ArgAction) (id : Text) (how : Reading) (values : List Text) (rows : List Row) → MayStore x id values → Filled rows → Filled (used_as x id how values rows)
   filled_used_as action.Set id how values rows v p = filled_with id how CommandLine values _ v (filled_without id rows p)
   filled_used_as action.Append id how values rows v p = filled_with id how CommandLine values _ v p
-  filled_used_as action.SetTrue id how values rows v p = absurd v
-  filled_used_as action.SetFalse id how values rows v p = absurd v
+  filled_used_as action.SetTrue id how values rows v p = filled_with id how CommandLine values _ v (filled_without id rows p)
+  filled_used_as action.SetFalse id how values rows v p = filled_with id how CommandLine values _ v (filled_without id rows p)
   filled_used_as action.Count id how values rows v p = absurd v
   filled_used_as action.Help id how values rows v p = p
   filled_used_as action.HelpShort id how values rows v p = p
@@ -132,13 +132,28 @@ module _ (P : Text → Text → Type 0) where
   wants_one true k rest more f e = cc
   wants_one false k rest more f e = cc
 
+  -- values, or those that stand for none
+  some_or_missing : (a : Rule) (values : List Text) → has_some a.missing ≡ true → IsFull (values_or_missing a values)
+  some_or_missing a (v ∷ vs) e = tt
+  some_or_missing a [] e = go a.missing e
+    where
+      go : (vs : List Text) → has_some vs ≡ true → IsFull vs
+      go [] h = cc
+      go (v ∷ vs) h = tt
+
+  flag_taken : (again : Bool) (a : Rule) (values : List Text) (rows : List Row) (count : Kinds) → has_some a.missing ≡ true → IsSound a
+      → or_else count (set_fault again a (values_or_missing a values) rows) ≡ [] → Taken a.id (values_or_missing a values)
+  flag_taken again a values rows count some sound e =
+      let set = (none_both count _ e).1 in
+      (some_or_missing a values some, each_taken a _ sound (none_both (repeat_fault again a.id rows) _ set).1)
+
   filled_use : (again : Bool) (a : Rule) (values : List Text) (rows : List Row) → Stores a → use_fault again a values rows ≡ [] → Filled rows → Filled (used a values rows)
-  filled_use again a values rows f e p = filled_used_as (action_of a) a.id (reading_by a) _ rows (kept (action_of a) values (both _ _ f.0).1 e) p
+  filled_use again a values rows f e p = filled_used_as (action_of a) a.id (reading_by a) _ rows (kept (action_of a) values f.0 e) p
     where
       least : ℕ
       least = (unwrap_or_range a.range).start_inclusive
 
-      kept : (x : ArgAction) (vs : List Text) → stores_as x (nat_lt 0 least) ≡ true
+      kept : (x : ArgAction) (vs : List Text) → stores_as x (nat_lt 0 least) (has_some a.missing) ≡ true
           → or_else (range_kinds least (most_values a) (length vs)) (action_fault x again a (values_or_missing a vs) rows) ≡ [] → MayStore x a.id (values_or_missing a vs)
       kept action.Set [] s h = absurd (wants_one _ _ _ _ s h)
       kept action.Set (v ∷ vs) s h =
@@ -146,8 +161,8 @@ module _ (P : Text → Text → Type 0) where
           (tt, each_taken a (v ∷ vs) f.1 (none_both (repeat_fault again a.id rows) _ used_rest.1).1)
       kept action.Append [] s h = absurd (wants_one _ _ _ _ s h)
       kept action.Append (v ∷ vs) s h = (tt, each_taken a (v ∷ vs) f.1 (none_both (range_kinds least (most_values a) (length (v ∷ vs))) _ h).1)
-      kept action.SetTrue vs s h = cc
-      kept action.SetFalse vs s h = cc
+      kept action.SetTrue vs s h = flag_taken again a vs rows _ s f.1 h
+      kept action.SetFalse vs s h = flag_taken again a vs rows _ s f.1 h
       kept action.Count vs s h = cc
       kept action.Help vs s h = tt
       kept action.HelpShort vs s h = tt
@@ -316,17 +331,22 @@ module _ (P : Text → Text → Type 0) where
         let parts = none_both (turn_fault s names w word) _ e in
         filled_walk (walked s.rules names w word) rest parts.1 (filled_turn w word parts.0 p)
 
-    filled_defaults : (c : List Rule) (rows : List Row) → Each Stores c → Filled rows → Filled (fold with_default rows c)
-    filled_defaults [] rows all p = p
-    filled_defaults (a ∷ c) rows all p = filled_defaults c (with_default rows a) all.1 (go (has_row a.id rows))
+    -- a default is checked as a value of the words is
+    filled_defaults : (c : List Rule) (rows : List Row) → Each Stores c → defaults_fault rows c ≡ [] → Filled rows → Filled (fold with_default rows c)
+    unfolding defaults_fault
+    filled_defaults [] rows all e p = p
+    filled_defaults (a ∷ c) rows all e p =
+        let faults = none_both (default_fault rows a) _ e in
+        filled_defaults c (with_default rows a) all.1 faults.1 (go (has_row a.id rows) faults.0)
       where
-        none : (values : List Text) → has_none values ≡ true → Filled (default_rows a.id (reading_by a) values rows)
-        none [] e = p
-        none (v ∷ vs) e = cc
+        given : (values : List Text) (b : Bool) → is_empty values ≡ b → cond b [] (given_default_fault a values) ≡ [] → Filled (default_rows a.id (reading_by a) values rows)
+        given values true is h = subst (λ (vs : List Text). Filled (default_rows a.id (reading_by a) vs rows)) (sym (is_nil values is)) p
+        given [] false is h = p
+        given (v ∷ vs) false is h = filled_with a.id (reading_by a) DefaultValue (v ∷ vs) rows (tt, each_taken a (v ∷ vs) all.0.1 (none_both (request_kinds (action_of a)) _ h).1) p
 
-        go : (b : Bool) → Filled (cond b rows (default_rows a.id (reading_by a) a.defaults rows))
-        go true = p
-        go false = none a.defaults (both _ _ all.0.0).0
+        go : (b : Bool) → cond (b || is_empty a.defaults) [] (given_default_fault a a.defaults) ≡ [] → Filled (cond b rows (default_rows a.id (reading_by a) a.defaults rows))
+        go true h = p
+        go false h = given a.defaults (is_empty a.defaults) refl h
 
     -- the matches of words without a fault have a value each
     pub filled_level : (words : List Text) (has_subcommand : Bool) (below : Kinds) → level_fault s names nothing_held words has_subcommand below ≡ []
@@ -336,4 +356,5 @@ module _ (P : Text → Text → Type 0) where
         let after = none_both below _ walked_all.1 in
         let end = (walk s.rules names nothing_held words).held in
         let settles = none_both (settle_fault s.rules s.args_override_self end) _ after.1 in
-        filled_defaults s.rules _ all (filled_settled s.rules s.args_override_self all end settles.0 (filled_walk (walk_from nothing_held) words walked_all.0 tt))
+        let defaults = none_both (defaults_fault (settled s.rules end).rows s.rules) _ settles.1 in
+        filled_defaults s.rules _ all defaults.0 (filled_settled s.rules s.args_override_self all end settles.0 (filled_walk (walk_from nothing_held) words walked_all.0 tt))

@@ -1,25 +1,26 @@
 -- What `clap` is proved to read of the words, as the command that they ask for.
-use Rattle.std.proofs.Common.{◌≡◌, ◌⊎◌, Bool, cond, true, false, is_some, List, [], ◌∷◌, Option, Some, None, ap, refl, subst, sym, ◌∙◌, inl, inr}
+use Rattle.std.proofs.Common.{◌≡◌, ◌≢◌, ◌⊎◌, Bool, cond, true, false, is_some, List, [], ◌∷◌, length, map, Option, Some, None, ap, refl, subst, sym, ◌∙◌, inl, inr}
 use Rattle.std.specs.Prelude.{codes, option_and_then}
 use Rattle.std.specs.Str.{bytes_eq}
-use Rattle.clap.proofs.WalkLemmas.{first_value-rows}
+use Rattle.std.proofs.lemmas.Slice.Eq.{bytes_eq-Decides}
+use Rattle.clap.proofs.WalkLemmas.{first_value-rows, raw_values-rows}
 use Rattle.clap.specs.Walk.{Row, first_of}
 use Rattle.clap.specs.Words.{App, HasMatchesOf, IsAmong, Kinds, Text, is_simple, is_simple_and_free, fault_of, subcommand_of, subcommand_rows_of}
 use Rattle.clap.specs.declared.error.kind.ErrorKind.{ErrorKind}
-use Rattle.clap.specs.declared.error.kind.ErrorKind.TheVariants.{InvalidValue, OutOfMemory}
+use Rattle.clap.specs.declared.error.kind.ErrorKind.TheVariants.{InvalidValue, MissingRequiredArgument, OutOfMemory, ValueValidation}
 use Rattle.clap.specs.declared.parser.matches.ArgMatches.{ArgMatches}
 use Rattle.flagops_words.specs.Asked.{Asked}
 use Rattle.flagops_words.proofs.Named.{faultless}
-use Rattle.flagops_words.specs.Words.{IsToldBy, asked_by, asked_of, faults_of, apply_app, bucket_app, check_app, completions_app, completions_in, drive_app, kind_fault, kind_in, plan_app, price_app, resolve_app, resolve_in, shell_in, unless, verify_app, flagops_app}
+use Rattle.flagops_words.specs.Words.{IsToldBy, applied_in, apply_fault, apply_in, asked_by, asked_of, command_in, faults_of, apply_app, bucket_app, check_app, completions_app, completions_in, drive_app, flag_in, if_any, is_stray, keep_in, kind_fault, kind_fault_in, kind_in, mistake_of, plan_app, price_app, resolve_app, resolve_in, shell_in, site_in, unite_app, unite_in, unless, verify_app, flagops_app}
 
-pub ruleset rows = first_value-rows
+pub ruleset rows = (first_value-rows, raw_values-rows)
 
 is_plain : is_simple flagops_app ≡ true
-unfolding flagops_app bucket_app price_app check_app resolve_app plan_app verify_app apply_app drive_app completions_app
+unfolding flagops_app bucket_app price_app check_app resolve_app plan_app verify_app apply_app drive_app unite_app completions_app
 is_plain = refl
 
 is_free : is_simple_and_free flagops_app ≡ true
-unfolding flagops_app bucket_app price_app check_app resolve_app plan_app verify_app apply_app drive_app completions_app
+unfolding flagops_app bucket_app price_app check_app resolve_app plan_app verify_app apply_app drive_app unite_app completions_app
 is_free = refl
 
 -- a command that is read has a kind of value where it wants one
@@ -40,18 +41,43 @@ some_shell (Some x) next a e = refl
 has_shell : (rows : List Row) (a : Asked) → completions_in rows ≡ Some a → is_some (shell_in rows) ≡ true
 has_shell rows a e = some_shell (shell_in rows) _ a e
 
-no_kind_fault : (named : Option (Text × List Row)) (a : Asked) → asked_of named ≡ Some a → kind_fault named ≡ []
-no_kind_fault None a e = refl
-no_kind_fault (Some (name, rows)) a e = go (bytes_eq name (codes "resolve")) (bytes_eq name (codes "completions")) _ e
-  where
-    go : (b c : Bool) (other : Option Asked) → cond b (resolve_in rows) (cond c (completions_in rows) other) ≡ Some a
-        → cond b (unless (is_some (kind_in rows))) (cond c (unless (is_some (shell_in rows))) []) ≡ []
-    go true c other h = rw (has_kind rows a h) refl
-    go false true other h = rw (has_shell rows a h) refl
-    go false false other h = refl
-
 none_some : {X : Type 0} {x : X} → None ≡ Some x → ⊥
 none_some e = cc
+
+some_site : {X A : Type 0} (o : Option X) (next : X → Option A) (a : A) → option_and_then next o ≡ Some a → is_some o ≡ true
+some_site None next a e = cc
+some_site (Some x) next a e = refl
+
+no_apply_fault : (rows : List Row) (a : Asked) → apply_in rows ≡ Some a → apply_fault rows ≡ []
+no_apply_fault rows a e = go (flag_in (codes "keep") rows) (is_stray rows) e
+  where
+    go : (keeps stray : Bool) → cond keeps (keep_in rows) (cond stray None (applied_in rows)) ≡ Some a
+        → cond keeps [] (cond stray (MissingRequiredArgument ∷ []) (unless ValueValidation (is_some (site_in rows)))) ≡ []
+    go true stray h = refl
+    go false true h = absurd (none_some h)
+    go false false h = rw (some_site (site_in rows) _ a h) refl
+
+no_command_fault : (name : Text) (rows : List Row) (a : Asked) → command_in (name, rows) ≡ Some a → kind_fault_in (name, rows) ≡ []
+no_command_fault name rows a e = go (bytes_eq name (codes "resolve")) (bytes_eq name (codes "completions")) (bytes_eq name (codes "apply")) _ e
+  where
+    go : (b c d : Bool) (other : Option Asked) → cond b (resolve_in rows) (cond c (completions_in rows) (cond d (apply_in rows) other)) ≡ Some a
+        → cond b (unless InvalidValue (is_some (kind_in rows))) (cond c (unless InvalidValue (is_some (shell_in rows))) (cond d (apply_fault rows) [])) ≡ []
+    go true c d other h = rw (has_kind rows a h) refl
+    go false true d other h = rw (has_shell rows a h) refl
+    go false false true other h = no_apply_fault rows a h
+    go false false false other h = refl
+
+no_kind_fault : (named : Option (Text × List Row)) (a : Asked) → asked_of named ≡ Some a → kind_fault named ≡ []
+no_kind_fault None a e = refl
+no_kind_fault (Some (name, rows)) a e = go (bytes_eq name (codes "book")) refl e
+  where
+    -- no mistake of `book` is left for the program to find
+    book_fault : (n : Text) → n ≡ codes "book" → kind_fault_in (n, rows) ≡ []
+    book_fault n is = rw is refl
+
+    go : (b : Bool) → bytes_eq name (codes "book") ≡ b → cond b (unite_in rows) (command_in (name, rows)) ≡ Some a → kind_fault_in (name, rows) ≡ []
+    go true is h = book_fault name ((bytes_eq-Decides name (codes "book")).0 is)
+    go false is h = no_command_fault name rows a h
 
 -- words with which `clap` finds no fault, by what the matches hold
 module _ (words : List Text) (app : App) (m : ArgMatches) (is : app ≡ flagops_app) (no_fault : is_simple_and_free app ≡ true → fault_of app words ≡ []) where
@@ -68,14 +94,16 @@ module _ (words : List Text) (app : App) (m : ArgMatches) (is : app ≡ flagops_
       let asks : asked_of (subcommand_of flagops_app words) ≡ Some a = ap asked_of (sym (held matches)) ∙ sym read in
       rw (none, no_kind_fault (subcommand_of flagops_app words) a asks) asks
 
-  -- and where nothing is read of them, their kind of value is a mistake
-  pub told_by-kind : HasMatchesOf app words m → None ≡ asked_of (subcommand_rows_of m) → IsToldBy words InvalidValue
+  -- and where nothing is read of them, one of them is a mistake
+  pub told_by-kind : HasMatchesOf app words m → None ≡ asked_of (subcommand_rows_of m) → IsToldBy words (mistake_of (subcommand_rows_of m))
   unfolding asked_by faults_of
   told_by-kind matches read = elim (faultless words none) [
     | inl some ↦
         let bad : None ≡ Some some.0 = read ∙ ap asked_of (held matches) ∙ some.1 in
         absurd (none_some bad)
-    | inr fault ↦ inr (rw (none, fault) refl, rw (none, fault) (inl refl))
+    | inr fault ↦
+        let same : mistake_of (subcommand_rows_of m) ≡ mistake_of (subcommand_of flagops_app words) = ap mistake_of (held matches) in
+        inr (rw (none, fault) refl, rw (none, fault) (inl same))
   ]
 
 by_fault : (words : List Text) (kind : ErrorKind) (kinds more : Kinds) → fault_of flagops_app words ≡ kinds → kind_fault (subcommand_of flagops_app words) ≡ more → IsAmong kind kinds
@@ -91,3 +119,12 @@ told_by-kinds words app kind is fails = elim (fails (ap is_simple_and_free is �
   | inl memory ↦ inl memory
   | inr among ↦ inr (by_fault words kind _ _ refl refl (subst (λ (p : App). IsAmong kind (fault_of p words)) is among))
 ]
+
+-- texts that are given, where there are none and where there are some
+pub no_texts : {B : Type 0} (now : B → Text) (given : List B) (all : Option (List Text)) → Some (map now given) ≡ all → length given ≡ 0 → None ≡ option_and_then if_any all
+no_texts now [] all e h = ap (option_and_then if_any) e
+no_texts now (t ∷ ts) all e h = cc
+
+pub any_texts : {B : Type 0} (now : B → Text) (given : List B) (all : Option (List Text)) → Some (map now given) ≡ all → length given ≢ 0 → Some (map now given) ≡ option_and_then if_any all
+any_texts now [] all e h = absurd (h refl)
+any_texts now (t ∷ ts) all e h = ap (option_and_then if_any) e

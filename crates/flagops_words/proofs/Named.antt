@@ -1,4 +1,4 @@
--- Words with which `clap` finds no fault ask for a command, or their kind of value is a mistake.
+-- Words with which `clap` finds no fault ask for a command, or one of them is a mistake.
 use Rattle.std.proofs.Common.{◌≡◌, ◌&&◌, ◌||◌, ◌⊎◌, inl, inr, ℕ, Bool, cond, true, false, refl, subst, List, [], ◌∷◌, Option, Some, None, not, codes, is_some, option_map}
 use Rattle.std.specs.Prelude.{option_and_then, slice_get}
 use Rattle.std.specs.List.{find, list_all, list_any}
@@ -14,15 +14,14 @@ use Rattle.clap.specs.Simple.{App, Shape, built, entered, label_of, names_of, ro
 use Rattle.clap.specs.Takes.{is_given}
 use Rattle.clap.specs.ValueTests.{is_unsigned_in}
 use Rattle.clap.specs.declared.error.kind.ErrorKind.{ErrorKind}
-use Rattle.clap.specs.declared.error.kind.ErrorKind.TheVariants.{InvalidValue}
 use Rattle.flag_resolve.specs.Kind.{kind_named}
 use Rattle.flag_resolve.specs.declared.kind.Kind.{Kind}
 use Rattle.clap.specs.Walk.{Row, Rule, Text, answers_to, first_of, nothing_held, rows_after, settled, walk, walk_from}
-use Rattle.flagops_words.specs.Asked.{Asked, bucket, price, check, resolve, verify, apply, plan, drive, completions}
+use Rattle.flagops_words.specs.Asked.{Asked, bucket, price, check, resolve, verify, apply, keep, plan, drive, unite, completions}
 use Rattle.flagops_words.specs.Shell.{shell_named}
 use Rattle.flagops_words.specs.declared.shell.Shell.{Shell}
 use Rattle.flagops_words.specs.Numbers.{max_16, max_32, max_moment, number_in}
-use Rattle.flagops_words.specs.Words.{apply_app, asked_in, asked_of, bucket_app, check_app, completions_app, drive_app, flagops_app, kind_fault, plan_app, price_app, refine_in, resolve_app, verify_app}
+use Rattle.flagops_words.specs.Words.{apply_app, asked_in, asked_of, bucket_app, check_app, completions_app, drive_app, flag_in, flagops_app, if_any, is_stray, kind_fault, mistake_of, plan_app, price_app, refine_in, resolve_app, texts_at, unite_app, verify_app}
 use Rattle.flagops_words.proofs.Filled.{Each, Filled, IsFull, Stores, filled_level, none_both, stores}
 
 -- ---- one command
@@ -84,9 +83,9 @@ any_stored (a ∷ c) e = (((both _ _ e).0, λ v e. tt), any_stored c (both _ _ e
 value_given : (id : Text) (rows : List Row) → Filled Any rows → is_given id rows ≡ true → (v : Text) × (first_of id rows ≡ Some v)
 value_given id rows p e = let taken = value_taken Any id rows p e in (taken.0, taken.1)
 
--- they ask for a command, or their kind of value is a mistake
+-- they ask for a command, or one of them is a mistake
 abbrev pub IsRead : Option (Text × List Row) → Type 0
-IsRead named = ((a : Asked) × (asked_of named ≡ Some a)) ⊎ (kind_fault named ≡ InvalidValue ∷ [])
+IsRead named = ((a : Asked) × (asked_of named ≡ Some a)) ⊎ (kind_fault named ≡ mistake_of named ∷ [])
 
 -- the command reads words without a fault
 abbrev Asks : Shape → Type 0
@@ -229,35 +228,42 @@ plan_asks s name stored given words e =
     let refine = refine_read rows full in
     inl (plan document.0 request.0 book.0 refine.0, plan_read s.name rows document.0 request.0 book.0 refine.0 name document.1 request.1 book.1 refine.1)
 
-abbrev Site : Text → Text → Type 0
-Site = IsNumber (codes "SITE") 0 max_32
+-- the four words of `apply`, in its form with `--keep` and in the other
+apply_read : (name : Text) (rows : List Row) (document file third fourth : Text) (refine site : Option ℕ) (keeps stray : Bool) → name ≡ codes "apply"
+    → first_of (codes "DOC") rows ≡ Some document → first_of (codes "PLAN") rows ≡ Some file → first_of (codes "FLAG|REQUEST") rows ≡ Some third
+    → first_of (codes "SITE|BOOK") rows ≡ Some fourth → refine_in rows ≡ Some refine → number_in 0 max_32 fourth ≡ site → flag_in (codes "keep") rows ≡ keeps → is_stray rows ≡ stray
+    → IsRead (Some (name, rows))
+apply_read name rows document file third fourth refine site true stray is document_is file_is third_is fourth_is refine_is site_is keeps_is stray_is =
+    inl (keep document file third fourth (flag_in (codes "write") rows) refine, rw (is, keeps_is, document_is, file_is, third_is, fourth_is, refine_is) refl)
+apply_read name rows document file third fourth refine site false true is document_is file_is third_is fourth_is refine_is site_is keeps_is stray_is =
+    inr (rw (is, keeps_is, stray_is) refl)
+apply_read name rows document file third fourth refine (Some site) false false is document_is file_is third_is fourth_is refine_is site_is keeps_is stray_is =
+    inl (apply document file third site, rw (is, keeps_is, stray_is, document_is, file_is, third_is, fourth_is, site_is) refl)
+apply_read name rows document file third fourth refine None false false is document_is file_is third_is fourth_is refine_is site_is keeps_is stray_is =
+    inr (rw (is, keeps_is, stray_is, fourth_is, site_is) refl)
 
-apply_read : (name : Text) (rows : List Row) (document file key number : Text) (site : ℕ) → name ≡ codes "apply" → first_of (codes "DOC") rows ≡ Some document
-    → first_of (codes "PLAN") rows ≡ Some file → first_of (codes "FLAG") rows ≡ Some key → first_of (codes "SITE") rows ≡ Some number → number_in 0 max_32 number ≡ Some site
-    → asked_in (name, rows) ≡ Some (apply document file key site)
-apply_read name rows document file key number site is document_is file_is key_is number_is site_is = rw (is, document_is, file_is, key_is, number_is, site_is) refl
-
-apply_asks : (s : Shape) → s.name ≡ codes "apply" → Each (Stores Site) s.rules
-    → ((rows : List Row) → HasGiven s rows → (is_given (codes "DOC") rows ≡ true) × (is_given (codes "PLAN") rows ≡ true) × (is_given (codes "FLAG") rows ≡ true)
-    × (is_given (codes "SITE") rows ≡ true)) → Asks s
+apply_asks : (s : Shape) → s.name ≡ codes "apply" → Each (Stores Refine) s.rules
+    → ((rows : List Row) → HasGiven s rows → (is_given (codes "DOC") rows ≡ true) × (is_given (codes "PLAN") rows ≡ true) × (is_given (codes "FLAG|REQUEST") rows ≡ true)
+    × (is_given (codes "SITE|BOOK") rows ≡ true)) → Asks s
 apply_asks s name stored given words e =
     let rows = rows_after s.rules [] words in
-    let full = filled_level Site s [] stored words false [] e in
+    let full = filled_level Refine s [] stored words false [] e in
     let all = given rows (level_given s words e) in
-    let document = value_taken Site (codes "DOC") rows full all.0 in
-    let file = value_taken Site (codes "PLAN") rows full all.1 in
-    let key = value_taken Site (codes "FLAG") rows full all.2 in
-    let word = value_taken Site (codes "SITE") rows full all.3 in
-    let site = number_read 0 max_32 word.0 (word.2 refl) in
-    inl (apply document.0 file.0 key.0 site.0, apply_read s.name rows document.0 file.0 key.0 word.0 site.0 name document.1 file.1 key.1 word.1 site.1)
+    let document = value_taken Refine (codes "DOC") rows full all.0 in
+    let file = value_taken Refine (codes "PLAN") rows full all.1 in
+    let third = value_taken Refine (codes "FLAG|REQUEST") rows full all.2 in
+    let fourth = value_taken Refine (codes "SITE|BOOK") rows full all.3 in
+    let refine = refine_read rows full in
+    apply_read s.name rows document.0 file.0 third.0 fourth.0 refine.0 (number_in 0 max_32 fourth.0) (flag_in (codes "keep") rows) (is_stray rows) name document.1 file.1 third.1 fourth.1 refine.1 refl refl refl
 
 abbrev Workers : Text → Text → Type 0
 Workers = IsNumber (codes "WORKERS") 0 max_16
 
-drive_read : (name : Text) (rows : List Row) (document file number book : Text) (workers : ℕ) → name ≡ codes "drive" → first_of (codes "DOC") rows ≡ Some document
+drive_read : (name : Text) (rows : List Row) (document file number book : Text) (workers : ℕ) (add : Bool) → name ≡ codes "drive" → first_of (codes "DOC") rows ≡ Some document
     → first_of (codes "ASKS") rows ≡ Some file → first_of (codes "WORKERS") rows ≡ Some number → number_in 0 max_16 number ≡ Some workers → first_of (codes "BOOK") rows ≡ Some book
-    → asked_in (name, rows) ≡ Some (drive document file workers book)
-drive_read name rows document file number book workers is document_is file_is number_is workers_is book_is = rw (is, document_is, file_is, number_is, workers_is, book_is) refl
+    → flag_in (codes "add") rows ≡ add → asked_in (name, rows) ≡ Some (drive document file workers book add)
+drive_read name rows document file number book workers add is document_is file_is number_is workers_is book_is add_is =
+    rw (is, document_is, file_is, number_is, workers_is, book_is, add_is) refl
 
 drive_asks : (s : Shape) → s.name ≡ codes "drive" → Each (Stores Workers) s.rules
     → ((rows : List Row) → HasGiven s rows → (is_given (codes "DOC") rows ≡ true) × (is_given (codes "ASKS") rows ≡ true) × (is_given (codes "WORKERS") rows ≡ true)
@@ -271,7 +277,44 @@ drive_asks s name stored given words e =
     let word = value_taken Workers (codes "WORKERS") rows full all.2 in
     let book = value_taken Workers (codes "BOOK") rows full all.3 in
     let workers = number_read 0 max_16 word.0 (word.2 refl) in
-    inl (drive document.0 file.0 workers.0 book.0, drive_read s.name rows document.0 file.0 word.0 book.0 workers.0 name document.1 file.1 word.1 workers.1 book.1)
+    inl (
+      drive document.0 file.0 workers.0 book.0 (flag_in (codes "add") rows),
+      drive_read s.name rows document.0 file.0 word.0 book.0 workers.0 (flag_in (codes "add") rows) name document.1 file.1 word.1 workers.1 book.1 refl,
+    )
+
+-- what is given has one value or more
+values_given : (id : Text) (rows : List Row) → Filled Any rows → is_given id rows ≡ true → (vs : List Text) × (texts_at id rows ≡ Some vs)
+values_given id [] p e = cc
+values_given id (r ∷ rs) p e = go (bytes_eq r.id id) e (values_given id rs p.1)
+  where
+    values_of : Option Row → Option (List Text)
+    values_of o = option_and_then if_any (option_map (λ (x : Row). x.values) o)
+
+    rest : Option Row
+    rest = find (λ x. bytes_eq x.id id) rs
+
+    full : (vs : List Text) → IsFull vs → (ws : List Text) × (if_any vs ≡ Some ws)
+    full [] h = absurd h
+    full (v ∷ vs) h = (v ∷ vs, refl)
+
+    go : (b : Bool) → option_map_or (λ (x : Row). explicit_source x.source) (cond b (Some r) rest) false ≡ true
+        → (is_given id rs ≡ true → (vs : List Text) × (texts_at id rs ≡ Some vs)) → (vs : List Text) × (values_of (cond b (Some r) rest) ≡ Some vs)
+    go true e more = full r.values p.0.0
+    go false e more = more e
+
+unite_read : (name : Text) (rows : List Row) (out : Text) (files : List Text) → name ≡ codes "book" → first_of (codes "OUT") rows ≡ Some out → texts_at (codes "FILE") rows ≡ Some files
+    → asked_in (name, rows) ≡ Some (unite out files)
+unite_read name rows out files is out_is files_is = rw (is, out_is, files_is) refl
+
+unite_asks : (s : Shape) → s.name ≡ codes "book" → list_all stores s.rules ≡ true
+    → ((rows : List Row) → HasGiven s rows → (is_given (codes "OUT") rows ≡ true) × (is_given (codes "FILE") rows ≡ true)) → Asks s
+unite_asks s name stored given words e =
+    let rows = rows_after s.rules [] words in
+    let full = filled_level Any s [] (any_stored s.rules stored) words false [] e in
+    let both = given rows (level_given s words e) in
+    let out = value_given (codes "OUT") rows full both.0 in
+    let files = values_given (codes "FILE") rows full both.1 in
+    inl (unite out.0 files.0, unite_read s.name rows out.0 files.0 name out.1 files.1)
 
 completions_read : (name : Text) (rows : List Row) (word : Text) (shell : Option Shell) → name ≡ codes "completions" → first_of (codes "SHELL") rows ≡ Some word → shell_named word ≡ shell
     → IsRead (Some (name, rows))
@@ -291,7 +334,7 @@ abbrev AllAsk : List Shape → Type 0
 AllAsk = Each Asks
 
 each : AllAsk (built flagops_app).subs
-unfolding flagops_app bucket_app price_app check_app resolve_app plan_app verify_app apply_app drive_app completions_app
+unfolding flagops_app bucket_app price_app check_app resolve_app plan_app verify_app apply_app drive_app unite_app completions_app
 each = (
   bucket_asks _ refl refl (λ rows e. let rule = needed _ _ e in let key = needed _ _ rule.1 in (rule.0, key.0)),
   (
@@ -333,7 +376,7 @@ each = (
                 (document.0, request.0, book.0, file.0)),
             (
               apply_asks _ refl
-                  ((refl, λ v e h. cc), ((refl, λ v e h. cc), ((refl, λ v e h. cc), ((refl, λ v e h. passes _ _ e), ((refl, λ v e h. cc), tt)))))
+                  ((refl, λ v e h. cc), ((refl, λ v e h. cc), ((refl, λ v e h. cc), ((refl, λ v e h. cc), ((refl, λ v e h. cc), ((refl, λ v e h. cc), ((refl, λ v e h. passes _ _ e), ((refl, λ v e h. cc), tt))))))))
                   (λ rows e.
                   let document = needed _ _ e in
                   let file = needed _ _ document.1 in
@@ -342,14 +385,17 @@ each = (
                   (document.0, file.0, key.0, site.0)),
               (
                 drive_asks _ refl
-                    ((refl, λ v e h. cc), ((refl, λ v e h. cc), ((refl, λ v e h. passes _ _ e), ((refl, λ v e h. cc), ((refl, λ v e h. cc), tt)))))
+                    ((refl, λ v e h. cc), ((refl, λ v e h. cc), ((refl, λ v e h. passes _ _ e), ((refl, λ v e h. cc), ((refl, λ v e h. cc), ((refl, λ v e h. cc), tt))))))
                     (λ rows e.
                     let document = needed _ _ e in
                     let file = needed _ _ document.1 in
                     let workers = needed _ _ file.1 in
                     let book = needed _ _ workers.1 in
                     (document.0, file.0, workers.0, book.0)),
-                (completions_asks _ refl refl (λ rows e. (needed _ _ e).0), tt),
+                (
+                  unite_asks _ refl refl (λ rows e. let out = needed _ _ e in let file = needed _ _ out.1 in (out.0, file.0)),
+                  (completions_asks _ refl refl (λ rows e. (needed _ _ e).0), tt),
+                ),
               ),
             ),
           ),
@@ -382,7 +428,7 @@ stopped a asks (Some p) e has = named a.subs p asks e has
 
 -- what words that `clap` finds no fault with ask for
 pub faultless : (words : List Text) → fault_of flagops_app words ≡ [] → IsRead (subcommand_of flagops_app words)
-unfolding flagops_app bucket_app price_app check_app resolve_app plan_app verify_app apply_app drive_app completions_app
+unfolding flagops_app bucket_app price_app check_app resolve_app plan_app verify_app apply_app drive_app unite_app completions_app
 faultless words e =
     let app = built flagops_app in
     let stop = (walk app.top.rules (names_of app) nothing_held words).stopped in

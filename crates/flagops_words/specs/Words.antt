@@ -1,16 +1,18 @@
 -- Which command the words ask for, by what `clap` reads of them.
-use Rattle.std.specs.Prelude.{◌≡◌, ◌⊎◌, ℕ, Bool, true, is_some, List, [], ◌∷◌, codes, Option, Some, None, option_and_then, option_map, if◌then◌else◌}
+use Rattle.std.specs.Prelude.{◌≡◌, ◌⊎◌, ◌||◌, ℕ, Bool, true, false, is_some, List, [], ◌∷◌, codes, Option, Some, None, option_and_then, option_map, if◌then◌else◌}
 use Rattle.std.specs.Str.{bytes_eq}
-use Rattle.clap.specs.Walk.{Row, Rule, Text, first_of}
+use Rattle.clap.specs.Lexer.{usize_max}
+use Rattle.clap.specs.Walk.{Row, Rule, Text, all_of, first_of}
 use Rattle.clap.specs.Simple.{App, Shape, new_app, new_rule, on_top, subcommand_of, with_rule, with_subcommand}
 use Rattle.clap.specs.Kinds.{Kinds, IsAmong, or_else}
+use Rattle.clap.specs.declared.builder.action.ArgAction.TheVariants.{SetTrue}
 use Rattle.clap.specs.declared.builder.value_parser.ValueParser.TheVariants.{Unsigned}
 use Rattle.clap.specs.declared.error.kind.ErrorKind.{ErrorKind}
-use Rattle.clap.specs.declared.error.kind.ErrorKind.TheVariants.{InvalidValue, OutOfMemory}
+use Rattle.clap.specs.declared.error.kind.ErrorKind.TheVariants.{InvalidValue, MissingRequiredArgument, OutOfMemory, ValueValidation}
 use Rattle.clap.specs.Faults.{fault_of}
 use Rattle.flag_resolve.specs.Kind.{kind_named}
 use Rattle.flag_resolve.specs.declared.kind.Kind.{Kind}
-use Rattle.flagops_words.specs.Asked.{Asked, bucket, price, check, resolve, verify, apply, plan, drive, completions}
+use Rattle.flagops_words.specs.Asked.{Asked, bucket, price, check, resolve, verify, apply, keep, plan, drive, unite, completions}
 use Rattle.flagops_words.specs.Shell.{shell_named}
 use Rattle.flagops_words.specs.declared.shell.Shell.{Shell}
 use Rattle.flagops_words.specs.Numbers.{max_16, max_32, max_moment, moment_in, factor_in, number_in}
@@ -64,15 +66,31 @@ verify_app = with_rule (with_rule (with_rollout (new_app (codes "verify"))) (req
 unfoldable pub plan_app : App
 plan_app = with_rule (with_rollout (new_app (codes "plan"))) refine_option
 
--- `apply DOC PLAN FLAG SITE`
-unfoldable pub apply_app : App
-apply_app =
-    with_rule (with_rule (with_rule (with_rule (new_app (codes "apply")) (required (codes "DOC"))) (required (codes "PLAN"))) (required (codes "FLAG"))) (number (codes "SITE") max_32)
+-- an option without a value, by its long name
+abbrev pub flag : Text → Rule
+flag id = record (new_rule id) { long = Some id; action = Some SetTrue }
 
--- `drive DOC ASKS WORKERS BOOK`
+-- `apply DOC PLAN FLAG SITE` and `apply --keep DOC PLAN REQUEST BOOK`: the words of both
+abbrev pub apply_begun : App
+apply_begun =
+    with_rule (with_rule (with_rule (with_rule (new_app (codes "apply")) (required (codes "DOC"))) (required (codes "PLAN"))) (required (codes "FLAG|REQUEST"))) (required (codes "SITE|BOOK"))
+
+-- the same with `--keep`, `--write` and `--refine M`
+unfoldable pub apply_app : App
+apply_app = with_rule (with_rule (with_rule apply_begun (flag (codes "keep"))) (flag (codes "write"))) refine_option
+
+-- `drive DOC ASKS WORKERS BOOK`, with `--add`
 unfoldable pub drive_app : App
 drive_app =
-    with_rule (with_rule (with_rule (with_rule (new_app (codes "drive")) (required (codes "DOC"))) (required (codes "ASKS"))) (number (codes "WORKERS") max_16)) (required (codes "BOOK"))
+    with_rule (with_rule (with_rule (with_rule (with_rule (new_app (codes "drive")) (required (codes "DOC"))) (required (codes "ASKS"))) (number (codes "WORKERS") max_16)) (required (codes "BOOK"))) (flag (codes "add"))
+
+-- one word or more
+abbrev pub some_words : Text → Rule
+some_words id = record (required id) { range = Some (record { start_inclusive = 1; end_inclusive = usize_max }) }
+
+-- `book OUT FILE..`
+unfoldable pub unite_app : App
+unite_app = with_rule (with_rule (new_app (codes "book")) (required (codes "OUT"))) (some_words (codes "FILE"))
 
 -- `completions SHELL`
 unfoldable pub completions_app : App
@@ -91,9 +109,9 @@ takes_commands s = record s {
 -- the program with its commands
 unfoldable pub flagops_app : App
 flagops_app =
-    with_subcommand (with_subcommand (with_subcommand (with_subcommand (with_subcommand
+    with_subcommand (with_subcommand (with_subcommand (with_subcommand (with_subcommand (with_subcommand
     (with_subcommand (with_subcommand (with_subcommand (with_subcommand (on_top takes_commands (new_app (codes "flagops"))) bucket_app.top) price_app.top) check_app.top)
-    resolve_app.top) plan_app.top) verify_app.top) apply_app.top) drive_app.top) completions_app.top
+    resolve_app.top) plan_app.top) verify_app.top) apply_app.top) drive_app.top) unite_app.top) completions_app.top
 
 -- ---- what the words ask for
 
@@ -163,14 +181,43 @@ plan_in rows = do
   factor ← refine_in rows
   Some (plan document request book factor)
 
-abbrev pub apply_in : List Row → Option Asked
-apply_in rows = do
+abbrev pub is_true : Option Text → Bool
+is_true None = false
+is_true (Some word) = bytes_eq word (codes "true")
+
+-- an option without a value is given; `clap` stores "true", and "false" where it is left out
+abbrev pub flag_in : Text → List Row → Bool
+flag_in id rows = is_true (first_of id rows)
+
+-- a word of `--keep` is given
+abbrev pub is_stray : List Row → Bool
+is_stray rows = flag_in (codes "write") rows || is_some (first_of (codes "M") rows)
+
+abbrev pub site_in : List Row → Option ℕ
+site_in rows = do
+  word ← first_of (codes "SITE|BOOK") rows
+  number_in 0 max_32 word
+
+abbrev pub applied_in : List Row → Option Asked
+applied_in rows = do
+  site ← site_in rows
   document ← first_of (codes "DOC") rows
   file ← first_of (codes "PLAN") rows
-  key ← first_of (codes "FLAG") rows
-  word ← first_of (codes "SITE") rows
-  site ← number_in 0 max_32 word
+  key ← first_of (codes "FLAG|REQUEST") rows
   Some (apply document file key site)
+
+abbrev pub keep_in : List Row → Option Asked
+keep_in rows = do
+  document ← first_of (codes "DOC") rows
+  file ← first_of (codes "PLAN") rows
+  request ← first_of (codes "FLAG|REQUEST") rows
+  book ← first_of (codes "SITE|BOOK") rows
+  factor ← refine_in rows
+  Some (keep document file request book (flag_in (codes "write") rows) factor)
+
+-- `--write` and `--refine M` go with `--keep` alone
+abbrev pub apply_in : List Row → Option Asked
+apply_in rows = if flag_in (codes "keep") rows then keep_in rows else (if is_stray rows then None else applied_in rows)
 
 abbrev pub drive_in : List Row → Option Asked
 drive_in rows = do
@@ -179,7 +226,23 @@ drive_in rows = do
   word ← first_of (codes "WORKERS") rows
   workers ← number_in 0 max_16 word
   book ← first_of (codes "BOOK") rows
-  Some (drive document file workers book)
+  Some (drive document file workers book (flag_in (codes "add") rows))
+
+-- texts, where there are any
+abbrev pub if_any : List Text → Option (List Text)
+if_any [] = None
+if_any (t ∷ ts) = Some (t ∷ ts)
+
+abbrev pub texts_at : Text → List Row → Option (List Text)
+texts_at id rows = do
+  texts ← all_of id rows
+  if_any texts
+
+abbrev pub unite_in : List Row → Option Asked
+unite_in rows = do
+  out ← first_of (codes "OUT") rows
+  files ← texts_at (codes "FILE") rows
+  Some (unite out files)
 
 abbrev pub shell_in : List Row → Option Shell
 shell_in rows = do
@@ -195,35 +258,54 @@ completions_in rows = do
 abbrev pub rollout_in : Text × List Row → Option Asked
 rollout_in (name, rows) =
     if bytes_eq name (codes "verify") then verify_in rows else
-    (if bytes_eq name (codes "apply") then apply_in rows else
     (if bytes_eq name (codes "plan") then plan_in rows else
-    (if bytes_eq name (codes "drive") then drive_in rows else None)))
+    (if bytes_eq name (codes "drive") then drive_in rows else None))
+
+-- a command whose words are so many
+abbrev pub command_in : Text × List Row → Option Asked
+command_in (name, rows) =
+    if bytes_eq name (codes "resolve") then resolve_in rows else
+    (if bytes_eq name (codes "completions") then completions_in rows else
+    (if bytes_eq name (codes "apply") then apply_in rows else
+    (if bytes_eq name (codes "check") then check_in rows else
+    (if bytes_eq name (codes "price") then price_in rows else
+    (if bytes_eq name (codes "bucket") then bucket_in rows else rollout_in (name, rows))))))
 
 -- a command by its name, with its words
 abbrev pub asked_in : Text × List Row → Option Asked
-asked_in (name, rows) =
-    if bytes_eq name (codes "resolve") then resolve_in rows else
-    (if bytes_eq name (codes "completions") then completions_in rows else
-    (if bytes_eq name (codes "check") then check_in rows else
-    (if bytes_eq name (codes "price") then price_in rows else
-    (if bytes_eq name (codes "bucket") then bucket_in rows else rollout_in (name, rows)))))
+asked_in (name, rows) = if bytes_eq name (codes "book") then unite_in rows else command_in (name, rows)
 
 -- the same of the subcommand that was met, if one was
 abbrev pub asked_of : Option (Text × List Row) → Option Asked
 asked_of named = named >>= asked_in
 
-abbrev pub unless : Bool → Kinds
-unless known = if known then [] else InvalidValue ∷ []
+abbrev pub unless : ErrorKind → Bool → Kinds
+unless kind known = if known then [] else kind ∷ []
+
+-- without `--keep`, a word of it is a mistake, and so is a site that is no number
+abbrev pub apply_fault : List Row → Kinds
+apply_fault rows =
+    if flag_in (codes "keep") rows then [] else
+    (if is_stray rows then MissingRequiredArgument ∷ [] else unless ValueValidation (is_some (site_in rows)))
 
 -- a kind of value that is none of the four is a mistake, and so is a shell that is none of the three
 abbrev pub kind_fault_in : Text × List Row → Kinds
 kind_fault_in (name, rows) =
-    if bytes_eq name (codes "resolve") then unless (is_some (kind_in rows)) else
-    (if bytes_eq name (codes "completions") then unless (is_some (shell_in rows)) else [])
+    if bytes_eq name (codes "resolve") then unless InvalidValue (is_some (kind_in rows)) else
+    (if bytes_eq name (codes "completions") then unless InvalidValue (is_some (shell_in rows)) else
+    (if bytes_eq name (codes "apply") then apply_fault rows else []))
 
 abbrev pub kind_fault : Option (Text × List Row) → Kinds
 kind_fault None = []
 kind_fault (Some named) = kind_fault_in named
+
+-- the mistake of words that `clap` takes and that ask for nothing
+abbrev pub mistake_in : Text × List Row → ErrorKind
+mistake_in (name, rows) = if bytes_eq name (codes "apply") then (if is_stray rows then MissingRequiredArgument else ValueValidation) else InvalidValue
+
+abbrev pub mistake_of : Option (Text × List Row) → ErrorKind
+mistake_of None = InvalidValue
+mistake_of (Some named) = mistake_in named
 
 -- the kinds of mistake that the words make, or of help that they ask for
 unfoldable pub faults_of : List Text → Kinds

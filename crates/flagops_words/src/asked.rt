@@ -3,7 +3,7 @@ use crate::shell::Shell;
 use flag_resolve::Kind;
 
 /// A command with its words.
-#[derive(Clone, Copy, Debug)]
+#[derive(Debug, Drop)]
 pub enum Asked<'a> {
     /// Which variant a rule file gives to a key.
     Bucket {
@@ -52,12 +52,29 @@ pub enum Asked<'a> {
         key: &'a str,
         site: u32,
     },
+    /// The text of the document with the buckets of the request's site replaced by the rule of a plan file that is right.
+    Keep {
+        document: &'a str,
+        plan: &'a str,
+        request: &'a str,
+        book: &'a str,
+        /// Whether the text is written over the document, and not printed.
+        write: bool,
+        refine: Option<Factor>,
+    },
     /// The resolutions of the asks of a file, and the book of what they reach.
     Drive {
         document: &'a str,
         asks: &'a str,
         workers: u16,
         book: &'a str,
+        /// Whether the book keeps what it has.
+        add: bool,
+    },
+    /// The book of the notes of several books.
+    Unite {
+        out: &'a str,
+        files: Vec<&'a str>,
     },
     /// The script by which a shell completes the words of the program.
     Completions {

@@ -16,8 +16,12 @@ pub enum Word {
     Text(&'static str, &'static str),
     /// A number that has to be there, from 0 to this one.
     Number(&'static str, &'static str, u64),
+    /// One text or more.
+    Texts(&'static str, &'static str),
     /// An option with a number, which may be left out: after what it is, its long name and the bounds.
     Option(&'static str, &'static str, &'static str, u64, u64),
+    /// An option without a value, by its long name.
+    Flag(&'static str, &'static str),
 }
 
 const DOCUMENT: Word = Word::Text("DOC", "The flag document");
@@ -46,6 +50,7 @@ pub const COMMANDS: &[Usage] = &[
     VERIFY,
     APPLY,
     DRIVE,
+    UNITE,
     COMPLETIONS,
 ];
 
@@ -123,18 +128,47 @@ const VERIFY: Usage = Usage {
 
 const APPLY: Usage = Usage {
     name: "apply",
-    about: "Prints a document with the rule of a plan at a site of a flag",
-    words: &[
-        DOCUMENT,
-        PLAN_FILE,
-        Word::Text("FLAG", "The flag's key"),
-        Word::Number(
-            "SITE",
-            "The number of the fractional operation, from 0",
-            LARGEST_32,
-        ),
-    ],
+    about: APPLIES,
+    words: RULE_AND_PLACE,
 };
+
+/// The command outside the program, with the program's name before its own.
+pub const APPLY_ALONE: Usage = Usage {
+    name: "flagops apply",
+    about: APPLIES,
+    words: RULE_AND_PLACE,
+};
+
+const APPLIES: &str =
+    "Prints a document with the rule of a plan at a site of a flag; with --keep nothing else of its text is changed";
+
+const RULE_AND_PLACE: &[Word] = &[
+    DOCUMENT,
+    PLAN_FILE,
+    Word::Text(
+        "FLAG|REQUEST",
+        "The flag's key; with --keep the file of the rollout request, which names the flag and the site",
+    ),
+    Word::Text(
+        "SITE|BOOK",
+        "The number of the fractional operation, from 0; with --keep the book of the hash inputs that were recorded",
+    ),
+    Word::Flag(
+        "keep",
+        "Verify the plan first, and keep the text of the document but for the buckets that the plan replaces",
+    ),
+    Word::Flag(
+        "write",
+        "With --keep: write the text over DOC in place of printing it",
+    ),
+    Word::Option(
+        "M",
+        "With --keep: the factor that the plan was made with",
+        "refine",
+        1,
+        LARGEST_32,
+    ),
+];
 
 const DRIVE: Usage = Usage {
     name: "drive",
@@ -148,6 +182,16 @@ const DRIVE: Usage = Usage {
             LARGEST_16,
         ),
         Word::Text("BOOK", "The book file that is written"),
+        Word::Flag("add", "Read BOOK first, and write it with what it had"),
+    ],
+};
+
+const UNITE: Usage = Usage {
+    name: "book",
+    about: "Writes the book of all that is in several books",
+    words: &[
+        Word::Text("OUT", "The book file that is written"),
+        Word::Texts("FILE", "The book files that are read"),
     ],
 };
 

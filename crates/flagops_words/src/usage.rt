@@ -3,14 +3,14 @@ ghost use Rattle.std.specs.Prelude.{◌≡◌, codes, IfOk, false};
 ghost use Rattle.clap.specs.Simple.{new_app, on_top};
 ghost use Rattle.clap.specs.Words.{app_of, kind_of, rule_of};
 ghost use Rattle.clap.specs.declared.builder.command.Command.TheViews.{out-Command};
-ghost use Rattle.clap.specs.declared.error.kind.ErrorKind.TheVariants.{InvalidValue};
+ghost use Rattle.clap.specs.declared.error.kind.ErrorKind.TheVariants.{InvalidValue, MissingRequiredArgument, ValueValidation};
 ghost use Rattle.flagops_words.specs.Usage.{app_for, rule_for, with_commands};
-ghost use Rattle.flagops_words.specs.Words.{flagops_app, required, takes_commands};
+ghost use Rattle.flagops_words.specs.Words.{flag, flagops_app, required, some_words, takes_commands};
 
-use crate::table::{COMMANDS, COMPLETIONS_ALONE, RESOLVE_ALONE, Usage, Word};
+use crate::table::{APPLY_ALONE, COMMANDS, COMPLETIONS_ALONE, RESOLVE_ALONE, Usage, Word};
 use clap::builder::ValueParser;
 use clap::error::ErrorKind;
-use clap::{Arg, Command, Error};
+use clap::{Arg, ArgAction, Command, Error};
 use std::alloc::{AllocError, Global};
 
 /// The program with its commands.
@@ -37,6 +37,26 @@ pub fn unknown_shell(alloc: Global) -> Result<Error, AllocError>
     command(alloc, &COMPLETIONS_ALONE)?.error(
         ErrorKind::InvalidValue,
         "invalid value for '<SHELL>': it is bash, fish or zsh",
+    )
+}
+
+/// The mistake of a site that is no number.
+pub fn unknown_site(alloc: Global) -> Result<Error, AllocError>
+    ensures { IfOk result (λ e. kind_of e ≡ ValueValidation) }
+{
+    command(alloc, &APPLY_ALONE)?.error(
+        ErrorKind::ValueValidation,
+        "invalid value for '<SITE>': it is a number from 0 to 4294967295",
+    )
+}
+
+/// The mistake of a word that goes with `--keep`, where that is not given.
+pub fn missing_keep(alloc: Global) -> Result<Error, AllocError>
+    ensures { IfOk result (λ e. kind_of e ≡ MissingRequiredArgument) }
+{
+    command(alloc, &APPLY_ALONE)?.error(
+        ErrorKind::MissingRequiredArgument,
+        "'--write' and '--refine <M>' go with '--keep', which was not provided",
     )
 }
 
@@ -106,10 +126,12 @@ fn argument<'a>(alloc: Global, word: &Word) -> Arg<'a>
         Word::Number(name, help, most) => {
             required(alloc, name, help).value_parser(ValueParser::Unsigned(0, most))
         }
+        Word::Texts(name, help) => some_words(alloc, name, help),
         Word::Option(name, help, long, least, most) => Arg::new(alloc, name)
             .long(long)
             .help(help)
             .value_parser(ValueParser::Unsigned(least, most)),
+        Word::Flag(name, help) => flag(alloc, name, help),
     }
 }
 
@@ -119,4 +141,23 @@ fn required<'a>(alloc: Global, name: &'a str, help: &'a str) -> Arg<'a>
     ensures local { result.global ≡ false }
 {
     Arg::new(alloc, name).required(true).help(help)
+}
+
+/// One word or more.
+fn some_words<'a>(alloc: Global, name: &'a str, help: &'a str) -> Arg<'a>
+    ensures rule { rule_of result ≡ some_words name.entry.now }
+    ensures local { result.global ≡ false }
+{
+    required(alloc, name, help).num_args(1..)
+}
+
+/// A word that may be left out, by its long name.
+fn flag<'a>(alloc: Global, name: &'a str, help: &'a str) -> Arg<'a>
+    ensures rule { rule_of result ≡ flag name.entry.now }
+    ensures local { result.global ≡ false }
+{
+    Arg::new(alloc, name)
+        .long(name)
+        .action(ArgAction::SetTrue)
+        .help(help)
 }

@@ -1,14 +1,13 @@
 //! What the words of the command line ask for, as `clap` reads them.
-ghost use Rattle.std.specs.Prelude.{◌≡◌, Some, IfOk, IfErr, map, option_map};
+ghost use Rattle.std.specs.Prelude.{◌≡◌, ◌<◌, Some, IfOk, IfErr, IfSome, length, map, option_map};
 ghost use Rattle.clap.specs.Words.{found_of, kind_of, rows_of, subcommand_rows_of};
-ghost use Rattle.clap.specs.declared.error.kind.ErrorKind.TheVariants.{InvalidValue};
 ghost use Rattle.flagops_words.specs.Asked.{asked_view};
-ghost use Rattle.flagops_words.specs.Words.{IsToldBy, apply_in, asked_by, asked_of, bucket_in, check_in, completions_in, drive_in, plan_in, price_in, refine_in, resolve_in, rollout_in, verify_in};
+ghost use Rattle.flagops_words.specs.Words.{IsToldBy, applied_in, apply_in, asked_by, asked_of, bucket_in, check_in, command_in, completions_in, drive_in, flag_in, is_stray, keep_in, mistake_of, plan_in, price_in, refine_in, resolve_in, rollout_in, texts_at, unite_in, verify_in};
 
 use crate::asked::Asked;
 use crate::numbers::{Factor, Moment, spelled_16, spelled_32};
 use crate::shell::Shell;
-use crate::usage::{flagops, unknown_kind, unknown_shell};
+use crate::usage::{flagops, missing_keep, unknown_kind, unknown_shell, unknown_site};
 use clap::{ArgMatches, Error};
 use flag_resolve::Kind;
 use std::alloc::{AllocError, Global};
@@ -21,30 +20,45 @@ pub fn read_words<'a, S: AsStr>(alloc: Global, words: &'a [S]) -> Result<Asked<'
     ensures err { IfErr result (λ e. IsToldBy (map S.text words.entry.now) (kind_of e)) }
 {
     let matches = flagops(alloc)?.try_get_matches_from(words)?;
-    match asked_of(&matches) {
+    let command = asked_of(alloc, &matches)?;
+    match command {
         Some(asked) => Ok(asked),
-        // Words that `clap` takes name a command with each of its words, and its check of a kind or a shell is made here.
+        // Words that `clap` takes name a command with each of its words. Checked here are a kind, a shell, and the two forms
+        // of `apply`.
         None => Err(unknown_word(alloc, &matches)?),
     }
 }
 
-/// The mistake of a kind that is none of the four, or of a shell that is none of the three.
+/// The mistake of a kind that is none of the four, of a shell that is none of the three, or of the words of `apply`.
 fn unknown_word(alloc: Global, matches: &ArgMatches<'_>) -> Result<Error, AllocError>
-    ensures { IfOk result (λ e. kind_of e ≡ InvalidValue) }
+    ensures { IfOk result (λ e. kind_of e ≡ mistake_of (subcommand_rows_of matches.now)) }
 {
     match matches.subcommand() {
+        Some(("apply", words)) if is_stray(words) => missing_keep(alloc),
+        Some(("apply", _)) => unknown_site(alloc),
         Some(("completions", _)) => unknown_shell(alloc),
         _ => unknown_kind(alloc),
     }
 }
 
-fn asked_of<'a>(matches: &ArgMatches<'a>) -> Option<Asked<'a>>
-    ensures { option_map asked_view result ≡ asked_of (subcommand_rows_of matches.now) }
+fn asked_of<'a>(alloc: Global, matches: &ArgMatches<'a>) -> Result<Option<Asked<'a>>, AllocError>
+    ensures { IfOk result (λ o. option_map asked_view o ≡ asked_of (subcommand_rows_of matches.now)) }
 {
-    let (name, words) = matches.subcommand()?;
+    match matches.subcommand() {
+        Some(("book", words)) => unite_in(alloc, words),
+        Some((name, words)) => Ok(command_in(name, words)),
+        None => Ok(None),
+    }
+}
+
+/// The same of a command whose words are so many.
+fn command_in<'a>(name: &str, words: &ArgMatches<'a>) -> Option<Asked<'a>>
+    ensures { option_map asked_view result ≡ command_in (name.now, rows_of (found_of words.now)) }
+{
     match name {
         "resolve" => resolve_in(words),
         "completions" => completions_in(words),
+        "apply" => apply_in(words),
         "check" => check_in(words),
         "price" => price_in(words),
         "bucket" => bucket_in(words),
@@ -58,7 +72,6 @@ fn rollout_in<'a>(name: &str, words: &ArgMatches<'a>) -> Option<Asked<'a>>
 {
     match name {
         "verify" => verify_in(words),
-        "apply" => apply_in(words),
         "plan" => plan_in(words),
         "drive" => drive_in(words),
         _ => None,
@@ -152,19 +165,70 @@ fn plan_in<'a>(words: &ArgMatches<'a>) -> Option<Asked<'a>>
     })
 }
 
-#[tactic(auto, using(crate::proofs::Matched::rows))]
+/// The words of `apply` in its two forms.
 fn apply_in<'a>(words: &ArgMatches<'a>) -> Option<Asked<'a>>
     ensures { option_map asked_view result ≡ apply_in (rows_of (found_of words.now)) }
 {
+    if flag_in(words, "keep") {
+        keep_in(words)
+    } else if is_stray(words) {
+        None
+    } else {
+        applied_in(words)
+    }
+}
+
+/// Whether a word of `--keep` is given: `--write` or `--refine`.
+#[tactic(auto, using(crate::proofs::Matched::rows))]
+fn is_stray(words: &ArgMatches<'_>) -> bool
+    ensures { result ≡ is_stray (rows_of (found_of words.now)) }
+{
+    flag_in(words, "write") || words.get_str("M").is_some()
+}
+
+/// Whether an option without a value is given.
+#[tactic(auto, using(crate::proofs::Matched::rows))]
+fn flag_in(words: &ArgMatches<'_>, name: &str) -> bool
+    ensures { result ≡ flag_in name.now (rows_of (found_of words.now)) }
+{
+    match words.get_str(name) {
+        Some(word) => word == "true",
+        None => false,
+    }
+}
+
+#[tactic(auto, using(crate::proofs::Matched::rows))]
+fn applied_in<'a>(words: &ArgMatches<'a>) -> Option<Asked<'a>>
+    ensures { option_map asked_view result ≡ applied_in (rows_of (found_of words.now)) }
+{
+    let site = spelled_32(words.get_str("SITE|BOOK")?)?;
     let document = words.get_str("DOC")?;
     let plan = words.get_str("PLAN")?;
-    let key = words.get_str("FLAG")?;
-    let site = spelled_32(words.get_str("SITE")?)?;
+    let key = words.get_str("FLAG|REQUEST")?;
     Some(Asked::Apply {
         document,
         plan,
         key,
         site,
+    })
+}
+
+#[tactic(auto, using(crate::proofs::Matched::rows))]
+fn keep_in<'a>(words: &ArgMatches<'a>) -> Option<Asked<'a>>
+    ensures { option_map asked_view result ≡ keep_in (rows_of (found_of words.now)) }
+{
+    let document = words.get_str("DOC")?;
+    let plan = words.get_str("PLAN")?;
+    let request = words.get_str("FLAG|REQUEST")?;
+    let book = words.get_str("SITE|BOOK")?;
+    let refine = refine_in(words)?;
+    Some(Asked::Keep {
+        document,
+        plan,
+        request,
+        book,
+        write: flag_in(words, "write"),
+        refine,
     })
 }
 
@@ -181,7 +245,37 @@ fn drive_in<'a>(words: &ArgMatches<'a>) -> Option<Asked<'a>>
         asks,
         workers,
         book,
+        add: flag_in(words, "add"),
     })
+}
+
+#[tactic(auto, using(crate::proofs::Matched::rows))]
+fn unite_in<'a>(alloc: Global, words: &ArgMatches<'a>) -> Result<Option<Asked<'a>>, AllocError>
+    ensures { IfOk result (λ o. option_map asked_view o ≡ unite_in (rows_of (found_of words.now))) }
+{
+    let Some(out) = words.get_str("OUT") else {
+        return Ok(None);
+    };
+    let Some(files) = texts_at(words, "FILE") else {
+        return Ok(None);
+    };
+    Ok(Some(Asked::Unite {
+        out,
+        files: files.to_vec(alloc)?,
+    }))
+}
+
+/// The texts that are given for an argument, where there are any.
+#[tactic(auto, using(crate::proofs::Matched::rows))]
+fn texts_at<'m, 'a>(matches: &'m ArgMatches<'a>, name: &str) -> Option<&'m [&'a str]>
+    ensures texts { option_map (λ s. map (λ t. t.now) s.now) result ≡ texts_at name.now (rows_of (found_of matches.now)) }
+    ensures some { IfSome result (λ s. 0 < length s.now) }
+{
+    let texts = matches.get_strs(name)?;
+    if texts.is_empty() {
+        return None;
+    }
+    Some(texts)
 }
 
 #[tactic(auto, using(crate::proofs::Matched::rows))]
