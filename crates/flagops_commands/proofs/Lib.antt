@@ -4,6 +4,7 @@ pub mod Driving
 mod Distinct
 mod Gathered
 pub mod Hexadecimal
+mod Keeping
 pub mod Leaving
 mod Noted
 pub mod Refusing

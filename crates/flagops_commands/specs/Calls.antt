@@ -86,6 +86,19 @@ apply_calls call.Apply = true
 apply_calls call.ReadPlanned = true
 apply_calls c = loads_flags c
 
+-- the calls of `apply --keep` where it puts the document
+abbrev pub puts_document : Call → Bool
+puts_document call.Apply = true
+puts_document call.Store = true
+puts_document c = false
+
+-- the calls that `apply --keep` makes
+abbrev pub keep_calls : Call → Bool
+keep_calls call.Apply = true
+keep_calls call.Store = true
+keep_calls call.ReadPlanned = true
+keep_calls c = loads_question c
+
 -- the calls of the command `plan` over what it read
 abbrev pub prints_plan : Call → Bool
 prints_plan call.Plan = true

@@ -6,15 +6,16 @@ use Rattle.flagops_commands.specs.Check.{IsCheckReport}
 use Rattle.flagops_commands.specs.Completions.{completions_report}
 use Rattle.flagops_commands.specs.Drive.{IsDriveReport, LeavesBook}
 use Rattle.flagops_files.specs.Files.{Holding}
+use Rattle.flagops_commands.specs.Keep.{IsKeepReport, LeavesDocument}
 use Rattle.flagops_commands.specs.Plan.{IsPlanReport}
 use Rattle.flagops_commands.specs.Price.{price_report}
-use Rattle.flagops_commands.specs.Calls.{bucket_calls, completions_calls, price_calls, check_calls, resolve_calls, verify_calls, apply_calls, plan_calls, drive_calls}
+use Rattle.flagops_commands.specs.Calls.{bucket_calls, completions_calls, price_calls, check_calls, resolve_calls, verify_calls, apply_calls, keep_calls, plan_calls, drive_calls}
 use Rattle.flagops_files.specs.Report.{IsFileRefusal, Outcomes}
 use Rattle.flagops_commands.specs.Resolve.{IsResolveReport}
 use Rattle.flagops_commands.specs.Verify.{IsVerifyReport}
 use Rattle.flagops_files.specs.declared.refusal.Call.{Call}
 use Rattle.flagops_files.specs.declared.refusal.Call.TheVariants as call
-use Rattle.flagops_words.specs.Asked.{Asked, bucket, price, check, resolve, verify, apply, plan, drive, completions}
+use Rattle.flagops_words.specs.Asked.{Asked, bucket, price, check, resolve, verify, apply, keep, plan, drive, completions}
 
 -- the command waits for others: `drive` for its workers, and no other command
 abbrev pub waits : Asked → Bool
@@ -29,6 +30,7 @@ IsOutcome at after (check document) r = IsCheckReport at document r
 IsOutcome at after (resolve document key kind default context moment) r = IsResolveReport at document key kind default context moment r
 IsOutcome at after (verify document request book file refine) r = IsVerifyReport at document request book file refine r
 IsOutcome at after (apply document file key site) r = IsApplyReport at document file key site r
+IsOutcome at after (keep document file request book write refine) r = IsKeepReport at after document file request book write refine r
 IsOutcome at after (plan document request book refine) r = IsPlanReport at document request book refine r
 IsOutcome at after (completions shell) r = completions_report shell ≡ r
 IsOutcome at after (drive document file workers book) r = IsDriveReport at after document file workers book r
@@ -40,6 +42,7 @@ IsRunOutcome at after has_failed asked r = IsOutcome at after asked r × (IsFile
 -- a command leaves the files as they are; `drive` changes the file of its book alone, and only where it has a book
 abbrev pub Leaves : Asked → Option Holding → Option Holding → Type 0
 Leaves (drive document file workers book) old new = LeavesBook old new document file workers book
+Leaves (keep document file request book write refine) old new = LeavesDocument old new document write
 Leaves asked old new = new ≡ old
 
 -- words that ask for no command leave them
@@ -55,6 +58,7 @@ calls_of (check document) c = check_calls c
 calls_of (resolve document key kind default context moment) c = resolve_calls c
 calls_of (verify document request book file refine) c = verify_calls c
 calls_of (apply document file key site) c = apply_calls c
+calls_of (keep document file request book write refine) c = keep_calls c
 calls_of (plan document request book refine) c = plan_calls c
 calls_of (completions shell) c = completions_calls c
 calls_of (drive document file workers book) c = drive_calls c

@@ -6,6 +6,7 @@ pub mod Commands
 pub mod Completions
 pub mod Drive
 pub mod Ended
+pub mod Keep
 pub mod Plan
 pub mod Price
 pub mod Resolve

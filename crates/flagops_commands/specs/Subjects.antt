@@ -6,16 +6,17 @@ use Rattle.flagops_drive.specs.declared.fault.DriveRefusal.TheVariants as drivin
 use Rattle.flagops_files.specs.Question.{question_subjects}
 use Rattle.flagops_files.specs.Refusal.{loads_flags, loads_plan, loads_rule, loads_tree, stores_file}
 use Rattle.flagops_files.specs.Told.{NamesOne, Remarks, Says, Subjects, by, file, word}
+use Rattle.flagops_files.specs.declared.keeping.KeepRefusal.TheVariants as keeping
 use Rattle.flagops_files.specs.declared.refusal.Call.{Call}
 use Rattle.flagops_files.specs.declared.refusal.Call.TheVariants as call
 use Rattle.flagops_files.specs.declared.refusal.PriceMismatch.TheVariants.{Weight, BadKeys}
 use Rattle.flagops_files.specs.declared.refusal.Refusal.{Refusal}
-use Rattle.flagops_files.specs.declared.refusal.Refusal.TheVariants.{Note, Price, Plan, PrintPlanned, Verify, Apply, Drive}
+use Rattle.flagops_files.specs.declared.refusal.Refusal.TheVariants.{Note, Price, Plan, PrintPlanned, Verify, Apply, Keep, Drive}
 use Rattle.flagops_files.specs.Files.{Holding}
 use Rattle.flagops_commands.specs.Check.{TellsBrokenAt}
 use Rattle.flagops_commands.specs.Calls.{loads_request}
 use Rattle.flagops_remarks.specs.Named.{Names, NamesWord}
-use Rattle.flagops_words.specs.Asked.{Asked, bucket, price, check, resolve, verify, apply, plan, drive, completions}
+use Rattle.flagops_words.specs.Asked.{Asked, bucket, price, check, resolve, verify, apply, keep, plan, drive, completions}
 use Rattle.rollout_checks.specs.declared.verify_fault.VerifyFault.{VerifyFault}
 use Rattle.rollout_checks.specs.declared.verify_fault.VerifyFault.TheVariants as verdict
 
@@ -77,6 +78,23 @@ is_of_plan e = by loads_plan e
 abbrev pub apply_subjects : List ℕ → List ℕ → Subjects
 apply_subjects document answer = (file document, by loads_flags) ∷ (file answer, is_of_plan) ∷ []
 
+-- a document that is to keep what else it has is refused with its request, with its plan, or by itself
+abbrev pub is_of_kept_request : Refusal → Bool
+is_of_kept_request (Keep (keeping.Verify (verdict.Request e))) = true
+is_of_kept_request e = false
+
+abbrev pub is_of_kept_answer : Refusal → Bool
+is_of_kept_answer (Keep (keeping.Verify (verdict.Check e))) = true
+is_of_kept_answer e = is_of_plan e
+
+abbrev pub is_of_kept_document : Refusal → Bool
+is_of_kept_document (Keep (keeping.Document e)) = true
+is_of_kept_document e = by stores_file e
+
+abbrev pub keep_subjects : List ℕ → List ℕ → List ℕ → List ℕ → Subjects
+keep_subjects document answer request book =
+    question_subjects document request book ++ (file request, is_of_kept_request) ∷ (file answer, is_of_kept_answer) ∷ (file document, is_of_kept_document) ∷ []
+
 -- a plan that is too large to be printed
 abbrev pub is_of_size : Refusal → Bool
 is_of_size (PrintPlanned e) = true
@@ -117,6 +135,7 @@ subjects_of (resolve document key kind default context moment) = resolve_subject
 subjects_of (verify document request book answer refine) = verify_subjects document request book answer
 subjects_of (plan document request book refine) = plan_subjects document request book
 subjects_of (apply document answer key site) = apply_subjects document answer
+subjects_of (keep document answer request book write refine) = keep_subjects document answer request book
 subjects_of (drive document asks workers book) = drive_subjects document asks book
 subjects_of (completions shell) = []
 
@@ -126,6 +145,7 @@ abbrev pub notes_of : Holding → Asked → List ℕ → Type 0
 notes_of at (check document) = TellsBrokenAt at document
 notes_of at (verify document request book answer refine) = Names book
 notes_of at (plan document request book refine) = Names book
+notes_of at (keep document answer request book write refine) = Names book
 notes_of at asked = λ lines. Unit {0}
 
 -- the remark on what a command comes to

@@ -13,6 +13,7 @@ use crate::completions::completions;
 use crate::flags::check::check;
 use crate::flags::resolve::resolve;
 use crate::rollouts::apply::apply;
+use crate::rollouts::keep::keep;
 use crate::rollouts::plan::plan;
 use crate::rollouts::verify::verify;
 use crate::rules::bucket::bucket;
@@ -107,6 +108,16 @@ fn outcome_at_once<R: Threads + Sync, F: FileSet>(
             key,
             site,
         } => apply(alloc, files, document, plan, key, *site),
+        Asked::Keep {
+            document,
+            plan,
+            request,
+            book,
+            write,
+            refine,
+        } => keep(
+            rt, alloc, files, document, plan, request, book, *write, *refine,
+        ),
         Asked::Drive { .. } => unreachable!(),
     }
 }

@@ -1,5 +1,6 @@
 pub mod Documents
 pub mod Files
+pub mod Keeping
 pub mod Loading
 pub mod Payload
 pub mod PlanFile

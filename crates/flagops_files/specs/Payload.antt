@@ -9,6 +9,8 @@ use Rattle.rollout_checks.specs.declared.fault.RolloutFault.{RolloutFault}
 use Rattle.rollout_checks.specs.declared.fault.RolloutFault.TheVariants as rollout
 use Rattle.rollout_checks.specs.declared.verify_fault.VerifyFault.{VerifyFault}
 use Rattle.rollout_checks.specs.declared.verify_fault.VerifyFault.TheVariants.{Request, Check}
+use Rattle.flagops_files.specs.declared.keeping.KeepRefusal.{KeepRefusal}
+use Rattle.flagops_files.specs.declared.keeping.KeepRefusal.TheVariants as keeping
 use Rattle.transport_instance.specs.declared.fault.CheckFault.{CheckFault}
 use Rattle.transport_instance.specs.declared.fault.CheckFault.TheVariants as check
 
@@ -46,3 +48,8 @@ check_items e = []
 abbrev pub verify_items : VerifyFault → List ℕ
 verify_items (Request e) = rollout_items e
 verify_items (Check e) = check_items e
+
+-- an answer that is not right, as `verify` says it
+abbrev pub keep_items : KeepRefusal → List ℕ
+keep_items (keeping.Verify e) = verify_items e
+keep_items (keeping.Document e) = []

@@ -10,14 +10,15 @@ use Rattle.plan_text.specs.Fault as plan_files
 use Rattle.rollout_checks.specs.VerifyFault as verdicts
 use Rattle.flagops_drive.specs.Fault as drives
 use Rattle.flagops_files.specs.Files.{load_number, load_name, store_number, store_name}
-use Rattle.flagops_files.specs.Payload.{file_items, rollout_items, verify_items}
+use Rattle.flagops_files.specs.Keeping as keeping
+use Rattle.flagops_files.specs.Payload.{file_items, keep_items, rollout_items, verify_items}
 use Rattle.flagops_files.specs.declared.files.LoadFault.TheVariants.{Unreadable}
 use Rattle.flagops_files.specs.declared.files.StoreFault.TheVariants.{Unwritable}
 use Rattle.flagops_files.specs.declared.refusal.Call.{Call}
 use Rattle.flagops_files.specs.declared.refusal.Call.TheVariants as call
 use Rattle.flagops_files.specs.declared.refusal.Refusal.{Refusal}
 use Rattle.flagops_files.specs.declared.refused.Refused.{Refused}
-use Rattle.flagops_files.specs.declared.refusal.Refusal.TheVariants.{WantOfMemory, Load, LongBook, ReadTree, ReadRule, ReadRequest, Note, Price, ReadFlags, ReadBook, ReadPlanned, Verify, Apply, Plan, PrintPlanned, Drive, Store}
+use Rattle.flagops_files.specs.declared.refusal.Refusal.TheVariants.{WantOfMemory, Load, LongBook, ReadTree, ReadRule, ReadRequest, Note, Price, ReadFlags, ReadBook, ReadPlanned, Verify, Apply, Keep, Plan, PrintPlanned, Drive, Store}
 use Rattle.flagops_files.specs.declared.refusal.PriceMismatch.{PriceMismatch}
 use Rattle.flagops_files.specs.declared.refusal.PriceMismatch.TheVariants.{Weight, BadKeys}
 
@@ -101,6 +102,7 @@ call_of (ReadBook e) = call.ReadBook
 call_of (ReadPlanned e) = call.ReadPlanned
 call_of (Verify e) = call.Verify
 call_of (Apply e) = call.Apply
+call_of (Keep e) = call.Apply
 call_of (Plan e) = call.Plan
 call_of (PrintPlanned e) = call.PrintPlanned
 call_of (Drive e) = call.Drive
@@ -130,6 +132,7 @@ number_of (ReadBook e) = books.file_number_of e
 number_of (ReadPlanned e) = plan_files.number_of e
 number_of (Verify e) = verdicts.number_of e
 number_of (Apply e) = rollouts.number_of e
+number_of (Keep e) = keeping.number_of e
 number_of (Plan e) = rollouts.number_of e
 number_of (PrintPlanned e) = plan_files.number_of e
 number_of (Drive e) = drives.number_of e
@@ -149,6 +152,7 @@ name_of (ReadBook e) = books.file_name_of e
 name_of (ReadPlanned e) = plan_files.name_of e
 name_of (Verify e) = verdicts.name_of e
 name_of (Apply e) = rollouts.name_of e
+name_of (Keep e) = keeping.name_of e
 name_of (Plan e) = rollouts.name_of e
 name_of (PrintPlanned e) = plan_files.name_of e
 name_of (Drive e) = drives.name_of e
@@ -159,6 +163,7 @@ abbrev pub payload_of : Refusal → List ℕ
 payload_of (ReadBook e) = file_items e
 payload_of (Verify e) = verify_items e
 payload_of (Apply e) = rollout_items e
+payload_of (Keep e) = keep_items e
 payload_of (Plan e) = rollout_items e
 payload_of r = []
 

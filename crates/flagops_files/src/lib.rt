@@ -27,6 +27,7 @@
 
 mod documents;
 mod files;
+mod keeping;
 mod loading;
 mod outcome;
 mod payload;
@@ -42,6 +43,7 @@ mod system_files;
 
 pub use documents::{Document, load_document, load_flags};
 pub use files::{FileSet, LoadFault, StoreFault};
+pub use keeping::KeepRefusal;
 pub use loading::{TEXT_LIMIT, load, load_rule, load_tree};
 pub use outcome::{Outcome, Status};
 pub use plan_file::load_planned;

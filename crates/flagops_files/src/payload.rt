@@ -3,6 +3,7 @@ ghost use Rattle.std.specs.Prelude.{◌≡◌, IfOk, string_bytes};
 ghost use Rattle.flagops_files.specs.Payload.{check_items, fault_items, file_items, number_item, pair_items, rollout_items};
 ghost use Rattle.flagops_files.specs.Refusal.{payload_of};
 
+use crate::keeping::KeepRefusal;
 use crate::quoting::quoted;
 use crate::refusal::Refusal;
 use book_core::BookFileFault;
@@ -17,9 +18,13 @@ pub fn payload(alloc: Global, refusal: &Refusal) -> Result<String, AllocError>
     match refusal {
         Refusal::ReadBook(fault) => file_items(alloc, fault),
         Refusal::Verify(VerifyFault::Request(fault))
+        | Refusal::Keep(KeepRefusal::Verify(VerifyFault::Request(fault)))
         | Refusal::Apply(fault)
         | Refusal::Plan(fault) => rollout_items(alloc, fault),
-        Refusal::Verify(VerifyFault::Check(fault)) => check_items(alloc, fault),
+        Refusal::Verify(VerifyFault::Check(fault))
+        | Refusal::Keep(KeepRefusal::Verify(VerifyFault::Check(fault))) => {
+            check_items(alloc, fault)
+        }
         _ => Ok(String::new(alloc)),
     }
 }

@@ -1,10 +1,12 @@
 //! What a rollout is asked over: the flags, a request, and the inputs that were recorded.
-ghost use Rattle.std.specs.Prelude.{◌≡◌, ◌<◌, ◌||◌, IfSome};
+ghost use Rattle.std.specs.Prelude.{◌≡◌, ◌<◌, ◌||◌, IfOk, IfSome, Ok};
+ghost use Rattle.flagops_files.specs.Files.{load_of};
+ghost use Rattle.flagops_files.specs.Loading.{max_text};
 ghost use Rattle.flagops_files.specs.Question.{IsQuestionAt, book_at, question_subjects, question_view};
 ghost use Rattle.flagops_files.specs.Refusal.{ComesFrom, GivesOne, GivesUnlessWant, is_file_fault, loads_book, loads_question};
 ghost use Rattle.flagops_files.specs.Told.{TellsOf, TellsOfOne, file};
 
-use crate::documents::load_flags;
+use crate::documents::{Document, load_document};
 use crate::files::FileSet;
 use crate::loading::{TEXT_LIMIT, load};
 use crate::refusal::Refusal;
@@ -18,9 +20,11 @@ use std::alloc::Global;
 /// The largest book file, in bytes.
 const BOOK_LIMIT: u64 = 1 << 40;
 
-/// The flags, the bytes of a request, which are read only by the call that takes them, and the book.
+/// The bytes of a document and its flags, the bytes of a request, which are read only by the call that takes them, and the
+/// book.
 #[derive(Drop)]
 pub struct Question {
+    pub document: Vec<u8>,
     pub flags: Flags,
     pub request: Vec<u8>,
     pub book: BookFile,
@@ -40,15 +44,17 @@ pub fn load_question<F: FileSet>(
 ) -> Result<Question, Refused>
     requires { 0 < factor }
     ensures exact { IfSome (F.holding files.old) (λ at. GivesOne question_view result (IsQuestionAt at document.now request.now book.now)) }
+    ensures bytes { IfSome (F.holding files.old) (λ at. IfOk result (λ q. load_of at document.now max_text ≡ Ok q.document.items)) }
     ensures calls { ComesFrom loads_question result }
     ensures failed { F.has_failed files.new ≡ (F.has_failed files.old || is_file_fault result) }
     ensures kept { F.holding files.new ≡ F.holding files.old }
     ensures names { TellsOfOne (question_subjects document.now request.now book.now) result }
 {
-    let flags = load_flags(alloc, files, document)?;
+    let Document { bytes, flags } = load_document(alloc, files, document)?;
     let request = load(alloc, files, request, u64::from(TEXT_LIMIT))?;
     let book = load_book(alloc, files, &flags, request.as_slice(), factor, book)?;
     Ok(Question {
+        document: bytes,
         flags,
         request,
         book,

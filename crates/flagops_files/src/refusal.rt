@@ -3,6 +3,7 @@ ghost use Rattle.std.specs.Prelude.{◌≡◌, IfOk, string_bytes};
 ghost use Rattle.flagops_files.specs.Refusal.{call_of, call_name, is_want, number_of, name_of, line_of, mismatch_number, mismatch_name};
 
 use crate::files::{LoadFault, StoreFault};
+use crate::keeping::KeepRefusal;
 use crate::payload::payload;
 use book_core::{BookFault, BookFileFault};
 use bucket_core::RuleFault;
@@ -143,6 +144,8 @@ pub enum Refusal {
     Verify(VerifyFault),
     /// The rule of a plan file cannot be put at the site.
     Apply(RolloutFault),
+    /// The rule of a plan file is not put into the document.
+    Keep(KeepRefusal),
     /// The request is refused, or no answer to it was found.
     Plan(RolloutFault),
     /// The answer is too large for a plan file.
@@ -170,7 +173,7 @@ impl Refusal {
             Refusal::ReadBook(_) => Call::ReadBook,
             Refusal::ReadPlanned(_) => Call::ReadPlanned,
             Refusal::Verify(_) => Call::Verify,
-            Refusal::Apply(_) => Call::Apply,
+            Refusal::Apply(_) | Refusal::Keep(_) => Call::Apply,
             Refusal::Plan(_) => Call::Plan,
             Refusal::PrintPlanned(_) => Call::PrintPlanned,
             Refusal::Drive(_) => Call::Drive,
@@ -196,6 +199,7 @@ impl Refusal {
             Refusal::ReadPlanned(fault) => fault.number(),
             Refusal::Verify(fault) => fault.number(),
             Refusal::Apply(fault) => fault.number(),
+            Refusal::Keep(refusal) => refusal.number(),
             Refusal::Plan(fault) => fault.number(),
             Refusal::PrintPlanned(fault) => fault.number(),
             Refusal::Drive(fault) => fault.number(),
@@ -221,6 +225,7 @@ impl Refusal {
             Refusal::ReadPlanned(fault) => fault.name(),
             Refusal::Verify(fault) => fault.name(),
             Refusal::Apply(fault) => fault.name(),
+            Refusal::Keep(refusal) => refusal.name(),
             Refusal::Plan(fault) => fault.name(),
             Refusal::PrintPlanned(fault) => fault.name(),
             Refusal::Drive(fault) => fault.name(),

@@ -33,7 +33,8 @@ impl<'a> Place<'a> {
         }
     }
 
-    fn put(&self, lines: &mut Lines) {
+    /// The site and the flag, in words.
+    pub(crate) fn put(&self, lines: &mut Lines) {
         lines.put("site ");
         lines.put_shown(&self.number);
         lines.put(" of ");
@@ -72,7 +73,7 @@ impl<'a> Place<'a> {
         total_weight(entries.as_slice())
     }
 
-    fn targeting(&self) -> Option<&'a Expr> {
+    pub(crate) fn targeting(&self) -> Option<&'a Expr> {
         self.flags.get(self.key)?.targeting()
     }
 }

@@ -53,10 +53,10 @@ pub fn verify<R: Threads + Sync, F: FileSet>(
 
 /// Where what is verified was loaded from.
 #[derive(Clone, Copy)]
-struct Paths<'a> {
-    request: &'a str,
-    book: &'a str,
-    plan: &'a str,
+pub struct Paths<'a> {
+    pub request: &'a str,
+    pub book: &'a str,
+    pub plan: &'a str,
 }
 
 /// The line of an answer that is right.
@@ -112,7 +112,7 @@ fn valid(alloc: Global, planned: &Planned, remark: Option<Remark>) -> Result<Out
 }
 
 /// What a person is told of an answer that is not right, or of a request that is refused.
-fn lines_on(
+pub fn lines_on(
     alloc: Global,
     paths: Paths<'_>,
     question: &Question,
@@ -139,7 +139,7 @@ fn lines_on(
 }
 
 /// Whether the answer is right, on the site's rule refined by the factor where one is given.
-fn verified(
+pub fn verified(
     rt: &(impl Threads + Sync),
     alloc: Global,
     question: &Question,

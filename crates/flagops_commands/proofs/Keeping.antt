@@ -1,0 +1,152 @@
+-- What was loaded in turn, put into a document and then printed or stored, as the report of `apply --keep`.
+use Rattle.std.proofs.Common.{◌≡◌, ◌∙◌, ℕ, Bool, true, false, List, Option, Some, None, IfSome, inl, inr, refl, sym, subst, Vec, Global}
+use Rattle.std.specs.Prelude.{Result, Ok, Err, is_ok, length, nat_lt, option_and_then}
+use Rattle.std.specs.Map.{lookup}
+use Rattle.std.specs.Str.{IsUtf8, bytes_eq}
+use Rattle.std.proofs.lemmas.Bool.{ltb-false}
+use Rattle.bucket_core.specs.Rule.{Entries}
+use Rattle.flag_documents.specs.Document.{Definitions, max_bytes}
+use Rattle.flag_documents.specs.Flag.{targeting_in}
+use Rattle.flag_text.specs.Reading.{doc_of}
+use Rattle.flag_text.specs.Shape.{Shape}
+use Rattle.flag_text.specs.declared.fault.TextFault.{TextFault}
+use Rattle.flag_text.specs.declared.fault.TextFault.TheVariants.{NotJson, TooLarge}
+use Rattle.flag_text.proofs.Readings.{doc_of-none}
+use Rattle.kept_document.specs.Kept.{IsRefused, in_tree, place_in}
+use Rattle.kept_document.specs.declared.fault.KeepFault.TheVariants.{Differs}
+use Rattle.plan_text.specs.Answer.{Answer, emit, none_exists}
+use Rattle.price_core.specs.Request.{Asked, asked_of}
+use Rattle.price_core.specs.declared.fault.PriceFault.{PriceFault}
+use Rattle.rollout_checks.specs.Lawful.{and_then, by_price, place_of, problem_at, problem_of}
+use Rattle.rollout_checks.specs.Refined.{problem_checked}
+use Rattle.rollout_checks.specs.Verified.{IsOutcome, refining_for}
+use Rattle.rollout_checks.specs.declared.fault.RolloutFault.{RolloutFault}
+use Rattle.rollout_checks.specs.declared.refining.Refining.{Refining}
+use Rattle.rollout_checks.specs.declared.refining.Refining.TheVariants.{Times}
+use Rattle.site_places.specs.Place.{SitePlace}
+use Rattle.transport_instance.specs.Certificate.{DualPrices}
+use Rattle.transport_instance.specs.declared.certificate.CutKind.{CutKind}
+use Rattle.flagops_files.specs.Files.{Holding, load_of}
+use Rattle.flagops_files.specs.Loading.{max_text}
+use Rattle.flagops_files.specs.PlanFile.{plan_at}
+use Rattle.flagops_files.specs.Question.{Question, IsQuestionAt}
+use Rattle.flagops_files.specs.Refusal.{GivesOne, is_want}
+use Rattle.flagops_files.specs.Report.{outcome_view}
+use Rattle.flagops_files.specs.declared.outcome.Outcome.{Outcome}
+use Rattle.flagops_files.specs.declared.refused.Refused.{Refused}
+use Rattle.flagops_files.specs.declared.refusal.Refusal.{Refusal}
+use Rattle.flagops_commands.specs.Keep.{IsEdited, IsEditedTo, IsKeepReport, IsKeepWith, IsKeptAt, IsKeptFor, IsKeptWith, IsPut, Kept, LeavesDocument, MayBeKept, some_view}
+use Rattle.flagops_commands.specs.Unrecorded.{is_unrecorded}
+use Rattle.flagops_commands.specs.Verify.{MayBeTold}
+use Rattle.flagops_commands.proofs.Driving.{others_after}
+
+-- ---- a right answer is to a request that is read
+
+module _ (q : Question) (answer : Answer) where
+  read_by : (refining : Refining) (a : Result Asked PriceFault)
+      → IsOutcome (and_then (by_price a) (λ asked. and_then (place_of q.flags asked.flag asked.site) (λ place. problem_at refining q.book asked place))) answer (Ok tt) → is_ok a ≡ true
+  read_by refining (Ok asked) right = refl
+  read_by refining (Err e) right = absurd right
+
+  read_checked : (refine : Option ℕ) → IsOutcome (problem_checked refine answer q.flags q.request q.book) answer (Ok tt) → is_ok (asked_of q.request) ≡ true
+  read_checked None right = read_by (refining_for answer) (asked_of q.request) right
+  read_checked (Some m) right = read_by (Times m) (asked_of q.request) right
+
+pub asked_there : (refine : Option ℕ) (q : Question) (answer : Answer) → MayBeTold refine q answer (Ok tt) → is_ok (asked_of q.request) ≡ true
+asked_there refine q answer may = read_checked q answer refine may.told
+
+-- ---- the document
+
+-- bytes that are no text are no document
+no_document : (bytes : List ℕ) → (IsUtf8 bytes → ⊥) → (b : Bool) → nat_lt max_bytes (length bytes) ≡ b → (e : TextFault) × (doc_of bytes max_bytes ≡ Err e)
+no_document bytes no true e = (TooLarge, rw e refl)
+no_document bytes no false e = (NotJson, doc_of-none bytes max_bytes (ltb-false max_bytes (length bytes) e) (λ u. absurd (no u)))
+
+pub not_text : (bytes : List ℕ) (flags : Definitions) (key : List ℕ) (site : ℕ) (rule : Entries) (wanted : Definitions) → (IsUtf8 bytes → ⊥) → IsRefused bytes (place_in bytes flags key site) rule wanted Differs
+not_text bytes flags key site rule wanted no =
+    let none = no_document bytes no (nat_lt max_bytes (length bytes)) refl in
+    subst (λ (r : Result Shape TextFault). IsRefused bytes (in_tree r key (option_and_then targeting_in (lookup (bytes_eq key) flags)) site) rule wanted Differs) (sym none.1) (λ s. s, λ text kept means. kept)
+
+module _ (document : List ℕ) (place : SitePlace) (rule : Entries) (applied : Result Definitions RolloutFault) where
+  pub edited_to : (wanted : Definitions) (r : Result (Vec ℕ Global) Refused) → applied ≡ Ok wanted → GivesOne some_view r (IsEdited document place rule wanted) → GivesOne some_view r (IsEditedTo document place rule applied)
+  edited_to wanted r is given = subst (λ (a : Result Definitions RolloutFault). GivesOne some_view r (IsEditedTo document place rule a)) (sym is) given
+
+pub kept_for : (document : List ℕ) (q : Question) (rule : Entries) (asked : Asked) (r : Result (Vec ℕ Global) Refused) → asked_of q.request ≡ Ok asked
+    → GivesOne some_view r (IsKeptAt document q.flags asked.flag asked.site rule) → GivesOne some_view r (IsKeptFor document q rule)
+kept_for document q rule asked (Ok text) is given = (asked, is, given)
+kept_for document q rule asked (Err e) is given = λ wanted. (asked, is, given wanted)
+
+pub not_unread : (asked : Result Asked PriceFault) (e : PriceFault) → is_ok asked ≡ true → asked ≡ Err e → ⊥
+not_unread (Ok x) e there is = cc
+not_unread (Err f) e there is = cc
+
+-- what a right answer makes of the document
+module _ (refine : Option ℕ) (document : List ℕ) (q : Question) (answer : Answer) where
+  pub kept_rule : (rule : Entries) (c : DualPrices) (kept : Result Kept Refusal) → answer ≡ emit rule c → MayBeTold refine q answer (Ok tt) → IsKeptFor document q rule kept → MayBeKept refine document q answer kept
+  kept_rule rule c kept is told made = (Ok tt, told, subst (λ (a : Answer). IsKeptWith document q a kept) (sym is) made)
+
+  pub kept_none : (kind : CutKind) (names : List (List ℕ)) → answer ≡ none_exists kind names → MayBeTold refine q answer (Ok tt) → MayBeKept refine document q answer (Ok None)
+  kept_none kind names is told = (Ok tt, told, subst (λ (a : Answer). IsKeptWith document q a (Ok None)) (sym is) refl)
+
+-- ---- the report
+
+module _ (path : List ℕ) (write : Bool) (refine : Option ℕ) (document : List ℕ) (q : Question) (answer : Answer) where
+  pub not_kept : (old after : Option Holding) (e : Refused) → after ≡ old → (is_want e.refusal ≡ false → MayBeKept refine document q answer (Err e.refusal))
+      → IfSome old (λ at. is_want e.refusal ≡ false → IsKeepWith at after path write refine document q answer (Err e.refusal))
+  not_kept None after e same kept = tt
+  not_kept (Some at) after e same kept = λ wanted. (Err e.refusal, kept wanted, (refl, same))
+
+  pub kept_put : (old after : Option Holding) (kept : Kept) (told : Bool) (r : Result Outcome Refused) → told ≡ is_unrecorded q → MayBeKept refine document q answer (Ok kept)
+      → IfSome old (λ at. GivesOne outcome_view r (IsPut at after path write told (Ok kept))) → IfSome old (λ at. GivesOne outcome_view r (IsKeepWith at after path write refine document q answer))
+  kept_put old after kept told r is may put = go old (subst (λ (b : Bool). IfSome old (λ at. GivesOne outcome_view r (IsPut at after path write b (Ok kept)))) is put)
+    where
+      ends : (at : Holding) (s : Result Outcome Refused) → GivesOne outcome_view s (IsPut at after path write (is_unrecorded q) (Ok kept)) → GivesOne outcome_view s (IsKeepWith at after path write refine document q answer)
+      ends at (Ok o) put = (Ok kept, may, put)
+      ends at (Err e) put = λ wanted. (Ok kept, may, put wanted)
+
+      go : (h : Option Holding) → IfSome h (λ at. GivesOne outcome_view r (IsPut at after path write (is_unrecorded q) (Ok kept))) → IfSome h (λ at. GivesOne outcome_view r (IsKeepWith at after path write refine document q answer))
+      go None put = tt
+      go (Some at) put = ends at r put
+
+module _ (path plan request book : List ℕ) (write : Bool) (refine : Option ℕ) where
+  abbrev Is : Option Holding → Option Holding → Result Outcome Refused → Type 0
+  Is old after r = IfSome old (λ at. GivesOne outcome_view r (IsKeepReport at after path plan request book write refine))
+
+  pub no_question : (old after : Option Holding) (e : Refused) → after ≡ old → IfSome old (λ at. is_want e.refusal ≡ false → IsQuestionAt at path request book (Err e.refusal)) → Is old after (Err e)
+  unfolding IsKeepReport
+  no_question None after e same asked = tt
+  no_question (Some at) after e same asked = λ wanted. (Err e.refusal, asked wanted, (refl, same))
+
+  module _ (q : Question) where
+    pub no_plan : (old mid after : Option Holding) (e : Refused) → mid ≡ old → after ≡ mid → IfSome old (λ at. IsQuestionAt at path request book (Ok q))
+        → IfSome mid (λ at. is_want e.refusal ≡ false → plan_at at plan ≡ Err e.refusal) → Is old after (Err e)
+    unfolding IsKeepReport
+    no_plan old mid after e first second asked planned = go old asked (subst (λ (h : Option Holding). IfSome h (λ at. is_want e.refusal ≡ false → plan_at at plan ≡ Err e.refusal)) first planned) (second ∙ first)
+      where
+        go : (h : Option Holding) → IfSome h (λ at. IsQuestionAt at path request book (Ok q)) → IfSome h (λ at. is_want e.refusal ≡ false → plan_at at plan ≡ Err e.refusal) → after ≡ h → Is h after (Err e)
+        go None asked planned same = tt
+        go (Some at) asked planned same = λ wanted. (Ok q, asked, rw (planned wanted) (refl, same))
+
+    module _ (document : List ℕ) (answer : Answer) where
+      pub kept_whole : (old mid last after : Option Holding) (r : Result Outcome Refused) → mid ≡ old → last ≡ mid → IfSome old (λ at. IsQuestionAt at path request book (Ok q)) → IfSome old (λ at. load_of at path max_text ≡ Ok document)
+          → IfSome mid (λ at. plan_at at plan ≡ Ok answer) → IfSome last (λ at. GivesOne outcome_view r (IsKeepWith at after path write refine document q answer)) → Is old after r
+      unfolding IsKeepReport
+      kept_whole old mid last after r first second asked loaded planned put =
+          go old asked loaded (subst (λ (h : Option Holding). IfSome h (λ at. plan_at at plan ≡ Ok answer)) first planned)
+          (subst (λ (h : Option Holding). IfSome h (λ at. GivesOne outcome_view r (IsKeepWith at after path write refine document q answer))) (second ∙ first) put)
+        where
+          ends : (at : Holding) (s : Result Outcome Refused) → IsQuestionAt at path request book (Ok q) → load_of at path max_text ≡ Ok document → plan_at at plan ≡ Ok answer
+              → GivesOne outcome_view s (IsKeepWith at after path write refine document q answer) → GivesOne outcome_view s (IsKeepReport at after path plan request book write refine)
+          ends at (Ok o) asked loaded planned put = (Ok q, asked, rw planned (document, loaded, put))
+          ends at (Err e) asked loaded planned put = λ wanted. (Ok q, asked, rw planned (document, loaded, put wanted))
+
+          go : (h : Option Holding) → IfSome h (λ at. IsQuestionAt at path request book (Ok q)) → IfSome h (λ at. load_of at path max_text ≡ Ok document) → IfSome h (λ at. plan_at at plan ≡ Ok answer)
+              → IfSome h (λ at. GivesOne outcome_view r (IsKeepWith at after path write refine document q answer)) → Is h after r
+          go None asked loaded planned put = tt
+          go (Some at) asked loaded planned put = ends at r asked loaded planned put
+
+-- ---- what is left
+
+pub left_after : (old mid last new : Option Holding) (path : List ℕ) (write : Bool) → mid ≡ old → last ≡ mid → LeavesDocument last new path write → LeavesDocument old new path write
+left_after old mid last new path write first second (inl same) = inl (same ∙ second ∙ first)
+left_after old mid last new path write first second (inr changed) = inr (changed.0, others_after old last new path (second ∙ first) changed.1)

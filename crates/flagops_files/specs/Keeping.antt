@@ -1,0 +1,29 @@
+-- The number and the name that a refusal of `apply --keep` is written with.
+use Rattle.std.specs.Prelude.{ℕ, List, codes}
+use Rattle.kept_document.specs.declared.fault.KeepFault.{KeepFault}
+use Rattle.kept_document.specs.declared.fault.KeepFault.TheVariants.{WantOfMemory, Shared, TooLong, Differs}
+use Rattle.rollout_checks.specs.VerifyFault as verdicts
+use Rattle.flagops_files.specs.declared.keeping.KeepRefusal.{KeepRefusal}
+use Rattle.flagops_files.specs.declared.keeping.KeepRefusal.TheVariants.{Verify, Document}
+
+-- those of a document that does not take a rule, behind those of a rollout
+abbrev pub fault_number : KeepFault → ℕ
+fault_number WantOfMemory = 0
+fault_number Shared = 11
+fault_number TooLong = 12
+fault_number Differs = 13
+
+abbrev pub fault_name : KeepFault → List ℕ
+fault_name WantOfMemory = codes "WantOfMemory"
+fault_name Shared = codes "Shared"
+fault_name TooLong = codes "TooLong"
+fault_name Differs = codes "Differs"
+
+-- an answer that is not right has those of `verify`
+abbrev pub number_of : KeepRefusal → ℕ
+number_of (Verify e) = verdicts.number_of e
+number_of (Document e) = fault_number e
+
+abbrev pub name_of : KeepRefusal → List ℕ
+name_of (Verify e) = verdicts.name_of e
+name_of (Document e) = fault_name e
