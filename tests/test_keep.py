@@ -2,6 +2,7 @@
 import unittest
 
 from given import BOOK, CHEAPEST, EMPTY_BOOK, FINER, FINER_PLAN, FREE, RED_3, UNMET, document, none_of, plan_of, request
+from keeping import problem_of
 from program import ProgramTest, run
 
 # A document with members that no command reads, a flag that is broken here, and one bucket a line.
@@ -93,12 +94,6 @@ class Keep(ProgramTest):
         self.assert_ends(words("--refine", "5"), files, 0, kept)
         self.assert_ends(words("--refine", "2"), files, 1, "refused apply 6 TotalsSum\n")
 
-    def test_a_single_bucket(self):
-        text = document('["red",1]').replace('"red":"r"', '"red":"r" ')
-        files = self.files(text, plan_of('["red",1,0]', '[["green",1]]', 7), request('"green":1'))
-        ran = run(words(), files)
-        self.assertIn(ran.status, (0, 1))
-
     def test_the_evaluator_is_told(self):
         ran = run(words(), self.files(SHARED))
         self.assertIn('error: "d": site 0 of "color" stands in the evaluator "halves"', ran.err)
@@ -112,6 +107,11 @@ class Keep(ProgramTest):
     def test_no_folder_for_the_document(self):
         files = self.files()
         self.assert_ends(["apply", "--keep", "--write", "no/d", "p", "r", "b"], files, 1, "refused load 1 Unreadable\n")
+
+    def test_documents_at_random(self):
+        """`bench/keep.py` takes more of them."""
+        for n in range(150):
+            self.assertIsNone(problem_of(f"test {n}"), n)
 
 
 if __name__ == "__main__":

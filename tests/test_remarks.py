@@ -84,6 +84,8 @@ REFUSED = [
         '{"plan":1,"alpha":[["a",0,0],["a",1]],"beta":[],"cost":0,"rule":[]}',
         'error: "f" is no plan: alpha[1] is no [VARIANT,USERS,n]',
     ),
+    ("document", "", 'error: "f" is empty, and no JSON'),
+    ("document", "\ufeff{}", 'error: "f" begins with a byte order mark, and is no JSON'),
     ("document", '{"flags":[]}', 'error: "f" is no flag document: "flags" is a list, no object'),
     ("document", '{"flag":{}}', 'error: "f" is no flag document: it has no "flags"'),
     (

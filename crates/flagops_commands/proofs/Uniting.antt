@@ -1,21 +1,26 @@
 -- What books come to that are read one after the other and united.
-use Rattle.std.proofs.Common.{◌≡◌, ◌+◌, ◌<◌, ◌∙◌, ℕ, suc, Bool, true, false, List, [], ◌∷◌, Option, Some, None, IfSome, inl, inr, refl, add-one, ap, drop, get_or, length, map, subst, sym}
+use Rattle.std.proofs.Common.{◌≡◌, ◌+◌, ◌<◌, ◌∙◌, ℕ, suc, Bool, true, false, List, [], ◌∷◌, Option, Some, None, IfSome, arith, inl, inr, refl, add-one, ap, drop, get_or, length, map, subst, sym}
 use Rattle.std.proofs.Math.Seq.{drop-cons}
 use Rattle.std.specs.Prelude.{Result, Ok, Err, zero}
 use Rattle.book_core.specs.Book.{Contents}
 use Rattle.book_core.specs.Union.{HaveNoUnion, IsUnion, Unites}
 use Rattle.book_core.specs.declared.fault.BookFault.{BookFault}
 use Rattle.book_core.specs.declared.fault.BookFault.TheVariants as fault
-use Rattle.flagops_files.specs.Files.{Holding}
+use Rattle.flagops_files.specs.Files.{Holding, KeepsOthers}
 use Rattle.flagops_files.specs.Question.{book_at}
-use Rattle.flagops_files.specs.Refusal.{call_of, is_want}
+use Rattle.flagops_files.specs.Refusal.{GivesOne, is_want}
 use Rattle.flagops_files.specs.Told.{NamesOne, NamesSubject, Says, by, file}
 use Rattle.flagops_files.specs.declared.refusal.Refusal.{Refusal}
 use Rattle.flagops_files.specs.declared.refusal.Refusal.TheVariants.{FullBook}
 use Rattle.flagops_files.specs.declared.refused.Remark.{Remark}
 use Rattle.flagops_commands.specs.Calls.{unites_books}
 use Rattle.flagops_commands.specs.Subjects.{united_subjects}
-use Rattle.flagops_commands.specs.Unite.{IsUnitedWith, IsWithNext, unite_refusal}
+use Rattle.flagops_commands.specs.Drive.{IsWritten}
+use Rattle.flagops_commands.specs.Unite.{IsUnionAt, IsUniteReport, IsUnitedWith, IsWithNext, LeavesUnited, unite_refusal, united_output}
+use Rattle.flagops_drive.specs.Driven.{Drove}
+use Rattle.flagops_files.specs.Report.{outcome_view}
+use Rattle.flagops_files.specs.declared.outcome.Outcome.{Outcome}
+use Rattle.flagops_files.specs.declared.refused.Refused.{Refused}
 
 not_both : {X E Y : Type 0} {x : X} {e : E} → Ok x ≡ Err e → Y
 not_both h = cc
@@ -95,17 +100,58 @@ both_known {A} h k P S same p {Q} q f = go h p (subst (λ (o : Option A). IfSome
     go None p q = tt
     go (Some a) p q = f a p q
 
+-- no path is left
+pub ends : (at : Holding) (one : Contents) (paths : List (List ℕ)) → paths ≡ [] → IsUnitedWith at paths one (Ok one)
+unfolding IsUnitedWith
+ends at one paths none = subst (λ (ps : List (List ℕ)). IsUnitedWith at ps one (Ok one)) (sym none) refl
+
 -- ---- whose refusal it is
 
 -- the book at one of the paths is one of them
-pub told_at : {X : Type 0} (now : X → List ℕ) (xs : List X) (i : ℕ) (z : X) (e : Refusal) (remark : Remark) → i < length xs → by unites_books e ≡ true
+told_at : {X : Type 0} (now : X → List ℕ) (xs : List X) (i : ℕ) (z : X) (e : Refusal) (remark : Remark) → i < length xs → by unites_books e ≡ true
     → Says (NamesSubject (file (now (get_or xs i z)))) remark → NamesOne (united_subjects (map now xs)) e remark
 told_at now [] i z e remark inside of says = absurd (no_less i inside)
   where
     no_less : (i : ℕ) → i < 0 → ⊥
-    no_less i less = cc
+    no_less i less = omega arith
 told_at now (x ∷ xs) zero z e remark inside of says = inl (of, says)
 told_at now (x ∷ xs) (suc i) z e remark inside of says = inr (told_at now xs i z e remark (less inside) of says)
   where
     less : suc i < suc (length xs) → i < length xs
     less h = omega arith
+
+pub told_of_one : {X : Type 0} (now : X → List ℕ) (xs : List X) (i : ℕ) (z : X) (e : Refusal) (remark : Remark) → i < length xs → by unites_books e ≡ true
+    → (is_want e ≡ false → Says (NamesSubject (file (now (get_or xs i z)))) remark) → is_want e ≡ false → NamesOne (united_subjects (map now xs)) e remark
+told_of_one now xs i z e remark inside of says wanted = told_at now xs i z e remark inside of (says wanted)
+
+-- ---- the whole
+
+counted : {X : Type 0} (now : X → List ℕ) (xs : List X) → length (map now xs) ≡ length xs
+counted now [] = refl
+counted now (x ∷ xs) = ap suc (counted now xs)
+
+module _ {X : Type 0} (now : X → List ℕ) (xs : List X) (out : List ℕ) where
+  pub no_union : (h after : Option Holding) (e : Refused) → after ≡ h → IfSome h (λ at. is_want e.refusal ≡ false → IsUnionAt at (map now xs) (Err e.refusal))
+      → IfSome h (λ at. is_want e.refusal ≡ false → IsUniteReport at after out (map now xs) (Err e.refusal))
+  unfolding IsUniteReport
+  no_union None after e same is = tt
+  no_union (Some at) after e same is = λ wanted. (Err e.refusal, is wanted, (refl, same))
+
+  pub no_output : (h after : Option Holding) (book : Contents) (e : Refused) → (is_want e.refusal ≡ false → united_output (length xs) (Ok book) ≡ Err e.refusal)
+      → IfSome h (λ at. is_want e.refusal ≡ false → IsUniteReport at after out (map now xs) (Err e.refusal))
+  no_output None after book e is = tt
+  no_output (Some at) after book e is = λ wanted. not_both (is wanted)
+
+  module _ (book : Contents) (d : Drove) (is_d : united_output (length xs) (Ok book) ≡ Ok d) where
+    output : united_output (length (map now xs)) (Ok book) ≡ Ok d
+    output = ap (λ (n : ℕ). united_output n (Ok book)) (counted now xs) ∙ is_d
+
+    pub wrote : (h after : Option Holding) (r : Result Outcome Refused) → IfSome h (λ at. IsUnionAt at (map now xs) (Ok book)) → IfSome h (λ at. GivesOne outcome_view r (IsWritten at after out (Ok d)))
+        → IfSome h (λ at. GivesOne outcome_view r (IsUniteReport at after out (map now xs)))
+    unfolding IsUniteReport
+    wrote None after r is written = tt
+    wrote (Some at) after (Ok o) is written = (Ok book, is, subst (λ (x : Result Drove Refusal). IsWritten at after out x (Ok (outcome_view o))) (sym output) written)
+    wrote (Some at) after (Err e) is written = λ wanted. (Ok book, is, subst (λ (x : Result Drove Refusal). IsWritten at after out x (Err e.refusal)) (sym output) (written wanted))
+
+  pub left : (h after : Option Holding) (book : Contents) → IfSome h (λ at. IsUnionAt at (map now xs) (Ok book)) → KeepsOthers h after out → LeavesUnited h after out (map now xs)
+  left h after book is kept = inr (where_known h (λ at. IsUnionAt at (map now xs) (Ok book)) (λ at. (b : Contents) × IsUnionAt at (map now xs) (Ok b)) (λ at union. (book, union)) is, kept)

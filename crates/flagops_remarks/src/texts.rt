@@ -13,6 +13,9 @@ use std::alloc::{AllocError, Global};
 /// The most levels that lists and objects of a text may nest.
 const LEVELS: usize = 120;
 
+/// What some editors write before a text in UTF-8.
+const BYTE_ORDER_MARK: &[u8] = b"\xef\xbb\xbf";
+
 /// The bytes of a way into what nests too deep from which on no further step is shown.
 const MOST_OF_WAY: usize = 40;
 
@@ -74,8 +77,17 @@ fn put_fault(lines: &mut Lines, bytes: &[u8], limit: usize, fault: TextFault) {
     }
 }
 
-/// Of a text that is no JSON: the line and the column at which it goes wrong.
+/// Of a text that is no JSON: that nothing stands there, that a mark stands before it, or the line and the column at which it
+/// goes wrong.
 pub(crate) fn put_not_json(lines: &mut Lines, bytes: &[u8]) {
+    if bytes.is_empty() {
+        lines.put(" is empty, and no JSON\n");
+        return;
+    }
+    if bytes.starts_with(BYTE_ORDER_MARK) {
+        lines.put(" begins with a byte order mark, and is no JSON\n  save it as UTF-8 without the mark\n");
+        return;
+    }
     lines.put(" is no JSON: ");
     put_json_fault(lines, bytes);
     lines.put("\n  no trailing comma, no comment; names and texts stand in double quotes\n");

@@ -9,8 +9,6 @@ ghost use Rattle.flagops_files.specs.Question.{book_at};
 ghost use Rattle.flagops_files.specs.Refusal.{ComesFrom, GivesOne, GivesUnlessWant, call_of, is_file_fault, is_unread, is_want};
 ghost use Rattle.flagops_files.specs.Report.{outcome_view};
 ghost use Rattle.flagops_files.specs.Told.{Says, TellsOf, TellsOfOne, file};
-ghost use Rattle.flagops_files.specs.declared.refusal.Call.TheVariants.{Book};
-ghost use Rattle.flagops_files.specs.declared.refusal.Refusal.TheVariants.{WantOfMemory};
 ghost use Rattle.flagops_remarks.specs.Named.{Names};
 
 use crate::books::drive::written;
@@ -104,20 +102,14 @@ fn refused(alloc: Global, path: &str, fault: BookFault) -> Refused
     ensures names { is_want result.refusal ≡ false → Says (Names path.now) result.remark }
 {
     match fault {
-        BookFault::WantOfMemory => out_of_memory(),
+        BookFault::WantOfMemory => Refused {
+            refusal: Refusal::WantOfMemory(Call::Book),
+            remark: Remark::Short,
+        },
         _ => Refused {
             refusal: Refusal::FullBook,
             remark: Remark::of(of_full_book(alloc, path)),
         },
-    }
-}
-
-fn out_of_memory() -> Refused
-    ensures { result.refusal ≡ WantOfMemory Book }
-{
-    Refused {
-        refusal: Refusal::WantOfMemory(Call::Book),
-        remark: Remark::Short,
     }
 }
 
@@ -129,7 +121,10 @@ fn output_of(alloc: Global, book: &Book, files: usize) -> Result<Drove, Refused>
 {
     match printed(alloc, book, files) {
         Ok(output) => Ok(output),
-        Err(AllocError) => Err(out_of_memory()),
+        Err(AllocError) => Err(Refused {
+            refusal: Refusal::WantOfMemory(Call::Book),
+            remark: Remark::Short,
+        }),
     }
 }
 

@@ -96,17 +96,10 @@ fn noted(alloc: Global, book: &str, question: &Question) -> Result<Option<Remark
 {
     match unrecorded(alloc, book, question) {
         Ok(remark) => Ok(remark),
-        Err(AllocError) => Err(want()),
-    }
-}
-
-/// The refusal of a command that ran out of memory.
-fn want() -> Refused
-    ensures { result.refusal ≡ WantOfMemory Apply }
-{
-    Refused {
-        refusal: Refusal::WantOfMemory(Call::Apply),
-        remark: Remark::Short,
+        Err(AllocError) => Err(Refused {
+            refusal: Refusal::WantOfMemory(Call::Apply),
+            remark: Remark::Short,
+        }),
     }
 }
 
@@ -155,7 +148,10 @@ fn none(alloc: Global, remark: Option<Remark>) -> Result<Outcome, Refused>
             status: Status::NoneExists,
             remark,
         }),
-        Err(AllocError) => Err(want()),
+        Err(AllocError) => Err(Refused {
+            refusal: Refusal::WantOfMemory(Call::Apply),
+            remark: Remark::Short,
+        }),
     }
 }
 
@@ -191,7 +187,10 @@ fn written_line(alloc: Global, count: usize) -> Result<String, Refused>
 {
     match written_text(alloc, count) {
         Ok(line) => Ok(line),
-        Err(AllocError) => Err(want()),
+        Err(AllocError) => Err(Refused {
+            refusal: Refusal::WantOfMemory(Call::Apply),
+            remark: Remark::Short,
+        }),
     }
 }
 
