@@ -14,6 +14,7 @@ use flagops_remarks::{of_book, of_unreadable};
 use page_tally::BookFile;
 use rollout_checks::{Refining, read_book_for};
 use std::alloc::Global;
+use std::thread::Threads;
 
 /// The largest book file, in bytes.
 const BOOK_LIMIT: u64 = 1 << 40;
@@ -30,7 +31,8 @@ pub struct Question {
 /// counted while the book is read, for the site's rule with each weight multiplied by the factor. The condition is a factor
 /// from 1.
 #[tactic(auto, unfolding(crate::specs::Question::IsQuestionAt))]
-pub fn load_question<F: FileSet>(
+pub fn load_question<R: Threads, F: FileSet>(
+    rt: &R,
     alloc: Global,
     files: &mut F,
     document: &str,
@@ -47,7 +49,7 @@ pub fn load_question<F: FileSet>(
 {
     let flags = load_flags(alloc, files, document)?;
     let request = load(alloc, files, request, u64::from(TEXT_LIMIT))?;
-    let book = load_book(alloc, files, &flags, request.as_slice(), factor, book)?;
+    let book = load_book(rt, alloc, files, &flags, request.as_slice(), factor, book)?;
     Ok(Question {
         flags,
         request,
@@ -57,7 +59,8 @@ pub fn load_question<F: FileSet>(
 
 /// The book of the file at a path, read for a request.
 #[tactic(auto, using(crate::proofs::Told::says), unfolding(crate::specs::Question::book_at))]
-fn load_book<F: FileSet>(
+fn load_book<R: Threads, F: FileSet>(
+    rt: &R,
     alloc: Global,
     files: &mut F,
     flags: &Flags,
@@ -79,7 +82,7 @@ fn load_book<F: FileSet>(
             remark: Remark::of(of_unreadable(alloc, path)),
         });
     }
-    match read_book_for(alloc, Refining::Times(factor), flags, request, bytes) {
+    match read_book_for(rt, alloc, Refining::Times(factor), flags, request, bytes) {
         Ok(book) => Ok(book),
         Err(fault) => Err(Refused {
             refusal: Refusal::ReadBook(fault),
