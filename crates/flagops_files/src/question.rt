@@ -17,6 +17,7 @@ use flagops_remarks::of_book;
 use page_tally::BookFile;
 use rollout_checks::{Refining, read_book_for};
 use std::alloc::Global;
+use std::thread::Threads;
 
 /// The bytes of a document and its flags, the bytes of a request, which are read only by the call that takes them, and the
 /// book.
@@ -32,7 +33,8 @@ pub struct Question {
 /// counted while the book is read, for the site's rule with each weight multiplied by the factor. The condition is a factor
 /// from 1.
 #[tactic(auto, unfolding(crate::specs::Question::IsQuestionAt))]
-pub fn load_question<F: FileSet>(
+pub fn load_question<R: Threads, F: FileSet>(
+    rt: &R,
     alloc: Global,
     files: &mut F,
     document: &str,
@@ -50,7 +52,7 @@ pub fn load_question<F: FileSet>(
 {
     let Document { bytes, flags } = load_document(alloc, files, document)?;
     let request = load(alloc, files, request, u64::from(TEXT_LIMIT))?;
-    let book = load_book_for(alloc, files, &flags, request.as_slice(), factor, book)?;
+    let book = load_book_for(rt, alloc, files, &flags, request.as_slice(), factor, book)?;
     Ok(Question {
         document: bytes,
         flags,
@@ -61,7 +63,8 @@ pub fn load_question<F: FileSet>(
 
 /// The book of the file at a path, read for a request.
 #[tactic(auto, using(crate::proofs::Told::says), unfolding(crate::specs::Question::book_at))]
-fn load_book_for<F: FileSet>(
+fn load_book_for<R: Threads, F: FileSet>(
+    rt: &R,
     alloc: Global,
     files: &mut F,
     flags: &Flags,
@@ -77,7 +80,7 @@ fn load_book_for<F: FileSet>(
     ensures names { TellsOf (file path.now) result }
 {
     let bytes = load_book_bytes(alloc, files, path)?;
-    match read_book_for(alloc, Refining::Times(factor), flags, request, bytes) {
+    match read_book_for(rt, alloc, Refining::Times(factor), flags, request, bytes) {
         Ok(book) => Ok(book),
         Err(fault) => Err(Refused {
             refusal: Refusal::ReadBook(fault),

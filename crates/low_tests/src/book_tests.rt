@@ -3,6 +3,7 @@ use book_core::{Book, BookFault, Page, a_book_is_its_calls, print_book, read_boo
 use page_tally::read_tally;
 use std::alloc::{AllocError, Global};
 use std::test::Fail;
+use std::thread::Threads;
 
 const FILE: &[u8] = b"{\"book\":1}
 {\"by\":\"{\\\"var\\\":[\\\"key\\\"]}\",\"flag\":\"color\",\"site\":0}
@@ -59,8 +60,8 @@ fn a_book_reads_as_it_was_printed(rt: HostRuntime) -> Result<(), Fail> {
 const COUNTS: &[u32] = &[1, 1, 0, 0, 2, 0, 1, 2, 0, 0];
 
 /// Whether the inputs of the page are counted so in the file.
-fn is_counted(alloc: Global, page: &Page) -> bool {
-    match read_tally(alloc, FILE, page, 10) {
+fn is_counted<R: Threads>(rt: &R, alloc: Global, page: &Page) -> bool {
+    match read_tally(rt, alloc, FILE, page, 10) {
         Ok(counts) => counts.as_slice() == COUNTS,
         Err(_) => false,
     }
@@ -69,7 +70,7 @@ fn is_counted(alloc: Global, page: &Page) -> bool {
 #[test]
 fn a_page_is_counted_by_its_points(rt: HostRuntime) -> Result<(), Fail> {
     let page = color(rt.alloc())?;
-    assert!(rt; is_counted(rt.alloc(), &page));
+    assert!(rt; is_counted(&rt, rt.alloc(), &page));
     Ok(())
 }
 

@@ -1,6 +1,9 @@
+mod Odd
 mod Quoted
 mod Plainly
 mod Running
+mod Parted
+mod Pointed
 mod Joined
 mod Paging
 mod Filed

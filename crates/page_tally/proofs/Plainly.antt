@@ -1,13 +1,14 @@
 -- A quoted text of plain ASCII is the line of an input.
-use Rattle.std.proofs.Common.{◌≡◌, ◌<◌, ◌≤◌, ◌&&◌, ◌++◌, ℕ, zero, suc, Bool, true, false, not, List, [], ◌∷◌, length, take, drop, get_or, Some, nat_lt, refl, sym, ap, ap₂, ◌∙◌, arith, take-append-drop}
+use Rattle.std.proofs.lemmas.List.{drop-drop, length-take-le}
+use Rattle.std.proofs.Common.{◌≡◌, ◌<◌, ◌≤◌, ◌+◌, ◌&&◌, ◌++◌, ℕ, zero, suc, Bool, true, false, List, [], ◌∷◌, length, take, drop, get_or, nat_lt, refl, sym, ap, ap₂, ◌∙◌, arith, take-append-drop}
 use borrow.Author.Tests.{ltb-true}
 use Rattle.std.specs.Prelude.{slice_index}
 use Rattle.std.proofs.lemmas.Bool.{and_parts, ne_eqb}
-use Rattle.std.specs.List.{list_all, onto_first, position, slice_split}
+use Rattle.std.specs.List.{list_all, onto_first, prefix_len, slice_split}
 use Rattle.std.specs.Str.{IsAscii}
 use Rattle.std.proofs.lemmas.Str.{IsUtf8-from_ascii}
 use Rattle.std.proofs.lemmas.Str.Ascii.{IsAscii-nil}
-use Rattle.std.proofs.lemmas.List.Quantifiers.{position-Some}
+use Rattle.std.proofs.lemmas.List.Sums.{prefix_len_passes, prefix_len-le-length}
 use Rattle.std.proofs.lemmas.List.Splits.{slice_split-cons_no}
 use Rattle.book_core.specs.Reading.{adds, is_feed, line_of, lines_of, read_line}
 use Rattle.book_core.proofs.Cut.{lines_of-cut}
@@ -45,15 +46,11 @@ split_plain (b ∷ s) rest all =
 split_quoted : (s rest : List ℕ) → list_all is_plain s ≡ true → slice_split is_feed (34 ∷ (s ++ 34 ∷ 10 ∷ rest)) ≡ (34 ∷ (s ++ 34 ∷ [])) ∷ slice_split is_feed rest
 split_quoted s rest all = slice_split-cons_no is_feed 34 (s ++ 34 ∷ 10 ∷ rest) refl ∙ ap (onto_first 34) (split_plain s rest all)
 
-not_not : (b : Bool) → not b ≡ false → b ≡ true
-not_not true e = refl
-not_not false e = cc
-
-all_before : (p : ℕ → Bool) (xs : List ℕ) (i : ℕ) → ((k : ℕ) → k < i → not (p (get_or xs k 0)) ≡ false) → i ≤ length xs → list_all p (take i xs) ≡ true
+all_before : (p : ℕ → Bool) (xs : List ℕ) (i : ℕ) → ((k : ℕ) → k < i → p (get_or xs k 0) ≡ true) → i ≤ length xs → list_all p (take i xs) ≡ true
 all_before p [] zero h fits = refl
 all_before p [] (suc i) h fits = absurd (omega (arith, fits))
 all_before p (x ∷ xs) zero h fits = refl
-all_before p (x ∷ xs) (suc i) h fits = ap₂ (λ a b. a && b) (not_not (p x) (h 0 (omega arith))) (all_before p xs i (λ k below. h (suc k) (omega (arith, below))) (omega (arith, fits)))
+all_before p (x ∷ xs) (suc i) h fits = ap₂ (λ a b. a && b) (h 0 (omega arith)) (all_before p xs i (λ k below. h (suc k) (omega (arith, below))) (omega (arith, fits)))
 
 quoted_line : (s : List ℕ) → list_all is_plain_ascii s ≡ true → line_of (34 ∷ (s ++ 34 ∷ [])) ≡ adds s
 unfolding line_of
@@ -62,12 +59,18 @@ quoted_line s all =
     ap read_line (tree_of-plain bytes s (length bytes) refl (plain_from_ascii s all) (IsUtf8-from_ascii s (ascii_below s all)) (omega arith))
 
 -- what stands between a quote and the first byte that is not plain, where that is a quote before a line feed
-pub plain_first : (bytes inner rest : List ℕ) (end : ℕ) → bytes ≡ 34 ∷ inner → Some end ≡ position (λ b. not (is_plain_ascii b)) inner → drop end inner ≡ 34 ∷ 10 ∷ rest → lines_of bytes ≡ adds (take end inner) ∷ lines_of rest
+pub plain_first : (bytes inner rest : List ℕ) (end : ℕ) → bytes ≡ 34 ∷ inner → end ≡ prefix_len is_plain_ascii inner → drop end inner ≡ 34 ∷ 10 ∷ rest → lines_of bytes ≡ adds (take end inner) ∷ lines_of rest
 plain_first bytes inner rest end is found behind =
     let s = take end inner in
-    let at = position-Some (λ b. not (is_plain_ascii b)) inner end 0 (sym found) in
-    let all : list_all is_plain_ascii s ≡ true = all_before is_plain_ascii inner end at.2 (omega (arith, at.0)) in
+    let each : (k : ℕ) → k < end → is_plain_ascii (get_or inner k 0) ≡ true = λ k below. prefix_len_passes is_plain_ascii inner k 0 (omega (arith, below, found)) in
+    let all : list_all is_plain_ascii s ≡ true = all_before is_plain_ascii inner end each (omega (arith, found, prefix_len-le-length is_plain_ascii inner)) in
     let whole : inner ≡ s ++ 34 ∷ 10 ∷ rest = sym (take-append-drop end inner) ∙ ap (λ r. s ++ r) behind in
     let split : slice_split is_feed bytes ≡ (34 ∷ (s ++ 34 ∷ [])) ∷ slice_split is_feed rest =
     ap (slice_split is_feed) (is ∙ ap (λ l. 34 ∷ l) whole) ∙ split_quoted s rest (plain_from_ascii s all) in
     lines_of-cut bytes (34 ∷ (s ++ 34 ∷ [])) rest split ∙ ap (λ l. l ∷ lines_of rest) (quoted_line s all)
+
+-- what stands behind such a line
+pub plain_behind : (bytes inner rest : List ℕ) (end : ℕ) → bytes ≡ 34 ∷ inner → end ≤ length inner → drop end inner ≡ 34 ∷ 10 ∷ rest → rest ≡ drop (length (take end inner) + 3) bytes
+plain_behind bytes inner rest end is fits behind =
+    let size : length (take end inner) + 3 ≡ suc (end + 2) = omega (arith, length-take-le end inner fits) in
+    sym (ap (λ n. drop n bytes) size ∙ ap (drop (suc (end + 2))) is ∙ sym (drop-drop 2 end inner) ∙ ap (drop 2) behind)

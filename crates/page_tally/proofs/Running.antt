@@ -30,7 +30,7 @@ pub length-with_inputs : (xs : Inputs) (k : Kept) → length (with_inputs k xs).
 length-with_inputs [] k = refl
 length-with_inputs (x ∷ xs) k = length-with_inputs xs (with_input k x) ∙ length-with_input k x
 
-inputs-with_inputs : (xs : Inputs) (k : Kept) → (with_inputs k xs).inputs ≡ k.inputs + length xs
+pub inputs-with_inputs : (xs : Inputs) (k : Kept) → (with_inputs k xs).inputs ≡ k.inputs + length xs
 inputs-with_inputs [] k = omega arith
 inputs-with_inputs (x ∷ xs) k =
     let later = inputs-with_inputs xs (with_input k x) in

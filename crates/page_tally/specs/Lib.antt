@@ -2,6 +2,8 @@ pub mod File
 pub mod Folding
 pub mod Inputs
 pub mod Lines
+pub mod Parts
 pub mod Plain
+pub mod Points
 pub mod Runs
 pub mod Tally

@@ -1,8 +1,9 @@
 //! The inputs of a page that were read: how many, and how many at each point.
-ghost use Rattle.std.specs.Prelude.{◌≡◌, ◌<◌, length, nat_lt, replicate, IfOk};
+ghost use Rattle.std.specs.Prelude.{◌≡◌, ◌+◌, ◌^◌, ◌<◌, ◌≤◌, ℕ, All, length, get_or, nat_le, nat_lt, replicate, IfOk, IfSome};
 ghost use Rattle.bucket_core.specs.Rule.{IsRuleTotal};
-ghost use Rattle.book_core.specs.Book.{most_inputs};
-ghost use Rattle.page_tally.specs.Folding.{passing, starting, with_input};
+ghost use Rattle.book_core.specs.Book.{Inputs, most_inputs};
+ghost use Rattle.page_tally.specs.Folding.{passing, starting, with_input, with_inputs};
+ghost use Rattle.page_tally.specs.Points.{points_if, with_points};
 
 use bucket_core::scale;
 use murmur_core::hash;
@@ -81,10 +82,48 @@ impl Counter {
         }
     }
 
+    /// Among how many points inputs are counted, where they are.
+    pub(crate) fn total(&self) -> Option<u32>
+        ensures total { result ≡ self.now.total }
+        ensures allowed { IfSome result IsRuleTotal }
+    {
+        self.total
+    }
+
+    /// Whether the page takes so many inputs more.
+    pub(crate) fn has_room_for(&self, inputs: usize) -> bool
+        ensures { result ≡ nat_le (self.now.inputs + inputs) most_inputs }
+    {
+        inputs <= MOST_INPUTS - self.inputs
+    }
+
+    /// Counts so many inputs more, at these points.
+    pub(crate) fn add(&mut self, inputs: usize, points: &[u32])
+        requires room { self.old.inputs + inputs ≤ most_inputs }
+        requires points { (xs : Inputs) × ((inputs ≡ length xs) × (points.now ≡ points_if self.old.total xs)) }
+        ensures { (xs : Inputs) → inputs ≡ length xs → points.now ≡ points_if self.old.total xs → self.new ≡ with_inputs self.old xs }
+    {
+        self.inputs += inputs;
+        if self.total.is_some() {
+            add_points(&mut self.counts, points);
+        }
+    }
+
     /// The counts at the points.
     pub(crate) fn into_counts(self) -> Vec<u32>
         ensures { result.items ≡ self.counts }
     {
         self.counts
+    }
+}
+
+/// Adds one at each of these points.
+fn add_points(counts: &mut Vec<u32>, points: &[u32])
+    requires inside { All (λ p. p < length counts.old.items) points.now }
+    requires small { (p : ℕ) → get_or counts.old.items p 0 + length points.now < 2 ^ 32 }
+    ensures { counts.new.items ≡ with_points counts.old.items points.now }
+{
+    for point in points {
+        counts[*point as usize] += 1;
     }
 }

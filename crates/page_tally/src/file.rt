@@ -40,7 +40,8 @@ impl BookFile {
     /// The book of a file, with its first line at fault as by `book_core::read_book`. The whole file is judged, and the
     /// inputs of a page are counted at a total, so that this tally costs no second reading. The condition is a total of a
     /// rule.
-    pub fn read(
+    pub fn read<R: Threads>(
+        rt: &R,
         alloc: Global,
         bytes: Vec<u8>,
         page: Page,
@@ -49,7 +50,7 @@ impl BookFile {
         requires { IsRuleTotal total }
         ensures { GivesUnless BookFileFault.WantOfMemory (λ f. f) result (book_of bytes.items) }
     {
-        match read_tally(alloc, bytes.as_slice(), &page, total) {
+        match read_tally(rt, alloc, bytes.as_slice(), &page, total) {
             Ok(counts) => Ok(BookFile {
                 bytes,
                 page,
@@ -68,22 +69,33 @@ impl BookFile {
     }
 
     /// Whether no input stands on a page. Want of memory is its one fault.
-    pub fn has_none(&self, alloc: Global, page: &Page) -> Result<bool, AllocError>
+    pub fn has_none<R: Threads>(
+        &self,
+        rt: &R,
+        alloc: Global,
+        page: &Page,
+    ) -> Result<bool, AllocError>
         ensures { IfOk result (λ none. none ≡ has_none (inputs_on self.now page.now)) }
     {
         if *page == self.page {
             return Ok(are_zero(self.counts.as_slice()));
         }
-        let counts = self.counted(alloc, page, 1)?;
+        let counts = self.counted(rt, alloc, page, 1)?;
         Ok(are_zero(counts.as_slice()))
     }
 
     /// The tally of a page, by reading the file again.
-    fn counted(&self, alloc: Global, page: &Page, total: u32) -> Result<Vec<u32>, AllocError>
+    fn counted<R: Threads>(
+        &self,
+        rt: &R,
+        alloc: Global,
+        page: &Page,
+        total: u32,
+    ) -> Result<Vec<u32>, AllocError>
         requires { IsRuleTotal total }
         ensures { IfOk result (λ counts. counts.items ≡ counts_of (inputs_on self.now page.now) total) }
     {
-        match read_tally(alloc, self.bytes.as_slice(), page, total) {
+        match read_tally(rt, alloc, self.bytes.as_slice(), page, total) {
             Ok(counts) => Ok(counts),
             Err(fault) => match fault {
                 BookFileFault::WantOfMemory => Err(AllocError),
@@ -113,7 +125,7 @@ impl Recorded for BookFile {
 
     fn tally<R: Threads + Sync>(
         &self,
-        _rt: &R,
+        rt: &R,
         alloc: Global,
         page: &Page,
         total: u32,
@@ -121,6 +133,6 @@ impl Recorded for BookFile {
         if *page == self.page && total == self.total {
             return copied(alloc, self.counts.as_slice());
         }
-        self.counted(alloc, page, total)
+        self.counted(rt, alloc, page, total)
     }
 }

@@ -3,14 +3,18 @@
 //! Proved, over the definitions of `specs/`: [`read_tally`] gives what `counts` of `book_core` gives of the page's
 //! exposure in the book of the file, or that file's first fault (`Tally`). It is a fold over the lines that keeps of
 //! those before the page, the last input, the line's number and the counts (`Folding`), and a run of lines at fault in
-//! nothing changes only these (`Runs`).
+//! nothing changes only these (`Runs`). Long runs are read in parts by all processors, each part before it is known what
+//! stands before it (`Parts`), and counted by the points of their inputs (`Points`).
 #![tactic(auto)]
 
+mod ascii;
 mod counter;
 mod file;
 mod input;
 mod line;
 mod lines;
+mod part;
+mod parts;
 mod plain;
 mod read;
 mod recorded;

@@ -10,7 +10,7 @@ ghost use Rattle.page_tally.specs.Lines.{line_view};
 
 use crate::input::is_below;
 use crate::line::{Line, read_line};
-use crate::plain::plain_line;
+use crate::plain::short_line;
 use book_core::BookFileFault;
 use std::alloc::Global;
 
@@ -62,10 +62,7 @@ impl<'a> Lines<'a> {
         ensures number { IfSome result (λ input. self.new.taken ≡ self.old.taken + 1) }
         ensures shorter { IfSome result (λ input. length self.new.rest.now < length self.old.rest.now) }
     {
-        let (input, rest) = plain_line(self.rest)?;
-        if input.len() > MOST_BYTES {
-            return None;
-        }
+        let (input, rest) = short_line(self.rest)?;
         if !is_below(last, input) {
             return None;
         }
@@ -87,7 +84,8 @@ pub(crate) fn cut(bytes: &[u8]) -> Option<(&[u8], &[u8])>
     }
 }
 
-fn feed_at(bytes: &[u8]) -> Option<usize>
+/// Where the first line feed stands.
+pub(crate) fn feed_at(bytes: &[u8]) -> Option<usize>
     ensures { result ≡ position is_feed bytes.now }
 {
     bytes.iter().position(|b| *b == b'\n')

@@ -1,11 +1,14 @@
 //! Lines that need no reader of JSON.
-ghost use Rattle.std.specs.Prelude.{◌≡◌, ◌<◌, ◌++◌, [], ◌∷◌, length, not, Ok, IfSome};
-ghost use Rattle.std.specs.List.{list_all, position};
+ghost use Rattle.std.specs.Prelude.{◌≡◌, ◌+◌, ◌<◌, ◌≤◌, ◌++◌, [], ◌∷◌, length, drop, Ok, IfSome};
+ghost use Rattle.std.specs.List.{list_all};
 ghost use Rattle.flag_text.specs.Reading.{tree_of};
 ghost use Rattle.flag_text.specs.Shape.{text};
+ghost use Rattle.book_core.specs.Book.{most_bytes};
 ghost use Rattle.book_core.specs.Reading.{adds, lines_of};
-ghost use Rattle.page_tally.specs.Plain.{is_plain, is_plain_ascii};
+ghost use Rattle.page_tally.specs.Plain.{is_plain};
 
+use crate::ascii::plain_end;
+use crate::lines::MOST_BYTES;
 use std::str;
 
 /// The text that a line stands for, where it is a quoted text without an escape and nothing stands around it. `None`
@@ -43,13 +46,28 @@ fn is_all_plain(bytes: &[u8]) -> bool
 }
 
 /// The input of the first line and the bytes after that line, where the line is a quoted text of ASCII without an
-/// escape. `None` says nothing of the line. Cost: a pass over the line, and no memory.
-pub(crate) fn plain_line(bytes: &[u8]) -> Option<(&[u8], &[u8])>
+/// escape, no longer than an input may be. `None` says nothing of the line. Cost: a pass over the line, and no memory.
+pub(crate) fn short_line(bytes: &[u8]) -> Option<(&[u8], &[u8])>
     ensures line { IfSome result (λ r. lines_of bytes.now ≡ adds r.0.now ∷ lines_of r.1.now) }
+    ensures short { IfSome result (λ r. length r.0.now ≤ most_bytes) }
+    ensures behind { IfSome result (λ r. r.1.now ≡ drop (length r.0.now + 3) bytes.now) }
+    ensures shorter { IfSome result (λ r. length r.1.now < length bytes.now) }
+{
+    let (input, rest) = plain_line(bytes)?;
+    if input.len() > MOST_BYTES {
+        return None;
+    }
+    Some((input, rest))
+}
+
+/// The same of a line that may be longer.
+fn plain_line(bytes: &[u8]) -> Option<(&[u8], &[u8])>
+    ensures line { IfSome result (λ r. lines_of bytes.now ≡ adds r.0.now ∷ lines_of r.1.now) }
+    ensures behind { IfSome result (λ r. r.1.now ≡ drop (length r.0.now + 3) bytes.now) }
     ensures shorter { IfSome result (λ r. length r.1.now < length bytes.now) }
 {
     let inner = quoted(bytes)?;
-    let end = plain_end(inner)?;
+    let end = plain_end(inner);
     let rest = ended(&inner[end..])?;
     Some((&inner[..end], rest))
 }
@@ -72,13 +90,4 @@ fn ended(bytes: &[u8]) -> Option<&[u8]>
         [b'"', b'\n', rest @ ..] => Some(rest),
         _ => None,
     }
-}
-
-/// Where the first byte stands that does not stand for itself, or is not of ASCII.
-fn plain_end(bytes: &[u8]) -> Option<usize>
-    ensures { result ≡ position (λ b. not (is_plain_ascii b)) bytes.now }
-{
-    bytes
-        .iter()
-        .position(|b| !(*b >= b' ' && *b != b'"' && *b != b'\\' && *b < 128))
 }

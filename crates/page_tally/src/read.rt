@@ -16,13 +16,15 @@ use crate::lines::{Lines, MOST_BYTES, cut};
 use crate::run::read_run;
 use book_core::{BookFileFault, Page};
 use std::alloc::Global;
+use std::thread::Threads;
 
 /// For each point below the total, the number of the page's inputs that fall on it, of the book of a file: entry p
 /// counts those whose hash, scaled to the total, is p. A page that the book does not have has no inputs. The whole file
 /// is judged, as `book_core::read_book` does, and the first line at fault answers: Header, Line, InputTooLong, Order or
-/// PageFull. Cost: linear in the file and the total; beside the bytes the counts and the line of one page are held, and
-/// one input.
-pub fn read_tally(
+/// PageFull. Cost: linear in the file and the total, and long runs of plain lines are read by all processors; beside the
+/// bytes the counts and the line of one page are held, one input, and the points of such a run.
+pub fn read_tally<R: Threads>(
+    rt: &R,
     alloc: Global,
     bytes: &[u8],
     page: &Page,
@@ -38,7 +40,7 @@ pub fn read_tally(
                 return Err(BookFileFault::Header);
             }
             let mut lines = Lines { rest, taken: 1 };
-            read_pages(alloc, &mut lines, page, total)
+            read_pages(rt, alloc, &mut lines, page, total)
         }
     }
 }
@@ -55,7 +57,8 @@ fn unended(header: bool) -> BookFileFault
 }
 
 /// Reads the pages.
-fn read_pages(
+fn read_pages<R: Threads>(
+    rt: &R,
     alloc: Global,
     lines: &mut Lines<'_>,
     wanted: &Page,
@@ -73,7 +76,7 @@ fn read_pages(
         let first = lines.take(alloc)?;
         check_page(&before, &page, &first, number)?;
         begin(&mut counter, &page, wanted, total);
-        next = read_inputs(alloc, lines, first, &mut counter)?;
+        next = read_inputs(rt, alloc, lines, first, &mut counter)?;
         before = Some(page);
     }
     Ok(counter.into_counts())
@@ -145,7 +148,8 @@ fn begin(counter: &mut Counter, page: &Page, wanted: &Page, total: u32)
 }
 
 /// Reads the inputs of a page from this line on, up to the line of the next page.
-fn read_inputs<'a>(
+fn read_inputs<'a, R: Threads>(
+    rt: &R,
     alloc: Global,
     lines: &mut Lines<'a>,
     first: Option<Line<'a>>,
@@ -167,7 +171,7 @@ fn read_inputs<'a>(
             Some(Line::Page(page)) => return Ok(Some(page)),
             Some(Line::Other) => return Err(BookFileFault::Line(lines.taken)),
             Some(Line::Input(input)) => {
-                last = Some(read_on(lines, &last, input, counter)?);
+                last = Some(read_on(rt, alloc, lines, &last, input, counter)?);
                 line = lines.take(alloc)?;
             }
         }
@@ -175,7 +179,9 @@ fn read_inputs<'a>(
 }
 
 /// Counts an input that stands on the line taken last, and the run of plain lines after it; gives the last input.
-fn read_on<'a>(
+fn read_on<'a, R: Threads>(
+    rt: &R,
+    alloc: Global,
     lines: &mut Lines<'a>,
     last: &Option<Input<'a>>,
     input: Input<'a>,
@@ -190,11 +196,17 @@ fn read_on<'a>(
         tally_from wanted total (Some page) lines.old.taken (last_view last.now) counter.old (adds (input_view input.entry) ∷ after) ≡ Err e) }
 {
     add_input(counter, last, &input, lines.taken)?;
-    Ok(follow(lines, input, counter))
+    Ok(follow(rt, alloc, lines, input, counter))
 }
 
 /// Counts the run of plain lines after a plain input; gives the last input.
-fn follow<'a>(lines: &mut Lines<'a>, input: Input<'a>, counter: &mut Counter) -> Input<'a>
+fn follow<'a, R: Threads>(
+    rt: &R,
+    alloc: Global,
+    lines: &mut Lines<'a>,
+    input: Input<'a>,
+    counter: &mut Counter,
+) -> Input<'a>
     ensures read { (wanted page : PageName) (total : ℕ) →
         tally_from wanted total (Some page) (lines.old.taken + 1) (Some (input_view input.entry)) counter.old (lines_of lines.old.rest.now)
         ≡ tally_from wanted total (Some page) (lines.new.taken + 1) (Some (input_view result)) counter.new (lines_of lines.new.rest.now) }
@@ -202,7 +214,7 @@ fn follow<'a>(lines: &mut Lines<'a>, input: Input<'a>, counter: &mut Counter) ->
     ensures shorter { length lines.new.rest.now ≤ length lines.old.rest.now }
 {
     match input {
-        Input::Plain(first) => Input::Plain(read_run(lines, first, counter)),
+        Input::Plain(first) => Input::Plain(read_run(rt, alloc, lines, first, counter)),
         Input::Text(text) => Input::Text(text),
     }
 }

@@ -15,11 +15,13 @@ use flag_defs::Flags;
 use page_tally::BookFile;
 use price_core::Request;
 use std::alloc::Global;
+use std::thread::Threads;
 
 /// The book of a file, with its first line at fault as by `book_core::read_book`. It is read for a request: how many inputs
 /// of its page fall on each point is counted in the same pass, so that what is planned or verified on the book reads the file
 /// no second time, as long as the rule is refined alike. The condition is a factor from 1.
-pub fn read_book_for(
+pub fn read_book_for<R: Threads>(
+    rt: &R,
     alloc: Global,
     refining: Refining,
     flags: &Flags,
@@ -30,8 +32,8 @@ pub fn read_book_for(
     ensures { GivesUnless BookFileFault.WantOfMemory (λ f. f) result (book_of bytes.items) }
 {
     match asked(alloc, refining, flags, request) {
-        Ok((page, total)) => BookFile::read(alloc, bytes, page, total),
-        Err(_) => BookFile::read(alloc, bytes, no_page(alloc), 1),
+        Ok((page, total)) => BookFile::read(rt, alloc, bytes, page, total),
+        Err(_) => BookFile::read(rt, alloc, bytes, no_page(alloc), 1),
     }
 }
 

@@ -51,7 +51,7 @@ pub fn keep<R: Threads + Sync, F: FileSet>(
     ensures names { TellsOfOne (keep_subjects document.now plan.now request.now book.now) result }
     ensures notes { IfOk result (λ o. IfSome o.remark (Says (Names book.now))) }
 {
-    let question = load_question(alloc, files, document, request, book, factor_of(refine))?;
+    let question = load_question(rt, alloc, files, document, request, book, factor_of(refine))?;
     let planned = load_planned(alloc, files, plan)?;
     let paths = Paths {
         request,
@@ -84,17 +84,22 @@ fn answer<F: FileSet>(
     ensures notes { IfOk result (λ o. IfSome o.remark (Says (Names paths.entry.book.now))) }
 {
     let text = kept(rt, alloc, document, paths, question, planned, refine)?;
-    let remark = noted(alloc, paths.book, question)?;
+    let remark = noted(rt, alloc, paths.book, question)?;
     put(alloc, files, document, write, text, remark)
 }
 
 /// What the book has no input for, which a person is told.
-fn noted(alloc: Global, book: &str, question: &Question) -> Result<Option<Remark>, Refused>
+fn noted(
+    rt: &impl Threads,
+    alloc: Global,
+    book: &str,
+    question: &Question,
+) -> Result<Option<Remark>, Refused>
     ensures told { IfOk result (λ r. is_some r ≡ is_unrecorded (question_view question.now)) }
     ensures wants { IfErr result (λ r. r.refusal ≡ WantOfMemory Apply) }
     ensures notes { IfOk result (λ r. IfSome r (Says (Names book.now))) }
 {
-    match unrecorded(alloc, book, question) {
+    match unrecorded(rt, alloc, book, question) {
         Ok(remark) => Ok(remark),
         Err(AllocError) => Err(Refused {
             refusal: Refusal::WantOfMemory(Call::Apply),

@@ -41,7 +41,7 @@ pub fn plan<R: Threads + Sync, F: FileSet>(
     ensures names { TellsOfOne (plan_subjects document.now request.now book.now) result }
     ensures notes { IfOk result (λ o. IfSome o.remark (Says (Names book.now))) }
 {
-    let question = load_question(alloc, files, document, request, book, factor_of(refine))?;
+    let question = load_question(rt, alloc, files, document, request, book, factor_of(refine))?;
     answer(rt, alloc, request, book, &question, refine)
 }
 
@@ -72,7 +72,7 @@ fn answer(
             });
         }
     };
-    match unrecorded(alloc, book, question) {
+    match unrecorded(rt, alloc, book, question) {
         Ok(remark) => printed(alloc, &planned, remark),
         Err(AllocError) => Err(Refused {
             refusal: Refusal::WantOfMemory(Call::Plan),

@@ -16,9 +16,11 @@ use logic_ast::LogicFault;
 use page_tally::BookFile;
 use price_core::{PriceFault, Request};
 use std::alloc::{AllocError, Global};
+use std::thread::Threads;
 
 /// What is told where the page of a request has no input in the book, which is that of a path.
-pub fn unrecorded(
+pub fn unrecorded<R: Threads>(
+    rt: &R,
     alloc: Global,
     path: &str,
     question: &Question,
@@ -29,7 +31,7 @@ pub fn unrecorded(
     match Request::read(alloc, question.request.as_slice()) {
         Ok(request) => {
             let page = page_asked(alloc, &question.flags, &request)?;
-            remark(alloc, path, &question.book, page)
+            remark(rt, alloc, path, &question.book, page)
         }
         Err(PriceFault::WantOfMemory) => Err(AllocError),
         Err(_) => Ok(None),
@@ -68,7 +70,8 @@ fn page_in(
 
 /// What is told of a page without inputs.
 #[tactic(auto, using(flagops_files::proofs::Told::says))]
-fn remark(
+fn remark<R: Threads>(
+    rt: &R,
     alloc: Global,
     path: &str,
     book: &BookFile,
@@ -80,7 +83,7 @@ fn remark(
     let Some(page) = page else {
         return Ok(None);
     };
-    if book.has_none(alloc, &page)? {
+    if book.has_none(rt, alloc, &page)? {
         Ok(Some(Remark::of(lines(alloc, path, book, &page))))
     } else {
         Ok(None)

@@ -41,7 +41,7 @@ pub fn verify<R: Threads + Sync, F: FileSet>(
     ensures names { TellsOfOne (verify_subjects document.now request.now book.now plan.now) result }
     ensures notes { IfOk result (λ o. IfSome o.remark (Says (Names book.now))) }
 {
-    let question = load_question(alloc, files, document, request, book, factor_of(refine))?;
+    let question = load_question(rt, alloc, files, document, request, book, factor_of(refine))?;
     let planned = load_planned(alloc, files, plan)?;
     let paths = Paths {
         request,
@@ -82,7 +82,7 @@ fn verdict(
             remark: Remark::of(lines),
         });
     }
-    match unrecorded(alloc, paths.book, question) {
+    match unrecorded(rt, alloc, paths.book, question) {
         Ok(remark) => valid(alloc, planned, remark),
         Err(AllocError) => Err(Refused {
             refusal: Refusal::WantOfMemory(Call::Verify),

@@ -7,7 +7,7 @@ use Rattle.page_tally.specs.Lines.{with_line}
 use Rattle.page_tally.proofs.read.read_inputs.Given as goal
 
 abbrev pub invariant-lines : goal.invariant-lines
-invariant-lines l = record {
+invariant-lines g l = record {
   read : (wanted page : PageName) (total : ℕ) → tally_from wanted total (Some page) l.fn.lines.taken None l.fn.counter (with_line l.fn.first (lines_of l.fn.lines.rest.now))
       ≡ tally_from wanted total (Some page) l.lines.taken (last_view l.last) l.counter (with_line l.line (lines_of l.lines.rest.now));
   whole : length l.counter.counts ≡ length l.fn.counter.counts;
@@ -15,4 +15,4 @@ invariant-lines l = record {
 }
 
 abbrev pub decreases-lines : goal.decreases-lines
-decreases-lines l = length l.lines.rest.now + length (option_to_list l.line)
+decreases-lines g l = length l.lines.rest.now + length (option_to_list l.line)

@@ -8,14 +8,14 @@ use Rattle.page_tally.proofs.Paging.{page_begins, page_at_fault, whole_begun, li
 use Rattle.page_tally.proofs.read.read_pages.Goals as goal
 
 pub returns-in_err-next : goal.returns-in_err-next
-returns-in_err-next c =
+returns-in_err-next g c =
     let p = err_from_is_err_and c.from_residual-in_err-next.result c.from_residual-in_err-next.ensures.1 in
     let zeros = replicate {A = ℕ} c.args.total 0 in
     let second : 2 ≡ c.args.lines.now.taken + 1 = omega (arith, c.requires.number) in
     rw (p.1, p.2) (λ other. ap (λ n. tally_after c.args.wanted.now c.args.total None n zeros (lines_of c.args.lines.now.rest.now)) second ∙ c.in_err-next.ensures.fault other c.args.wanted.now c.args.total zeros)
 
 pub returns-in_err-check_page : goal.returns-in_err-check_page
-returns-in_err-check_page c =
+returns-in_err-check_page g c =
     let p = err_from_is_err_and c.from_residual-in_err-check_page.result c.from_residual-in_err-check_page.ensures.1 in
     let n = c.pages.lines.taken in
     let ls = lines_of c.pages.lines.rest.now in
@@ -25,7 +25,7 @@ returns-in_err-check_page c =
     rw (p.1, p.2) (λ other. sym c.pages.invariant.read ∙ here ∙ page_at_fault c.in_ok-first.first ls after n c.pages.before c.in-Some.page c.args.wanted.now c.args.total counts c.in_err-check_page.field-0.0 c.in_ok-first.ensures.next (c.in_err-check_page.ensures.fault after))
 
 pub returns-in_err-next-2 : goal.returns-in_err-next-2
-returns-in_err-next-2 c =
+returns-in_err-next-2 g c =
     let p = err_from_is_err_and c.from_residual-in_err-next-2.result c.from_residual-in_err-next-2.ensures.1 in
     let n = c.pages.lines.taken in
     let m = c.take.new.self.taken in
@@ -42,7 +42,7 @@ returns-in_err-next-2 c =
     rw (p.1, p.2) (λ other. sym c.pages.invariant.read ∙ here ∙ start ∙ kept ∙ c.in_err-next-2.ensures.fault other wanted page total)
 
 pub pages-smaller : goal.pages-smaller
-pages-smaller c =
+pages-smaller g c =
     let next = c.in_ok-next-2.next in
     let less = line_behind c.in_ok-first.first (lines_of c.take.new.self.rest.now) c.pages.lines.taken c.pages.before c.in-Some.page _ (length c.take.new.self.rest.now) (length c.pages.lines.rest.now) (c.in_ok-check_page.ensures.good (lines_of c.take.new.self.rest.now)) c.in_ok-first.ensures.shorter in
     let fewer = c.in_ok-next-2.ensures.shorter in
@@ -52,7 +52,7 @@ pages-smaller c =
     smaller
 
 pub pages-preserved : goal.pages-preserved
-pages-preserved c =
+pages-preserved g c =
     let n = c.pages.lines.taken in
     let m = c.take.new.self.taken in
     let wanted = c.args.wanted.now in

@@ -10,19 +10,19 @@ use Rattle.page_tally.proofs.read.read_tally.Goals as goal
 
 pub returns-in_ok-is_header-in-None : goal.returns-in_ok-is_header-in-None
 unfolding tally_of
-returns-in_ok-is_header-in-None c = λ _.
+returns-in_ok-is_header-in-None g c = λ _.
     let header = bool_within _ _ c.in_ok-is_header-in-None.ensures in
     ap (if_book (page_counts c.args.page.now c.args.total)) (book_of-unended c.args.bytes.now c.in_ok-is_header-in-None.field-0 c.in-None.ensures.parts header) ∙ ap Err (sym c.unended.ensures)
 
 pub returns-then-not-branch : goal.returns-then-not-branch
 unfolding tally_of
-returns-then-not-branch c = λ _.
+returns-then-not-branch g c = λ _.
     let header = bool_within _ _ c.in_ok-is_header-in-Some.ensures ∙ c.if-not-branch.true in
     ap (if_book (page_counts c.args.page.now c.args.total)) (book_of-cut c.args.bytes.now c.in-Some.first.now c.in-Some.rest.now false c.in-Some.ensures.parts header)
 
 pub returns-else-not-branch : goal.returns-else-not-branch
 unfolding tally_of
-returns-else-not-branch c =
+returns-else-not-branch g c =
     let header = bool_within _ _ c.in_ok-is_header-in-Some.ensures ∙ c.if-not-branch.false in
     let page = c.args.page.now in
     let total = c.args.total in

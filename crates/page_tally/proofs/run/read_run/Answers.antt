@@ -1,15 +1,13 @@
-use Rattle.std.proofs.Common.{◌++◌, [], ◌∷◌, arith}
+use Rattle.std.proofs.Common.{◌++◌}
 use Rattle.book_core.specs.Reading.{lines_of}
-use Rattle.page_tally.proofs.Running.{run_more}
+use Rattle.page_tally.proofs.Parted.{run_then}
 use Rattle.page_tally.proofs.run.read_run.Goals as goal
 
-pub loop-input-preserved : goal.loop-input-preserved
-loop-input-preserved c =
-    let run = c.loop-input.invariant.run in
-    let more = run_more c.args.first.now run.0 (lines_of c.args.lines.now.rest.now) (lines_of c.loop-input.lines.rest.now) (lines_of c.next_input.new.lines.rest.now)
-    c.args.lines.now.taken c.loop-input.lines.taken c.next_input.new.lines.taken c.args.counter.now c.loop-input.counter c.count.new.self c.loop-input.last.now c.in-Some.input.now
-    run.1 c.in-Some.ensures.line c.in-Some.ensures.above c.in-Some.ensures.short c.in-Some.ensures.number c.in-Some.ensures.room c.count.ensures in
-    record {
-      run = (run.0 ++ c.in-Some.input.now ∷ [], more);
-      shorter = omega (arith, c.in-Some.ensures.shorter, c.loop-input.invariant.shorter);
-    }
+pub returns-clause-run : goal.returns-clause-run
+returns-clause-run g c =
+    let one = c.take_lines-last.ensures.run in
+    let two = c.take_rest.ensures.run in (
+      one.0 ++ two.0,
+      run_then c.args.first.now one.0 two.0 (lines_of c.args.lines.now.rest.now) (lines_of c.take_lines-last.new.lines.rest.now) (lines_of c.take_rest.new.lines.rest.now)
+          c.args.lines.now.taken c.take_lines-last.new.lines.taken c.take_rest.new.lines.taken c.args.counter.now c.take_lines-last.new.counter c.take_rest.new.counter c.take_lines-last.result.now c.take_rest.result.now one.1 two.1,
+    )

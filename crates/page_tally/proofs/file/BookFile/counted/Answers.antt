@@ -7,13 +7,13 @@ use Rattle.page_tally.proofs.Filed.{never_refused, tally_given}
 use Rattle.page_tally.proofs.file.BookFile.counted.Goals as goal
 
 pub unreachable-requires : goal.unreachable-requires
-unreachable-requires c =
+unreachable-requires g c =
     let s = c.self.inside in
     let bytes = c.as_slice.ensures.value in
     never_refused s.bytes.items c.args.page.now s.page c.args.total s.total s.counts.items c.in-Err.fault c.self.invariant (ap (λ bs. tally_of bs c.args.page.now c.args.total) (sym bytes) ∙ c.in-Err.ensures c.in_default.not-WantOfMemory)
 
 pub returns-in-Ok : goal.returns-in-Ok
-returns-in-Ok c =
+returns-in-Ok g c =
     let s = c.self.inside in
     let page = c.args.page.now in
     let total = c.args.total in

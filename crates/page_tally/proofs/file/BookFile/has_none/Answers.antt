@@ -6,7 +6,7 @@ use Rattle.page_tally.proofs.Filed.{same_page, zero_none}
 use Rattle.page_tally.proofs.file.BookFile.has_none.Goals as goal
 
 pub returns-then-eq : goal.returns-then-eq
-returns-then-eq c =
+returns-then-eq g c =
     let s = c.self.inside in
     let page = c.args.page.now in
     let book = c.args.self.now in
@@ -15,5 +15,5 @@ returns-then-eq c =
     c.are_zero.ensures ∙ (ap (list_all (λ count. count == 0)) (c.as_slice.ensures.value ∙ kept) ∙ zero_none (inputs_on book page) s.total c.self.invariant.some)
 
 pub returns : goal.returns
-returns c =
+returns g c =
     c.are_zero-2.ensures ∙ (ap (list_all (λ count. count == 0)) (c.as_slice-2.ensures.value ∙ c.in_ok-counts.ensures) ∙ zero_none (inputs_on c.args.self.now c.args.page.now) 1 (omega arith))

@@ -2,13 +2,13 @@ use Rattle.std.proofs.Common.{◌≤◌, length}
 use Rattle.book_core.specs.Book.{Inputs}
 use Rattle.book_core.specs.Reading.{lines_of}
 use Rattle.page_tally.specs.Runs.{TakesRun}
-use Rattle.page_tally.proofs.run.read_run.Given as goal
+use Rattle.page_tally.proofs.run.take_lines.Given as goal
 
-abbrev pub invariant-loop-input : goal.invariant-loop-input
-invariant-loop-input l = record {
+abbrev pub invariant-loop-lines : goal.invariant-loop-lines
+invariant-loop-lines l = record {
   run : (inputs : Inputs) × TakesRun l.fn.first inputs (lines_of l.fn.lines.rest.now) l.fn.lines.taken l.fn.counter l.last (lines_of l.lines.rest.now) l.lines.taken l.counter;
   shorter : length l.lines.rest.now ≤ length l.fn.lines.rest.now;
 }
 
-abbrev pub decreases-loop-input : goal.decreases-loop-input
-decreases-loop-input l = length l.lines.rest.now
+abbrev pub decreases-loop-lines : goal.decreases-loop-lines
+decreases-loop-lines l = length l.lines.rest.now
