@@ -18,7 +18,9 @@
 #![tactic(auto)]
 
 mod dealing;
+mod limits;
 mod placing;
 mod spreading;
+mod stretches;
 
 pub use spreading::spread;

@@ -13,9 +13,3 @@ spread_over-requires-clause-few c =
     let is = c.groups-groups.ensures.value in
     let lawful = c.groups-groups.ensures.lawful in
     omega (arith, few_groups c.groups-groups.result.now (subst (λ gs. All (λ (g : GroupKey × ℕ). 0 < g.1) gs) (sym is) lawful.sizes), ap whole_amount is, lawful.small)
-
-pub spread_over-requires-clause-listed : goal.spread_over-requires-clause-listed
-spread_over-requires-clause-listed c =
-    let names = ap names_view c.as_slice.ensures.value ∙ (c.in_ok-names.ensures ∙ (ap keys_of c.entries.ensures.value ∙ ap keys_of c.totals.ensures.value)) in
-    let listed = subst (λ gs. All (λ (g : GroupKey × ℕ). Contains (keys_of c.args.instance.now.limits) g.0.0) gs) (sym c.groups-groups.ensures.value) c.groups-groups.ensures.lawful.listed in
-    subst (λ (ns : List (List ℕ)). All (λ (g : GroupKey × ℕ). Contains ns g.0.0) (rows_view c.groups-groups.result.now)) (sym names) listed
