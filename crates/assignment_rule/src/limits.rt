@@ -42,12 +42,12 @@ impl Limit {
     }
 
     /// Whether any points change.
-    pub(crate) fn has_any(&self) -> bool {
+    fn has_any(&self) -> bool {
         self.rank > 0 || self.more > 0
     }
 }
 
-/// The limit of each group, of whose points so many are given another name than its base as its numbers say.
+/// The limit of each group. Its points that change are those that are given another name than its base.
 pub(crate) fn limits_of(
     alloc: Global,
     points: &[u32],
@@ -72,7 +72,7 @@ pub(crate) fn limits_of(
         })?;
     }
     let sizes = sizes_of(alloc, points, numbers, bases, names, limits.as_slice())?;
-    lower(limits.as_mut_slice(), sizes.as_slice());
+    raise(limits.as_mut_slice(), sizes.as_slice());
     Ok(limits)
 }
 
@@ -122,7 +122,7 @@ fn sizes_of(
 }
 
 /// Moves each limit up to the rank at which the points that are to change run out.
-fn lower(limits: &mut [Limit], sizes: &[u32])
+fn raise(limits: &mut [Limit], sizes: &[u32])
     requires { length sizes.now ≡ length limits.old * RANKS }
     ensures { length limits.new ≡ length limits.old }
 {

@@ -1,5 +1,5 @@
 -- A group's numbers are as many as names.
-use Rattle.std.proofs.Common.{◌<◌, length, arith}
+use Rattle.std.proofs.Common.{length, arith}
 use Rattle.assignment_rule.proofs.Numbers.{row_wide}
 use Rattle.assignment_rule.proofs.limits.sizes_of.Goals as goal
 

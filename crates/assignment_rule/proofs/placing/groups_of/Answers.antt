@@ -1,5 +1,5 @@
 -- The points up to the end of an entry have their groups.
-use Rattle.std.proofs.Common.{◌≡◌, ◌≤◌, ◌<◌, ◌∙◌, List, ℕ, length, sym, ap, arith}
+use Rattle.std.proofs.Common.{◌≤◌, ◌∙◌, length, arith}
 use Rattle.std.specs.Map.{keys_of}
 use Rattle.transport_instance.specs.Groups.{rows_view}
 use Rattle.assignment_rule.proofs.Places.{length-part, run_listed, run_placed}

@@ -1,9 +1,7 @@
 -- What holds of the instance holds of its groups and names.
-use Rattle.std.proofs.Common.{◌<◌, ℕ, List, sym, ap, ◌∙◌, subst, arith}
-use Rattle.std.specs.List.{All, Contains}
-use Rattle.std.specs.Map.{keys_of}
-use Rattle.bucket_core.specs.Rule.{names_view}
-use Rattle.transport_instance.specs.Groups.{GroupKey, rows_view}
+use Rattle.std.proofs.Common.{◌<◌, ℕ, sym, ap, subst, arith}
+use Rattle.std.specs.List.{All}
+use Rattle.transport_instance.specs.Groups.{GroupKey}
 use Rattle.transport_instance.specs.Rows.{whole_amount}
 use Rattle.transport_instance.proofs.Plans.{few_groups}
 use Rattle.assignment_rule.proofs.spreading.spread.Goals as goal

@@ -1,5 +1,5 @@
 -- Where the others have nothing left, the base has.
-use Rattle.std.proofs.Common.{◌≡◌, ◌<◌, ⊎_elim, arith, ap, get_or}
+use Rattle.std.proofs.Common.{◌≡◌, ⊎_elim, arith, ap, get_or}
 use Rattle.std.proofs.lemmas.Bool.{cases_eq}
 use Rattle.assignment_rule.proofs.Numbers.{some_left}
 use Rattle.assignment_rule.proofs.stretches.other.Goals as goal
