@@ -1,3 +1,4 @@
+pub mod Numbers
 pub mod Dealt
 pub mod Places
 pub mod Assigned

@@ -1,14 +1,13 @@
 -- Where a key stands among keys that rise, as halving finds it.
-use Rattle.std.proofs.Common.{◌≡◌, ℕ, zero, suc, ◌+◌, ◌<◌, ◌≤◌, ⊎_elim, List, [], ◌∷◌, ◌++◌, Bor, length, map, get_or, true, false, Option, Some, unwrap_or, Ordering, refl, sym, ap, ◌∙◌, subst, arith}
+use Rattle.std.proofs.Common.{◌≡◌, ℕ, ◌+◌, ◌-◌, ◌<◌, ◌≤◌, ⊎_elim, List, [], ◌∷◌, ◌++◌, Bor, length, map, drop, get_or, true, false, Option, Some, unwrap_or, Ordering, refl, sym, ap, ◌∙◌, subst, arith, length-append, length-drop}
 use Rattle.std.specs.Cmp.{IsTotalOrder}
-use Rattle.std.specs.List.{All, Contains, slice_get}
+use Rattle.std.specs.List.{All, Contains, slice_get, slice_range}
 use Rattle.std.specs.List.Sorted.{IsStrictlySortedBy, IsPartitionedBy, IsPartitionPoint}
 use Rattle.std.specs.Ordering.{is_lt}
 use Rattle.std.specs.declared.cmp.Ordering.TheVariants.{Less, Equal, Greater}
 use Rattle.std.proofs.Math.ListN.{get_or-map}
-use Rattle.std.proofs.lemmas.Bool.{cases_order, cases_eq, false≢true}
-use Rattle.std.proofs.lemmas.List.{length-map}
-use Rattle.std.proofs.lemmas.List.FromFn.{get_or-map-range_with_len, length-map-range_with_len}
+use Rattle.std.proofs.lemmas.Bool.{cases_order, cases_eq, cases_lt, false≢true}
+use Rattle.std.proofs.lemmas.List.{length-map, length-take, get_or-take, get_or-drop, get_or_default, get_or_append_left, get_or-append-add}
 use Rattle.std.proofs.lemmas.Map.Keys.{Less-from_sorted}
 use Rattle.std.proofs.lemmas.Option.{slice_get_within, get_or_from_slice_get}
 use Rattle.transport_instance.proofs.Costs.{counted_at}
@@ -17,9 +16,10 @@ use Rattle.transport_instance.proofs.DualSums.{size-some, group_stands}
 use Rattle.transport_instance.proofs.Members.{place_from_contains, contains_from_place}
 use Rattle.transport_instance.proofs.Points.{get_below}
 use Rattle.book_core.specs.Counts.{counts_of}
-use Rattle.bucket_core.specs.Rule.{Entries, total_weight, at}
+use Rattle.bucket_core.specs.Rule.{Entries, IsRun, total_weight, at}
 use Rattle.transport_instance.specs.Dual.{inputs_at}
 use Rattle.transport_instance.specs.Groups.{GroupKey, AreSizes, group_at, row_view, rows_view}
+use Rattle.assignment_rule.specs.Placing.{AddsPlaces}
 use Rattle.std.specs.Map.{keys_of}
 
 lt_is : (o : Ordering) → is_lt o ≡ true → o ≡ Less
@@ -69,12 +69,6 @@ pub keys-rows : (rows : List ((Bor (List ℕ) × ℕ) × ℕ)) → keys_of (rows
 keys-rows [] = refl
 keys-rows (r ∷ rows) = ap (λ ks. (row_view r).0 ∷ ks) (keys-rows rows)
 
--- a group's name is among the names, where those of all groups are
-pub row-listed : (names : List (List ℕ)) (rows : List ((Bor (List ℕ) × ℕ) × ℕ)) (i : ℕ) (d : (Bor (List ℕ) × ℕ) × ℕ) → All (λ g. Contains names g.0.0) (rows_view rows) → i < length rows → Contains names (get_or rows i d).0.0.now
-row-listed names rows i d all below =
-    let P : GroupKey × ℕ → Type 0 = λ g. Contains names g.0.0 in
-    subst P (get_or-map row_view rows i d) (all i (row_view d) (omega (arith, below, length-map rows row_view)))
-
 -- ---- the groups of the points
 
 pub group_here : (old : Entries) (inputs : List (List ℕ)) (counts : List ℕ) (p : ℕ) (name : List ℕ) → counts ≡ counts_of inputs (total_weight old) → p < total_weight old → at old p ≡ Some name
@@ -86,9 +80,62 @@ group_here old inputs counts p name counted below named =
 pub group_listed : (old : Entries) (inputs : List (List ℕ)) (groups : List (GroupKey × ℕ)) (p : ℕ) → AreSizes old inputs groups → p < total_weight old → Contains (keys_of groups) (group_at old inputs p)
 group_listed old inputs groups p sizes below = contains_from_place (keys_of groups) (group_at old inputs p) (group_stands old inputs groups sizes (group_at old inputs p) (size-some old inputs p below))
 
--- what holds at each place holds with one more
-pub at_push : (P : ℕ → ℕ → Type 0) (xs : List ℕ) (x : ℕ) → ((q : ℕ) → q < length xs → P q (get_or xs q 0)) → P (length xs) x → (q : ℕ) → q < length xs + 1 → P q (get_or (xs ++ x ∷ []) q 0)
-at_push P [] x below here zero h = here
-at_push P [] x below here (suc q) h = absurd (omega arith)
-at_push P (y ∷ xs) x below here zero h = below 0 (omega arith)
-at_push P (y ∷ xs) x below here (suc q) h = at_push (λ n m. P (suc n) m) xs x (λ n inside. below (suc n) (omega (arith, inside))) here q (omega arith)
+-- ---- points in a row
+
+pub adds_none : (keys : List GroupKey) (name counts before : List ℕ) → AddsPlaces keys name counts 0 before before
+adds_none keys name counts before = record {
+  grown = omega arith;
+  kept = λ q below. refl;
+  placed = λ q below. absurd (omega (arith, below));
+}
+
+pub adds_more : (keys : List GroupKey) (name counts : List ℕ) (i g : ℕ) (before between after : List ℕ) → AddsPlaces keys name counts i before between → slice_get keys g ≡ Some (name, get_or counts i 0) → after ≡ between ++ g ∷ []
+    → AddsPlaces keys name counts (i + 1) before after
+adds_more keys name counts i g before between after adds here more = record {
+  grown = omega (arith, ap length more, length-append between (g ∷ []), adds.grown);
+  kept = λ q below. ap (λ xs. get_or xs q 0) more ∙ (get_or_append_left between (g ∷ []) 0 q (omega (arith, below, adds.grown)) ∙ adds.kept q below);
+  placed = λ q below.
+      ⊎_elim
+      (λ (earlier : q < i). ap (λ xs. slice_get keys (get_or xs (length before + q) 0)) more ∙ (ap (slice_get keys) (get_or_append_left between (g ∷ []) 0 (length before + q) (omega (arith, earlier, adds.grown))) ∙ adds.placed q earlier))
+      (λ (from : i ≤ q).
+      let last : q ≡ i = omega (arith, from, below) in
+      let place : length before + q ≡ length between + 0 = omega (arith, last, adds.grown) in
+      let is : get_or after (length before + q) 0 ≡ g = ap (λ xs. get_or xs (length before + q) 0) more ∙ (ap (λ k. get_or (between ++ g ∷ []) k 0) place ∙ get_or-append-add between (g ∷ []) 0 0) in
+      ap (slice_get keys) is ∙ (here ∙ ap (λ k. Some (name, get_or counts k 0)) (sym last)))
+      (cases_lt q i);
+}
+
+part_at : (counts : List ℕ) (from to q : ℕ) → q < to - from → get_or (slice_range counts from to) q 0 ≡ get_or counts (from + q) 0
+part_at counts from to q below = get_or-take (to - from) (drop from counts) q 0 below ∙ get_or-drop from counts q 0
+
+pub length-part : (counts : List ℕ) (from to : ℕ) → from ≤ to → to ≤ length counts → length (slice_range counts from to) ≡ to - from
+length-part counts from to order inside = omega (arith, length-take (to - from) (drop from counts), length-drop from counts)
+
+module _ (old : Entries) (inputs : List (List ℕ)) (counts : List ℕ) (counted : counts ≡ counts_of inputs (total_weight old)) (from to : ℕ) (order : from ≤ to) (inside : to ≤ length counts) (within : to ≤ total_weight old) (name : List ℕ)
+    (is : at old from ≡ Some name) (run : IsRun old from to) where
+  part_group : (q : ℕ) → q < to - from → (name, get_or (slice_range counts from to) q 0) ≡ group_at old inputs (from + q)
+  part_group q below =
+      let key = group_here old inputs counts (from + q) name counted (omega (arith, below, within)) (run (from + q) (omega arith) (omega (arith, below)) ∙ is) in
+      ap (λ (n : ℕ). let g : GroupKey = (name, n) in g) (part_at counts from to q below) ∙ sym key
+
+  -- the groups of the run's points stand among the groups
+  pub run_listed : (groups : List (GroupKey × ℕ)) → AreSizes old inputs groups → All (λ n. Contains (keys_of groups) (name, n)) (slice_range counts from to)
+  run_listed groups sizes q d below =
+      let inner : q < to - from = omega (arith, below, length-part counts from to order inside) in
+      let listed = group_listed old inputs groups (from + q) sizes (omega (arith, inner, within)) in
+      let zeros : get_or (slice_range counts from to) q d ≡ get_or (slice_range counts from to) q 0 = get_or_default (slice_range counts from to) q d 0 below in
+      subst (λ n. Contains (keys_of groups) (name, n)) (sym zeros) (subst (λ (g : GroupKey). Contains (keys_of groups) g) (sym (part_group q inner)) listed)
+
+  -- with them all points up to the end of the run are placed
+  pub run_placed : (keys : List GroupKey) (before after : List ℕ) → length before ≡ from → ((q : ℕ) → q < from → slice_get keys (get_or before q 0) ≡ Some (group_at old inputs q))
+      → AddsPlaces keys name (slice_range counts from to) (length (slice_range counts from to)) before after → (q : ℕ) → q < to → slice_get keys (get_or after q 0) ≡ Some (group_at old inputs q)
+  run_placed keys before after many placed adds q below =
+      ⊎_elim
+      (λ (earlier : q < from). ap (slice_get keys) (adds.kept q (omega (arith, earlier, many))) ∙ placed q earlier)
+      (λ (later : from ≤ q).
+      let inner : q - from < to - from = omega (arith, later, below) in
+      let place : length before + (q - from) ≡ q = omega (arith, many, later) in
+      let point : from + (q - from) ≡ q = omega (arith, later) in
+      ap (λ k. slice_get keys (get_or after k 0)) (sym place)
+      ∙ (adds.placed (q - from) (omega (arith, inner, length-part counts from to order inside)) ∙ (ap Some (part_group (q - from) inner) ∙ ap (λ k. Some (group_at old inputs k)) point)))
+      (cases_lt q from)

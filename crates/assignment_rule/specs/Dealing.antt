@@ -1,6 +1,6 @@
 -- Numbers by groups and names, and how they are dealt out to the points of the groups.
-use Rattle.std.specs.Prelude.{◌≡◌, ℕ, ◌+◌, ◌-◌, ◌*◌, ◌<◌, List, length, take, drop, sum, sum_by, slice_index, set}
-use Rattle.std.specs.List.{zip}
+use Rattle.std.specs.Prelude.{◌≡◌, ℕ, ◌+◌, ◌-◌, ◌*◌, ◌<◌, List, ◌++◌, length, take, drop, sum, sum_by, slice_index, set}
+use Rattle.std.specs.List.{All, zip}
 
 -- the numbers of a group, of which each name has one
 abbrev pub row : ℕ → List ℕ → ℕ → List ℕ
@@ -15,3 +15,13 @@ pub record IsTally (groups width : ℕ) (tally : List ℕ → ℕ) (counts : ℕ
 -- Of each group's points each name is given to as many as its number says: each tally of the numbers is the sum of what counts at the points.
 abbrev pub IsDealt : ℕ → ℕ → List ℕ → List ℕ → List ℕ → Type 0
 IsDealt groups width numbers points items = (tally : List ℕ → ℕ) (counts : ℕ → ℕ → ℕ) → IsTally groups width tally counts → tally numbers ≡ sum_by (λ e. counts e.0 e.1) (zip points items)
+
+-- From the numbers some points of a group are dealt to, whose names follow those that were there.
+pub record DealsTo (width group points : ℕ) (numbers left before after : List ℕ) : Type 0 where
+  pub dealt : List ℕ
+  pub more : after ≡ before ++ dealt
+  pub many : length dealt ≡ points
+  pub named : All (λ w. w < width) dealt
+  pub shape : length left ≡ length numbers
+  pub spent : sum (row width left group) + points ≡ sum (row width numbers group)
+  pub tallies : (groups : ℕ) (tally : List ℕ → ℕ) (counts : ℕ → ℕ → ℕ) → IsTally groups width tally counts → length numbers ≡ groups * width → group < groups → tally numbers ≡ tally left + sum_by (counts group) dealt

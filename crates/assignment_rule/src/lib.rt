@@ -15,10 +15,16 @@
 //!
 //! Proved: [`spread`] gives a canonical rule that has the assignment (`HasAssignment` of `transport_instance`): of each group's
 //! points each name has just its number. So what is proved of each rule with the assignment is proved of this one.
+//!
+//! Which of a group's points have which name is no promise. They are chosen so that the rule has few entries: stretches of
+//! points of one group change whole, first those between two neighbours that have the new name, then those beside one, then
+//! the others, the longest first.
 #![tactic(auto)]
 
 mod dealing;
+mod limits;
 mod placing;
 mod spreading;
+mod stretches;
 
 pub use spreading::spread;

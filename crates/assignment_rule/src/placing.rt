@@ -1,5 +1,5 @@
-//! Where groups and names stand, which is found by halving.
-ghost use Rattle.std.specs.Prelude.{◌≡◌, ◌≤◌, ◌<◌, ℕ, List, Some, IfOk, length, slice_get, slice_index};
+//! Where groups stand, which is found by halving.
+ghost use Rattle.std.specs.Prelude.{◌≡◌, ◌≤◌, ◌<◌, ℕ, List, Some, IfOk, OnOk, length, slice_get, slice_index};
 ghost use Rattle.std.specs.Cmp.Lexicographic.{slice_cmp};
 ghost use Rattle.std.specs.List.{All, Contains};
 ghost use Rattle.std.specs.List.Sorted.{IsStrictlySortedBy};
@@ -10,11 +10,13 @@ ghost use Rattle.bucket_core.specs.Rule.{names_view, total_weight};
 ghost use Rattle.transport_instance.specs.Groups.{AreSizes, group_at, group_cmp, rows_view};
 ghost use Rattle.transport_instance.specs.Instance.{max_planned_total};
 ghost use Rattle.transport_instance.specs.Tally.{IsTally};
+ghost use Rattle.assignment_rule.specs.Placing.{AddsPlaces};
 
 use bucket_core::Rule;
 use std::alloc::{AllocError, Global};
 
-/// The group of each point, as an index, where so many inputs fall on each point.
+/// The group of each point, as an index, where so many inputs fall on each point. It goes over the rule's entries beside the
+/// numbers.
 pub(crate) fn groups_of(
     alloc: Global,
     old: &Rule,
@@ -23,34 +25,54 @@ pub(crate) fn groups_of(
 ) -> Result<Vec<u32>, AllocError>
     requires tally { IsTally (total_weight old.now) counts.now }
     requires sizes { (inputs : List (List ℕ)) → counts.now ≡ counts_of inputs (total_weight old.now) → AreSizes old.now inputs (rows_view groups.now) }
+    requires whole { length counts.now ≡ total_weight old.now }
     requires few { length groups.now ≤ max_planned_total }
     ensures many { IfOk result (λ v. length v.items ≡ total_weight old.now) }
     ensures grouped { IfOk result (λ v. (inputs : List (List ℕ)) → counts.now ≡ counts_of inputs (total_weight old.now) → (p : ℕ) → p < total_weight old.now → slice_get (keys_of (rows_view groups.now)) (slice_index v.items p) ≡ Some (group_at old.now inputs p)) }
 {
     let mut points = Vec::with_capacity(alloc, counts.len())?;
-    for p in 0..old.total() {
-        let group = group_of(groups, old.variant_at(p), counts[p as usize]);
-        points.push(group as u32)?;
+    let total = old.total();
+    let mut start = 0;
+    while start < total {
+        let entry = old.entry_at(start);
+        let end = old.end_of(entry);
+        push_groups(
+            &mut points,
+            groups,
+            old.entry_name(entry),
+            &counts[start as usize..end as usize],
+        )?;
+        start = end;
     }
     Ok(points)
 }
 
-/// The place of each group's old name among the names, which stand in order.
-pub(crate) fn places_of(
-    alloc: Global,
+/// Adds the groups of points in a row that have this name, on each of which so many inputs fall. A group is looked up where
+/// the number is another than at the point before.
+fn push_groups(
+    points: &mut Vec<u32>,
     groups: &[((&str, u32), u32)],
-    names: &[String],
-) -> Result<Vec<usize>, AllocError>
-    requires rise { IsStrictlySortedBy (slice_cmp nat_cmp) (names_view names.now) }
-    requires listed { All (λ g. Contains (names_view names.now) g.0.0) (rows_view groups.now) }
-    ensures many { IfOk result (λ v. length v.items ≡ length groups.now) }
-    ensures within { IfOk result (λ v. All (λ w. w < length names.now) v.items) }
+    name: &str,
+    counts: &[u32],
+) -> Result<(), AllocError>
+    requires few { length groups.now ≤ max_planned_total }
+    requires rise { IsStrictlySortedBy group_cmp (keys_of (rows_view groups.now)) }
+    requires stand { All (λ n. Contains (keys_of (rows_view groups.now)) (name.now, n)) counts.now }
+    ensures { OnOk result (AddsPlaces (keys_of (rows_view groups.now)) name.now counts.now (length counts.now) points.old.items points.new.items) }
 {
-    let mut places = Vec::with_capacity(alloc, groups.len())?;
-    for ((old, _), _) in groups {
-        places.push(place_of(names, old))?;
+    let Some(first) = counts.first() else {
+        return Ok(());
+    };
+    let mut known = *first;
+    let mut group = group_of(groups, name, known);
+    for count in counts {
+        if *count != known {
+            known = *count;
+            group = group_of(groups, name, known);
+        }
+        points.push(group as u32)?;
     }
-    Ok(places)
+    Ok(())
 }
 
 /// The place of the group of this name and number of inputs.
@@ -63,14 +85,4 @@ fn group_of(groups: &[((&str, u32), u32)], name: &str, count: u32) -> usize
     groups.partition_point(|((other, number), _)| {
         other.cmp(&name).then(number.cmp(&count)).is_lt()
     })
-}
-
-/// The place of the name.
-fn place_of(names: &[String], name: &str) -> usize
-    requires rise { IsStrictlySortedBy (slice_cmp nat_cmp) (names_view names.now) }
-    requires listed { Contains (names_view names.now) name.now }
-    ensures within { result < length names.now }
-    ensures place { slice_get (names_view names.now) result ≡ Some name.now }
-{
-    names.partition_point(|other| other.as_str().cmp(name).is_lt())
 }

@@ -1,7 +1,6 @@
-//! From an assignment to a rule: of each group the first points stay, and the others are given its names in their order.
+//! From an assignment to a rule: of each group's points those change that make the fewest entries.
 ghost use Rattle.std.specs.Prelude.{◌≡◌, ◌≤◌, ℕ, List, true, length, IfOk};
 ghost use Rattle.std.specs.Cmp.Lexicographic.{slice_cmp};
-ghost use Rattle.std.specs.List.{All, Contains};
 ghost use Rattle.std.specs.List.Sorted.{IsStrictlySortedBy};
 ghost use Rattle.std.specs.Map.{keys_of};
 ghost use Rattle.std.specs.Ordering.{nat_cmp};
@@ -15,15 +14,16 @@ ghost use Rattle.transport_instance.specs.Instance.{max_names, max_planned_total
 ghost use Rattle.transport_instance.specs.Tally.{IsTally};
 
 use crate::dealing::deal;
-use crate::placing::{groups_of, places_of};
+use crate::placing::groups_of;
 use bucket_core::Rule;
 use price_core::Limit;
 use std::alloc::{AllocError, Global};
 use transport_instance::{Assignment, Instance};
 
 /// The rule whose points have the names of the assignment, and which has no other rule's shape: no entry has weight 0, and
-/// neighbours have different names. Of each group's points those that stay come first. It takes `O(log n)` steps for each
-/// point, at n groups and entries. The conditions are that the groups are those of the old rule and of the inputs, of which so
+/// neighbours have different names. Which of a group's points change is no promise: those do that make few entries. It goes
+/// over the points some times, and takes `O(log n)` steps at n groups where the name or the number is another than at the
+/// point before. The conditions are that the groups are those of the old rule and of the inputs, of which so
 /// many fall on each point, and that the numbers of each group sum to its points.
 pub fn spread(
     alloc: Global,
@@ -64,18 +64,16 @@ fn spread_over(
     requires few { length groups.now ≤ max_planned_total }
     requires names { length names.now ≤ max_names }
     requires rise { IsStrictlySortedBy (slice_cmp nat_cmp) (names_view names.now) }
-    requires listed { All (λ g. Contains (names_view names.now) g.0.0) (rows_view groups.now) }
     requires spent { spends_all (rows_view groups.now) (length names.now) numbers.items ≡ true }
     ensures canonical { IfOk result IsCanonical }
     ensures assigned { IfOk result (λ rule. (inputs : List (List ℕ)) → counts.now ≡ counts_of inputs (total_weight old.now) → HasAssignment old.now rule inputs (arc_flows (keys_of (rows_view groups.now)) (names_view names.now) numbers.items)) }
 {
     // Called for what its contract says, on which what is dealt out rests: a rule's total is from 1 to 2^31-1.
     let _total = old.total();
-    let stays = places_of(alloc, groups, names)?;
-    let stays = stays.as_slice();
     let points = groups_of(alloc, old, counts, groups)?;
     let points = points.as_slice();
-    let items = deal(alloc, points, numbers, stays, names.len())?;
+    let numbers = numbers.as_slice();
+    let items = deal(alloc, points, numbers, groups.len(), names.len())?;
     Rule::from_points(alloc, items.as_slice(), names)
 }
 

@@ -1,36 +1,36 @@
--- Each point's group stands among the groups.
-use Rattle.std.proofs.Common.{◌≡◌, ◌<◌, ℕ, get_or, Some, refl, sym, ap, ◌∙◌, subst, arith}
-use Rattle.std.specs.List.{Contains, slice_get}
+-- The points up to the end of an entry have their groups.
+use Rattle.std.proofs.Common.{◌≤◌, ◌∙◌, length, arith}
 use Rattle.std.specs.Map.{keys_of}
-use Rattle.bucket_core.specs.Rule.{total_weight}
-use Rattle.transport_instance.specs.Groups.{group_at, rows_view}
-use Rattle.transport_instance.proofs.Costs.{length-tally}
-use Rattle.assignment_rule.proofs.Places.{group_here, group_listed, at_push}
+use Rattle.transport_instance.specs.Groups.{rows_view}
+use Rattle.assignment_rule.proofs.Places.{length-part, run_listed, run_placed}
 use Rattle.assignment_rule.proofs.placing.groups_of.Goals as goal
 
-pub bounds-counts-p : goal.bounds-counts-p
-bounds-counts-p c =
-    omega (arith, length-tally (total_weight c.args.old.now) c.args.counts.now c.requires.tally, c.total-p-end.ensures.value, c.loop-p-test.true)
-
-pub group_of-group-requires-clause-stands : goal.group_of-group-requires-clause-stands
-group_of-group-requires-clause-stands c =
-    let p = c.loop-p.p in
+pub push_groups-requires-clause-stand : goal.push_groups-requires-clause-stand
+push_groups-requires-clause-stand c =
+    let rule = c.args.old.now in
+    let counts = c.args.counts.now in
+    let start = c.loop-start.start in
+    let end = c.end_of-end.result in
     let tally = c.requires.tally in
-    let below : p < total_weight c.args.old.now = omega (arith, c.total-p-end.ensures.value, c.loop-p-test.true) in
-    let is = group_here c.args.old.now tally.inputs c.args.counts.now p c.variant_at.result.now tally.counted below c.variant_at.ensures.value in
-    subst (λ g. Contains (keys_of (rows_view c.args.groups.now)) g) is (group_listed c.args.old.now tally.inputs (rows_view c.args.groups.now) p (c.requires.sizes tally.inputs tally.counted) below)
+    let order : start ≤ end = omega (arith, c.entry_at-entry.ensures.below, c.end_of-end.ensures.value) in
+    let inside : end ≤ length counts = omega (arith, c.end_of-end.ensures.bound, c.requires.whole) in
+    run_listed rule tally.inputs counts tally.counted start end order inside c.end_of-end.ensures.bound c.entry_name.result.now (c.entry_at-entry.ensures.name ∙ c.entry_name.ensures.value)
+    (λ q low high. c.entry_at-entry.ensures.run q low (omega (arith, high, c.end_of-end.ensures.value))) (rows_view c.args.groups.now) (c.requires.sizes tally.inputs tally.counted)
 
-pub loop-p-preserved : goal.loop-p-preserved
-loop-p-preserved c =
-    let p = c.loop-p.p in
-    let points = c.loop-p.points.items in
-    let below : p < total_weight c.args.old.now = omega (arith, c.total-p-end.ensures.value, c.loop-p-test.true) in
+pub loop-start-preserved : goal.loop-start-preserved
+loop-start-preserved c =
+    let rule = c.args.old.now in
+    let counts = c.args.counts.now in
+    let start = c.loop-start.start in
+    let end = c.end_of-end.result in
+    let order : start ≤ end = omega (arith, c.entry_at-entry.ensures.below, c.end_of-end.ensures.value) in
+    let inside : end ≤ length counts = omega (arith, c.end_of-end.ensures.bound, c.requires.whole) in
+    let adds = c.in_ok-push_groups.ensures in
     record {
-      many = omega (arith, c.in_ok-push.ensures.len, c.loop-p.invariant.many);
-      grouped = λ inputs counted q inside.
-          let is = group_here c.args.old.now inputs c.args.counts.now p c.variant_at.result.now counted below c.variant_at.ensures.value in
-          let P : ℕ → ℕ → Type 0 = λ q j. slice_get (keys_of (rows_view c.args.groups.now)) j ≡ Some (group_at c.args.old.now inputs q) in
-          let last : P p c.group_of-group.result = c.group_of-group.ensures.place ∙ ap Some (sym is) in
-          let more = at_push P points c.group_of-group.result (λ q inside. c.loop-p.invariant.grouped inputs counted q (omega (arith, inside, c.loop-p.invariant.many))) (subst (λ n. P n c.group_of-group.result) (sym c.loop-p.invariant.many) last) in
-          subst (λ xs. P q (get_or xs q 0)) (sym c.in_ok-push.ensures.items) (more q (omega (arith, inside, c.loop-p.invariant.many)));
+      within = omega (arith, c.end_of-end.ensures.bound, c.total-total.ensures.value);
+      many = omega (arith, adds.grown, length-part counts start end order inside, c.loop-start.invariant.many, order);
+      grouped = λ inputs counted q below.
+          run_placed rule inputs counts counted start end order inside c.end_of-end.ensures.bound c.entry_name.result.now (c.entry_at-entry.ensures.name ∙ c.entry_name.ensures.value)
+          (λ p low high. c.entry_at-entry.ensures.run p low (omega (arith, high, c.end_of-end.ensures.value))) (keys_of (rows_view c.args.groups.now)) c.loop-start.points.items c.push_groups.new.points.items
+          c.loop-start.invariant.many (c.loop-start.invariant.grouped inputs counted) adds q below;
     }

@@ -1,9 +1,7 @@
 -- What holds of the instance holds of its groups and names.
-use Rattle.std.proofs.Common.{◌<◌, ℕ, List, sym, ap, ◌∙◌, subst, arith}
-use Rattle.std.specs.List.{All, Contains}
-use Rattle.std.specs.Map.{keys_of}
-use Rattle.bucket_core.specs.Rule.{names_view}
-use Rattle.transport_instance.specs.Groups.{GroupKey, rows_view}
+use Rattle.std.proofs.Common.{◌<◌, ℕ, sym, ap, subst, arith}
+use Rattle.std.specs.List.{All}
+use Rattle.transport_instance.specs.Groups.{GroupKey}
 use Rattle.transport_instance.specs.Rows.{whole_amount}
 use Rattle.transport_instance.proofs.Plans.{few_groups}
 use Rattle.assignment_rule.proofs.spreading.spread.Goals as goal
@@ -13,9 +11,3 @@ spread_over-requires-clause-few c =
     let is = c.groups-groups.ensures.value in
     let lawful = c.groups-groups.ensures.lawful in
     omega (arith, few_groups c.groups-groups.result.now (subst (λ gs. All (λ (g : GroupKey × ℕ). 0 < g.1) gs) (sym is) lawful.sizes), ap whole_amount is, lawful.small)
-
-pub spread_over-requires-clause-listed : goal.spread_over-requires-clause-listed
-spread_over-requires-clause-listed c =
-    let names = ap names_view c.as_slice.ensures.value ∙ (c.in_ok-names.ensures ∙ (ap keys_of c.entries.ensures.value ∙ ap keys_of c.totals.ensures.value)) in
-    let listed = subst (λ gs. All (λ (g : GroupKey × ℕ). Contains (keys_of c.args.instance.now.limits) g.0.0) gs) (sym c.groups-groups.ensures.value) c.groups-groups.ensures.lawful.listed in
-    subst (λ (ns : List (List ℕ)). All (λ (g : GroupKey × ℕ). Contains ns g.0.0) (rows_view c.groups-groups.result.now)) (sym names) listed

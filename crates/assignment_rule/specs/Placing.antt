@@ -1,0 +1,9 @@
+-- Where the groups of points in a row stand.
+use Rattle.std.specs.Prelude.{◌≡◌, ℕ, ◌+◌, ◌<◌, List, length, slice_get, slice_index, Some}
+use Rattle.transport_instance.specs.Groups.{GroupKey}
+
+-- Behind what was there, for each of the first numbers the place among the keys of its group of this name.
+pub record AddsPlaces (keys : List GroupKey) (name counts : List ℕ) (many : ℕ) (before after : List ℕ) : Type 0 where
+  pub grown : length after ≡ length before + many
+  pub kept : (q : ℕ) → q < length before → slice_index after q ≡ slice_index before q
+  pub placed : (q : ℕ) → q < many → slice_get keys (slice_index after (length before + q)) ≡ Some (name, slice_index counts q)
