@@ -1,8 +1,10 @@
 """The command `drive`: its lines, the book that it writes, and its refusals."""
+import json
+import time
 import unittest
 
 from given import BOOK, EMPTY_BOOK, document
-from program import ProgramTest
+from program import ProgramTest, run
 
 # Each key with its variant: they lie on the points 0, 1, 4, 4, 6, 7 and 7 of 10.
 KEYS = [
@@ -47,6 +49,28 @@ REFUSALS = [
     ),
     ("1", "[", "read_tree 1 NotJson"),
 ]
+
+
+# Seconds, ten times and more of what these asks take: 200000 notes that each wrote a bucketing expression of 4000 nodes anew
+# would write 800 million.
+SOON = 20
+
+
+def compact(value):
+    """The text of a value, without blanks."""
+    return json.dumps(value, separators=(",", ":"))
+
+
+def site(by):
+    """A site of one bucket, and the text that its page has of its bucketing expression."""
+    return {"fractional": [by, ["a", 1]]}, compact(by)
+
+
+def driven(targeting, context, asks):
+    """The files of so many asks for a flag with this targeting, each over this context."""
+    flag = {"state": "ENABLED", "variants": {"a": 1}, "defaultVariant": "a", "targeting": targeting}
+    asked = {"key": "f", "want": "whole", "default": 0, "context": context, "moment": 0}
+    return {"d": compact({"flags": {"f": flag}}), "a": compact([asked] * asks)}
 
 
 def answer(key, variant):
@@ -121,6 +145,29 @@ class Drive(ProgramTest):
         lost = '{"key":"nope","want":"bool","default":false,"context":{},"moment":9007199254740991}'
         not_found = '{"code":"FLAG_NOT_FOUND","reached":[],"reason":"ERROR","value":false,"variant":null}\n'
         self.assert_driven("2", f"[{lost},\n{ask(key)}]", not_found + report, EMPTY_BOOK)
+
+    def assert_soon(self, files, counts, pages):
+        """The asks are driven soon, with these counts, and the book has these pages of one input."""
+        began = time.monotonic()
+        ran = run(["drive", "d", "a", "2", "b"], files)
+        self.assertLess(time.monotonic() - began, SOON)
+        self.assertEqual((ran.status, ran.out.splitlines()[-5:]), (0, counts))
+        lines = [f'{{"by":{compact(by)},"flag":"f","site":{number}}}\n"u"' for number, by in enumerate(pages)]
+        self.assertEqual(ran.files["b"].splitlines(), "\n".join(['{"book":1}', *lines]).splitlines())
+
+    def test_asks_that_reach_thousands_of_sites(self):
+        sites = [site({"cat": ["u"]}) for _ in range(1400)]
+        files = driven({"merge": [tree for tree, _ in sites]}, {}, 100)
+        counts = ["inputs 1400", "calls 140000", "news 1400", "full 0", "long 0"]
+        self.assert_soon(files, counts, [by for _, by in sites])
+
+    def test_an_ask_that_goes_to_and_fro_between_two_sites(self):
+        """The sites have bucketing expressions of thousands of nodes, which are not evaluated."""
+        sites = [site({"if": [True, "u", [place] * 4000]}) for place in range(2)]
+        targeting = {"map": [{"var": ["items"]}, {"merge": [tree for tree, _ in sites]}]}
+        files = driven(targeting, {"items": [0] * 5000}, 20)
+        counts = ["inputs 2", "calls 200000", "news 2", "full 0", "long 0"]
+        self.assert_soon(files, counts, [by for _, by in sites])
 
 
 if __name__ == "__main__":

@@ -25,6 +25,7 @@ use Rattle.flag_documents.specs.contracts.flag.Flag as Flag
 use Rattle.flag_defs.specs.contracts.flags.Flags as Flags
 use Rattle.flag_resolve.specs.contracts.kind.Kind as Kind
 use Rattle.book_core.specs.contracts.book.Book as Book
+use Rattle.book_core.specs.contracts.page.Page as Page
 use Rattle.atomic_table.proofs.shared.Shared.TheSendSync as shared
 use Rattle.atomic_table.proofs.send_lease.SendLease.TheSendSync as lease
 use Rattle.book_lock.specs.declared.name.BookName as BookName
@@ -79,6 +80,9 @@ Ask-sync = declared_sync Ask.the_type (search (sendable, crosses) depth 40, (Kin
 pub Book-send : IsSend Book.the_row
 Book-send = search (sendable, crosses, maps) depth 60
 
+pub Page-sync : IsSync Page.the_row
+Page-sync = search (sendable, crosses) depth 40
+
 -- three captures that may be read at once may be captured by one closure
 captured_sync : (ν : Sym) (A B C : RattleType) → IsSync A → IsSync B → IsSync C → IsSync (TupleAt ν (A ∷ B ∷ C ∷ []))
 captured_sync ν A B C a b c = declared_sync (type_at ν (A ∷ B ∷ C ∷ [])) (as_row_sync (row_field A) a, (as_row_sync (row_field B) b, (as_row_sync (row_field C) c, tt)))
@@ -100,7 +104,7 @@ module _ (T : RattleType) (g : BookName.Ghosts T.Denot) (send : IsSend T) (sync 
     pub round_sync : IsSync (Round.the_row κ T G g h)
     round_sync =
         declared_sync (Round.the_type κ T G g h)
-        (search (sendable, crosses, SharedBook-sync) depth 40, (search (sendable, crosses, Flags-sync) depth 40, (search (sendable, crosses, Ask-sync) depth 40, (search (sendable, crosses) depth 40, (search (sendable, crosses) depth 40, tt)))))
+        (search (sendable, crosses, SharedBook-sync) depth 40, (search (sendable, crosses, Flags-sync) depth 40, (search (sendable, crosses, Ask-sync) depth 40, (search (sendable, crosses) depth 40, (search (sendable, crosses) depth 40, (search (sendable, crosses, maps, Page-sync) depth 60, tt))))))
 
     -- the captures of a worker's closure: the handle, the allocator and the round
     pub worker_sync : (ν : Sym) (r a w : NamedLft) (R : RattleType) → IsSync R → IsSync (TupleAt ν (ShrRef r.mir r.lft R ∷ ShrRef a.mir a.lft Global.the_row ∷ ShrRef w.mir w.lft (Round.the_row κ T G g h) ∷ []))

@@ -1,6 +1,7 @@
 pub mod Bounded
 pub mod Crossings
 pub mod Full
+pub mod Made
 pub mod Pages
 pub mod Reaching
 pub mod Telling

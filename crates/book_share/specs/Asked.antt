@@ -96,3 +96,7 @@ asks_of workers worker asks = every (workers - 1) worker asks
 -- the same of the flag of a key, whose targeting is among the flags
 abbrev pub mentions_by : Definitions → List ℕ → List Reach → List Mention
 mentions_by flags key reached = mentions_in key (targeting_of flags key) reached
+
+-- the reached input, unless it is too long, with the page of its site of the flag of a key
+abbrev pub mention_by : Definitions → List ℕ → Reach → List Mention
+mention_by flags key r = if is_long r then [] else mention (page_of key (targeting_of flags key) r.site) r.input ∷ []

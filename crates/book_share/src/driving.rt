@@ -15,6 +15,7 @@ use crate::ask::Ask;
 use crate::drive_fault::DriveFault;
 use crate::gate::Gate;
 use crate::gather::{Harvest, gathered, parts_of};
+use crate::known::known_pages;
 use crate::order::in_order;
 use crate::reach::MOST_BYTES;
 use crate::worker::Round;
@@ -109,6 +110,7 @@ fn driven_by<L: BookName + Send + Sync, G: Gate, R: Threads + Wait + Sync>(
     ensures stalled { StallsOf (G.refused gate.now) (length asks.now) result }
     ensures started { IfErr result (λ e. is_of_workers e ≡ false) }
 {
+    let known = known_pages(alloc, flags, asks)?;
     let (book, seats) = SharedBook::<L>::new(alloc, blanks)?;
     let round = Round {
         book: &book,
@@ -116,6 +118,7 @@ fn driven_by<L: BookName + Send + Sync, G: Gate, R: Threads + Wait + Sync>(
         asks,
         gate,
         step: workers,
+        known: &known,
     };
     let parts = parts_of(rt, alloc, &round, seats)?;
     let Harvest {

@@ -20,6 +20,7 @@ mod drive_fault;
 mod driving;
 mod gate;
 mod gather;
+mod known;
 mod order;
 mod reach;
 mod worker;

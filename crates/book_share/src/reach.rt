@@ -5,10 +5,12 @@ ghost use Rattle.logic_ast.specs.Expr.{view};
 ghost use Rattle.logic_evaluator.specs.Views.{reach_view};
 ghost use Rattle.book_core.specs.Book.{most_bytes};
 ghost use Rattle.book_lock.specs.Counts.{own};
-ghost use Rattle.book_share.specs.Asked.{by_at, mention, mentions_by, page_of, targeting_of as targeting_named};
+ghost use Rattle.book_share.specs.Asked.{by_at, mention, mention_by, mentions_by, page_of};
 ghost use Rattle.book_share.specs.Driven.{AreFull, Notes, NotesTo, noted_by, refused_mention};
+ghost use Rattle.book_share.specs.Known.{AreSitePages};
 ghost use Rattle.book_share.specs.declared.reach.Refusal.{Refusal as Kept};
 
+use crate::known::targeting_of;
 use book_core::{BookFault, Page};
 use book_lock::{BookName, Seat, SharedBook};
 use flag_defs::Flags;
@@ -27,53 +29,75 @@ pub(crate) struct Refusal {
     pub(crate) input: String,
 }
 
-/// Notes each reached input on the page of its site. The page of the site before is used again where it is the same.
+/// The sites of a flag: its key, and the pages of those that are known.
+#[derive(Clone, Copy, Drop)]
+pub(crate) struct Sites<'a> {
+    pub(crate) flags: &'a Flags,
+    pub(crate) key: &'a str,
+    pub(crate) pages: &'a [Page],
+    pub(crate) ghost known: { AreSitePages (flags_view flags.now) key.now pages.now },
+}
+
+/// Notes each reached input on the page of its site.
 pub(crate) fn note_reached<L: BookName, R: Wait>(
     rt: &R,
     alloc: Global,
     book: &SharedBook<L>,
     seat: &mut Seat<L>,
     refused: &mut Vec<Refusal>,
-    flags: &Flags,
-    key: &str,
+    sites: &Sites<'_>,
     reached: &[Reached],
 ) -> Result<(), AllocError>
     requires room { length (own seat.old) + length reached.now < 2 ^ 64 - 1 }
-    ensures noted { IfOk result (λ _. NotesTo (mentions_by (flags_view flags.now) key.now (map reach_view reached.now)) seat.old seat.new refused.old.items refused.new.items) }
+    ensures noted { IfOk result (λ _. NotesTo (mentions_by (flags_view sites.now.flags.now) sites.now.key.now (map reach_view reached.now)) seat.old seat.new refused.old.items refused.new.items) }
     ensures full { IfOk result (λ _. AreFull seat.old.seen refused.old.items → AreFull seat.new.seen refused.new.items) }
     ensures grown { IfOk result (λ _. length (own seat.new) ≤ length (own seat.old) + length reached.now) }
 {
-    let targeting = targeting_of(flags, key);
-    let mut last: Option<Page> = None;
     for reach in reached {
-        let page = page_after(alloc, last, key, targeting, reach.site)?;
-        note_one(rt, alloc, book, seat, refused, &page, reach.input.as_str())?;
-        last = Some(page);
+        note_at(rt, alloc, book, seat, refused, sites, reach)?;
     }
     Ok(())
 }
 
-fn targeting_of<'a>(flags: &'a Flags, key: &str) -> Option<&'a Expr>
-    ensures { option_map (λ e. view e.now) result ≡ targeting_named (flags_view flags.now) key.now }
+/// Notes a reached input on the page of its site, which is made anew only where it is not known.
+fn note_at<L: BookName, R: Wait>(
+    rt: &R,
+    alloc: Global,
+    book: &SharedBook<L>,
+    seat: &mut Seat<L>,
+    refused: &mut Vec<Refusal>,
+    sites: &Sites<'_>,
+    reach: &Reached,
+) -> Result<(), AllocError>
+    requires room { length (own seat.old) < 2 ^ 64 - 1 }
+    ensures noted { IfOk result (λ _. Notes (mention_by (flags_view sites.now.flags.now) sites.now.key.now (reach_view reach.now)) (noted_by (own seat.old) refused.old.items) (noted_by (own seat.new) refused.new.items)) }
+    ensures full { IfOk result (λ _. AreFull seat.old.seen refused.old.items → AreFull seat.new.seen refused.new.items) }
+    ensures grown { IfOk result (λ _. length (own seat.new) ≤ length (own seat.old) + 1) }
 {
-    flags.get(key)?.targeting()
+    match sites.pages.get(reach.site as usize) {
+        Some(page) => note_one(rt, alloc, book, seat, refused, page, reach.input.as_str()),
+        None => note_unknown(rt, alloc, book, seat, refused, sites, reach),
+    }
 }
 
-/// The page of a site of a targeting, which is the last one where that was of this site.
-fn page_after(
+/// The same where the page is not known.
+fn note_unknown<L: BookName, R: Wait>(
+    rt: &R,
     alloc: Global,
-    last: Option<Page>,
-    key: &str,
-    targeting: Option<&Expr>,
-    site: u32,
-) -> Result<Page, AllocError>
-    requires { IfSome last (λ page. page ≡ page_of key.now (option_map (λ e. view e.now) targeting) page.site) }
-    ensures { IfOk result (λ page. page ≡ page_of key.now (option_map (λ e. view e.now) targeting.entry) site) }
+    book: &SharedBook<L>,
+    seat: &mut Seat<L>,
+    refused: &mut Vec<Refusal>,
+    sites: &Sites<'_>,
+    reach: &Reached,
+) -> Result<(), AllocError>
+    requires room { length (own seat.old) < 2 ^ 64 - 1 }
+    ensures noted { IfOk result (λ _. Notes (mention_by (flags_view sites.now.flags.now) sites.now.key.now (reach_view reach.now)) (noted_by (own seat.old) refused.old.items) (noted_by (own seat.new) refused.new.items)) }
+    ensures full { IfOk result (λ _. AreFull seat.old.seen refused.old.items → AreFull seat.new.seen refused.new.items) }
+    ensures grown { IfOk result (λ _. length (own seat.new) ≤ length (own seat.old) + 1) }
 {
-    match last {
-        Some(page) if page.site == site => Ok(page),
-        _ => page_at(alloc, key, targeting, site),
-    }
+    let targeting = targeting_of(sites.flags, sites.key);
+    let page = page_at(alloc, sites.key, targeting, reach.site)?;
+    note_one(rt, alloc, book, seat, refused, &page, reach.input.as_str())
 }
 
 /// The page of a site of a targeting. A site that an evaluation reached is one of the targeting.

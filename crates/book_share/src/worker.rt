@@ -9,16 +9,19 @@ ghost use Rattle.book_share.specs.Asked.{asks_of, mentions_of, resolved as resol
 ghost use Rattle.book_share.specs.DriveFault.{is_of_workers};
 ghost use Rattle.book_share.specs.Driven.{AreFull, IsAnswer, IsWork, Notes, NotesAsk, noted_by};
 ghost use Rattle.book_share.specs.Gated.{EachTurn, IsClosed, StallsOf};
+ghost use Rattle.book_share.specs.Known.{AreKnown};
 
 use crate::ask::Ask;
 use crate::drive_fault::DriveFault;
 use crate::gate::{Attempt, Gate};
-use crate::reach::{Refusal, note_reached};
+use crate::known::pages_at;
+use crate::reach::{Refusal, Sites, note_reached};
+use book_core::Page;
 use book_lock::{BookName, Seat, SharedBook};
 use flag_defs::Flags;
 use flag_resolve::{Resolution, resolve};
 use std::alloc::{AllocError, Global};
-use std::collections::VecDeque;
+use std::collections::{BTreeMap, VecDeque};
 use std::marker::Brand;
 use std::sync::Wait;
 
@@ -33,7 +36,9 @@ pub(crate) struct Round<'a, L: BookName, G: Gate> {
     pub(crate) asks: &'a [Ask],
     pub(crate) gate: &'a G,
     pub(crate) step: usize,
+    pub(crate) known: &'a BTreeMap<String, Vec<Page>>,
     pub(crate) ghost steps: { (0 < step) × (step ≤ most_seats) × (length asks.now < 2 ^ 32) },
+    pub(crate) ghost pages: { AreKnown (flags_view flags.now) known.now.entries },
 }
 
 /// What a worker begins with: a seat, and the number of its first ask.
@@ -66,7 +71,7 @@ pub(crate) fn work<L: BookName, G: Gate, R: Wait>(
     ensures started { IfErr result (λ e. is_of_workers e ≡ false) }
 {
     let Job { mut seat, first } = job;
-    let mut answers = VecDeque::new(alloc);
+    let mut answers = VecDeque::with_capacity(alloc, round.asks.len() / round.step + 1)?;
     let mut refused = Vec::new(alloc);
     let mut ask = first;
     while ask < round.asks.len() {
@@ -125,14 +130,19 @@ fn resolved<L: BookName, G: Gate, R: Wait>(
     ensures grown { IfOk result (λ _. length (own seat.new) ≤ length (own seat.old) + most_units) }
 {
     let resolution = resolution(alloc, round.flags, ask)?;
+    let key = ask.key.as_str();
+    let sites = Sites {
+        flags: round.flags,
+        key,
+        pages: pages_at(round.known, round.flags, key),
+    };
     note_reached(
         rt,
         alloc,
         round.book,
         seat,
         refused,
-        round.flags,
-        ask.key.as_str(),
+        &sites,
         resolution.reached.as_slice(),
     )?;
     Ok(resolution)

@@ -1,15 +1,13 @@
 use Rattle.std.proofs.Common.{◌≡◌, ◌+◌, ◌≤◌, length, map, take}
-use Rattle.std.specs.Prelude.{IfSome}
 use Rattle.flag_defs.specs.Flags.{flags_view}
 use Rattle.logic_evaluator.specs.Views.{reach_view}
 use Rattle.book_lock.specs.Counts.{own}
-use Rattle.book_share.specs.Asked.{mentions_in, page_of, targeting_of}
+use Rattle.book_share.specs.Asked.{mentions_in, targeting_of}
 use Rattle.book_share.specs.Driven.{AreFull, Notes, noted_by}
 use Rattle.book_share.proofs.reach.note_reached.Given as goal
 
 abbrev pub invariant-loop-reach : goal.invariant-loop-reach
 invariant-loop-reach g l =
-    IfSome l.last (λ page. page ≡ page_of l.key (targeting_of (flags_view l.flags) l.key) page.site)
-    × Notes (mentions_in l.key (targeting_of (flags_view l.flags) l.key) (map reach_view (take l.reach-index l.reached))) (noted_by (own l.initial.seat) l.initial.refused.items) (noted_by (own l.seat) l.refused.items)
+    Notes (mentions_in l.sites.key.now (targeting_of (flags_view l.sites.flags.now) l.sites.key.now) (map reach_view (take l.reach-index l.reached))) (noted_by (own l.initial.seat) l.initial.refused.items) (noted_by (own l.seat) l.refused.items)
     × (AreFull l.initial.seat.seen l.initial.refused.items → AreFull l.seat.seen l.refused.items)
     × (length (own l.seat) ≤ length (own l.initial.seat) + l.reach-index)

@@ -15,8 +15,8 @@ note_reached-requires g c =
 
 pub returns-clause-noted : goal.returns-clause-noted
 returns-clause-noted g c =
-    noted_as (flags_view c.args.round.now.flags.now) c.args.ask.now c.as_str.result.now c.as_slice.result.now c.in_ok-resolution.resolution (noted_by (own c.args.seat.now) c.args.refused.now.items) (noted_by (own c.note_reached.new.seat) c.note_reached.new.refused.items)
-    c.as_str.ensures.value c.as_slice.ensures.value c.in_ok-resolution.ensures c.in_ok-note_reached.ensures.noted
+    noted_as (flags_view c.args.round.now.flags.now) c.args.ask.now c.as_str-key.result.now c.as_slice.result.now c.in_ok-resolution.resolution (noted_by (own c.args.seat.now) c.args.refused.now.items) (noted_by (own c.note_reached.new.seat) c.note_reached.new.refused.items)
+    c.as_str-key.ensures.value c.as_slice.ensures.value c.in_ok-resolution.ensures c.in_ok-note_reached.ensures.noted
 
 pub returns-clause-grown : goal.returns-clause-grown
 returns-clause-grown g c =

@@ -7,7 +7,7 @@ use Rattle.book_share.proofs.worker.work.Goals as goal
 pub loop-ask-init : goal.loop-ask-init
 loop-ask-init g c =
     let round = c.args.round.now in (
-      so_far_none (flags_view round.flags.now) round.asks.now (round.step - 1) c.args.job.first c.args.job.seat c.new-answers.result.items c.new-refused.result.items c.requires.fresh c.new-answers.ensures.items c.new-refused.ensures.items,
+      so_far_none (flags_view round.flags.now) round.asks.now (round.step - 1) c.args.job.first c.args.job.seat c.in_ok-answers.answers.items c.new-refused.result.items c.requires.fresh c.in_ok-answers.ensures.items c.new-refused.ensures.items,
       told_none _ round.step c.args.job.first,
     )
 
