@@ -118,8 +118,32 @@ fn last_or(names: &[u32], name: usize) -> usize
     }
 }
 
-/// Deals the points of a stretch, of which so many change: beside the neighbour that has their new name.
+/// Deals the points of a stretch, of which so many change.
 fn deal_stretch(
+    items: &mut Vec<u32>,
+    left: &mut [u32],
+    names: usize,
+    stretch: &Stretch,
+    changes: usize,
+) -> Result<(), AllocError>
+    requires few { names ≤ 64 }
+    requires room { stretch.now.group * names + names ≤ length left.old }
+    requires base { stretch.now.base < names }
+    requires before { stretch.now.before < names }
+    requires after { stretch.now.after < names }
+    requires changes { changes ≤ stretch.now.points }
+    requires enough { stretch.now.points ≤ sum (row names left.old stretch.now.group) }
+    ensures { OnOk result (DealsTo names stretch.now.group stretch.now.points left.old left.new items.old.items items.new.items) }
+{
+    if changes == 0 {
+        deal_run(items, left, names, stretch, stretch.base, stretch.points)
+    } else {
+        deal_parts(items, left, names, stretch, changes)
+    }
+}
+
+/// The same where some change: beside the neighbour that has their new name.
+fn deal_parts(
     items: &mut Vec<u32>,
     left: &mut [u32],
     names: usize,

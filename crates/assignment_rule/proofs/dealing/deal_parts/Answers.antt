@@ -3,7 +3,7 @@ use Rattle.std.proofs.Common.{◌≡◌, ◌+◌, ◌-◌, ℕ, List, subst, ari
 use Rattle.std.proofs.lemmas.Result.{on_ok_weaker}
 use Rattle.assignment_rule.specs.Dealing.{DealsTo}
 use Rattle.assignment_rule.proofs.Dealt.{deals_both}
-use Rattle.assignment_rule.proofs.dealing.deal_stretch.Goals as goal
+use Rattle.assignment_rule.proofs.dealing.deal_parts.Goals as goal
 
 both : (names g n m k : ℕ) (first second third before between after : List ℕ) → n + m ≡ k → DealsTo names g n first second before between → DealsTo names g m second third between after → DealsTo names g k first third before after
 both names g n m k first second third before between after whole a b = subst (λ j. DealsTo names g j first third before after) whole (deals_both names g n m first second third before between after a b)
