@@ -85,7 +85,9 @@ pub(crate) fn put_not_json(lines: &mut Lines, bytes: &[u8]) {
         return;
     }
     if bytes.starts_with(BYTE_ORDER_MARK) {
-        lines.put(" begins with a byte order mark, and is no JSON\n  save it as UTF-8 without the mark\n");
+        lines.put(
+            " begins with a byte order mark, and is no JSON\n  save it as UTF-8 without the mark\n",
+        );
         return;
     }
     lines.put(" is no JSON: ");
