@@ -2,11 +2,10 @@ use Rattle.flag_defs.specs.Flags.{flags_view}
 use Rattle.flag_text.specs.View.{view}
 use Rattle.flagops_drive.specs.Driven.{drove_view}
 use Rattle.flagops_drive.specs.Asks.{asks_of}
-use Rattle.flagops_files.specs.Refusal.{is_want, loads_book, loads_flags, loads_tree}
-use Rattle.flagops_commands.specs.Drive.{before_at}
+use Rattle.flagops_files.specs.Refusal.{loads_book, loads_flags, loads_tree}
 use Rattle.flagops_commands.proofs.Driving.{at_first, driven, kept_after, left_by_storing, no_asks, no_book, no_document, not_driven, others_after}
 use Rattle.flagops_commands.proofs.Refusing.{by_another, by_asks, by_workers, failed_last, in_any_case, no_asks_driven, none_driven}
-use Rattle.std.proofs.Common.{◌≡◌, ◌∙◌, Ok, inl, refl, rules}
+use Rattle.std.proofs.Common.{◌∙◌, inl, refl, rules}
 use Rattle.flagops_commands.proofs.books.drive.drive.Goals as goal
 
 pub returns-in_err-flags-clause-exact : goal.returns-in_err-flags-clause-exact

@@ -1,6 +1,6 @@
-use Rattle.std.proofs.Common.{rules, inl, ◌∙◌}
+use Rattle.std.proofs.Common.{rules, inl}
 use Rattle.flagops_drive.specs.Driven.{drove_view}
-use Rattle.flagops_commands.proofs.Driving.{at_first, kept_after, others_after}
+use Rattle.flagops_commands.proofs.Driving.{at_first, others_after}
 use Rattle.flagops_commands.proofs.Uniting.{left, no_output, no_union, wrote}
 use Rattle.flagops_commands.proofs.books.unite.unite.Goals as goal
 
