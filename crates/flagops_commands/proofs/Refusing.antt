@@ -1,5 +1,5 @@
 -- What `drive` refuses: by name where the workers or the asks are wrong, and before any file is stored.
-use Rattle.std.proofs.Common.{◌≡◌, ◌∙◌, ℕ, List, Option, Some, None, Bool, true, false, IfSome, inl, sym, ap, subst}
+use Rattle.std.proofs.Common.{◌≡◌, ◌∙◌, ◌||◌, ℕ, List, Option, Some, None, Bool, true, false, IfSome, inl, refl, sym, ap, subst}
 use Rattle.std.specs.Prelude.{Result, Ok}
 use Rattle.flag_text.specs.Shape.{Shape}
 use Rattle.flagops_drive.proofs.Named.{is_refused, named}
@@ -77,3 +77,11 @@ module _ (path : List ℕ) (t : Shape) (workers : ℕ) where
 -- files that stay
 pub all_kept : {E : Type 0} (old new : Option Holding) (r : Result Outcome E) → new ≡ old → KeepsUnlessDone old new r
 all_kept old new r same = inl same
+
+-- no file failed until the last step
+or_false : (b : Bool) → (b || false) ≡ b
+or_false true = refl
+or_false false = refl
+
+pub failed_last : (start first second third last fault : Bool) → first ≡ (start || false) → second ≡ (first || false) → third ≡ (second || false) → last ≡ (third || fault) → last ≡ (start || fault)
+failed_last start first second third last fault a b c d = d ∙ ap (λ (x : Bool). x || fault) (c ∙ (or_false second ∙ (b ∙ (or_false first ∙ (a ∙ or_false start)))))

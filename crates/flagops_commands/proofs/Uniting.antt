@@ -57,28 +57,28 @@ refused (Some at) path one other f e loaded unites is = λ wanted.
 
 -- ---- the books behind it
 
-next_is : {Later : Contents → Result Contents Refusal → Type 0} (o : Result Contents Refusal) (one both : Contents) (r : Result Contents Refusal) → IsWithNext IsBoth one o (Ok both) → Later both r → IsWithNext Later one o r
-next_is (Err e) one both r is later = not_both is
-next_is (Ok other) one both r (inl full) later = not_both full.0
-next_is {Later} (Ok other) one both r (inr more) later = go more.0 more.1 more.2
-  where
-    go : (b : Contents) → IsUnion one other b → Ok both ≡ Ok b → IsWithNext Later one (Ok other) r
-    go b union same = let is : both ≡ b = cc in inr (b, union, subst (λ (c : Contents). Later c r) is later)
+same_book : (both b : Contents) (r : Result Contents Refusal) → r ≡ Ok both → r ≡ Ok b → both ≡ b
+same_book both b r is also = cc
+
+next_is : (Later : Contents → Result Contents Refusal → Type 0) (o : Result Contents Refusal) (one both : Contents) (r : Result Contents Refusal) → IsWithNext IsBoth one o (Ok both) → Later both r → IsWithNext Later one o r
+next_is Later (Err e) one both r is later = not_both is
+next_is Later (Ok other) one both r (inl none) later = not_both none.0
+next_is Later (Ok other) one both r (inr more) later = inr (more.0, more.1, subst (λ (c : Contents). Later c r) (same_book both more.0 (Ok both) refl more.2) later)
 
 -- what comes of a book with the next one and those behind it
 pub next : (at : Holding) (path : List ℕ) (paths rest : List (List ℕ)) (one both : Contents) (r : Result Contents Refusal) → IsWithNext IsBoth one (book_at at path) (Ok both) → paths ≡ path ∷ rest
     → IsUnitedWith at rest both r → IsUnitedWith at paths one r
 unfolding IsUnitedWith
-next at path paths rest one both r is first later = subst (λ (ps : List (List ℕ)). IsUnitedWith at ps one r) (sym first) (next_is (book_at at path) one both r is later)
+next at path paths rest one both r is first later = subst (λ (ps : List (List ℕ)). IsUnitedWith at ps one r) (sym first) (next_is (IsUnitedWith at rest) (book_at at path) one both r is later)
 
-next_refused : {Later : Contents → Result Contents Refusal → Type 0} (o : Result Contents Refusal) (one : Contents) (e : Refusal) → IsWithNext IsBoth one o (Err e) → IsWithNext Later one o (Err e)
-next_refused (Err f) one e is = is
-next_refused (Ok other) one e (inl full) = inl full
-next_refused (Ok other) one e (inr more) = not_both (sym more.2)
+next_refused : (Later : Contents → Result Contents Refusal → Type 0) (o : Result Contents Refusal) (one : Contents) (e : Refusal) → IsWithNext IsBoth one o (Err e) → IsWithNext Later one o (Err e)
+next_refused Later (Err f) one e is = is
+next_refused Later (Ok other) one e (inl none) = inl none
+next_refused Later (Ok other) one e (inr more) = not_both (sym more.2)
 
 pub stops : (at : Holding) (path : List ℕ) (paths rest : List (List ℕ)) (one : Contents) (e : Refusal) → IsWithNext IsBoth one (book_at at path) (Err e) → paths ≡ path ∷ rest → IsUnitedWith at paths one (Err e)
 unfolding IsUnitedWith
-stops at path paths rest one e is first = subst (λ (ps : List (List ℕ)). IsUnitedWith at ps one (Err e)) (sym first) (next_refused (book_at at path) one e is)
+stops at path paths rest one e is first = subst (λ (ps : List (List ℕ)). IsUnitedWith at ps one (Err e)) (sym first) (next_refused (IsUnitedWith at rest) (book_at at path) one e is)
 
 -- the first of those that are left, and those behind it
 pub first_left : {X : Type 0} (now : X → List ℕ) (xs : List X) (i : ℕ) (z : X) → i < length xs → map now (drop i xs) ≡ now (get_or xs i z) ∷ map now (drop (i + 1) xs)

@@ -2,11 +2,10 @@ use Rattle.flag_defs.specs.Flags.{flags_view}
 use Rattle.flag_text.specs.View.{view}
 use Rattle.flagops_drive.specs.Driven.{drove_view}
 use Rattle.flagops_drive.specs.Asks.{asks_of}
-use Rattle.flagops_files.specs.Refusal.{is_want, loads_book, loads_flags, loads_tree}
-use Rattle.flagops_commands.specs.Drive.{before_at}
+use Rattle.flagops_files.specs.Refusal.{loads_book, loads_flags, loads_tree}
 use Rattle.flagops_commands.proofs.Driving.{at_first, driven, kept_after, left_by_storing, no_asks, no_book, no_document, not_driven, others_after}
-use Rattle.flagops_commands.proofs.Refusing.{by_another, by_asks, by_workers, in_any_case, no_asks_driven, none_driven}
-use Rattle.std.proofs.Common.{◌≡◌, ◌∙◌, Ok, inl, refl, rules}
+use Rattle.flagops_commands.proofs.Refusing.{by_another, by_asks, by_workers, failed_last, in_any_case, no_asks_driven, none_driven}
+use Rattle.std.proofs.Common.{◌∙◌, inl, refl, rules}
 use Rattle.flagops_commands.proofs.books.drive.drive.Goals as goal
 
 pub returns-in_err-flags-clause-exact : goal.returns-in_err-flags-clause-exact
@@ -109,3 +108,6 @@ returns-clause-bad_workers g c = λ e wrong. absurd (none_driven (asks_of (view 
 
 pub returns-clause-bad_asks : goal.returns-clause-bad_asks
 returns-clause-bad_asks g c = no_asks_driven c.args.asks.now (view c.in_ok-tree.tree) c.args.workers _ _ _ c.load_flags.ensures.kept c.in_ok-tree.ensures.exact c.in_ok-drove.ensures.refused
+
+pub returns-clause-failed : goal.returns-clause-failed
+returns-clause-failed g c = failed_last _ _ _ _ _ _ c.in_ok-flags.ensures.failed c.in_ok-tree.ensures.failed c.in_ok-before.ensures.failed c.written.ensures.failed
