@@ -59,12 +59,12 @@ asked_there refine q answer may = read_checked q answer refine may.told
 
 -- bytes that are no text are no document
 no_document : (bytes : List ℕ) → (IsUtf8 bytes → ⊥) → (b : Bool) → nat_lt max_bytes (length bytes) ≡ b → (e : TextFault) × (doc_of bytes max_bytes ≡ Err e)
-no_document bytes no true e = (TooLarge, rw e refl)
-no_document bytes no false e = (NotJson, doc_of-none bytes max_bytes (ltb-false max_bytes (length bytes) e) (λ u. absurd (no u)))
+no_document bytes other true e = (TooLarge, rw e refl)
+no_document bytes other false e = (NotJson, doc_of-none bytes max_bytes (ltb-false max_bytes (length bytes) e) (λ u. absurd (other u)))
 
 pub not_text : (bytes : List ℕ) (flags : Definitions) (key : List ℕ) (site : ℕ) (rule : Entries) (wanted : Definitions) → (IsUtf8 bytes → ⊥) → IsRefused bytes (place_in bytes flags key site) rule wanted Differs
-not_text bytes flags key site rule wanted no =
-    let none = no_document bytes no (nat_lt max_bytes (length bytes)) refl in
+not_text bytes flags key site rule wanted other =
+    let none = no_document bytes other (nat_lt max_bytes (length bytes)) refl in
     subst (λ (r : Result Shape TextFault). IsRefused bytes (in_tree r key (option_and_then targeting_in (lookup (bytes_eq key) flags)) site) rule wanted Differs) (sym none.1) (λ s. s, λ text kept means. kept)
 
 module _ (document : List ℕ) (place : SitePlace) (rule : Entries) (applied : Result Definitions RolloutFault) where
@@ -92,7 +92,7 @@ module _ (refine : Option ℕ) (document : List ℕ) (q : Question) (answer : An
 
 module _ (path : List ℕ) (write : Bool) (refine : Option ℕ) (document : List ℕ) (q : Question) (answer : Answer) where
   pub not_kept : (old after : Option Holding) (e : Refused) → after ≡ old → (is_want e.refusal ≡ false → MayBeKept refine document q answer (Err e.refusal))
-      → IfSome old (λ at. is_want e.refusal ≡ false → IsKeepWith at after path write refine document q answer (Err e.refusal))
+      → IfSome old (λ at. GivesOne outcome_view (Err e) (IsKeepWith at after path write refine document q answer))
   not_kept None after e same kept = tt
   not_kept (Some at) after e same kept = λ wanted. (Err e.refusal, kept wanted, (refl, same))
 
