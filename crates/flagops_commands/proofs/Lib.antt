@@ -8,6 +8,7 @@ mod Keeping
 pub mod Leaving
 mod Noted
 pub mod Refusing
+mod Telling
 pub mod Uniting
 pub mod Valid
 pub mod Verdicts

@@ -73,6 +73,7 @@ NamesVerified request answer (verdict.Check e) lines = Names answer lines
 -- a plan is refused as a file, or where its rule is put
 abbrev pub is_of_plan : Refusal → Bool
 is_of_plan (Apply e) = true
+is_of_plan (Keep e) = true
 is_of_plan e = by loads_plan e
 
 abbrev pub apply_subjects : List ℕ → List ℕ → Subjects

@@ -149,7 +149,6 @@ fn edited(
 }
 
 /// The same; or why there is none.
-#[tactic(auto, using(crate::proofs::Keeping::not_text))]
 fn kept_text(
     alloc: Global,
     bytes: &[u8],

@@ -76,7 +76,7 @@ fn load_keys<F: FileSet>(alloc: Global, files: &mut F, path: &str) -> Result<Vec
     ensures calls { ComesFrom loads_keys result }
     ensures failed { F.has_failed files.new ≡ (F.has_failed files.old || is_file_fault result) }
     ensures kept { F.holding files.new ≡ F.holding files.old }
-    ensures names { TellsOf (file path.now) result }
+    ensures names { TellsOfOne ((file path.now, is_of_keys) ∷ []) result }
 {
     let tree = load_tree(alloc, files, path, TEXT_LIMIT)?;
     keys_in(alloc, path, tree)
@@ -86,7 +86,7 @@ fn keys_in(alloc: Global, path: &str, tree: Tree) -> Result<Vec<String>, Refused
     ensures exact { GivesUnlessWant (λ v. map string_bytes v.items) result (keys_in (view tree)) }
     ensures calls { ComesFrom price_itself result }
     ensures read { is_file_fault result ≡ false }
-    ensures names { TellsOf (file path.now) result }
+    ensures names { TellsOfOne ((file path.now, is_of_keys) ∷ []) result }
 {
     match tree {
         Tree::List(items) => texts_of(alloc, path, items),
@@ -98,7 +98,7 @@ fn texts_of(alloc: Global, path: &str, items: Vec<Tree>) -> Result<Vec<String>, 
     ensures exact { GivesUnlessWant (λ v. map string_bytes v.items) result (if_keys (texts_of (items_view items.items))) }
     ensures calls { ComesFrom price_itself result }
     ensures read { is_file_fault result ≡ false }
-    ensures names { TellsOf (file path.now) result }
+    ensures names { TellsOfOne ((file path.now, is_of_keys) ∷ []) result }
 {
     let mut texts = Vec::new(alloc);
     for item in items {
@@ -183,7 +183,7 @@ fn noted(alloc: Global, path: &str, keys: &[String]) -> Result<Exposure, Refused
     ensures exact { GivesUnlessWant (λ e. e) result (exposed (map string_bytes keys.now)) }
     ensures calls { ComesFrom notes_keys result }
     ensures read { is_file_fault result ≡ false }
-    ensures names { TellsOf (file path.now) result }
+    ensures names { TellsOfOne ((file path.now, is_of_keys) ∷ []) result }
 {
     let page = Page {
         flag: String::new(alloc),

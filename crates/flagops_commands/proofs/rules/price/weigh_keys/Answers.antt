@@ -1,13 +1,16 @@
 -- sorted keys, each once, are the inputs that the keys come to
-use Rattle.std.proofs.Common.{map, string_bytes, sym, ap, ◌∙◌, subst, arith}
+use Rattle.std.proofs.Common.{◌≡◌, [], ◌∷◌, false, map, string_bytes, sym, ap, ◌∙◌, subst, arith, rules}
 use Rattle.std.specs.Str.{bytes_eq}
 use Rattle.std.proofs.lemmas.List.Filters.{dedup_is}
 use Rattle.flagops_files.specs.Loading.{◌>>=◌}
-use Rattle.flagops_files.specs.Refusal.{GivesUnlessWant}
+use Rattle.flagops_files.specs.Refusal.{GivesUnlessWant, is_want}
 use Rattle.flagops_files.specs.Report.{outcome_view}
 use Rattle.flagops_commands.specs.Price.{are_taken, weighed}
 use Rattle.flagops_commands.proofs.Distinct.{exposed-apart}
+use Rattle.flagops_files.specs.Told.{NamesOne, file, word}
+use Rattle.flagops_commands.specs.Subjects.{is_of_keys, is_of_rules, old_weights}
 use Rattle.flagops_commands.proofs.Gathered.{few_taken}
+use Rattle.flagops_commands.proofs.Telling.{told_among}
 use Rattle.flagops_commands.proofs.rules.price.weigh_keys.Goals as goal
 
 pub returns-then-are_taken-clause-exact : goal.returns-then-are_taken-clause-exact
@@ -23,3 +26,10 @@ pub priced-requires-clause-few : goal.priced-requires-clause-few
 priced-requires-clause-few g c =
     let few = few_taken c.args.keys.items (ap are_taken (sym c.as_slice.ensures.value) ∙ sym c.if-are_taken.ensures) in
     omega (arith, few, c.dedup.ensures.bound, c.sort_unstable.ensures.len, c.as_slice-then-are_taken.ensures.len)
+
+pub returns-in_err-exposure-clause-names : goal.returns-in_err-exposure-clause-names
+returns-in_err-exposure-clause-names g c =
+    let refused = c.in_err-exposure.field-0.0 in
+    let told : is_want refused.refusal ≡ false → NamesOne ((file c.args.path.now, is_of_keys) ∷ (word old_weights, is_of_rules) ∷ []) refused.refusal refused.remark =
+    λ wanted. told_among [] (file c.args.path.now, is_of_keys) ((word old_weights, is_of_rules) ∷ []) refused.refusal refused.remark (c.in_err-exposure.ensures.names wanted) in
+    search (told, rules)
