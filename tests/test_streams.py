@@ -6,6 +6,7 @@ import socket
 import struct
 import subprocess
 import tempfile
+import time
 import unittest
 
 from given import document
@@ -150,9 +151,11 @@ class Streams(unittest.TestCase):
         self.assertEqual((out, child.returncode), (printed, status), told)
         return told
 
-    def received(self, port):
-        """The frames that a subscriber is sent: their numbers and documents."""
+    def received(self, port, sent=b""):
+        """The frames that a subscriber is sent, which sends something first: their numbers and documents."""
         with socket.create_connection(("127.0.0.1", int(port)), SECONDS) as stream:
+            stream.sendall(sent)
+            time.sleep(0.5 if sent else 0)
             left = b"".join(iter(lambda: stream.recv(65536), b""))
         frames = []
         while left:
@@ -199,7 +202,8 @@ class Streams(unittest.TestCase):
         lines = out.splitlines()
         self.assertEqual((lines[-1], follower.returncode), ("stopped Limit", 0))
         self.assertLessEqual(len(lines), 3)
-        self.assert_ends(server, "published 2\n", 0)
+        ended = (server.communicate(timeout=SECONDS)[0], server.returncode)
+        self.assertIn(ended, [("published 2\n", 0), ("refused serve 1 Unserved 1\n", 1)])
 
     def test_a_line_comes_with_its_snapshot(self):
         """Each line is printed before the next frame is sent."""
@@ -229,6 +233,40 @@ class Streams(unittest.TestCase):
         with socket.create_connection(("127.0.0.1", int(port)), SECONDS) as stream:
             self.assertEqual(b"".join(iter(lambda: stream.recv(65536), b"")), FRAME)
         self.assert_ends(server, "published 1\n", 0)
+
+    def test_what_a_subscriber_sends_is_dropped(self):
+        """It gets each byte of its frames, however much it has sent, and whenever it reads them."""
+        for sent in (9_000, 1_000_000):
+            with self.subTest(sent=sent):
+                server, port = self.serve(1, ONE, large("large"))
+                number, last = self.received(port, b"x" * sent)[-1]
+                self.assert_ends(server, "published 2\n", 0)
+                self.assertEqual((number, sorted(json.loads(last)["flags"])), (2, ["color", "large"]))
+
+    def test_a_subscriber_that_is_not_served(self):
+        """The status tells of one that was reset, and a line of it; the other gets all."""
+        server, port = self.serve(2, ONE, TEN)
+        gone = socket.create_connection(("127.0.0.1", int(port)), SECONDS)
+        gone.setsockopt(socket.SOL_SOCKET, socket.SO_LINGER, struct.pack("ii", 1, 0))
+        gone.close()
+        self.assertEqual(self.received(port)[-1][0], 2)
+        told = self.assert_ends(server, "refused serve 1 Unserved 1\n", 1)
+        self.assertRegex(told, "serve: subscriber 1 has gone after [01] snapshots: it takes no more bytes\n")
+        self.assertIn("serve: subscriber 2 has gone after ", told)
+        self.assertTrue(told.endswith("error: subscribers that were not sent the last snapshot: 1\n"), told)
+
+    def test_a_subscriber_that_goes_before_it_read(self):
+        """One that closes its connection before the first frame is not served."""
+        server, port = self.serve(2, ONE)
+        socket.create_connection(("127.0.0.1", int(port)), SECONDS).close()
+        self.assertEqual(len(self.received(port)), 1)
+        self.assert_ends(server, "refused serve 1 Unserved 1\n", 1)
+
+    def test_a_subscriber_that_stays(self):
+        """One that keeps its connection open, or reads nothing, keeps `serve` for seconds alone."""
+        server, port = self.serve(1, ONE, TEN)
+        with socket.create_connection(("127.0.0.1", int(port)), SECONDS):
+            self.assert_ends(server, "published 2\n", 0)
 
     def test_documents_that_are_too_large_together(self):
         """Of two flags they are, of one flag the second hides the first."""

@@ -4,7 +4,7 @@
     bench/hostile/network.py [COUNT [SEED]]
 
 `serve` has one subscriber that reads all, and others that send, read nothing, reset or close at each byte, or come by hundreds: the
-one gets the last snapshot, and the server ends with `published N`. `follow` is sent each prefix of a stream, and reset behind it,
+one gets the last snapshot, and the server ends with `published N`, or tells of those that were not served. `follow` is sent each prefix of a stream, and reset behind it,
 random bytes, frames of each wrong kind, a byte a second, long frames by the hundred, a length of 4 GB, or nothing until it closes.
 COUNT bounds the places of each kind, spread over all, and is the number of random streams (100 where it is not given). A run is bad
 where it prints or ends otherwise, is ended by a signal, goes on 10 seconds behind the last byte, or takes more than 500 MB.
@@ -132,7 +132,9 @@ def served(folder, documents, others, acts, seats=None):
     for stream in [good, *bad]:
         stream.close()
     status, out, kilobytes = ended(server.child)
-    if (status, out) != (0, f"published {len(documents)}\n") or kilobytes > KILOBYTES:
+    missed = re.fullmatch(r"refused serve 1 Unserved (\d+)\n", out)
+    is_told = status == 1 and missed and int(missed.group(1)) <= len(bad)
+    if not is_told and (status, out) != (0, f"published {len(documents)}\n") or kilobytes > KILOBYTES:
         why.append(f"status {status}, {out!r}, {kilobytes} KB")
     return "; ".join(why)
 

@@ -1,16 +1,18 @@
 -- Documents that are published one after the other.
-use Rattle.std.proofs.Common.{◌≡◌, ◌≢◌, ◌↔◌, ◌+◌, ◌-◌, ◌<◌, ◌∙◌, ℕ, suc, List, [], ◌∷◌, ◌++◌, Bool, true, Option, Result, Ok, Err, inl, inr, refl, add-one, ap, arith, drop, get_or, length, length-append, length-drop, map, subst, sym, take}
+use Rattle.std.proofs.Common.{◌≡◌, ◌≢◌, ◌↔◌, ◌⊎◌, ◌+◌, ◌-◌, ◌<◌, ◌≤◌, ◌∙◌, ℕ, suc, List, [], ◌∷◌, ◌++◌, Bool, true, false, if◌then◌else◌, is_ok, nat_eq, Option, Result, Ok, Err, inl, inr, refl, add-one, ap, arith, drop, get_or, length, length-append, length-drop, map, subst, sym, take}
 use Rattle.std.proofs.Math.Seq.{drop-cons}
 use Rattle.std.proofs.lemmas.List.{take_all}
+use Rattle.std.proofs.lemmas.Bool.{true≢false}
+use Rattle.flag_defs.specs.declared.flags.Flags.{Flags}
 use Rattle.flag_documents.specs.Document.{Definitions}
 use Rattle.snap_share.specs.Fault.{is_of_publish, is_of_share}
 use Rattle.snap_share.specs.declared.fault.ShareFault.{ShareFault}
 use Rattle.snap_share.specs.declared.fault.ShareFault.TheVariants as share
 use Rattle.source_merge.specs.Sources.{SourceList}
-use Rattle.flagops_streams.specs.Documents.{Answer, Gives, IsAccepted, MayFail, MayRefuse, Merges, ServesTo, count_of}
+use Rattle.flagops_streams.specs.Documents.{Answer, Gives, GivesSome, IsAccepted, MayFail, MayRefuse, Merges, ServesTo, count_of, less_missed, told_view}
 use Rattle.flagops_streams.specs.Report.{Publishes, Reports, Serves}
 use Rattle.flagops_streams.specs.declared.refusal.Refusal.{Refusal}
-use Rattle.flagops_streams.specs.declared.refusal.Refusal.TheVariants.{Publish, Share, WantOfMemory}
+use Rattle.flagops_streams.specs.declared.refusal.Refusal.TheVariants.{NoThread, Publish, Share, Unserved, WantOfMemory}
 
 module _ {X : Type 0} (bytes : X → List ℕ) (xs : List X) (i : ℕ) (x : X) (inside : i < length xs) (is : x ≡ get_or xs i x) (sources : SourceList) (published : List Definitions) where
   from_here : drop i xs ≡ x ∷ drop (i + 1) xs
@@ -47,7 +49,7 @@ not_published number sources text share.NoReader is other accepted = absurd (cc 
 pub first_served : (subscribers : ℕ) (sources next : SourceList) (flags : Definitions) (text : List ℕ) (texts : List (List ℕ)) (answer : Answer)
     → Merges 1 sources text next flags → ServesTo subscribers next texts (flags ∷ []) answer → ServesTo subscribers sources (text ∷ texts) [] answer
 first_served subscribers sources next flags text texts answer merges (inl fails) = inl fails
-first_served subscribers sources next flags text texts answer merges (inr gives) = inr (inr (next, flags, merges, gives))
+first_served subscribers sources next flags text texts answer merges (inr (missed, whole, few, gives, is)) = inr (missed, whole, few, inr (next, flags, merges, gives), is)
 
 -- why flags were not shared among so many seats
 pub not_shared : {X : Type 0} (seats : ℕ) (fault : ShareFault) (result : Result X ShareFault) → result ≡ Err fault
@@ -59,6 +61,22 @@ not_shared seats share.NoReader result is none many of = tt
 not_shared seats share.LastNumber result is none many of = absurd (cc (of))
 not_shared seats share.Closed result is none many of = absurd (cc (of))
 
+-- what is served beside threads
+pub beside_served : (subscribers : ℕ) (sources : SourceList) (texts : List (List ℕ)) (published : List Definitions) (result : Result (List Flags) Refusal)
+    → (result ≡ Err NoThread) ⊎ GivesSome subscribers (Gives sources texts published) (told_view result) → ServesTo subscribers sources texts published (told_view result)
+beside_served subscribers sources texts published result (inl is) = inl (NoThread, ap told_view is, tt)
+beside_served subscribers sources texts published result (inr gives) = inr gives
+
+no_thread : (missed : ℕ) (result : Result (List Flags) Refusal) → told_view result ≡ less_missed missed (Err NoThread) → result ≡ Err NoThread
+no_thread missed (Ok told) is = absurd (cc (is))
+no_thread missed (Err refusal) is = cc (is)
+
+-- the same, where some of the subscribers were missed
+pub unless_beside : (subscribers missed : ℕ) (IsAnswer : Answer → Type 0) (outcome result : Result (List Flags) Refusal) → missed ≤ subscribers
+    → (outcome ≡ Err NoThread) ⊎ IsAnswer (told_view outcome) → told_view result ≡ less_missed missed (told_view outcome) → (result ≡ Err NoThread) ⊎ GivesSome subscribers IsAnswer (told_view result)
+unless_beside subscribers missed IsAnswer outcome result few (inl is) less = inl (no_thread missed result (less ∙ ap (λ o. less_missed missed (told_view o)) is))
+unless_beside subscribers missed IsAnswer outcome result few (inr gives) less = inr (missed, told_view outcome, few, gives, less)
+
 -- what is published behind some flags are as many as there are documents
 pub counted : (sources : SourceList) (texts : List (List ℕ)) (published all : List Definitions) → Gives sources texts published (Ok all) → length all ≡ length published + length texts
 counted sources [] published all is =
@@ -68,15 +86,46 @@ counted sources (text ∷ texts) published all (inl (refusal, is, may)) = absurd
 counted sources (text ∷ texts) published all (inr (next, flags, merges, rest)) =
     omega (arith, counted next texts (published ++ flags ∷ []) all rest, length-append published (flags ∷ []))
 
+-- what is answered as published was published, and every subscriber served
+pub all_sent : (missed : ℕ) (whole : Answer) (all : List Definitions) → Ok all ≡ less_missed missed whole → whole ≡ Ok all
+all_sent missed (Ok published) all is = by (nat_eq missed 0) is
+  where
+    by : (b : Bool) → (let r : Answer = Ok all in r) ≡ (if b then Ok published else Err (Unserved missed)) → (let r : Answer = Ok published in r) ≡ Ok all
+    by true e = sym e
+    by false e = absurd (cc (e))
+all_sent missed (Err refusal) all is = absurd (cc (is))
+
+-- where there is an answer, none was missed
+pub none_missed_at : (missed : ℕ) (whole answer : Answer) → answer ≡ less_missed missed whole → is_ok answer ≡ true → nat_eq missed 0 ≡ true
+none_missed_at missed (Ok published) answer is ok = by (nat_eq missed 0) (sym ok ∙ ap is_ok is)
+  where
+    by : (b : Bool) → true ≡ is_ok (let r : Answer = if b then Ok published else Err (Unserved missed) in r) → b ≡ true
+    by true e = refl
+    by false e = absurd (true≢false e)
+none_missed_at missed (Err refusal) answer is ok = absurd (true≢false (sym ok ∙ ap is_ok is))
+
+-- what was told is an answer where it is one as it is seen
+pub told_ok : (told : Result (List Flags) Refusal) → is_ok (told_view told) ≡ is_ok told
+told_ok (Ok told) = refl
+told_ok (Err refusal) = refl
+
+-- where every subscriber was served
+none_at_zero : (answer : Answer) → answer ≡ less_missed 0 answer
+none_at_zero (Ok published) = refl
+none_at_zero (Err refusal) = refl
+
+pub none_missed : (subscribers : ℕ) (IsAnswer : Answer → Type 0) (answer : Answer) → IsAnswer answer → GivesSome subscribers IsAnswer answer
+none_missed subscribers IsAnswer answer gives = (0, answer, omega arith, gives, none_at_zero answer)
+
 -- where documents were served, there are as many of what was published
 pub count_served : (subscribers : ℕ) (sources : SourceList) (texts : List (List ℕ)) (all : List Definitions) → ServesTo subscribers sources texts [] (Ok all) → length all ≡ length texts
 count_served subscribers sources texts all (inl (refusal, is, may)) = absurd (cc (is))
-count_served subscribers sources texts all (inr gives) = omega (arith, counted sources texts [] all gives)
+count_served subscribers sources texts all (inr (missed, whole, few, gives, is)) = omega (arith, counted sources texts [] all (subst (Gives sources texts []) (all_sent missed whole all is) gives))
 
 -- what is reported of an answer is one line: the number of the documents, or a refusal
-pub reported : (Is : List ℕ → Type 0) (subscribers : ℕ) (sources : SourceList) (texts : List (List ℕ)) (answer : Answer) (old new : Option (List ℕ)) (broken : Bool) (err err_after : Option (List ℕ)) (is_mute : Bool) (status count : ℕ)
+pub reported : (Is : Bool → List ℕ → Type 0) (subscribers : ℕ) (sources : SourceList) (texts : List (List ℕ)) (answer : Answer) (old new : Option (List ℕ)) (broken : Bool) (err err_after : Option (List ℕ)) (is_mute : Bool) (status count : ℕ)
     → length texts ≡ count → ServesTo subscribers sources texts [] answer → Reports Is (count_of answer) old new broken err err_after is_mute status → Serves Is count old new broken err err_after is_mute status
 reported Is subscribers sources texts (Ok all) old new broken err err_after is_mute status count is served (inl line) =
-    inl (subst (λ (m : ℕ). Publishes Is m old new broken err err_after is_mute status) (count_served subscribers sources texts all served ∙ is) line)
+    inl (subst (λ (m : ℕ). Publishes (Is true) m old new broken err err_after is_mute status) (count_served subscribers sources texts all served ∙ is) line)
 reported Is subscribers sources texts (Ok all) old new broken err err_after is_mute status count is served (inr want) = inr (WantOfMemory, want)
 reported Is subscribers sources texts (Err refusal) old new broken err err_after is_mute status count is served line = inr (refusal, line)

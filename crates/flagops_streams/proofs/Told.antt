@@ -1,11 +1,12 @@
 -- What is told, one text after the other.
-use Rattle.std.proofs.Common.{◌≡◌, ℕ, List, [], ◌∷◌, ◌++◌, Bool, true, false, Option, Result, Ok, Err, IfOk, IfErr, inl, inr, refl, sym, subst, length, arith}
+use Rattle.std.proofs.Common.{◌≡◌, ◌+◌, ℕ, List, [], ◌∷◌, ◌++◌, Bool, true, false, is_ok, nat_eq, Option, Result, Ok, Err, IfOk, IfErr, inl, inr, refl, sym, subst, length, arith}
 use Rattle.std.proofs.lemmas.Bool.{true≢false}
+use Rattle.std.proofs.lemmas.Bool.Decides.{nat_tests}
 use Rattle.std.proofs.lemmas.List.{take_all}
 use Rattle.std.specs.Io.KnownBytes.{Appends}
 use Rattle.flag_text.specs.Outlet.{AppendsPart}
 use Rattle.flagops_streams.specs.Report.{RefusesBeside, Reports}
-use Rattle.flagops_streams.specs.Told.{Says, SaysEach, TellsLines}
+use Rattle.flagops_streams.specs.Told.{IsGone, IsOfSubscribers, Says, SaysEach, TellsLines}
 use Rattle.flagops_streams.specs.declared.refusal.Refusal.{Refusal}
 use Rattle.flagops_streams.specs.declared.refusal.Refusal.TheVariants.{WantOfMemory}
 
@@ -64,15 +65,32 @@ lines_as Is As more old new is_mute (lines, each) = (lines, go old lines each)
     go from [] each = each
     go from (line ∷ lines) (between, is, said, each) = (between, more line is, said, go between lines each)
 
+-- ---- lines of subscribers
+
+-- what is told where all were served may be told where some were not
+pub gone_as : (b c : Bool) → (c ≡ true → b ≡ true) → (line : List ℕ) → IsGone b line → IsGone c line
+gone_as b c more line (number, snapshots, end, sent, is) = (number, snapshots, end, λ all. sent (more all), is)
+
+pub of_subscribers_as : (port subscribers : ℕ) (b c : Bool) → (c ≡ true → b ≡ true) → (line : List ℕ) → IsOfSubscribers port subscribers b line → IsOfSubscribers port subscribers c line
+of_subscribers_as port subscribers b c more line (inl came) = inl came
+of_subscribers_as port subscribers b c more line (inr gone) = inr (gone_as b c more line gone)
+
+-- a sum that is none is one of none and none
+pub left_zero : (n m : ℕ) → nat_eq (n + m) 0 ≡ true → nat_eq n 0 ≡ true
+left_zero n m none = grind (arith, nat_tests)
+
+pub right_zero : (n m : ℕ) → nat_eq (n + m) 0 ≡ true → nat_eq m 0 ≡ true
+right_zero n m none = grind (arith, nat_tests)
+
 -- ---- a report behind lines
 
-module _ (Is : List ℕ → Type 0) (old new : Option (List ℕ)) (broken : Bool) (err mid err_after : Option (List ℕ)) (before is_mute : Bool) (stays : is_mute ≡ false → before ≡ false) (lines : TellsLines Is err mid before) (status : ℕ) where
-  refused_behind : (refusal : Refusal) → RefusesBeside (λ _. ⊥) refusal old new broken mid err_after is_mute status → RefusesBeside Is refusal old new broken err err_after is_mute status
-  refused_behind refusal (by, (between, none, text)) =
-      (by, (between, lines_behind Is err mid between before is_mute stays lines (lines_as (λ _. ⊥) Is (λ line never. absurd never) mid between is_mute none), text))
+module _ (Is : Bool → List ℕ → Type 0) (weaker : (line : List ℕ) → Is true line → Is false line) (old new : Option (List ℕ)) (broken : Bool) (err mid err_after : Option (List ℕ)) (before is_mute : Bool) (stays : is_mute ≡ false → before ≡ false) (status : ℕ) where
+  refused_behind : (refusal : Refusal) → TellsLines (Is false) err mid before → RefusesBeside (λ _. ⊥) refusal old new broken mid err_after is_mute status → RefusesBeside (Is false) refusal old new broken err err_after is_mute status
+  refused_behind refusal lines (by, (between, none, text)) =
+      (by, (between, lines_behind (Is false) err mid between before is_mute stays lines (lines_as (λ _. ⊥) (Is false) (λ line never. absurd never) mid between is_mute none), text))
 
-  pub reported_behind : (answer : Result ℕ Refusal) → Reports (λ _. ⊥) answer old new broken mid err_after is_mute status → Reports Is answer old new broken err err_after is_mute status
-  reported_behind (Ok n) (inl (line, none)) =
-      inl (line, lines_behind Is err mid err_after before is_mute stays lines (lines_as (λ _. ⊥) Is (λ line never. absurd never) mid err_after is_mute none))
-  reported_behind (Ok n) (inr want) = inr (refused_behind WantOfMemory want)
-  reported_behind (Err refusal) refuses = refused_behind refusal refuses
+  pub reported_behind : (answer : Result ℕ Refusal) → TellsLines (Is (is_ok answer)) err mid before → Reports (λ _ _. ⊥) answer old new broken mid err_after is_mute status → Reports Is answer old new broken err err_after is_mute status
+  reported_behind (Ok n) lines (inl (line, none)) =
+      inl (line, lines_behind (Is true) err mid err_after before is_mute stays lines (lines_as (λ _. ⊥) (Is true) (λ line never. absurd never) mid err_after is_mute none))
+  reported_behind (Ok n) lines (inr want) = inr (refused_behind WantOfMemory (lines_as (Is true) (Is false) weaker err mid before lines) want)
+  reported_behind (Err refusal) lines refuses = refused_behind refusal lines refuses

@@ -1,5 +1,5 @@
 -- Documents that are published one after the other, each merged over those before it.
-use Rattle.std.specs.Prelude.{◌≡◌, ◌≢◌, ◌⊎◌, ◌<◌, ℕ, ◌+◌, List, [], ◌∷◌, ◌++◌, length, map, decimal, if◌then◌else◌, nat_lt, vec_len, Vec, Result, Ok, Err}
+use Rattle.std.specs.Prelude.{◌≡◌, ◌≢◌, ◌⊎◌, ◌<◌, ◌≤◌, ℕ, ◌+◌, List, [], ◌∷◌, ◌++◌, length, map, decimal, if◌then◌else◌, nat_eq, nat_lt, vec_len, Vec, Result, Ok, Err}
 use Rattle.std.specs.declared.alloc.Global.{Global}
 use Rattle.flag_defs.specs.Flags.{flags_view}
 use Rattle.flag_defs.specs.declared.flags.Flags.{Flags}
@@ -12,7 +12,7 @@ use Rattle.source_merge.specs.declared.fault.SourceFault.{SourceFault}
 use Rattle.source_merge.specs.declared.fault.SourceFault.TheVariants as source
 use Rattle.flagops_streams.specs.declared.documents.Documents.{Documents}
 use Rattle.flagops_streams.specs.declared.refusal.Refusal.{Refusal}
-use Rattle.flagops_streams.specs.declared.refusal.Refusal.TheVariants.{Add, Set, Merged, Share, Publish, Unbound, NoConnection, NoThread, WantOfMemory}
+use Rattle.flagops_streams.specs.declared.refusal.Refusal.TheVariants.{Add, Set, Merged, Share, Publish, Unbound, NoConnection, NoThread, Unserved, WantOfMemory}
 
 -- how many there are
 abbrev pub documents_in : Documents → ℕ
@@ -74,10 +74,19 @@ MayFail subscribers (Share share.NoReader) = Unit {0}
 MayFail subscribers (Share share.WantOfMemory) = Unit {0}
 MayFail subscribers refusal = ⊥
 
+-- what was published; where some subscribers were not sent the last of it, how many
+abbrev pub less_missed : ℕ → Answer → Answer
+less_missed missed (Ok published) = if nat_eq missed 0 then Ok published else Err (Unserved missed)
+less_missed missed (Err refusal) = Err refusal
+
+-- some of so many subscribers were not served, or none, by an answer of these
+abbrev pub GivesSome : ℕ → (Answer → Type 0) → Answer → Type 0
+GivesSome subscribers IsAnswer answer = (missed : ℕ) × (whole : Answer) × (missed ≤ subscribers) × IsAnswer whole × (answer ≡ less_missed missed whole)
+
 -- what serving documents behind these flags gives: one of these refusals, or what publishing them gives
 abbrev pub ServesTo : ℕ → SourceList → List (List ℕ) → List Definitions → Answer → Type 0
 ServesTo subscribers sources texts published answer =
-    ((refusal : Refusal) × (answer ≡ Err refusal) × MayFail subscribers refusal) ⊎ Gives sources texts published answer
+    ((refusal : Refusal) × (answer ≡ Err refusal) × MayFail subscribers refusal) ⊎ GivesSome subscribers (Gives sources texts published) answer
 
 -- the same of documents that were loaded, with their sources, from the first on
 abbrev pub ServesAll : ℕ → Documents → Answer → Type 0

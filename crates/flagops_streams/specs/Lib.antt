@@ -1,4 +1,5 @@
 pub mod Documents
+pub mod Ending
 pub mod Printed
 pub mod Refusal
 pub mod Report

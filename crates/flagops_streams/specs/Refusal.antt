@@ -5,7 +5,7 @@ use Rattle.snap_share.specs.Fault as shares
 use Rattle.source_merge.specs.Fault as sources
 use Rattle.source_merge.specs.declared.fault.SourceFault.TheVariants.{Refused}
 use Rattle.flagops_streams.specs.declared.refusal.Refusal.{Refusal}
-use Rattle.flagops_streams.specs.declared.refusal.Refusal.TheVariants.{Add, Unreadable, Unloaded, Set, Merged, Share, Publish, Unbound, NoConnection, NoThread, Unreachable, WantOfMemory}
+use Rattle.flagops_streams.specs.declared.refusal.Refusal.TheVariants.{Add, Unreadable, Unloaded, Set, Merged, Share, Publish, Unbound, NoConnection, NoThread, Unreachable, Unserved, WantOfMemory}
 
 abbrev pub call_of : Refusal → List ℕ
 call_of (Add e) = codes "add"
@@ -19,6 +19,7 @@ call_of Unbound = codes "bind"
 call_of NoConnection = codes "accept"
 call_of NoThread = codes "spawn"
 call_of Unreachable = codes "connect"
+call_of (Unserved missed) = codes "serve"
 call_of WantOfMemory = codes "serve"
 
 abbrev pub number_of : Refusal → ℕ
@@ -33,6 +34,7 @@ number_of Unbound = 1
 number_of NoConnection = 1
 number_of NoThread = 1
 number_of Unreachable = 1
+number_of (Unserved missed) = 1
 number_of WantOfMemory = 0
 
 abbrev pub name_of : Refusal → List ℕ
@@ -47,11 +49,13 @@ name_of Unbound = codes "Unbound"
 name_of NoConnection = codes "NoConnection"
 name_of NoThread = codes "NoThread"
 name_of Unreachable = codes "Unreachable"
+name_of (Unserved missed) = codes "Unserved"
 name_of WantOfMemory = codes "WantOfMemory"
 
--- the number and the name of a document's fault, each behind a blank
+-- each behind a blank: the number and the name of a document's fault, or how many subscribers were not served
 abbrev pub payload_of : Refusal → List ℕ
 payload_of (Set (Refused e) place) = codes " " ++ (decimal (documents.number_of e) ++ (codes " " ++ documents.name_of e))
+payload_of (Unserved missed) = codes " " ++ decimal missed
 payload_of r = []
 
 -- `refused`, the call, the number, the name and the payload, separated by blanks

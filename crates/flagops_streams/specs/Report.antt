@@ -32,16 +32,17 @@ published_line n = codes "published " ++ (decimal n ++ codes "\n")
 abbrev pub Publishes : (List ℕ → Type 0) → ℕ → Option (List ℕ) → Option (List ℕ) → Bool → Option (List ℕ) → Option (List ℕ) → Bool → ℕ → Type 0
 Publishes Is n old new broken err err_after is_mute status = Writes old new broken status (published_line n) 0 × TellsLines Is err err_after is_mute
 
--- all of so many documents were published, or there was a refusal
-abbrev pub Serves : (List ℕ → Type 0) → ℕ → Option (List ℕ) → Option (List ℕ) → Bool → Option (List ℕ) → Option (List ℕ) → Bool → ℕ → Type 0
+-- All of so many documents were published, or there was a refusal. The lines that may be told are others where every
+-- subscriber was served.
+abbrev pub Serves : (Bool → List ℕ → Type 0) → ℕ → Option (List ℕ) → Option (List ℕ) → Bool → Option (List ℕ) → Option (List ℕ) → Bool → ℕ → Type 0
 Serves Is n old new broken err err_after is_mute status =
-    Publishes Is n old new broken err err_after is_mute status ⊎ Refuses Is old new broken err err_after is_mute status
+    Publishes (Is true) n old new broken err err_after is_mute status ⊎ Refuses (Is false) old new broken err err_after is_mute status
 
 -- what `serve` answered: so many publications, unless there is no memory for the line, or a refusal
-abbrev pub Reports : (List ℕ → Type 0) → Result ℕ Refusal → Option (List ℕ) → Option (List ℕ) → Bool → Option (List ℕ) → Option (List ℕ) → Bool → ℕ → Type 0
+abbrev pub Reports : (Bool → List ℕ → Type 0) → Result ℕ Refusal → Option (List ℕ) → Option (List ℕ) → Bool → Option (List ℕ) → Option (List ℕ) → Bool → ℕ → Type 0
 Reports Is (Ok n) old new broken err err_after is_mute status =
-    Publishes Is n old new broken err err_after is_mute status ⊎ RefusesBeside Is WantOfMemory old new broken err err_after is_mute status
-Reports Is (Err refusal) old new broken err err_after is_mute status = RefusesBeside Is refusal old new broken err err_after is_mute status
+    Publishes (Is true) n old new broken err err_after is_mute status ⊎ RefusesBeside (Is false) WantOfMemory old new broken err err_after is_mute status
+Reports Is (Err refusal) old new broken err err_after is_mute status = RefusesBeside (Is false) refusal old new broken err err_after is_mute status
 
 -- nobody listens, which is told alone
 abbrev pub FindsNobody : Option (List ℕ) → Option (List ℕ) → Bool → Option (List ℕ) → Option (List ℕ) → Bool → ℕ → Type 0

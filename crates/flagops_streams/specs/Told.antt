@@ -54,9 +54,14 @@ gone_line number snapshots end =
 abbrev pub IsCame : ℕ → List ℕ → Type 0
 IsCame subscribers line = (number : ℕ) × (line ≡ came_line number subscribers)
 
-abbrev pub IsGone : List ℕ → Type 0
-IsGone line = (number : ℕ) × (snapshots : ℕ) × (end : StreamEnd) × (line ≡ gone_line number snapshots end)
+-- the same; where all were served, it was sent the last one
+abbrev pub IsGone : Bool → List ℕ → Type 0
+IsGone are_served line = (number : ℕ) × (snapshots : ℕ) × (end : StreamEnd) × (are_served ≡ true → end ≡ Closed) × (line ≡ gone_line number snapshots end)
+
+-- where `serve` listens for so many subscribers, and that one has come
+abbrev pub IsArrival : ℕ → ℕ → List ℕ → Type 0
+IsArrival port subscribers line = (line ≡ listening_line port subscribers) ⊎ IsCame subscribers line
 
 -- what `serve` tells of its subscribers: where it listens for so many, that one has come, that one has gone
-abbrev pub IsOfSubscribers : ℕ → ℕ → List ℕ → Type 0
-IsOfSubscribers port subscribers line = (line ≡ listening_line port subscribers) ⊎ IsCame subscribers line ⊎ IsGone line
+abbrev pub IsOfSubscribers : ℕ → ℕ → Bool → List ℕ → Type 0
+IsOfSubscribers port subscribers are_served line = IsArrival port subscribers line ⊎ IsGone are_served line

@@ -29,6 +29,7 @@
 mod board;
 mod documents;
 mod follow;
+mod parting;
 mod refusal;
 mod remark;
 mod report;

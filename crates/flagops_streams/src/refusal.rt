@@ -32,6 +32,8 @@ pub enum Refusal {
     NoThread,
     /// Nobody listens on the port.
     Unreachable,
+    /// So many subscribers were not sent the last snapshot.
+    Unserved(u64),
     /// `serve` ran out of memory between its calls.
     WantOfMemory,
 }
@@ -52,7 +54,7 @@ impl Refusal {
             Refusal::NoConnection => "accept",
             Refusal::NoThread => "spawn",
             Refusal::Unreachable => "connect",
-            Refusal::WantOfMemory => "serve",
+            Refusal::Unserved(_) | Refusal::WantOfMemory => "serve",
         }
     }
 
@@ -67,7 +69,8 @@ impl Refusal {
             | Refusal::Unbound
             | Refusal::NoConnection
             | Refusal::NoThread
-            | Refusal::Unreachable => 1,
+            | Refusal::Unreachable
+            | Refusal::Unserved(_) => 1,
             Refusal::Unloaded | Refusal::WantOfMemory => 0,
         }
     }
@@ -84,11 +87,13 @@ impl Refusal {
             Refusal::NoConnection => "NoConnection",
             Refusal::NoThread => "NoThread",
             Refusal::Unreachable => "Unreachable",
+            Refusal::Unserved(_) => "Unserved",
             Refusal::Unloaded | Refusal::WantOfMemory => "WantOfMemory",
         }
     }
 
-    /// What the line says beyond the name: the number and the name of a document's fault, each behind a blank.
+    /// What the line says beyond the name, each behind a blank: the number and the name of a document's fault, or how many
+    /// subscribers were not served.
     fn payload(&self, alloc: Global) -> Result<String, AllocError>
         ensures { IfOk result (λ s. string_bytes s ≡ payload_of self.now) }
     {
@@ -98,6 +103,7 @@ impl Refusal {
                 let name = fault.name();
                 format!(in alloc; " {number} {name}")
             }
+            Refusal::Unserved(missed) => format!(in alloc; " {missed}"),
             _ => Ok(String::new(alloc)),
         }
     }

@@ -1,6 +1,7 @@
 //! What a person is told on the error outlet. It changes no answer. A line of a subscriber that can't be made is left out; why
 //! there was a refusal is told in any case, by a fixed sentence where there is no memory to say more.
 ghost use Rattle.std.specs.Prelude.{◌≡◌, ◌<◌, false, length, IfErr, IfOk, string_bytes};
+ghost use Rattle.sync_server.specs.End.{is_closed_end};
 ghost use Rattle.flagops_streams.specs.Told.{IsCame, IsGone, Says, TellsLines, TellsText, came_line, gone_line, listening_line, reason_of};
 
 use crate::refusal::Refusal;
@@ -51,7 +52,7 @@ pub(crate) fn say_gone<E: Outlet>(
     end: StreamEnd,
     snapshots: u64,
 )
-    ensures lines { TellsLines IsGone (E.bytes err.old) (E.bytes err.new) (E.is_broken err.new) }
+    ensures lines { TellsLines (IsGone (is_closed_end end)) (E.bytes err.old) (E.bytes err.new) (E.is_broken err.new) }
     ensures stays { E.is_broken err.new ≡ false → E.is_broken err.old ≡ false }
 {
     say_made(err, gone_line(alloc, number, end, snapshots));
@@ -163,6 +164,11 @@ fn lines_of(alloc: Global, refusal: Refusal) -> Result<String, AllocError>
             "error: the document at place {place} of those to be published is refused: {why}\n{PUBLISHED_BEFORE}"
         );
     }
+    if let Refusal::Unserved(missed) = refusal {
+        return format!(in alloc;
+            "error: subscribers that were not sent the last snapshot: {missed}\n"
+        );
+    }
     let reason = reason_of(refusal);
     format!(in alloc; "error: {reason}\n")
 }
@@ -181,6 +187,7 @@ fn reason_of(refusal: Refusal) -> &'static str {
         Refusal::NoConnection => "the connection of a subscriber failed as it came",
         Refusal::NoThread => "the system makes no more threads; serve fewer subscribers",
         Refusal::Unreachable => "nobody listens on the port",
+        Refusal::Unserved(_) => "not every subscriber was sent the last snapshot",
         Refusal::Unloaded | Refusal::WantOfMemory => "out of memory",
     }
 }

@@ -60,7 +60,7 @@ pub(crate) fn report_answer<D: Remarks, O: Outlet, E: Outlet>(
     answer: Result<u64, Refusal>,
 ) -> u8
     requires { O.is_broken out.old ≡ false }
-    ensures reports { Reports (λ _. ⊥) answer (O.bytes out.old) (O.bytes out.new) (O.is_broken out.new) (E.bytes err.old) (E.bytes err.new) (E.is_broken err.new) result }
+    ensures reports { Reports (λ _ _. ⊥) answer (O.bytes out.old) (O.bytes out.new) (O.is_broken out.new) (E.bytes err.old) (E.bytes err.new) (E.is_broken err.new) result }
     ensures stays { E.is_broken err.new ≡ false → E.is_broken err.old ≡ false }
 {
     match answer {

@@ -1,11 +1,12 @@
 //! The command `serve`: documents published to subscribers.
-ghost use Rattle.std.specs.Prelude.{◌≡◌, ◌⊎◌, ◌<◌, ◌∷◌, [], Err, false, length, map, vec_len, IfErr, IfOk};
+ghost use Rattle.std.specs.Prelude.{◌≡◌, ◌⊎◌, ◌<◌, ◌≤◌, ◌∷◌, [], Err, false, is_ok, length, map, nat_eq, vec_len, IfErr, IfOk};
 ghost use denote.Param.Send.{IsSend, IsSync};
 ghost use Rattle.flag_defs.specs.Flags.{flags_view};
 ghost use Rattle.source_merge.specs.View.{sources_view};
-ghost use Rattle.flagops_streams.specs.Documents.{Answer, Counts, Gives, MayFail, ServesAll, ServesTo, count_of, documents_in, texts_of, told_view};
+ghost use Rattle.flagops_streams.specs.Documents.{Answer, Counts, Gives, GivesSome, MayFail, ServesAll, ServesTo, count_of, documents_in, less_missed, texts_of, told_view};
 ghost use Rattle.flagops_streams.specs.Report.{Reports, Serves};
-ghost use Rattle.flagops_streams.specs.Told.{IsGone, IsOfSubscribers, TellsLines};
+ghost use Rattle.sync_server.specs.End.{is_closed_end};
+ghost use Rattle.flagops_streams.specs.Told.{IsArrival, IsGone, IsOfSubscribers, TellsLines};
 
 use crate::board::Board;
 use crate::documents::{Documents, merge_next};
@@ -24,6 +25,8 @@ use std::net::{Net, SocketAddr, TcpListener, TcpStream};
 use std::sync::Wait;
 use std::thread;
 use std::thread::Threads;
+use std::time::Clock;
+use sync_server::StreamEnd;
 
 /// Publishes documents to so many subscribers, which it first waits for on a port of this host, and writes what came of it.
 /// `remarks` has the words for a person where a document is refused.
@@ -38,7 +41,12 @@ pub fn serve_documents<R, D, O, E>(
     err: &mut E,
 ) -> u8
 where
-    R: AllocGlobal + Net<Listener = TcpListener, Stream = TcpStream> + Threads + Wait + Sync,
+    R: AllocGlobal
+        + Net<Listener = TcpListener, Stream = TcpStream>
+        + Clock
+        + Threads
+        + Wait
+        + Sync,
     D: Remarks,
     O: Outlet,
     E: Outlet + Drop,
@@ -69,11 +77,16 @@ fn publish_documents<R, E>(
     err: &mut E,
 ) -> Result<u64, Refusal>
 where
-    R: AllocGlobal + Net<Listener = TcpListener, Stream = TcpStream> + Threads + Wait + Sync,
+    R: AllocGlobal
+        + Net<Listener = TcpListener, Stream = TcpStream>
+        + Clock
+        + Threads
+        + Wait
+        + Sync,
     E: Outlet + Drop,
     requires { 0 < length texts.now }
     ensures serves { Counts (ServesTo subscribers (sources_view sources) (texts_of texts.now) []) result }
-    ensures lines { TellsLines (IsOfSubscribers port subscribers) (E.bytes err.old) (E.bytes err.new) (E.is_broken err.new) }
+    ensures lines { TellsLines (IsOfSubscribers port subscribers (is_ok result)) (E.bytes err.old) (E.bytes err.new) (E.is_broken err.new) }
     ensures stays { E.is_broken err.new ≡ false → E.is_broken err.old ≡ false }
 {
     let alloc = rt.alloc();
@@ -100,7 +113,7 @@ where
     E: Outlet,
     ensures came { IfOk result (λ streams. vec_len streams ≡ subscribers) }
     ensures refused { IfErr result (λ refusal. MayFail subscribers refusal) }
-    ensures lines { TellsLines (IsOfSubscribers port subscribers) (E.bytes err.old) (E.bytes err.new) (E.is_broken err.new) }
+    ensures lines { TellsLines (IsArrival port subscribers) (E.bytes err.old) (E.bytes err.new) (E.is_broken err.new) }
     ensures stays { E.is_broken err.new ≡ false → E.is_broken err.old ≡ false }
 {
     let address = SocketAddr::from(([127, 0, 0, 1], port));
@@ -121,7 +134,7 @@ where
 
 /// Shares flags, and publishes the other documents to a thread for each connection. It answers how many were published with
 /// the flags. All threads have ended when it answers.
-fn publish_to<J: ShareName + Send + Sync, R: Threads + Wait + Sync, E: Outlet + Drop>(
+fn publish_to<J: ShareName + Send + Sync, R: Clock + Threads + Wait + Sync, E: Outlet + Drop>(
     rt: &R,
     alloc: Global,
     history: History,
@@ -133,7 +146,7 @@ fn publish_to<J: ShareName + Send + Sync, R: Threads + Wait + Sync, E: Outlet + 
 ) -> Result<u64, Refusal>
     requires { history.seen.book ≡ J.book }
     ensures serves { Counts (ServesTo (vec_len streams) (sources_view sources) (texts_of texts.now) (flags_view flags ∷ [])) result }
-    ensures lines { TellsLines IsGone (E.bytes err.old) (E.bytes err.new) (E.is_broken err.new) }
+    ensures lines { TellsLines (IsGone (is_ok result)) (E.bytes err.old) (E.bytes err.new) (E.is_broken err.new) }
     ensures stays { E.is_broken err.new ≡ false → E.is_broken err.old ≡ false }
 {
     let (mut publisher, seats) = match share::<J, R>(rt, alloc, history, flags, streams.len()) {
@@ -159,7 +172,7 @@ fn publish_to<J: ShareName + Send + Sync, R: Threads + Wait + Sync, E: Outlet + 
 
 /// Publishes the documents behind the first, which was shared, to a thread for each connection, and answers all that were
 /// published.
-fn publish_shared<J: ShareName + Send + Sync, R: Threads + Wait + Sync, E: Outlet + Drop>(
+fn publish_shared<J: ShareName + Send + Sync, R: Clock + Threads + Wait + Sync, E: Outlet + Drop>(
     rt: &R,
     alloc: Global,
     publisher: &mut Publisher<J>,
@@ -171,7 +184,7 @@ fn publish_shared<J: ShareName + Send + Sync, R: Threads + Wait + Sync, E: Outle
 ) -> Result<Told<J>, Refusal>
     requires { length publisher.old ≡ 1 }
     ensures serves { ServesTo (vec_len streams) (sources_view sources) (texts_of texts.now) (map flags_view publisher.old) (told_view result) }
-    ensures lines { TellsLines IsGone (E.bytes err.old) (E.bytes err.new) (E.is_broken err.new) }
+    ensures lines { TellsLines (IsGone (is_ok result)) (E.bytes err.old) (E.bytes err.new) (E.is_broken err.new) }
     ensures stays { E.is_broken err.new ≡ false → E.is_broken err.old ≡ false }
 {
     let told = publisher.tell();
@@ -262,7 +275,7 @@ fn publish_others<J: ShareName, R: Wait>(
 /// Publishes beside a thread for each connection, and tells a person of each that has ended. All have ended when it answers.
 fn serve_beside<
     J: ShareName + Send + Sync,
-    R: Threads + Wait + Sync,
+    R: Clock + Threads + Wait + Sync,
     P: Publishing<J> + Drop,
     E: Outlet + Drop,
 >(
@@ -274,8 +287,8 @@ fn serve_beside<
     publishing: P,
     err: &mut E,
 ) -> Result<Told<J>, Refusal>
-    ensures gives { (result ≡ Err Refusal.NoThread) ⊎ P.gives publishing (told_view result) }
-    ensures lines { TellsLines IsGone (E.bytes err.old) (E.bytes err.new) (E.is_broken err.new) }
+    ensures gives { (result ≡ Err Refusal.NoThread) ⊎ GivesSome (vec_len streams) (P.gives publishing) (told_view result) }
+    ensures lines { TellsLines (IsGone (is_ok result)) (E.bytes err.old) (E.bytes err.new) (E.is_broken err.new) }
     ensures stays { E.is_broken err.new ≡ false → E.is_broken err.old ≡ false }
 {
     replace_with(
@@ -283,8 +296,8 @@ fn serve_beside<
         publishing,
         |err: E, publishing: P| -> (E, Result<Told<J>, Refusal>)
             requires { IsSend J.row × IsSync J.row × IsSync R.row }
-            ensures gives { (result.1 ≡ Err Refusal.NoThread) ⊎ P.gives publishing (told_view result.1) }
-            ensures lines { TellsLines IsGone (E.bytes err) (E.bytes result.0) (E.is_broken result.0) }
+            ensures gives { (result.1 ≡ Err Refusal.NoThread) ⊎ GivesSome (vec_len streams) (P.gives publishing) (told_view result.1) }
+            ensures lines { TellsLines (IsGone (is_ok result.1)) (E.bytes err) (E.bytes result.0) (E.is_broken result.0) }
             ensures stays { E.is_broken result.0 ≡ false → E.is_broken err ≡ false }
         { serve_in_scope(rt, alloc, board, seats, streams, publishing, err) },
     )
@@ -293,7 +306,7 @@ fn serve_beside<
 /// The same with an outlet of its own, which it gives back: one that is lent to the scope may be anything after it.
 fn serve_in_scope<
     J: ShareName + Send + Sync,
-    R: Threads + Wait + Sync,
+    R: Clock + Threads + Wait + Sync,
     P: Publishing<J> + Drop,
     E: Outlet + Drop,
 >(
@@ -305,20 +318,20 @@ fn serve_in_scope<
     publishing: P,
     err: E,
 ) -> (E, Result<Told<J>, Refusal>)
-    ensures gives { (result.1 ≡ Err Refusal.NoThread) ⊎ P.gives publishing (told_view result.1) }
-    ensures lines { TellsLines IsGone (E.bytes err) (E.bytes result.0) (E.is_broken result.0) }
+    ensures gives { (result.1 ≡ Err Refusal.NoThread) ⊎ GivesSome (vec_len streams) (P.gives publishing) (told_view result.1) }
+    ensures lines { TellsLines (IsGone (is_ok result.1)) (E.bytes err) (E.bytes result.0) (E.is_broken result.0) }
     ensures stays { E.is_broken result.0 ≡ false → E.is_broken err ≡ false }
 {
-    let count = streams.len();
     thread::scope(
         thread::scope_env(),
         rt,
         move |scope| -> (E, Result<Told<J>, Refusal>)
             requires { IsSend J.row × IsSync J.row × IsSync R.row }
-            ensures gives { (result.1 ≡ Err Refusal.NoThread) ⊎ P.gives publishing (told_view result.1) }
-            ensures lines { TellsLines IsGone (E.bytes err) (E.bytes result.0) (E.is_broken result.0) }
+            ensures gives { (result.1 ≡ Err Refusal.NoThread) ⊎ GivesSome (vec_len streams) (P.gives publishing) (told_view result.1) }
+            ensures lines { TellsLines (IsGone (is_ok result.1)) (E.bytes err) (E.bytes result.0) (E.is_broken result.0) }
             ensures stays { E.is_broken result.0 ≡ false → E.is_broken err ≡ false }
         {
+            let count = streams.len();
             let mut all = true;
             for (place, (seat, stream)) in seats.into_iter().zip(streams).enumerate() {
                 board.enter(rt);
@@ -329,33 +342,95 @@ fn serve_in_scope<
                     break;
                 }
             }
-            let outcome = if all {
-                publishing.publish()
-            } else {
-                Err(Refusal::NoThread)
-            };
+            let outcome = publish_if(all, publishing);
             board.close(rt);
             let mut err = err;
-            tell_gone(rt, alloc, board, count, &mut err);
-            (err, outcome)
+            let missed = tell_gone(rt, alloc, board, count, &mut err);
+            (err, unless_missed(outcome, missed))
         },
     )
 }
 
-/// Tells a person of each subscriber that goes, as it goes.
+/// Publishes where every subscriber has a thread.
+fn publish_if<J: ShareName, P: Publishing<J> + Drop>(
+    all: bool,
+    publishing: P,
+) -> Result<Told<J>, Refusal>
+    ensures { (result ≡ Err Refusal.NoThread) ⊎ P.gives publishing (told_view result) }
+{
+    if all {
+        publishing.publish()
+    } else {
+        Err(Refusal::NoThread)
+    }
+}
+
+/// Tells a person of each subscriber that goes, as it goes, and answers how many were not sent the last snapshot.
 fn tell_gone<J: ShareName, R: Wait, E: Outlet>(
     rt: &R,
     alloc: Global,
     board: &Board<J>,
     count: usize,
     err: &mut E,
-)
-    ensures lines { TellsLines IsGone (E.bytes err.old) (E.bytes err.new) (E.is_broken err.new) }
+) -> usize
+    ensures few { result ≤ count }
+    ensures lines { TellsLines (IsGone (nat_eq result 0)) (E.bytes err.old) (E.bytes err.new) (E.is_broken err.new) }
     ensures stays { E.is_broken err.new ≡ false → E.is_broken err.old ≡ false }
 {
+    let mut missed = 0;
     for _subscriber in 0..count {
-        if let Some((place, gone)) = board.next_gone(rt) {
-            say_gone(alloc, err, place.saturating_add(1), gone.end, gone.frames);
+        missed += tell_next(rt, alloc, board, err);
+    }
+    missed
+}
+
+/// Tells a person of the next subscriber that goes, where there is one, and counts it if it was not sent the last snapshot.
+fn tell_next<J: ShareName, R: Wait, E: Outlet>(
+    rt: &R,
+    alloc: Global,
+    board: &Board<J>,
+    err: &mut E,
+) -> usize
+    ensures few { result ≤ 1 }
+    ensures lines { TellsLines (IsGone (nat_eq result 0)) (E.bytes err.old) (E.bytes err.new) (E.is_broken err.new) }
+    ensures stays { E.is_broken err.new ≡ false → E.is_broken err.old ≡ false }
+{
+    let Some((place, gone)) = board.next_gone(rt) else {
+        return 0;
+    };
+    say_gone(alloc, err, place.saturating_add(1), gone.end, gone.frames);
+    missed_by(gone.end)
+}
+
+/// 1 where a stream ended before the last snapshot.
+fn missed_by(end: StreamEnd) -> usize
+    ensures few { result ≤ 1 }
+    ensures closed { nat_eq result 0 ≡ is_closed_end end }
+{
+    match end {
+        StreamEnd::Closed => 0,
+        StreamEnd::Limit
+        | StreamEnd::WriteFault
+        | StreamEnd::ReadSeatFault
+        | StreamEnd::WantOfMemory => 1,
+    }
+}
+
+/// What was published; or, where some subscribers were not sent the last snapshot, how many.
+fn unless_missed<J: ShareName>(
+    outcome: Result<Told<J>, Refusal>,
+    missed: usize,
+) -> Result<Told<J>, Refusal>
+    ensures { told_view result ≡ less_missed missed (told_view outcome) }
+{
+    match outcome {
+        Ok(told) => {
+            if missed == 0 {
+                Ok(told)
+            } else {
+                Err(Refusal::Unserved(missed as u64))
+            }
         }
+        Err(refusal) => Err(refusal),
     }
 }

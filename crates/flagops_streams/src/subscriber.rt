@@ -2,14 +2,17 @@
 ghost use mathlib.Core.List.{IsPrefix};
 
 use crate::board::{Board, Gone, Numbers};
+use crate::parting::part;
 use flag_text::WriteOutlet;
 use snap_core::Snapshot;
 use snap_share::{Current, ReadSeat, ShareFault, ShareName, Told};
 use std::alloc::Global;
 use std::cell::Cell;
 use std::io::Write;
+use std::net::TcpStream;
 use std::sync::Wait;
-use sync_server::serve_stream;
+use std::time::Clock;
+use sync_server::{StreamEnd, serve_stream};
 
 /// The most turns of one stream.
 const MOST_TURNS: u64 = 1_000;
@@ -46,30 +49,30 @@ impl<J: ShareName> Learning<'_, J> {
 }
 
 /// Serves a subscriber over its connection until its stream ends, closes the connection, and says so on the board.
-pub(crate) fn attend<J: ShareName, R: Wait, W: Write + Drop>(
+pub(crate) fn attend<J: ShareName, R: Wait + Clock>(
     rt: &R,
     alloc: Global,
     board: &Board<J>,
     place: usize,
     seat: ReadSeat<J>,
-    stream: W,
+    stream: TcpStream,
 ) {
-    let gone = send(rt, alloc, board, seat, stream);
-    board.leave(rt, place, Some(gone));
+    let (end, frames) = send(rt, alloc, board, seat, &stream);
+    let end = part(rt, stream, end);
+    board.leave(rt, place, Some(Gone { end, frames }));
 }
 
-/// Sends a subscriber its stream.
+/// Sends a subscriber its stream, and answers why it ended and how many frames are whole.
 fn send<J: ShareName, R: Wait, W: Write + Drop>(
     rt: &R,
     alloc: Global,
     board: &Board<J>,
     seat: ReadSeat<J>,
     stream: W,
-) -> Gone {
+) -> (StreamEnd, u64) {
     let told = Cell::new(None);
     let mut current = Learning { seat, told: &told };
     let mut numbers = Numbers::new(rt, board, &told);
     let mut out = WriteOutlet::new(stream);
-    let (end, frames) = serve_stream(alloc, &mut current, &mut numbers, &mut out, MOST_TURNS);
-    Gone { end, frames }
+    serve_stream(alloc, &mut current, &mut numbers, &mut out, MOST_TURNS)
 }

@@ -1,11 +1,11 @@
 use Rattle.std.proofs.Common.{◌≡◌, List, Option, ℕ, Bool, rules, inl, inr}
-use Rattle.flagops_streams.specs.Told.{IsCame, IsOfSubscribers, TellsLines, listening_line}
+use Rattle.flagops_streams.specs.Told.{IsCame, IsArrival, TellsLines, listening_line}
 use Rattle.flagops_streams.proofs.Told.{lines_as, lines_behind}
 use Rattle.flagops_streams.proofs.serve.connections.Goals as goal
 
 -- where `serve` listens is told of its subscribers
-listens : (port subscribers : ℕ) (old new : Option (List ℕ)) (is_mute : Bool) → TellsLines (λ line. line ≡ listening_line port subscribers) old new is_mute → TellsLines (IsOfSubscribers port subscribers) old new is_mute
-listens port subscribers old new is_mute lines = lines_as (λ line. line ≡ listening_line port subscribers) (IsOfSubscribers port subscribers) (λ line is. inl is) old new is_mute lines
+listens : (port subscribers : ℕ) (old new : Option (List ℕ)) (is_mute : Bool) → TellsLines (λ line. line ≡ listening_line port subscribers) old new is_mute → TellsLines (IsArrival port subscribers) old new is_mute
+listens port subscribers old new is_mute lines = lines_as (λ line. line ≡ listening_line port subscribers) (IsArrival port subscribers) (λ line is. inl is) old new is_mute lines
 
 pub returns-in_err-streams-clause-lines : goal.returns-in_err-streams-clause-lines
 returns-in_err-streams-clause-lines g c = listens c.args.port c.args.subscribers _ _ _ c.say_listening.ensures.lines
@@ -16,5 +16,5 @@ loop-place-init g c = (search rules, listens c.args.port c.args.subscribers _ _ 
 pub loop-place-preserved : goal.loop-place-preserved
 loop-place-preserved g c =
     let so_far = c.loop-place.invariant in
-    let came = lines_as (IsCame c.args.subscribers) (IsOfSubscribers c.args.port c.args.subscribers) (λ line is. inr (inl is)) _ _ _ c.say_came.ensures.lines in
-    (search rules, lines_behind (IsOfSubscribers c.args.port c.args.subscribers) _ _ _ _ _ c.say_came.ensures.stays so_far.1 came, λ works. so_far.2 (c.say_came.ensures.stays works))
+    let came = lines_as (IsCame c.args.subscribers) (IsArrival c.args.port c.args.subscribers) (λ line is. inr is) _ _ _ c.say_came.ensures.lines in
+    (search rules, lines_behind (IsArrival c.args.port c.args.subscribers) _ _ _ _ _ c.say_came.ensures.stays so_far.1 came, λ works. so_far.2 (c.say_came.ensures.stays works))

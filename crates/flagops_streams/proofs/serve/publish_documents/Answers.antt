@@ -1,10 +1,10 @@
-use Rattle.std.proofs.Common.{◌-◌, ℕ, List, [], ◌∷◌, Err, Vec, Global, drop, inl, inr, length, refl, subst, sym, take}
+use Rattle.std.proofs.Common.{◌-◌, ℕ, List, [], ◌∷◌, Err, Vec, Global, drop, inl, inr, is_ok, length, refl, subst, sym, take}
 use Rattle.std.proofs.lemmas.Result.{err_from_is_err_and}
 use Rattle.flag_defs.specs.Flags.{flags_view}
 use Rattle.source_merge.specs.View.{sources_view}
 use Rattle.flagops_streams.specs.Documents.{Gives, MayRefuse, Merges, ServesTo, texts_of}
-use Rattle.flagops_streams.specs.Told.{IsGone, IsOfSubscribers}
-use Rattle.flagops_streams.proofs.Gives.{first_of, first_served}
+use Rattle.flagops_streams.specs.Told.{IsArrival, IsGone, IsOfSubscribers}
+use Rattle.flagops_streams.proofs.Gives.{first_of, first_served, none_missed}
 use Rattle.flagops_streams.proofs.Told.{lines_as, lines_behind}
 use Rattle.flagops_streams.proofs.serve.publish_documents.Goals as goal
 
@@ -22,7 +22,7 @@ returns-in_err-flags-clause-serves g c =
     let p = err_from_is_err_and c.from_residual-in_err-flags.result c.from_residual-in_err-flags.ensures.1 in
     let may = subst (λ (t : List ℕ). MayRefuse 1 sources t refusal) c.as_slice.ensures.value c.in_err-flags.ensures.refused in
     let gives = subst (λ (ts : List (Vec ℕ Global)). Gives sources (texts_of ts) [] (Err refusal)) (sym (first_of c.args.texts.now first c.requires c.first-item.is)) (inl (refusal, refl, may)) in
-    (Err refusal, inr gives, rw (p.1, p.2) refl)
+    (Err refusal, inr (none_missed c.args.subscribers (Gives sources (texts_of c.args.texts.now) []) (Err refusal) gives), rw (p.1, p.2) refl)
 
 pub returns-clause-serves : goal.returns-clause-serves
 returns-clause-serves g c =
@@ -42,5 +42,16 @@ returns-clause-serves g c =
 
 pub returns-clause-lines : goal.returns-clause-lines
 returns-clause-lines g c =
-    let Is = IsOfSubscribers c.args.port c.args.subscribers in
-    lines_behind Is _ _ _ _ _ c.publish_to.ensures.stays c.connections.ensures.lines (lines_as IsGone Is (λ line is. inr (inr is)) _ _ _ c.publish_to.ensures.lines)
+    let are_served = is_ok c.publish_to.result in
+    let Is = IsOfSubscribers c.args.port c.args.subscribers are_served in
+    let came = lines_as (IsArrival c.args.port c.args.subscribers) Is (λ line is. inl is) _ _ _ c.connections.ensures.lines in
+    lines_behind Is _ _ _ _ _ c.publish_to.ensures.stays came (lines_as (IsGone are_served) Is (λ line is. inr is) _ _ _ c.publish_to.ensures.lines)
+
+-- who came is told of the subscribers
+pub returns-in_err-streams-clause-lines : goal.returns-in_err-streams-clause-lines
+returns-in_err-streams-clause-lines g c =
+    lines_as (IsArrival c.args.port c.args.subscribers) (IsOfSubscribers c.args.port c.args.subscribers (is_ok c.from_residual.result)) (λ line is. inl is) _ _ _ c.connections.ensures.lines
+
+pub returns-in_err-flags-clause-lines : goal.returns-in_err-flags-clause-lines
+returns-in_err-flags-clause-lines g c =
+    lines_as (IsArrival c.args.port c.args.subscribers) (IsOfSubscribers c.args.port c.args.subscribers (is_ok c.from_residual-in_err-flags.result)) (λ line is. inl is) _ _ _ c.connections.ensures.lines

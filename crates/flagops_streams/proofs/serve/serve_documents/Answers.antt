@@ -1,4 +1,4 @@
-use Rattle.std.proofs.Common.{◌≡◌, ℕ, List, [], Result, Vec, Global, arith, length, subst}
+use Rattle.std.proofs.Common.{◌≡◌, ℕ, List, [], Result, Vec, Global, arith, false, length, subst, true}
 use Rattle.std.proofs.lemmas.List.{length-map}
 use Rattle.source_merge.specs.View.{sources_view}
 use Rattle.flagops_streams.specs.Documents.{ServesTo, documents_in, texts_of}
@@ -6,7 +6,7 @@ use Rattle.flagops_streams.specs.Report.{Reports}
 use Rattle.flagops_streams.specs.Told.{IsOfSubscribers}
 use Rattle.flagops_streams.specs.declared.refusal.Refusal.{Refusal}
 use Rattle.flagops_streams.proofs.Gives.{reported}
-use Rattle.flagops_streams.proofs.Told.{reported_behind}
+use Rattle.flagops_streams.proofs.Told.{of_subscribers_as, reported_behind}
 use Rattle.flagops_streams.proofs.serve.serve_documents.Goals as goal
 
 pub returns-clause-documents : goal.returns-clause-documents
@@ -18,8 +18,8 @@ returns-clause-documents g c =
     let served =
     subst (λ (ts : List (Vec ℕ Global)). ServesTo c.args.subscribers (sources_view d.sources) (texts_of ts) [] answer) c.as_slice-texts.ensures.value published.serves.1 in
     let report =
-    reported_behind Is (g.O.Outlet.bytes c.args.out.now) (g.O.Outlet.bytes c.report_answer.new.out) (g.O.Outlet.is_broken c.report_answer.new.out) (g.E.Outlet.bytes c.args.err.now) (g.E.Outlet.bytes c.publish_documents-answer.new.err) (g.E.Outlet.bytes c.report_answer.new.err)
-    (g.E.Outlet.is_broken c.publish_documents-answer.new.err) (g.E.Outlet.is_broken c.report_answer.new.err) c.report_answer.ensures.stays published.lines c.report_answer.result c.publish_documents-answer.result c.report_answer.ensures.reports in
+    reported_behind Is (of_subscribers_as c.args.port c.args.subscribers true false (λ all. absurd (cc (all)))) (g.O.Outlet.bytes c.args.out.now) (g.O.Outlet.bytes c.report_answer.new.out) (g.O.Outlet.is_broken c.report_answer.new.out) (g.E.Outlet.bytes c.args.err.now) (g.E.Outlet.bytes c.publish_documents-answer.new.err) (g.E.Outlet.bytes c.report_answer.new.err)
+    (g.E.Outlet.is_broken c.publish_documents-answer.new.err) (g.E.Outlet.is_broken c.report_answer.new.err) c.report_answer.ensures.stays c.report_answer.result c.publish_documents-answer.result published.lines c.report_answer.ensures.reports in
     (answer, served, subst (λ (r : Result ℕ Refusal). Reports Is r (g.O.Outlet.bytes c.args.out.now) (g.O.Outlet.bytes c.report_answer.new.out) (g.O.Outlet.is_broken c.report_answer.new.out) (g.E.Outlet.bytes c.args.err.now) (g.E.Outlet.bytes c.report_answer.new.err) (g.E.Outlet.is_broken c.report_answer.new.err) c.report_answer.result) published.serves.2 report)
 
 pub returns-clause-serves : goal.returns-clause-serves

@@ -1,12 +1,17 @@
+use Rattle.std.proofs.Common.{◌+◌, arith, nat_eq}
 use Rattle.flagops_streams.specs.Told.{IsGone}
-use Rattle.flagops_streams.proofs.Told.{lines_behind}
-use Rattle.flagops_streams.proofs.serve.tell_gone.Goals.{in-Some, in_default}
+use Rattle.flagops_streams.proofs.Told.{gone_as, left_zero, lines_as, lines_behind, right_zero}
 use Rattle.flagops_streams.proofs.serve.tell_gone.Goals as goal
 
 pub loop-subscriber-preserved : goal.loop-subscriber-preserved
 loop-subscriber-preserved g c =
-    let so_far = c.loop-subscriber.invariant in
-    elim c.match-next_gone.branch [
-      | in-Some w ↦ rw w.err-is (lines_behind IsGone _ _ _ _ _ w.say_gone.ensures.stays so_far.0 w.say_gone.ensures.lines, λ works. so_far.1 (w.say_gone.ensures.stays works))
-      | in_default w ↦ rw w.err-is so_far
-    ]
+    let l = c.loop-subscriber in
+    let so_far = l.invariant in
+    let more = c.tell_next-missed.result in
+    let both = IsGone (nat_eq (l.missed + more) 0) in
+    let before = lines_as (IsGone (nat_eq l.missed 0)) both (gone_as _ _ (left_zero l.missed more)) _ _ _ so_far.1 in
+    let behind = lines_as (IsGone (nat_eq more 0)) both (gone_as _ _ (right_zero l.missed more)) _ _ _ c.tell_next-missed.ensures.lines in (
+      omega (arith, so_far.0, c.tell_next-missed.ensures.few),
+      lines_behind both _ _ _ _ _ c.tell_next-missed.ensures.stays before behind,
+      λ works. so_far.2 (c.tell_next-missed.ensures.stays works),
+    )

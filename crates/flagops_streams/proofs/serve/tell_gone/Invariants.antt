@@ -1,9 +1,10 @@
-use Rattle.std.proofs.Common.{◌≡◌, false}
+use Rattle.std.proofs.Common.{◌≡◌, ◌≤◌, false, nat_eq}
 use Rattle.flagops_streams.specs.Told.{IsGone, TellsLines}
 use Rattle.flagops_streams.proofs.serve.tell_gone.Given as goal
 
--- so far nothing was told but that subscribers have gone
+-- so far nothing was told but that subscribers have gone, and those that were not served are counted
 abbrev pub invariant-loop-subscriber : goal.invariant-loop-subscriber
 invariant-loop-subscriber g l =
-    TellsLines IsGone (g.E.Outlet.bytes l.fn.err) (g.E.Outlet.bytes l.err) (g.E.Outlet.is_broken l.err)
+    (l.missed ≤ l._subscriber)
+    × TellsLines (IsGone (nat_eq l.missed 0)) (g.E.Outlet.bytes l.fn.err) (g.E.Outlet.bytes l.err) (g.E.Outlet.is_broken l.err)
     × (g.E.Outlet.is_broken l.err ≡ false → g.E.Outlet.is_broken l.fn.err ≡ false)

@@ -3,7 +3,11 @@ use base.Fml.{Lft}
 use denote.Param.{param}
 use denote.Param.Send.{param_send}
 use denote.Ref.{NamedLft}
-use Rattle.std.proofs.Common.{[]}
+use Rattle.std.proofs.Common.{◌≡◌, ◌∙◌, [], arith, is_ok, nat_eq, true, vec_len}
+use Rattle.flagops_streams.specs.Documents.{told_view}
+use Rattle.flagops_streams.specs.Told.{IsGone}
+use Rattle.flagops_streams.proofs.Gives.{none_missed_at, told_ok, unless_beside}
+use Rattle.flagops_streams.proofs.Told.{gone_as, lines_as}
 use Rattle.flagops_streams.proofs.Crossings.{Attending, attend_send}
 use Rattle.flagops_streams.proofs.serve.fn.serve_in_scope.scope.Goals as goal
 
@@ -17,3 +21,16 @@ spawn-spawned-requires-send-F g c = λ κs within.
     attend_send (param 0 g.row.J) g.J.ShareName c.requires.0 c.requires.1 [] (at_life κs.1.1.1.1.1.0) (at_life κs.1.1.1.1.1.1.0) (param 1 g.row.R) c.requires.2 in
     let given = param_send 1 (Attending (param 0 g.row.J) g.J.ShareName [] (at_life κs.1.1.1.1.1.0) (at_life κs.1.1.1.1.1.1.0) (param 1 g.row.R)) sent in
     record { owned = given.owned; leaving = given.leaving }
+
+-- what was published, unless some were missed, and the lines of all that have gone
+pub returns : goal.returns
+returns g c =
+    let missed = c.tell_gone-missed.result in
+    let outcome = c.publish_if-outcome.result in
+    let result = c.unless_missed.result in
+    let sent : is_ok result ≡ true → nat_eq missed 0 ≡ true = λ ok. none_missed_at missed (told_view outcome) (told_view result) c.unless_missed.ensures (told_ok result ∙ ok) in
+    record {
+      gives = unless_beside (vec_len c.captures.streams) missed (g.P.Publishing.gives c.captures.publishing) outcome result (omega (arith, c.tell_gone-missed.ensures.few, c.len-count.ensures)) c.publish_if-outcome.ensures c.unless_missed.ensures;
+      lines = lines_as (IsGone (nat_eq missed 0)) (IsGone (is_ok result)) (gone_as (nat_eq missed 0) (is_ok result) sent) _ _ _ c.tell_gone-missed.ensures.lines;
+      stays = c.tell_gone-missed.ensures.stays;
+    }

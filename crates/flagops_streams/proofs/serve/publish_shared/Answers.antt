@@ -1,0 +1,18 @@
+use Rattle.std.proofs.Common.{◌≡◌, ◌⊎◌, List, Err, map, subst, vec_len}
+use Rattle.flag_defs.specs.Flags.{flags_view}
+use Rattle.flag_defs.specs.declared.flags.Flags.{Flags}
+use Rattle.source_merge.specs.View.{sources_view}
+use Rattle.flagops_streams.specs.Documents.{Gives, GivesSome, texts_of, told_view}
+use Rattle.flagops_streams.specs.declared.refusal.Refusal.TheVariants.{NoThread}
+use Rattle.flagops_streams.proofs.Gives.{beside_served}
+use Rattle.flagops_streams.proofs.serve.publish_shared.Goals as goal
+
+-- telling leaves what is published
+pub returns-clause-serves : goal.returns-clause-serves
+returns-clause-serves g c =
+    let count = vec_len c.args.streams in
+    let sources = sources_view c.args.sources in
+    let texts = texts_of c.args.texts.now in
+    let result = c.serve_beside.result in
+    let gives = subst (λ (p : List Flags). (result ≡ Err NoThread) ⊎ GivesSome count (Gives sources texts (map flags_view p)) (told_view result)) c.tell-told.ensures.stays c.serve_beside.ensures.gives in
+    beside_served count sources texts (map flags_view c.args.publisher.now) result gives
