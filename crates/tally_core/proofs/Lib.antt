@@ -1,0 +1,4 @@
+pub mod Ends
+pub mod Pages
+mod Summed
+mod Union
