@@ -1,13 +1,12 @@
 -- The digits of a number, and the byte after them.
-use Rattle.std.proofs.Common.{◌≡◌, ◌≢◌, ◌<◌, ◌≤◌, ◌^◌, ◌+◌, ◌⊎◌, ◌==◌, ℕ, Bool, true, false, List, [], ◌∷◌, ◌++◌, length, take, drop, get_or, nat_le, Option, Some, None, Result, Ok, Err, refl, sym, ap, ap₂, ◌∙◌, subst, ⊎_elim, inl, inr, arith, length-append}
-use borrow.Author.Tests.{ltb-true}
+use Rattle.std.proofs.Common.{◌≡◌, ◌≢◌, ◌<◌, ◌≤◌, ◌^◌, ◌+◌, ◌⊎◌, ◌==◌, ℕ, true, false, List, [], ◌∷◌, ◌++◌, length, take, drop, get_or, nat_le, Option, Some, None, Result, Ok, Err, refl, sym, ap, ◌∙◌, subst, ⊎_elim, arith, length-append}
 use Rattle.std.specs.Fmt.{decimal}
 use Rattle.std.specs.Int.{IsInRange}
 use Rattle.std.specs.List.{AllByRecursion, position, position_or_len}
 use Rattle.std.specs.Str.Parse.{AllDigits, IsNumeral, ParsesUnsigned, digits_value, without_leading_plus}
 use Rattle.std.proofs.lemmas.Bool.{cases_lt, eqb-true, eq-eqb, ne_eqb}
 use Rattle.std.proofs.lemmas.Bool.Decides.{nat_tests}
-use Rattle.std.proofs.lemmas.Fmt.{decimal_is_IsNumeral, decimal_digit, first_decimal, decimal-digits_value, parse-decimal}
+use Rattle.std.proofs.lemmas.Fmt.{decimal_is_IsNumeral, decimal_digit, first_decimal, decimal-digits_value, decimal_injective, parse-decimal}
 use Rattle.std.proofs.lemmas.List.{take_at, drop_at, drop_more, take-append-drop}
 use Rattle.std.proofs.lemmas.List.Quantifiers.{position-Some}
 use Rattle.std.proofs.lemmas.Str.Parse.{IsNumeralModel, numerals_by_value, tells_digits, digit_from_value, digit_at, without_leading_plus_none, without_leading_plus_plus}
@@ -95,7 +94,7 @@ stop_after (d ∷ ds) rest stop all =
     let later = stop_after ds rest stop all.1 in
     rw here (omega (arith, later))
 
-stop_at : (ds rest : List ℕ) (stop : ℕ) → AllByRecursion (λ (b : ℕ). (b == stop) ≡ false) ds → position (λ b. b == stop) (ds ++ stop ∷ rest) ≡ Some (length ds)
+pub stop_at : (ds rest : List ℕ) (stop : ℕ) → AllByRecursion (λ (b : ℕ). (b == stop) ≡ false) ds → position (λ b. b == stop) (ds ++ stop ∷ rest) ≡ Some (length ds)
 stop_at ds rest stop all =
     let place = stop_after ds rest stop all in
     let size = length-append ds (stop ∷ rest) in
@@ -122,10 +121,19 @@ stop_parts bytes stop at first =
 pub stop_front : (bytes : List ℕ) (n stop at : ℕ) (rest : List ℕ) → bytes ≡ decimal n ++ stop ∷ rest → at ≡ length (decimal n) → take at bytes ≡ decimal n
 stop_front bytes n stop at rest is place = ap (take at) is ∙ take_at (decimal n) (stop ∷ rest) at (sym place)
 
--- what stands after a number is told by it
+-- a number and what stands after it are told by their bytes
+same_size : (m n stop : ℕ) (rest more : List ℕ) → (stop < 48) ⊎ (57 < stop) → m < 2 ^ 32 → n < 2 ^ 32 → decimal m ++ stop ∷ rest ≡ decimal n ++ stop ∷ more → length (decimal m) ≡ length (decimal n)
+same_size m n stop rest more apart small fits is =
+    stop_here (decimal m ++ stop ∷ rest) n stop (length (decimal m)) more apart fits is (sym (stop_at (decimal m) rest stop (stops (decimal m) stop (digits_of m small) apart)))
+
 pub same_rest : (m n stop : ℕ) (rest more : List ℕ) → (stop < 48) ⊎ (57 < stop) → m < 2 ^ 32 → n < 2 ^ 32 → decimal m ++ stop ∷ rest ≡ decimal n ++ stop ∷ more → rest ≡ more
 same_rest m n stop rest more apart small fits is =
-    let one = stop_at (decimal m) rest stop (stops (decimal m) stop (digits_of m small) apart) in
-    let size = stop_here (decimal m ++ stop ∷ rest) n stop (length (decimal m)) more apart fits is (sym one) in
+    let size = same_size m n stop rest more apart small fits is in
     let ends : stop ∷ rest ≡ stop ∷ more = sym (drop_at (decimal m) (stop ∷ rest) (length (decimal m)) refl) ∙ ap (drop (length (decimal m))) is ∙ drop_at (decimal n) (stop ∷ more) (length (decimal m)) (sym size) in
     cc
+
+pub same_number : (m n stop : ℕ) (rest more : List ℕ) → (stop < 48) ⊎ (57 < stop) → m < 2 ^ 32 → n < 2 ^ 32 → decimal m ++ stop ∷ rest ≡ decimal n ++ stop ∷ more → m ≡ n
+same_number m n stop rest more apart small fits is =
+    let size = same_size m n stop rest more apart small fits is in
+    let fronts : decimal m ≡ decimal n = sym (take_at (decimal m) (stop ∷ rest) (length (decimal m)) refl) ∙ ap (take (length (decimal m))) is ∙ take_at (decimal n) (stop ∷ more) (length (decimal m)) (sym size) in
+    decimal_injective m n (omega (arith, small)) (omega (arith, fits)) fronts

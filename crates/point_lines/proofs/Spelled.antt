@@ -1,10 +1,10 @@
 -- The bytes of a point's line.
-use Rattle.std.proofs.Common.{◌≡◌, ◌≢◌, ◌<◌, ◌^◌, ◌+◌, ℕ, List, [], ◌∷◌, ◌++◌, length, append_assoc, refl, sym, ap, ◌∙◌, inl, inr, lit<, arith, length-append}
+use Rattle.std.proofs.Common.{◌≡◌, ◌<◌, ◌^◌, ℕ, List, [], ◌∷◌, ◌++◌, length, append_assoc, sym, ap, ◌∙◌, inl, inr, lit<, arith, length-append}
 use Rattle.std.specs.Fmt.{decimal}
 use Rattle.flag_text.specs.Printing.{text_of}
 use Rattle.point_lines.specs.Point.{IsPointCount, point_line}
 use Rattle.point_lines.specs.declared.point.PointCount.{PointCount}
-use Rattle.point_lines.proofs.Numbers.{same_rest}
+use Rattle.point_lines.proofs.Numbers.{same_rest, same_number}
 
 -- the bytes of a line, with what stands after it
 pub spelled : (e : PointCount) (rest : List ℕ) → point_line e ++ rest ≡ 91 ∷ (decimal e.point ++ 44 ∷ (decimal e.inputs ++ 93 ∷ 10 ∷ rest))
@@ -42,3 +42,13 @@ longer bytes more e line =
     let front = length-append (decimal e.point) (44 ∷ (decimal e.inputs ++ 93 ∷ 10 ∷ more)) in
     let back = length-append (decimal e.inputs) (93 ∷ 10 ∷ more) in
     omega (arith, all, front, back)
+
+-- a line and what stands after it are told by their bytes
+pub one_point : (e f : PointCount) (rest more : List ℕ) → IsPointCount e → IsPointCount f → point_line e ++ rest ≡ point_line f ++ more → (e ≡ f) × (rest ≡ more)
+one_point e f rest more are also is =
+    let inside = inner (decimal e.point ++ 44 ∷ (decimal e.inputs ++ 93 ∷ 10 ∷ rest)) (decimal f.point ++ 44 ∷ (decimal f.inputs ++ 93 ∷ 10 ∷ more)) 91 (sym (spelled e rest) ∙ is ∙ spelled f more) in
+    let point = same_number e.point f.point 44 (decimal e.inputs ++ 93 ∷ 10 ∷ rest) (decimal f.inputs ++ 93 ∷ 10 ∷ more) (inl (lit< tt)) are.point also.point inside in
+    let counts = same_rest e.point f.point 44 (decimal e.inputs ++ 93 ∷ 10 ∷ rest) (decimal f.inputs ++ 93 ∷ 10 ∷ more) (inl (lit< tt)) are.point also.point inside in
+    let inputs = same_number e.inputs f.inputs 93 (10 ∷ rest) (10 ∷ more) (inr (lit< tt)) are.inputs also.inputs counts in
+    let ends = same_rest e.inputs f.inputs 93 (10 ∷ rest) (10 ∷ more) (inr (lit< tt)) are.inputs also.inputs counts in
+    (λ i. record { point = point i; inputs = inputs i }, inner rest more 10 ends)

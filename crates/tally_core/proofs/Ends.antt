@@ -1,14 +1,16 @@
 -- The least and the greatest line of a tally, and the sum of its counts.
-use Rattle.std.proofs.Common.{◌≡◌, ℕ, suc, ◌+◌, ◌<◌, Bool, true, false, List, [], ◌∷◌, length, get_or, sum, Option, Some, None, Ordering, refl, sym, ap, arith}
+use Rattle.std.proofs.Common.{◌≡◌, ℕ, suc, ◌+◌, ◌<◌, ◌≤◌, ◌∙◌, true, false, eqb, List, [], ◌∷◌, length, get_or, sum, Option, Some, None, option_map, Ordering, refl, sym, ap, subst, arith}
 use Rattle.std.specs.declared.cmp.Ordering.TheVariants.{Less, Equal, Greater}
 use Rattle.std.specs.Cmp.Lexicographic.{nat_list_cmp_total}
 use Rattle.std.specs.Option.{option_or}
 use Rattle.std.specs.Ordering.{is_le, is_lt, is_gt}
+use Rattle.std.proofs.lemmas.Bool.{and_parts, eqb-true}
 use Rattle.std.proofs.lemmas.Cmp.{upto, tied_itself}
 use Rattle.std.proofs.lemmas.List.Sums.{sum_by-cons}
-use Rattle.book_core.specs.Page.{PageName, bytes_cmp}
-use Rattle.tally_core.specs.Join.{follows}
-use Rattle.tally_core.specs.Tally.{AreEnds}
+use Rattle.book_core.specs.Page.{PageName, bytes_cmp, page_eq}
+use Rattle.tally_core.specs.Join.{are_alike, follows, IsSum}
+use Rattle.tally_core.specs.Tally.{PageTally, IsPageTally, AreEnds, most_at_point, most_in_all}
+use Rattle.tally_core.proofs.Pages.{same_page}
 
 not_above : (o : Ordering) → is_le o ≡ true → is_gt o ≡ false
 not_above Less e = refl
@@ -59,3 +61,26 @@ sum_of_both (x ∷ xs) (y ∷ ys) (z ∷ zs) same also each =
     let old = sum_by-cons (λ (n : ℕ). n) y ys in
     let more = sum_by-cons (λ (n : ℕ). n) z zs in
     omega (arith, here, later, now, old, more)
+
+pub option_map-or : {X Y : Type 0} (f : X → Y) (a b : Option X) → option_map f (option_or a b) ≡ option_or (option_map f a) (option_map f b)
+option_map-or f None b = refl
+option_map-or f (Some x) b = refl
+
+-- what is joined of two tallies is a tally
+pub joined_is : (one other : PageTally) (first last : Option (List ℕ)) (counts : List ℕ) → IsPageTally one → IsPageTally other → are_alike one other ≡ true → follows one.last other.first ≡ true
+    → first ≡ option_or one.first other.first → last ≡ option_or other.last one.last → IsSum one.counts other.counts counts → ((p : ℕ) → get_or one.counts p 0 + get_or other.counts p 0 ≤ most_at_point) → one.inputs + other.inputs ≤ most_in_all
+    → IsPageTally (record { page = one.page; total = one.total; first = first; last = last; inputs = one.inputs + other.inputs; counts = counts })
+joined_is one other first last counts is also alike follow starts stops sums small few =
+    let parts = and_parts (page_eq one.page other.page) (eqb one.total other.total) alike in
+    let page : one.page ≡ other.page = same_page one.page other.page parts.0 in
+    let total : one.total ≡ other.total = eqb-true one.total other.total parts.1 in
+    let added = sum_of_both counts one.counts other.counts sums.whole (omega (arith, is.whole, also.whole, total)) sums.each in
+    let ends = ends_joined one.page one.inputs other.inputs one.first one.last other.first other.last is.ends (subst (λ (p : PageName). AreEnds p other.inputs other.first other.last) (sym page) also.ends) follow in
+    record {
+      allowed = is.allowed;
+      whole = sums.whole ∙ is.whole;
+      small = λ p. (let here = sums.each p in let fits = small p in omega (arith, here, fits));
+      added = omega (arith, added, is.added, also.added);
+      few = few;
+      ends = subst (λ (o : Option (List ℕ)). AreEnds one.page (one.inputs + other.inputs) o last) (sym starts) (subst (λ (o : Option (List ℕ)). AreEnds one.page (one.inputs + other.inputs) (option_or one.first other.first) o) (sym stops) ends);
+    }

@@ -84,11 +84,11 @@ union one other both some more first second joins =
     let size : length both.counts ≡ both.total = joined.counts.whole ∙ ap length first.counts ∙ length-map-range_with_len (inputs_at some one.total) 0 one.total ∙ sym joined.total in
     record {
       rising = subst (IsStrictlySortedBy bytes_cmp) lines
-        (rise_both (lines_on both.page some) (lines_on both.page more) (subst (IsStrictlySortedBy bytes_cmp) there first.rising) (subst (IsStrictlySortedBy bytes_cmp) here second.rising)
-        (subst (λ ls. follows (last_line (lines_on both.page some)) (first_line ls) ≡ true) here
-        (subst (λ ls. follows (last_line ls) (first_line (lines_on other.page more)) ≡ true) there
-        (subst (λ o. follows o (first_line (lines_on other.page more)) ≡ true) first.last
-        (subst (λ o. follows one.last o ≡ true) second.first joins.1)))));
+          (rise_both (lines_on both.page some) (lines_on both.page more) (subst (IsStrictlySortedBy bytes_cmp) there first.rising) (subst (IsStrictlySortedBy bytes_cmp) here second.rising)
+          (subst (λ ls. follows (last_line (lines_on both.page some)) (first_line ls) ≡ true) here
+          (subst (λ ls. follows (last_line ls) (first_line (lines_on other.page more)) ≡ true) there
+          (subst (λ o. follows o (first_line (lines_on other.page more)) ≡ true) first.last
+          (subst (λ o. follows one.last o ≡ true) second.first joins.1)))));
       first = joined.first ∙ ap (λ o. option_or o other.first) (first.first ∙ ap first_line there) ∙ ap (option_or (first_line (lines_on both.page some))) (second.first ∙ ap first_line here) ∙ first_of_both (lines_on both.page some) (lines_on both.page more) ∙ ap first_line lines;
       last = joined.last ∙ ap (λ o. option_or o one.last) (second.last ∙ ap last_line here) ∙ ap (option_or (last_line (lines_on both.page more))) (first.last ∙ ap last_line there) ∙ last_of_both (lines_on both.page some) (lines_on both.page more) ∙ ap last_line lines;
       inputs = (let size = length-append some more in let one_has = first.inputs in let other_has = second.inputs in omega (arith, joined.inputs, one_has, other_has, size));

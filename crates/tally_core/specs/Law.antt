@@ -21,12 +21,12 @@ last_line [] = None
 last_line (line ∷ lines) = option_or (last_line lines) (Some line)
 
 -- of inputs of its page whose lines rise strictly, so that each is there once: the first and the last line, how many inputs they are, and how many on each point
-pub record IsTallyOf (inputs : Inputs) (t : PageTally) : Type 0 where
-  pub rising : IsStrictlySortedBy bytes_cmp (lines_on t.page inputs)
-  pub first : t.first ≡ first_line (lines_on t.page inputs)
-  pub last : t.last ≡ last_line (lines_on t.page inputs)
-  pub inputs : t.inputs ≡ length inputs
-  pub counts : t.counts ≡ counts_of inputs t.total
+pub record IsTallyOf (members : Inputs) (t : PageTally) : Type 0 where
+  pub rising : IsStrictlySortedBy bytes_cmp (lines_on t.page members)
+  pub first : t.first ≡ first_line (lines_on t.page members)
+  pub last : t.last ≡ last_line (lines_on t.page members)
+  pub inputs : t.inputs ≡ length members
+  pub counts : t.counts ≡ counts_of members t.total
 
 -- what is joined of the tallies of two sets of inputs is the tally of their union, in which each is there once
 abbrev pub JoinsSets : Type 0

@@ -41,14 +41,15 @@ pub fn join(one: PageTally, other: PageTally) -> Result<PageTally, JoinFault>
     if !add_counts(&mut counts, other.counts.as_slice()) {
         return Err(JoinFault::TooMany);
     }
-    Ok(PageTally {
+    let both = PageTally {
         page: one.page,
         total: one.total,
         first: one.first.or(other.first),
         last: other.last.or(one.last),
         inputs,
         counts,
-    })
+    };
+    Ok(both)
 }
 
 fn are_alike(one: &PageTally, other: &PageTally) -> bool

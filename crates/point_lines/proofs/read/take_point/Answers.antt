@@ -1,4 +1,4 @@
-use Rattle.std.proofs.Common.{sym, ◌∙◌, ◌∷◌, ◌++◌}
+use Rattle.std.proofs.Common.{◌∙◌, ◌∷◌, ◌++◌}
 use Rattle.std.specs.Fmt.{decimal}
 use Rattle.point_lines.proofs.Spelled.{after_bracket, after_comma, after_end, whole_line, longer, spelled}
 use Rattle.point_lines.proofs.read.take_point.Goals as goal
