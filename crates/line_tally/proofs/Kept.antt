@@ -1,8 +1,8 @@
 -- What a line leaves is a tally.
-use Rattle.std.proofs.Common.{◌≡◌, ◌≢◌, ◌<◌, ◌≤◌, ◌+◌, ℕ, true, List, length, get_or, set, replicate, Option, Some, None, nat_lt, refl, sym, ap, ◌∙◌, subst, ⊎_elim, arith, length-set}
-use borrow.Author.Tests.{ltb-true}
-use Rattle.std.specs.Option.{option_or}
-use Rattle.std.proofs.lemmas.Bool.{and_parts, cases_eq}
+use Rattle.std.proofs.Common.{◌≡◌, ◌≢◌, ◌<◌, ◌≤◌, ◌+◌, ℕ, true, false, List, length, get_or, set, Option, Some, None, option_map, nat_lt, refl, sym, ap, ◌∙◌, subst, ⊎_elim, arith, length-set}
+use borrow.Author.Tests.{ltb-true, lt-ltb}
+use Rattle.std.specs.Option.{is_some, option_or}
+use Rattle.std.proofs.lemmas.Bool.{and_from, and_parts, cases_eq}
 use Rattle.std.proofs.lemmas.List.{get_or-set_same, get_or-set_other}
 use Rattle.std.proofs.lemmas.List.Sums.{sum_by-set}
 use Rattle.bucket_core.specs.Point.{point_of}
@@ -71,3 +71,23 @@ note_on note page input is same inputs = subst IsNote (noted_same note page inpu
 
 pub spelled_on : (note : Noted) (page : PageName) (line input : List ℕ) → line ≡ note_line note → page_eq note.page page ≡ true → input ≡ note.input → line ≡ line_on page input
 spelled_on note page line input spelled same inputs = spelled ∙ ap note_line (noted_same note page input same inputs)
+
+-- what was counted, part by part
+pub counted_is : (v : Tallied) (line input : List ℕ) (page : PageName) (total : ℕ) (before last : List ℕ) (first : Option (List ℕ)) (inputs : ℕ) (counts : List ℕ) (at had : ℕ) → IsTally v → is_above_last v.before line ≡ true → IsNote (noted_on v.page input) → line ≡ line_on v.page input → has_room v input ≡ true
+    → page ≡ v.page → total ≡ v.total → before ≡ line → first ≡ option_or v.first (Some line) → last ≡ line → inputs ≡ v.inputs → counts ≡ v.counts → at ≡ point_of v.total input → had ≡ get_or v.counts (point_of v.total input) 0
+    → IsTally (record { page = page; total = total; before = Some before; first = first; last = Some last; inputs = inputs + 1; counts = set counts at (had + 1) })
+counted_is v line input page total before last first inputs counts at had is above note spelled room p t b f l n c a h =
+    let new : Tallied = record { page = page; total = total; before = Some before; first = first; last = Some last; inputs = inputs + 1; counts = set counts at (had + 1) } in
+    let same : new ≡ tallied v line input = λ i. record { page = p i; total = t i; before = Some (b i); first = f i; last = Some (l i); inputs = n i + 1; counts = set (c i) (a i) (h i + 1) } in
+    subst IsTally (sym same) (tallied_is v line input is above note spelled room)
+
+pub none_first : {X : Type 0} (f : X → List ℕ) (o : Option X) (line own : List ℕ) → is_some o ≡ false → own ≡ line → Some own ≡ option_or (option_map f o) (Some line)
+none_first f None line own none same = ap (λ (l : List ℕ). Some l) same
+none_first f (Some x) line own none same = cc
+
+pub some_first : {X : Type 0} (f : X → List ℕ) (o : Option X) (line : List ℕ) → is_some o ≡ true → option_map f o ≡ option_or (option_map f o) (Some line)
+some_first f None line some = cc
+some_first f (Some x) line some = refl
+
+pub room_is : (v : Tallied) (input : List ℕ) → v.inputs < most_in_all → get_or v.counts (point_of v.total input) 0 < most_at_point → has_room v input ≡ true
+room_is v input more few = and_from (nat_lt v.inputs most_in_all) (nat_lt (get_or v.counts (point_of v.total input) 0) most_at_point) (lt-ltb v.inputs most_in_all more) (lt-ltb (get_or v.counts (point_of v.total input) 0) most_at_point few)
