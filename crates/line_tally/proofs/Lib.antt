@@ -1,4 +1,4 @@
 mod Counted
+mod Kept
 pub mod Refused
-pub mod Summed
 mod Tallying

@@ -31,3 +31,9 @@ pub refused_note : {X : Type 0} (t : Tallied) (line : List ℕ) (note : Noted) (
     → IfErr r (λ fault. fault ≢ WantOfMemory → with_input t line note.input ≡ Err fault) → IfErr r (λ fault. Refuses t line fault)
 refused_note t line note (Ok x) is same above page why = tt
 refused_note t line note (Err fault) is same above page why = refused_for t line note fault is same above page why
+
+-- a note of the page was taken
+pub taken_note : (t new : Tallied) (line input : List ℕ) (note : Noted) → IsNote note → line ≡ note_line note → is_above_last t.before line ≡ true → page_eq note.page t.page ≡ true → input ≡ note.input → with_input t line input ≡ Ok new
+    → (n : Noted) × IsNote n × (line ≡ note_line n) × (with_note t n ≡ Ok new)
+taken_note t new line input note is same above page inputs taken =
+    (note, is, same, with_note-page t note (subst (λ (l : List ℕ). is_above_last t.before l ≡ true) same above) page ∙ ap (λ (l : List ℕ). with_input t l note.input) (sym same) ∙ ap (with_input t line) (sym inputs) ∙ taken)

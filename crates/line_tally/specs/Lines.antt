@@ -1,20 +1,14 @@
 -- The tally of one page of note lines that come in rising order: how many of the page's inputs fall on each point.
-use Rattle.std.specs.Prelude.{◌≡◌, ℕ, ◌+◌, ◌≤◌, List, length, get_or, replicate, Bool, ◌&&◌, nat_lt, if◌then◌else◌, Option, Some, None, Result, Ok, Err}
+use Rattle.std.specs.Prelude.{◌≡◌, ℕ, ◌+◌, List, get_or, replicate, Bool, true, ◌&&◌, nat_lt, if◌then◌else◌, Option, Some, None, Result, Ok, Err}
 use Rattle.std.specs.Option.{option_or}
+use Rattle.std.specs.Ordering.{is_le}
 use Rattle.bucket_core.specs.Point.{point_of}
-use Rattle.bucket_core.specs.Rule.{IsRuleTotal}
-use Rattle.book_core.specs.Page.{PageName, page_eq}
+use Rattle.book_core.specs.Page.{PageName, bytes_cmp, page_eq}
 use Rattle.page_tally.specs.Folding.{counted, is_above_last}
 use Rattle.note_lines.specs.Note.{Noted, note_line}
+use Rattle.tally_core.specs.Tally.{PageTally, IsPageTally, most_at_point, most_in_all}
 use Rattle.line_tally.specs.declared.fault.LineTallyFault.{LineTallyFault}
 use Rattle.line_tally.specs.declared.fault.LineTallyFault.TheVariants.{Order, TooMany}
-
--- the most inputs that are counted, on one point and in all
-abbrev pub most_at_point : ℕ
-most_at_point = 67108864
-
-abbrev pub most_in_all : ℕ
-most_in_all = 8589934592
 
 -- a page and a total; the last line of all; the first and the last line that were counted; how many were, and how many on each point
 pub record Tallied : Type 0 where
@@ -51,9 +45,17 @@ abbrev pub with_note : Tallied → Noted → Result Tallied LineTallyFault
 with_note t note =
     if is_above_last t.before (note_line note) then (if page_eq note.page t.page then with_input t (note_line note) note.input else Ok (passed t (note_line note))) else Err Order
 
--- a count for each point, and no more inputs than are counted, on a point and in all
+-- the tally of the lines so far
+abbrev pub finished : Tallied → PageTally
+finished t = record { page = t.page; total = t.total; first = t.first; last = t.last; inputs = t.inputs; counts = t.counts }
+
+-- the last line that was counted is not above the last line of all
+abbrev pub IsWithin : Option (List ℕ) → Option (List ℕ) → Type 0
+IsWithin None before = Unit {0}
+IsWithin (Some last) None = ⊥
+IsWithin (Some last) (Some before) = is_le (bytes_cmp last before) ≡ true
+
+-- what was counted is a tally, whose last line is not above the last line of all
 pub record IsTally (t : Tallied) : Type 0 where
-  pub allowed : IsRuleTotal t.total
-  pub whole : length t.counts ≡ t.total
-  pub few : t.inputs ≤ most_in_all
-  pub small : (p : ℕ) → get_or t.counts p 0 ≤ most_at_point
+  pub lawful : IsPageTally (finished t)
+  pub within : IsWithin t.last t.before

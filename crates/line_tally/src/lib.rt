@@ -5,18 +5,14 @@
 //!
 //! Proved, over the definitions of `specs/`: what each line changes, or why it is refused (`Lines`, `Refusals`); a
 //! refused line leaves the tally as it was; and where none was refused, what was tallied is the number of the page's
-//! inputs and how many are on each point, each input there once ([`a_tally_is_of_its_lines`], `Law`). [`join`] gives the sum
-//! of two tallies of which the second one's lines follow the first one's, and refuses only where there is none (`Join`).
+//! inputs and how many are on each point, each input there once ([`a_tally_is_of_its_lines`], `Law`).
 #![tactic(auto)]
 
 mod fault;
-mod finished;
-mod joining;
 mod laws;
 mod tally;
 
 pub use fault::LineTallyFault;
-pub use finished::PageTally;
-pub use joining::{JoinFault, join};
 pub use laws::a_tally_is_of_its_lines;
 pub use tally::LineTally;
+pub use tally_core::{JoinFault, PageTally, join};

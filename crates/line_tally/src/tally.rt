@@ -1,25 +1,18 @@
 //! A tally, line by line.
-ghost use Rattle.std.specs.Prelude.{◌≡◌, ◌≢◌, ◌≤◌, ◌++◌, ◌∷◌, [], ℕ, List, length, get_or, false, IfOk, OnOk, OnErr, IfErr, Ok, Err};
-ghost use Rattle.bucket_core.specs.Rule.{IsRuleTotal};
+ghost use Rattle.std.specs.Prelude.{◌≡◌, ◌≢◌, ◌++◌, ◌∷◌, [], ℕ, List, true, false, IfOk, OnOk, OnErr, IfErr, Ok, Err};
 ghost use Rattle.page_tally.specs.Folding.{is_above_last};
 ghost use Rattle.note_lines.specs.Note.{Noted, IsNote, note_line};
-ghost use Rattle.line_tally.specs.Finished.{finished};
-ghost use Rattle.line_tally.specs.Lines.{most_at_point, most_in_all, untallied, passed, has_room, with_input, with_note};
+ghost use Rattle.tally_core.specs.Tally.{IsTallyTotal, noted_on, line_on};
+ghost use Rattle.line_tally.specs.Lines.{untallied, passed, has_room, finished, with_input, with_note};
 ghost use Rattle.line_tally.specs.Refusals.{Refuses};
 
 use crate::fault::LineTallyFault;
-use crate::finished::PageTally;
 use book_core::Page;
 use bucket_core::point;
 use note_lines::read_note;
 use std::alloc::{AllocError, Global};
 use std::marker::Model;
-
-/// The most inputs on one point.
-pub(crate) const MOST_AT_POINT: u32 = 67_108_864;
-
-/// The most inputs in all.
-pub(crate) const MOST_IN_ALL: u64 = 8_589_934_592;
+use tally_core::{MOST_AT_POINT, MOST_IN_ALL, PageTally};
 
 /// How many inputs of one page fall on each of so many points, of the note lines so far.
 #[derive(Drop)]
@@ -45,9 +38,9 @@ impl Model for LineTally {
 }
 
 impl LineTally {
-    /// The tally of no line. The condition is a total of a rule.
+    /// The tally of no line. The condition is a total from 1 to 1,000,000.
     pub fn new(alloc: Global, page: Page, total: u32) -> Result<LineTally, AllocError>
-        requires { IsRuleTotal total }
+        requires { IsTallyTotal total }
         ensures { IfOk result (λ tally. tally ≡ untallied page total) }
     {
         let counts = vec![in alloc; 0u32; total as usize]?;
@@ -88,10 +81,7 @@ impl LineTally {
 
     /// The tally of the lines so far.
     pub fn finish(self) -> PageTally
-        ensures tally { result ≡ finished self }
-        ensures whole { length result.counts ≡ result.total }
-        ensures few { result.inputs ≤ most_in_all }
-        ensures small { (p : ℕ) → get_or result.counts p 0 ≤ most_at_point }
+        ensures { result ≡ finished self }
     {
         PageTally {
             page: self.page,
@@ -115,6 +105,7 @@ impl LineTally {
 
     /// Passes over a line.
     fn pass(&mut self, alloc: Global, line: &[u8]) -> Result<(), LineTallyFault>
+        requires { is_above_last self.old.before line.now ≡ true }
         ensures passed { OnOk result (self.new ≡ passed self.old line.now) }
         ensures want { IfErr result (λ fault. fault ≡ LineTallyFault.WantOfMemory) }
         ensures same { OnErr result (self.new ≡ self.old) }
@@ -125,6 +116,9 @@ impl LineTally {
 
     /// Counts the input of a line.
     fn count(&mut self, alloc: Global, line: &[u8], input: &str) -> Result<(), LineTallyFault>
+        requires above { is_above_last self.old.before line.now ≡ true }
+        requires note { IsNote (noted_on self.old.page input.now) }
+        requires spelled { line.now ≡ line_on self.old.page input.now }
         ensures counted { OnOk result (with_input self.old line.now input.now ≡ Ok self.new) }
         ensures refused { IfErr result (λ fault. fault ≢ LineTallyFault.WantOfMemory → with_input self.old line.now input.now ≡ Err fault) }
         ensures full { has_room self.old input.now ≡ false → result ≡ Err LineTallyFault.TooMany }

@@ -48,7 +48,7 @@ utf8_by : (by : Option (List ℕ)) → IfSome by IsUtf8 → IsUtf8 (compact_text
 utf8_by None u = IsUtf8-are_ascii _ refl
 utf8_by (Some s) u = IsUtf8-quoted s u
 
-utf8_text : (note : Noted) → IsNote note → IsUtf8 (text_of (note_shape note))
+pub utf8_text : (note : Noted) → IsNote note → IsUtf8 (text_of (note_shape note))
 unfolding text_of
 utf8_text note is =
     let close : IsUtf8 (93 ∷ []) = IsUtf8-are_ascii (93 ∷ []) refl in

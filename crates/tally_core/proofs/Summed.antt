@@ -2,8 +2,8 @@
 use Rattle.std.proofs.Common.{◌≡◌, ◌≢◌, ◌<◌, ◌≤◌, ◌+◌, ℕ, List, length, set, get_or, refl, sym, ap, ◌∙◌, ⊎_elim, arith, length-set}
 use Rattle.std.proofs.lemmas.Bool.{cases_eq, cases_lt}
 use Rattle.std.proofs.lemmas.List.{get_or-set_same, get_or-set_other, get_or_past}
-use Rattle.line_tally.specs.Join.{IsSum}
-use Rattle.line_tally.specs.Lines.{most_at_point}
+use Rattle.tally_core.specs.Join.{IsSum}
+use Rattle.tally_core.specs.Tally.{most_at_point}
 
 -- the points below i are done
 pub record IsPart (old more now : List ℕ) (i : ℕ) : Type 0 where

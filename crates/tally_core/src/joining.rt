@@ -1,11 +1,10 @@
 //! Two tallies as one.
 ghost use Rattle.std.specs.Prelude.{◌≡◌, ◌≤◌, ◌+◌, ℕ, length, get_or, option_map};
 ghost use Rattle.std.specs.Bool.{OnTrue, OnFalse};
-ghost use Rattle.line_tally.specs.Join.{are_alike, follows, IsSum, IsCrowded, Joins};
-ghost use Rattle.line_tally.specs.Lines.{most_at_point};
+ghost use Rattle.tally_core.specs.Join.{are_alike, follows, IsSum, IsCrowded, Joins};
+ghost use Rattle.tally_core.specs.Tally.{most_at_point};
 
-use crate::finished::PageTally;
-use crate::tally::{MOST_AT_POINT, MOST_IN_ALL};
+use crate::tally::{MOST_AT_POINT, MOST_IN_ALL, PageTally};
 use thiserror::Error;
 
 /// Why two tallies are not joined.
@@ -34,27 +33,29 @@ pub fn join(one: PageTally, other: PageTally) -> Result<PageTally, JoinFault>
     if !follows(&one.last, &other.first) {
         return Err(JoinFault::Order);
     }
-    if u128::from(one.inputs) + u128::from(other.inputs) > u128::from(MOST_IN_ALL) {
+    let inputs = one.inputs + other.inputs;
+    if inputs > MOST_IN_ALL {
         return Err(JoinFault::TooMany);
     }
     let mut counts = one.counts;
     if !add_counts(&mut counts, other.counts.as_slice()) {
         return Err(JoinFault::TooMany);
     }
-    Ok(PageTally {
+    let both = PageTally {
         page: one.page,
         total: one.total,
         first: one.first.or(other.first),
         last: other.last.or(one.last),
-        inputs: one.inputs + other.inputs,
+        inputs,
         counts,
-    })
+    };
+    Ok(both)
 }
 
 fn are_alike(one: &PageTally, other: &PageTally) -> bool
     ensures { result ≡ are_alike one.now other.now }
 {
-    one.page == other.page && one.total == other.total && one.counts.len() == other.counts.len()
+    one.page == other.page && one.total == other.total
 }
 
 fn follows(last: &Option<Vec<u8>>, first: &Option<Vec<u8>>) -> bool

@@ -1,7 +1,7 @@
 use Rattle.std.proofs.Common.{◌≡◌, ◌+◌, ◌<◌, get_or, length, arith}
 use Rattle.std.proofs.lemmas.List.{get_or_read}
-use Rattle.line_tally.proofs.Summed.{IsPart, part_none, part_more, part_all, part_small}
-use Rattle.line_tally.proofs.joining.add_counts.Goals as goal
+use Rattle.tally_core.proofs.Summed.{IsPart, part_none, part_more, part_all, part_small}
+use Rattle.tally_core.proofs.joining.add_counts.Goals as goal
 
 pub loop-at-init : goal.loop-at-init
 loop-at-init c = part_none c.args.counts.now.items c.args.more.now

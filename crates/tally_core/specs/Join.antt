@@ -3,14 +3,13 @@ use Rattle.std.specs.Prelude.{◌≡◌, ℕ, ◌+◌, ◌<◌, ◌≤◌, ◌�
 use Rattle.std.specs.Option.{option_or}
 use Rattle.std.specs.Ordering.{is_lt}
 use Rattle.book_core.specs.Page.{bytes_cmp, page_eq}
-use Rattle.line_tally.specs.Finished.{PageTally}
-use Rattle.line_tally.specs.Lines.{most_at_point, most_in_all}
-use Rattle.line_tally.specs.declared.joining.JoinFault.{JoinFault}
-use Rattle.line_tally.specs.declared.joining.JoinFault.TheVariants.{Page, Order, TooMany}
+use Rattle.tally_core.specs.Tally.{PageTally, most_at_point, most_in_all}
+use Rattle.tally_core.specs.declared.joining.JoinFault.{JoinFault}
+use Rattle.tally_core.specs.declared.joining.JoinFault.TheVariants.{Page, Order, TooMany}
 
 -- they are of one page and total
 abbrev pub are_alike : PageTally → PageTally → Bool
-are_alike one other = page_eq one.page other.page && ((one.total == other.total) && (length one.counts == length other.counts))
+are_alike one other = page_eq one.page other.page && (one.total == other.total)
 
 -- the last line of one is below the first of the other, where both have lines
 abbrev pub follows : Option (List ℕ) → Option (List ℕ) → Bool

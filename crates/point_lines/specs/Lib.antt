@@ -1,0 +1,2 @@
+pub use Rattle.flag_text.specs.Shape
+pub mod Point

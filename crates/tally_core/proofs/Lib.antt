@@ -1,0 +1,5 @@
+pub mod Ends
+pub mod Pages
+mod Summed
+mod Union
+pub mod Zeros

@@ -1,0 +1,96 @@
+-- The tallies of two sets of inputs, joined, are the tally of the union.
+use Rattle.std.proofs.Common.{◌≡◌, ℕ, ◌+◌, ◌<◌, true, if◌then◌else◌, eqb, List, [], ◌∷◌, ◌++◌, map, length, get_or, Option, Some, None, Ok, refl, sym, ap, ◌∙◌, subst, arith, length-append}
+use Rattle.std.specs.Cmp.Lexicographic.{nat_list_cmp_total}
+use Rattle.std.specs.List.{AllByRecursion}
+use Rattle.std.specs.List.Sorted.{IsStrictlySortedBy}
+use Rattle.std.specs.Option.{option_or}
+use Rattle.std.specs.declared.cmp.Ordering.TheVariants.{Less}
+use Rattle.std.proofs.lemmas.Bool.{and_parts, eqb-true}
+use Rattle.std.proofs.lemmas.List.{map-append}
+use Rattle.std.proofs.lemmas.List.FromFn.{fill_by_all, get_or-map-range_with_len, length-map-range_with_len}
+use Rattle.std.proofs.lemmas.List.Sums.{sum_by-append}
+use Rattle.bucket_core.specs.Point.{point_of}
+use Rattle.book_core.specs.Book.{Inputs}
+use Rattle.book_core.specs.Counts.{inputs_at, counts_of}
+use Rattle.book_core.specs.Page.{PageName, bytes_cmp, page_eq}
+use Rattle.book_core.proofs.Ordered.{All-weaker}
+use Rattle.book_core.proofs.Taken.{is_less}
+use Rattle.tally_core.specs.Join.{Joins, follows}
+use Rattle.tally_core.specs.Law.{lines_on, first_line, last_line, IsTallyOf, JoinsSets}
+use Rattle.tally_core.specs.Tally.{PageTally, line_on}
+use Rattle.tally_core.proofs.Pages.{same_page}
+
+-- ---- the lines
+
+below_all : (x : List ℕ) (ys : List (List ℕ)) → IsStrictlySortedBy bytes_cmp ys → follows (Some x) (first_line ys) ≡ true → AllByRecursion (λ (z : List ℕ). bytes_cmp x z ≡ Less) ys
+unfolding IsStrictlySortedBy
+below_all x [] rising follow = tt
+below_all x (y ∷ ys) rising follow =
+    let less : bytes_cmp x y ≡ Less = is_less (bytes_cmp x y) follow in
+    (less, All-weaker (λ (z : List ℕ). bytes_cmp y z ≡ Less) (λ (z : List ℕ). bytes_cmp x z ≡ Less) ys (λ z high. nat_list_cmp_total.trans x y z (less) (high)) rising.0)
+
+last_again : (o : Option (List ℕ)) (x y : List ℕ) → option_or (option_or o (Some y)) (Some x) ≡ option_or o (Some y)
+last_again None x y = refl
+last_again (Some z) x y = refl
+
+rise_both : (xs ys : List (List ℕ)) → IsStrictlySortedBy bytes_cmp xs → IsStrictlySortedBy bytes_cmp ys → follows (last_line xs) (first_line ys) ≡ true → IsStrictlySortedBy bytes_cmp (xs ++ ys)
+unfolding IsStrictlySortedBy
+rise_both [] ys one other follow = other
+rise_both (x ∷ []) ys one other follow = (below_all x ys other follow, other)
+rise_both (x ∷ y ∷ xs) ys one other follow =
+    let later = rise_both (y ∷ xs) ys one.1 other (subst (λ o. follows o (first_line ys) ≡ true) (last_again (last_line xs) x y) follow) in
+    let less : bytes_cmp x y ≡ Less = one.0.0 in
+    let all = All-weaker (λ (z : List ℕ). bytes_cmp y z ≡ Less) (λ (z : List ℕ). bytes_cmp x z ≡ Less) (xs ++ ys) (λ z high. nat_list_cmp_total.trans x y z (less) (high)) later.0 in
+    ((less, all), later)
+
+first_of_both : (xs ys : List (List ℕ)) → option_or (first_line xs) (first_line ys) ≡ first_line (xs ++ ys)
+first_of_both [] ys = refl
+first_of_both (x ∷ xs) ys = refl
+
+none_before : (o : Option (List ℕ)) → option_or o None ≡ o
+none_before None = refl
+none_before (Some x) = refl
+
+grouped : (a b : Option (List ℕ)) (x : List ℕ) → option_or a (option_or b (Some x)) ≡ option_or (option_or a b) (Some x)
+grouped None b x = refl
+grouped (Some y) b x = refl
+
+last_of_both : (xs ys : List (List ℕ)) → option_or (last_line ys) (last_line xs) ≡ last_line (xs ++ ys)
+last_of_both [] ys = none_before (last_line ys)
+last_of_both (x ∷ xs) ys = grouped (last_line ys) (last_line xs) x ∙ ap (λ o. option_or o (Some x)) (last_of_both xs ys)
+
+-- ---- the counts
+
+counts_of_both : (now old more : List ℕ) (total : ℕ) (some others : Inputs) → old ≡ counts_of some total → more ≡ counts_of others total → length now ≡ total → ((p : ℕ) → get_or now p 0 ≡ get_or old p 0 + get_or more p 0) → now ≡ counts_of (some ++ others) total
+counts_of_both now old more total some others one other whole each =
+    fill_by_all (inputs_at (some ++ others) total) now total 0 whole (λ p below.
+    let first : get_or old p 0 ≡ inputs_at some total p = ap (λ (xs : List ℕ). get_or xs p 0) one ∙ get_or-map-range_with_len (inputs_at some total) 0 total p p 0 below (omega arith) in
+    let second : get_or more p 0 ≡ inputs_at others total p = ap (λ (xs : List ℕ). get_or xs p 0) other ∙ get_or-map-range_with_len (inputs_at others total) 0 total p p 0 below (omega arith) in
+    let both : inputs_at (some ++ others) total p ≡ inputs_at some total p + inputs_at others total p = sum_by-append (λ (input : List ℕ). if eqb (point_of total input) p then 1 else 0) some others in
+    let here = each p in
+    omega (arith, first, second, both, here))
+
+-- ---- both together
+
+pub union : JoinsSets
+union one other both some more first second joins =
+    let alike = and_parts (page_eq one.page other.page) (eqb one.total other.total) joins.0 in
+    let page : one.page ≡ other.page = same_page one.page other.page alike.0 in
+    let total : one.total ≡ other.total = eqb-true one.total other.total alike.1 in
+    let joined = joins.2 in
+    let here : lines_on other.page more ≡ lines_on both.page more = ap (λ p. lines_on p more) (sym page ∙ sym joined.page) in
+    let there : lines_on one.page some ≡ lines_on both.page some = ap (λ p. lines_on p some) (sym joined.page) in
+    let lines : lines_on both.page some ++ lines_on both.page more ≡ lines_on both.page (some ++ more) = sym (map-append (line_on both.page) some more) in
+    let size : length both.counts ≡ both.total = joined.counts.whole ∙ ap length first.counts ∙ length-map-range_with_len (inputs_at some one.total) 0 one.total ∙ sym joined.total in
+    record {
+      rising = subst (IsStrictlySortedBy bytes_cmp) lines
+          (rise_both (lines_on both.page some) (lines_on both.page more) (subst (IsStrictlySortedBy bytes_cmp) there first.rising) (subst (IsStrictlySortedBy bytes_cmp) here second.rising)
+          (subst (λ ls. follows (last_line (lines_on both.page some)) (first_line ls) ≡ true) here
+          (subst (λ ls. follows (last_line ls) (first_line (lines_on other.page more)) ≡ true) there
+          (subst (λ o. follows o (first_line (lines_on other.page more)) ≡ true) first.last
+          (subst (λ o. follows one.last o ≡ true) second.first joins.1)))));
+      first = joined.first ∙ ap (λ o. option_or o other.first) (first.first ∙ ap first_line there) ∙ ap (option_or (first_line (lines_on both.page some))) (second.first ∙ ap first_line here) ∙ first_of_both (lines_on both.page some) (lines_on both.page more) ∙ ap first_line lines;
+      last = joined.last ∙ ap (λ o. option_or o one.last) (second.last ∙ ap last_line here) ∙ ap (option_or (last_line (lines_on both.page more))) (first.last ∙ ap last_line there) ∙ last_of_both (lines_on both.page some) (lines_on both.page more) ∙ ap last_line lines;
+      inputs = (let size = length-append some more in let one_has = first.inputs in let other_has = second.inputs in omega (arith, joined.inputs, one_has, other_has, size));
+      counts = counts_of_both both.counts one.counts other.counts both.total some more (first.counts ∙ ap (counts_of some) (sym joined.total)) (second.counts ∙ ap (counts_of more) (sym total ∙ sym joined.total)) size joined.counts.each;
+    }

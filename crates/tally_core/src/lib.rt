@@ -1,0 +1,18 @@
+//! Tallies: how many inputs of one page fall on each of so many points.
+//!
+//! A planner needs none of the inputs, only these numbers, so a tally stands for any number of recorded inputs in the
+//! memory of its points.
+//!
+//! Proved, over the definitions of `specs/`: each [`PageTally`] has a count for each point, counts that add up to its
+//! inputs, and a least and a greatest line exactly where it has inputs (`Tally`). [`join`] gives the sum of two tallies
+//! of which the second one's lines follow the first one's, and refuses only where there is none (`Join`). Where both are
+//! tallies of sets of inputs, the sum is the tally of the union ([`a_join_is_the_tally_of_both`], `Law`).
+#![tactic(auto)]
+
+mod joining;
+mod laws;
+mod tally;
+
+pub use joining::{JoinFault, join};
+pub use laws::a_join_is_the_tally_of_both;
+pub use tally::{MOST_AT_POINT, MOST_IN_ALL, MOST_POINTS, PageTally};
