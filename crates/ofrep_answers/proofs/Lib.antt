@@ -1,0 +1,5 @@
+pub mod Loops
+pub mod Matching
+pub mod Places
+pub mod Reached
+pub mod Variants

@@ -1,0 +1,166 @@
+-- The answer to a request (OpenFeature Remote Evaluation Protocol: paths, status codes, bodies; RFC 9110: 304, 404, 405, 413, Allow, ETag, If-None-Match).
+use Rattle.std.specs.Prelude.{ℕ, Bool, List, [], codes, map, Option, Some, None, option_map, option_copied, Result, Ok, Err, if◌then◌else◌, string_bytes}
+use Rattle.std.specs.List.{list_any}
+use Rattle.std.specs.Str.{bytes_eq}
+use Rattle.entity_tags.specs.Tag.{entity_tag, is_listed, opaque_tag}
+use Rattle.flag_documents.specs.Document.{Definitions}
+use Rattle.flag_resolve.specs.Resolved.{Resolved}
+use Rattle.flag_resolve.specs.declared.code.Code.{Code}
+use Rattle.flag_resolve.specs.declared.code.Code.TheVariants.{ParseError, InvalidContext}
+use Rattle.flag_text.specs.Printing.{text_of}
+use Rattle.flag_text.specs.Shape.{Shape}
+use Rattle.logic_evaluator.specs.Run.{Reach}
+use Rattle.logic_evaluator.specs.Views.{reach_view}
+use Rattle.ofrep_answers.specs.Evaluation.{bodies, evaluation, reached_at, reached_in}
+use Rattle.ofrep_answers.specs.Request.{Asked}
+use Rattle.ofrep_answers.specs.declared.answer.Answer as program
+use Rattle.ofrep_answers.specs.declared.answer.Content.{Content}
+use Rattle.ofrep_answers.specs.declared.answer.Content.TheVariants as content
+use Rattle.ofrep_answers.specs.declared.answer.FlagReached.{FlagReached}
+use Rattle.ofrep_bodies.specs.Bodies.{failure, flags_shape}
+use Rattle.ofrep_bodies.specs.Evaluation.{body_of, status_of}
+use Rattle.ofrep_bodies.specs.Failure.{code_status}
+use Rattle.ofrep_contexts.specs.Context.{context_of}
+use Rattle.ofrep_contexts.specs.Fault.{details_of}
+use Rattle.ofrep_contexts.specs.declared.fault.ContextFault.{ContextFault}
+use Rattle.ofrep_contexts.specs.declared.fault.ContextFault.TheVariants.{WantOfMemory, TooLarge, NotJson, BodyNotObject, NotObject, TooDeep, NotWhole}
+use Rattle.ofrep_requests.specs.Request.{key_in, method_at, place_of}
+use Rattle.ofrep_requests.specs.declared.place.Place.{Place}
+use Rattle.ofrep_requests.specs.declared.place.Place.TheVariants.{OneFlag, EveryFlag, Health, Metrics, Nowhere}
+
+-- nothing, a plain text, a JSON text, or what the service counts
+pub data Body : Type 0 where
+  nothing : Body
+  plain : List ℕ → Body
+  json : List ℕ → Body
+  counts : Body
+
+-- the media type of a body (RFC 8259, 11; the text format of Prometheus)
+abbrev pub media_type : Body → Option (List ℕ)
+media_type nothing = None
+media_type (plain s) = Some (codes "text/plain; charset=utf-8")
+media_type (json s) = Some (codes "application/json")
+media_type counts = Some (codes "text/plain; version=0.0.4")
+
+-- the bytes of a body; what the service counts is written by its owner
+abbrev pub bytes_of : Body → List ℕ
+bytes_of nothing = []
+bytes_of (plain s) = s
+bytes_of (json s) = s
+bytes_of counts = []
+
+-- the status, the fields Allow and ETag, the body, and the sites that the evaluations reached, by flag
+pub record Answered : Type 0 where
+  pub status : ℕ
+  pub allow : Option (List ℕ)
+  pub tag : Option (List ℕ)
+  pub body : Body
+  pub reached : List (List ℕ × List Reach)
+
+-- ---- answers without an evaluation
+
+abbrev pub bare : ℕ → Body → Answered
+bare status body = record { status = status; allow = None; tag = None; body = body; reached = [] }
+
+abbrev pub nothing_here : Answered
+nothing_here = bare 404 (json (codes "{\"errorDetails\":\"nothing is served at this path\"}"))
+
+abbrev pub not_allowed : List ℕ → Answered
+not_allowed method = record { status = 405; allow = Some method; tag = None; body = json (codes "{\"errorDetails\":\"this path takes another method\"}"); reached = [] }
+
+abbrev pub too_large : Answered
+too_large = bare 413 (json (codes "{\"errorDetails\":\"the body is too large\"}"))
+
+abbrev pub healthy : Answered
+healthy = bare 200 (plain (codes "ok"))
+
+-- the error code of a body without a context
+abbrev pub fault_code : ContextFault → Option Code
+fault_code WantOfMemory = None
+fault_code TooLarge = None
+fault_code NotJson = Some ParseError
+fault_code BodyNotObject = Some InvalidContext
+fault_code NotObject = Some InvalidContext
+fault_code TooDeep = Some InvalidContext
+fault_code NotWhole = Some InvalidContext
+
+abbrev pub failed : Option (List ℕ) → Option Code → List ℕ → Answered
+failed key None details = too_large
+failed key (Some code) details = bare (code_status code) (json (text_of (failure key code details)))
+
+-- a body without a context: 413, or 400 with what is wrong
+abbrev pub without_context : Option (List ℕ) → ContextFault → Answered
+without_context key fault = failed key (fault_code fault) (details_of fault)
+
+-- ---- one flag
+
+abbrev pub one_told : List ℕ → Resolved → Answered
+one_told key r = record { status = status_of r; allow = None; tag = None; body = json (text_of (body_of key r)); reached = reached_at key r.reached }
+
+abbrev pub one_in : Definitions → ℕ → List ℕ → Result Shape ContextFault → Answered
+one_in flags moment key (Ok context) = one_told key (evaluation flags key context moment)
+one_in flags moment key (Err fault) = without_context (Some key) fault
+
+abbrev pub one_flag : Definitions → ℕ → Option (List ℕ) → List ℕ → Answered
+one_flag flags moment None body = nothing_here
+one_flag flags moment (Some key) body = one_in flags moment key (context_of body)
+
+-- ---- every flag
+
+-- one of the fields If-None-Match names the opaque tag
+abbrev pub is_named : List ℕ → List (List ℕ) → Bool
+is_named opaque fields = list_any (λ field. is_listed opaque field) fields
+
+-- the body under its tag, or 304 for a caller who has it
+abbrev pub tagged : List (List ℕ) → List ℕ → List (List ℕ × List Reach) → Answered
+tagged fields body reached = record {
+  status = if is_named (opaque_tag body) fields then 304 else 200;
+  allow = None;
+  tag = Some (entity_tag (opaque_tag body));
+  body = if is_named (opaque_tag body) fields then nothing else json body;
+  reached = reached;
+}
+
+abbrev pub every_in : Definitions → ℕ → List (List ℕ) → Result Shape ContextFault → Answered
+every_in flags moment fields (Ok context) = tagged fields (text_of (flags_shape (bodies flags context moment flags))) (reached_in flags context moment flags)
+every_in flags moment fields (Err fault) = without_context None fault
+
+-- ---- every request
+
+abbrev pub answer_at : Definitions → ℕ → Asked → Place → Answered
+answer_at flags moment r OneFlag = one_flag flags moment (key_in r.path) r.body
+answer_at flags moment r EveryFlag = every_in flags moment r.if_none_match (context_of r.body)
+answer_at flags moment r Health = healthy
+answer_at flags moment r Metrics = bare 200 counts
+answer_at flags moment r Nowhere = nothing_here
+
+-- a place takes one method
+abbrev pub answer_by : Definitions → ℕ → Asked → Place → Option (List ℕ) → Answered
+answer_by flags moment r place None = nothing_here
+answer_by flags moment r place (Some method) = if bytes_eq r.method method then answer_at flags moment r place else not_allowed method
+
+-- the answer to a request, of the flags at the moment in seconds
+abbrev pub answer_of : Definitions → ℕ → Asked → Answered
+answer_of flags moment r = answer_by flags moment r (place_of r.path) (method_at (place_of r.path))
+
+-- ---- of the program
+
+abbrev pub body_view : Content → Body
+body_view content.Nothing = nothing
+body_view (content.Plain s) = plain s.now
+body_view (content.Fixed s) = json s.now
+body_view (content.Json s) = json (string_bytes s)
+body_view content.Counts = counts
+
+abbrev pub reached_view : FlagReached → List ℕ × List Reach
+reached_view f = (string_bytes f.flag, map reach_view f.reached.items)
+
+-- what an answer says
+abbrev pub answer_view : program.Answer → Answered
+answer_view a = record {
+  status = a.status;
+  allow = option_copied a.allow;
+  tag = option_map string_bytes a.tag;
+  body = body_view a.content;
+  reached = map reached_view a.reached.items;
+}

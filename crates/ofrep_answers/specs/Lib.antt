@@ -1,0 +1,5 @@
+pub mod Answer
+pub mod Evaluation
+pub mod Kind
+pub mod Law
+pub mod Request

@@ -1,0 +1,78 @@
+//! The answer to any request.
+ghost use Rattle.std.specs.Prelude.{◌≡◌, ◌≢◌, ◌<◌, ◌^◌, false, length, codes, IfOk, IsOk};
+ghost use Rattle.flag_defs.specs.Flags.{flags_view};
+ghost use Rattle.ofrep_answers.specs.Answer.{answer_at, answer_of, answer_view};
+ghost use Rattle.ofrep_answers.specs.Request.{evaluates, request_view};
+ghost use Rattle.ofrep_contexts.specs.Context.{max_body};
+ghost use Rattle.ofrep_requests.specs.Request.{place_of};
+
+use crate::answer::{Answer, Content};
+use crate::every::every_flag;
+use crate::one::one_flag;
+use crate::request::Request;
+use flag_defs::Flags;
+use http::StatusCode;
+use ofrep_requests::Place;
+use std::alloc::{AllocError, Global};
+
+/// The answer to a request, of these flags at the moment in seconds.
+///
+/// | request | status | body |
+/// |---|---|---|
+/// | `POST /ofrep/v1/evaluate/flags/KEY` | 200, 400, 404, 413 | the flag of the key |
+/// | `POST /ofrep/v1/evaluate/flags` | 200, 304, 400, 413 | every flag, with the field `ETag` |
+/// | `GET /healthz`, `GET /readyz` | 200 | `ok` |
+/// | `GET /metrics` | 200 | what the service counts |
+/// | another method there | 405 | with the field `Allow` |
+/// | another path, a key that can't be decoded | 404 | |
+///
+/// A body of more than 4,194,304 bytes is 413, one without a context 400. A flag that is unknown, disabled or leaves it to the
+/// caller is 404, and has no body among every flag's; one that is broken or can't be evaluated is 400.
+///
+/// The condition is a moment of at most 2^53-1. It fails only where memory runs out, and never where no flag is evaluated.
+/// Each flag costs two searches by its key and at most one evaluation.
+pub fn answer_to(
+    alloc: Global,
+    flags: &Flags,
+    moment: u64,
+    request: &Request<'_>,
+) -> Result<Answer, AllocError>
+    requires moment { moment < 2 ^ 53 }
+    ensures exact { IfOk result (λ a. answer_view a ≡ answer_of (flags_view flags.now) moment (request_view request.now)) }
+    ensures elsewhere { evaluates (place_of request.now.path.now) ≡ false → IsOk result }
+    ensures method { request.now.method.now ≢ codes "POST" → IsOk result }
+    ensures large { place_of request.now.path.now ≡ Place.EveryFlag → max_body < length request.now.body.now → IsOk result }
+{
+    let place = Place::of(request.path);
+    let Some(method) = place.method() else {
+        return Ok(Answer::nothing_here(alloc));
+    };
+    if request.method != method {
+        return Ok(Answer::not_allowed(alloc, method));
+    }
+    answer_at(alloc, flags, moment, request, place)
+}
+
+/// The answer to a request whose method its place takes.
+fn answer_at(
+    alloc: Global,
+    flags: &Flags,
+    moment: u64,
+    request: &Request<'_>,
+    place: Place,
+) -> Result<Answer, AllocError>
+    requires moment { moment < 2 ^ 53 }
+    ensures exact { IfOk result (λ a. answer_view a ≡ answer_at (flags_view flags.now) moment (request_view request.now) place) }
+    ensures elsewhere { evaluates place ≡ false → IsOk result }
+    ensures large { place ≡ Place.EveryFlag → max_body < length request.now.body.now → IsOk result }
+{
+    match place {
+        Place::OneFlag => one_flag(alloc, flags, moment, request.path, request.body),
+        Place::EveryFlag => {
+            every_flag(alloc, flags, moment, request.if_none_match, request.body)
+        }
+        Place::Health => Ok(Answer::bare(alloc, StatusCode::OK, Content::Plain("ok"))),
+        Place::Metrics => Ok(Answer::bare(alloc, StatusCode::OK, Content::Counts)),
+        Place::Nowhere => Ok(Answer::nothing_here(alloc)),
+    }
+}

@@ -1,0 +1,137 @@
+//! The answer to a request for every flag.
+ghost use Rattle.std.specs.Prelude.{◌≡◌, ◌<◌, ◌≤◌, ◌++◌, ◌^◌, true, length, map, if◌then◌else◌, IfOk, OnOk, IsOk, string_bytes};
+ghost use Rattle.flag_defs.specs.Flags.{flags_view};
+ghost use Rattle.flag_resolve.specs.Views.{resolution_view};
+ghost use Rattle.flag_text.specs.Shape.{is_whole, items_are_whole};
+ghost use Rattle.flag_text.specs.View.{view, items_view};
+ghost use Rattle.flag_text.specs.Printing.{text_of};
+ghost use Rattle.ofrep_answers.specs.Answer.{answer_view, body_view, json, nothing, reached_view, tagged};
+ghost use Rattle.ofrep_answers.specs.Answer as spec;
+ghost use Rattle.ofrep_answers.specs.Evaluation.{bodies, body_if_told, reached_at, reached_in};
+ghost use Rattle.ofrep_bodies.specs.Bodies.{flags_shape};
+ghost use Rattle.ofrep_contexts.specs.Context.{context_of, max_body};
+
+use crate::answer::{Answer, Content, FlagReached, push_reached};
+use crate::evaluation::evaluate;
+use crate::one::without_context;
+use entity_tags::{entity_tag, is_listed, opaque_tag};
+use flag_defs::Flags;
+use flag_resolve::Resolution;
+use flag_text::{Tree, print_tree};
+use http::StatusCode;
+use ofrep_bodies::{evaluation_of, flags_body, status_of};
+use ofrep_contexts::{ContextFault, read_context};
+use std::alloc::{AllocError, Global};
+
+/// The bodies of the flags that there are for the caller, and what the evaluations of all flags reached.
+#[derive(Drop)]
+struct Told {
+    bodies: Vec<Tree>,
+    reached: Vec<FlagReached>,
+    ghost whole: { items_are_whole (items_view bodies.items) ≡ true },
+}
+
+/// The answer to the request for every flag that this body makes, with these fields `If-None-Match`.
+pub(crate) fn every_flag(
+    alloc: Global,
+    flags: &Flags,
+    moment: u64,
+    if_none_match: &[&[u8]],
+    body: &[u8],
+) -> Result<Answer, AllocError>
+    requires moment { moment < 2 ^ 53 }
+    ensures exact { IfOk result (λ a. answer_view a ≡ spec.every_in (flags_view flags.now) moment (map (λ field. field.now) if_none_match.now) (context_of body.now)) }
+    ensures large { max_body < length body.now → IsOk result }
+{
+    match read_context(alloc, body) {
+        Ok(context) => {
+            let told = told_flags(alloc, flags, moment, &context)?;
+            tagged(alloc, if_none_match, told)
+        }
+        Err(ContextFault::WantOfMemory) => Err(AllocError),
+        Err(fault) => without_context(alloc, None, fault),
+    }
+}
+
+/// The evaluations of every flag in a context, in the order of the keys.
+fn told_flags(alloc: Global, flags: &Flags, moment: u64, context: &Tree) -> Result<Told, AllocError>
+    requires moment { moment < 2 ^ 53 }
+    requires context { is_whole (view context.now) ≡ true }
+    ensures bodies { IfOk result (λ t. map view t.bodies.items ≡ bodies (flags_view flags.now) (view context.now) moment (flags_view flags.now)) }
+    ensures reached { IfOk result (λ t. map reached_view t.reached.items ≡ reached_in (flags_view flags.now) (view context.now) moment (flags_view flags.now)) }
+{
+    let mut told = Told {
+        bodies: Vec::new(alloc),
+        reached: Vec::new(alloc),
+    };
+    for i in 0..flags.len() {
+        let (key, _) = flags.at(i);
+        let resolution = evaluate(alloc, flags, key, context, moment)?;
+        told.add(alloc, key, resolution)?;
+    }
+    Ok(told)
+}
+
+impl Told {
+    /// Adds the evaluation of the flag of a key.
+    fn add(&mut self, alloc: Global, key: &str, resolution: Resolution) -> Result<(), AllocError>
+        ensures bodies { OnOk result (map view self.new.bodies.items ≡ map view self.old.bodies.items ++ body_if_told key.now (resolution_view resolution)) }
+        ensures reached { OnOk result (map reached_view self.new.reached.items ≡ map reached_view self.old.reached.items ++ reached_at key.now (resolution_view resolution).reached) }
+    {
+        if status_of(&resolution) == StatusCode::NOT_FOUND {
+            return push_reached(alloc, &mut self.reached, key, resolution.reached);
+        }
+        let evaluation = evaluation_of(alloc, key, resolution)?;
+        self.bodies.push(evaluation.body)?;
+        push_reached(alloc, &mut self.reached, key, evaluation.reached)
+    }
+}
+
+/// The answer with these evaluations under the tag of its body, or without a body for a caller who has it.
+fn tagged(alloc: Global, if_none_match: &[&[u8]], told: Told) -> Result<Answer, AllocError>
+    ensures { IfOk result (λ a. answer_view a ≡ tagged (map (λ field. field.now) if_none_match.now) (text_of (flags_shape (map view told.bodies.items))) (map reached_view told.reached.items)) }
+{
+    let text = print_tree(alloc, &flags_body(alloc, told.bodies)?)?;
+    let opaque = opaque_tag(alloc, text.as_bytes())?;
+    let tag = entity_tag(alloc, opaque.as_str())?;
+    let named = is_named(opaque.as_str(), if_none_match);
+    Ok(Answer {
+        status: status_if(named),
+        allow: None,
+        tag: Some(tag),
+        content: content_unless(named, text),
+        reached: told.reached,
+    })
+}
+
+fn status_if(named: bool) -> StatusCode
+    ensures { result ≡ (if named then 304 else 200) }
+{
+    if named {
+        StatusCode::NOT_MODIFIED
+    } else {
+        StatusCode::OK
+    }
+}
+
+fn content_unless(named: bool, text: String) -> Content
+    ensures { body_view result ≡ (if named then nothing else json (string_bytes text)) }
+{
+    if named {
+        Content::Nothing
+    } else {
+        Content::Json(text)
+    }
+}
+
+/// Whether one of the fields names the opaque tag.
+fn is_named(opaque: &str, fields: &[&[u8]]) -> bool
+    ensures { result ≡ spec.is_named opaque.now (map (λ field. field.now) fields.now) }
+{
+    for field in fields {
+        if is_listed(opaque, field) {
+            return true;
+        }
+    }
+    false
+}

@@ -1,0 +1,23 @@
+//! The answers of the OpenFeature Remote Evaluation Protocol, below any socket.
+//!
+//! [`answer_to`] says what a [`Request`] is answered of flags at a moment: an [`Answer`] with its status, its fields, its body and
+//! the hash inputs that the evaluations reached. It changes nothing, and the same arguments have the same answer.
+//!
+//! Proved, over the definitions of `specs/`: the answer is what `Answer` says, over what a flag resolves to (`Evaluation`) for
+//! a caller who takes the kind of its variants (`Kind`), unless memory runs out. What evaluates no flag takes no
+//! memory. No flag is evaluated for another kind than that of its variants (`Law`).
+#![tactic(auto)]
+
+mod answer;
+mod answers;
+mod evaluation;
+mod every;
+mod kind;
+mod laws;
+mod one;
+mod request;
+
+pub use answer::{Answer, Content, FlagReached};
+pub use answers::answer_to;
+pub use laws::no_evaluation_mismatches;
+pub use request::Request;

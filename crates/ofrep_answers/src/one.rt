@@ -1,0 +1,120 @@
+//! The answer to a request for one flag.
+ghost use Rattle.std.specs.Prelude.{◌≡◌, ◌<◌, ◌≢◌, ◌^◌, true, Some, IfOk, IsOk, option_copied, option_map};
+ghost use Rattle.flag_defs.specs.Flags.{flags_view};
+ghost use Rattle.flag_text.specs.Shape.{is_whole};
+ghost use Rattle.flag_text.specs.View.{view};
+ghost use Rattle.ofrep_answers.specs.Answer.{answer_view, failed, fault_code, one_told};
+ghost use Rattle.ofrep_answers.specs.Answer as spec;
+ghost use Rattle.ofrep_answers.specs.Evaluation.{evaluation};
+ghost use Rattle.ofrep_contexts.specs.Context.{context_of};
+ghost use Rattle.ofrep_requests.specs.Request as request;
+
+use crate::answer::{Answer, Content, push_reached};
+use crate::evaluation::evaluate;
+use flag_defs::Flags;
+use flag_resolve::Code;
+use flag_text::{Tree, print_tree};
+use ofrep_bodies::{code_status, evaluation_of, failure_body, status_of};
+use ofrep_contexts::{ContextFault, read_context};
+use ofrep_requests::key_in;
+use std::alloc::{AllocError, Global};
+
+/// The answer to the request for one flag that this path and this body make.
+pub(crate) fn one_flag(
+    alloc: Global,
+    flags: &Flags,
+    moment: u64,
+    path: &str,
+    body: &[u8],
+) -> Result<Answer, AllocError>
+    requires moment { moment < 2 ^ 53 }
+    ensures { IfOk result (λ a. answer_view a ≡ spec.one_flag (flags_view flags.now) moment (request.key_in path.now) body.now) }
+{
+    match key_in(alloc, path)? {
+        Some(key) => one_in(alloc, flags, moment, key.as_str(), body),
+        None => Ok(Answer::nothing_here(alloc)),
+    }
+}
+
+/// The answer to the request for the flag of this key.
+fn one_in(
+    alloc: Global,
+    flags: &Flags,
+    moment: u64,
+    key: &str,
+    body: &[u8],
+) -> Result<Answer, AllocError>
+    requires moment { moment < 2 ^ 53 }
+    ensures { IfOk result (λ a. answer_view a ≡ spec.one_in (flags_view flags.now) moment key.now (context_of body.now)) }
+{
+    match read_context(alloc, body) {
+        Ok(context) => one_told(alloc, flags, moment, key, &context),
+        Err(ContextFault::WantOfMemory) => Err(AllocError),
+        Err(fault) => without_context(alloc, Some(key), fault),
+    }
+}
+
+/// The answer that the flag of this key has in this context.
+fn one_told(
+    alloc: Global,
+    flags: &Flags,
+    moment: u64,
+    key: &str,
+    context: &Tree,
+) -> Result<Answer, AllocError>
+    requires moment { moment < 2 ^ 53 }
+    requires context { is_whole (view context.now) ≡ true }
+    ensures { IfOk result (λ a. answer_view a ≡ one_told key.now (evaluation (flags_view flags.now) key.now (view context.now) moment)) }
+{
+    let resolution = evaluate(alloc, flags, key, context, moment)?;
+    let status = status_of(&resolution);
+    let evaluation = evaluation_of(alloc, key, resolution)?;
+    let text = print_tree(alloc, &evaluation.body)?;
+    let mut reached = Vec::new(alloc);
+    push_reached(alloc, &mut reached, key, evaluation.reached)?;
+    Ok(Answer {
+        status,
+        allow: None,
+        tag: None,
+        content: Content::Json(text),
+        reached,
+    })
+}
+
+/// The answer to a body without a context: that of this fault, for one flag or for every flag.
+pub(crate) fn without_context(
+    alloc: Global,
+    key: Option<&str>,
+    fault: ContextFault,
+) -> Result<Answer, AllocError>
+    ensures exact { IfOk result (λ a. answer_view a ≡ spec.without_context (option_copied key.entry) fault) }
+    ensures large { fault ≡ ContextFault.TooLarge → IsOk result }
+{
+    match fault_code(fault) {
+        Some(code) => failed(alloc, key, code, fault.details()),
+        None => Ok(Answer::too_large(alloc)),
+    }
+}
+
+/// The answer of a failure.
+fn failed(alloc: Global, key: Option<&str>, code: Code, details: &str) -> Result<Answer, AllocError>
+    ensures { IfOk result (λ a. answer_view a ≡ failed (option_copied key.entry) (Some code) details.now) }
+{
+    let body = failure_body(alloc, key, code, details)?;
+    let text = print_tree(alloc, &body)?;
+    Ok(Answer::bare(alloc, code_status(code), Content::Json(text)))
+}
+
+/// The error code of a body without a context: none where it is too large.
+fn fault_code(fault: ContextFault) -> Option<Code>
+    ensures { result ≡ fault_code fault }
+{
+    match fault {
+        ContextFault::WantOfMemory | ContextFault::TooLarge => None,
+        ContextFault::NotJson => Some(Code::ParseError),
+        ContextFault::BodyNotObject => Some(Code::InvalidContext),
+        ContextFault::NotObject => Some(Code::InvalidContext),
+        ContextFault::TooDeep => Some(Code::InvalidContext),
+        ContextFault::NotWhole => Some(Code::InvalidContext),
+    }
+}

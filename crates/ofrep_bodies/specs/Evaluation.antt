@@ -1,0 +1,23 @@
+-- What the evaluation of a flag is answered with (OpenFeature Remote Evaluation Protocol: POST /ofrep/v1/evaluate/flags/{key}).
+use Rattle.std.specs.Prelude.{ℕ, List, Option, Some, None}
+use Rattle.flag_resolve.specs.Resolved.{Resolved}
+use Rattle.flag_text.specs.Shape.{Shape}
+use Rattle.ofrep_bodies.specs.Bodies.{success, failure}
+use Rattle.ofrep_bodies.specs.Failure.{code_of, code_status, details_of}
+
+-- 200 where a variant is told
+abbrev pub told_status : Option (List ℕ) → ℕ → ℕ
+told_status None failed = failed
+told_status (Some variant) failed = 200
+
+-- 200 with a variant, and else the status of what failed
+abbrev pub status_of : Resolved → ℕ
+status_of r = told_status r.variant (code_status (code_of r.code))
+
+-- the variant with its value and the reason, or what failed
+abbrev pub told_body : List ℕ → Option (List ℕ) → Resolved → Shape
+told_body key (Some variant) r = success key r.reason r.value variant
+told_body key None r = failure (Some key) (code_of r.code) (details_of r.code r.reason)
+
+abbrev pub body_of : List ℕ → Resolved → Shape
+body_of key r = told_body key r.variant r

@@ -1,0 +1,40 @@
+-- The evaluation context that a request's body carries (OpenFeature Remote Evaluation Protocol: evaluationRequest; OpenFeature: evaluation context).
+use Rattle.std.specs.Prelude.{ℕ, List, [], ◌∷◌, codes, Option, Some, None, Result, Ok, Err}
+use Rattle.flag_text.specs.Reading.{doc_of, if_whole}
+use Rattle.flag_text.specs.Readers.{find_member}
+use Rattle.flag_text.specs.Shape.{Shape, null, object, no_members}
+use Rattle.flag_text.specs.declared.fault.TextFault.{TextFault}
+use Rattle.ofrep_contexts.specs.Fault.{of_text}
+use Rattle.ofrep_contexts.specs.declared.fault.ContextFault.{ContextFault}
+use Rattle.ofrep_contexts.specs.declared.fault.ContextFault.TheVariants.{BodyNotObject, NotObject}
+
+-- the most bytes of a body
+abbrev pub max_body : ℕ
+max_body = 4194304
+
+-- the context without members
+abbrev pub empty_context : Shape
+empty_context = object no_members
+
+-- a tree that was read, or the fault of its text
+abbrev pub read_as : Result Shape TextFault → Result Shape ContextFault
+read_as (Ok t) = Ok t
+read_as (Err e) = Err (of_text e)
+
+-- the member `context`: absent and null are the empty context, an object is a context with at most 120 levels and whole numbers alone
+abbrev pub context_in : Option Shape → Result Shape ContextFault
+context_in None = Ok empty_context
+context_in (Some null) = Ok empty_context
+context_in (Some (object ms)) = read_as (if_whole (Ok (object ms)))
+context_in (Some t) = Err NotObject
+
+-- the context of a body that was read; its other members are passed over
+abbrev pub body_context : Result Shape TextFault → Result Shape ContextFault
+body_context (Ok (object ms)) = context_in (find_member (codes "context") ms)
+body_context (Ok t) = Err BodyNotObject
+body_context (Err e) = Err (of_text e)
+
+-- the context of a body: an empty one has the empty context
+abbrev pub context_of : List ℕ → Result Shape ContextFault
+context_of [] = Ok empty_context
+context_of (b ∷ bytes) = body_context (doc_of (b ∷ bytes) max_body)

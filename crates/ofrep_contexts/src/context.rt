@@ -1,0 +1,71 @@
+//! From the body of a request to the evaluation context that it carries.
+ghost use Rattle.std.specs.Prelude.{◌≡◌, ◌<◌, ◌≤◌, ◌↔◌, true, false, length, Ok, Some, IfOk, IfSome, IsOk, IsErrOf, option_map};
+ghost use Rattle.std.specs.Str.{is_utf8};
+ghost use Rattle.flag_text.specs.Outcome.{GivesUnless, seen_as};
+ghost use Rattle.flag_text.specs.Readers.{find_member};
+ghost use Rattle.flag_text.specs.Shape.{is_tidy, is_whole, members_are_tidy};
+ghost use Rattle.flag_text.specs.View.{view, members_view};
+ghost use Rattle.ofrep_contexts.specs.Context.{body_context, context_of, max_body};
+ghost use Rattle.ofrep_contexts.specs.Context as spec;
+
+use crate::fault::ContextFault;
+use flag_text::{Tree, position_of, read_doc, whole_tree};
+use std::alloc::Global;
+
+/// The most bytes of a request's body.
+pub const MAX_BODY: usize = 4_194_304;
+
+/// The evaluation context that the body of a request carries: the object that is its member `context`. Where that is absent or
+/// null, or the body is empty, it is the empty object. The body's other members are passed over.
+///
+/// Refusals, in this order: `TooLarge`, before anything is read; `NotJson`; `BodyNotObject`; `NotObject`; `TooDeep`;
+/// `NotWhole`. The first, the second of bytes that are not UTF-8, and the context of an empty body take no memory.
+pub fn read_context(alloc: Global, body: &[u8]) -> Result<Tree, ContextFault>
+    ensures exact { GivesUnless ContextFault.WantOfMemory view result (context_of body.now) }
+    ensures whole { IfOk result (λ t. is_whole (view t) ≡ true) }
+    ensures empty { length body.now ≡ 0 → IsOk result }
+    ensures large { IsErrOf result ContextFault.TooLarge ↔ (max_body < length body.now) }
+    ensures no_text { length body.now ≤ max_body → is_utf8 body.now ≡ false → IsErrOf result ContextFault.NotJson }
+{
+    if body.is_empty() {
+        return Ok(Tree::Object(Vec::new(alloc)));
+    }
+    let tree = read_doc(alloc, body, MAX_BODY)?;
+    body_context(alloc, tree)
+}
+
+/// The context of a body that was read.
+fn body_context(alloc: Global, body: Tree) -> Result<Tree, ContextFault>
+    requires { is_tidy (view body) ≡ true }
+    ensures exact { seen_as view result ≡ body_context (Ok (view body)) }
+    ensures whole { IfOk result (λ t. is_whole (view t) ≡ true) }
+{
+    match body {
+        Tree::Object(members) => context_in(alloc, member_named(members, "context")),
+        _ => Err(ContextFault::BodyNotObject),
+    }
+}
+
+/// The context that the member `context` is.
+fn context_in(alloc: Global, context: Option<Tree>) -> Result<Tree, ContextFault>
+    requires { IfSome context (λ t. is_tidy (view t) ≡ true) }
+    ensures exact { seen_as view result ≡ spec.context_in (option_map view context) }
+    ensures whole { IfOk result (λ t. is_whole (view t) ≡ true) }
+{
+    match context {
+        None | Some(Tree::Null) => Ok(Tree::Object(Vec::new(alloc))),
+        Some(Tree::Object(members)) => Ok(whole_tree(Tree::Object(members))?),
+        Some(_) => Err(ContextFault::NotObject),
+    }
+}
+
+/// The member of this name, taken out of the members.
+fn member_named(mut members: Vec<(String, Tree)>, name: &str) -> Option<Tree>
+    requires { members_are_tidy (members_view members.items) ≡ true }
+    ensures value { option_map view result ≡ find_member name.now (members_view members.items) }
+    ensures tidy { IfSome result (λ t. is_tidy (view t) ≡ true) }
+{
+    let place = position_of(members.as_slice(), name)?;
+    let (_, member) = members.swap_remove(place);
+    Some(member)
+}

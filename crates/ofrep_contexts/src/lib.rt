@@ -1,0 +1,13 @@
+//! The evaluation context that a request of the OpenFeature Remote Evaluation Protocol carries.
+//!
+//! [`read_context`] reads it from the body of a request: the object that is its member `context`.
+//!
+//! Proved, over the definitions of `specs/Context`: the context is what the bytes of the body mean, each refusal at its place
+//! in the order, unless memory runs out; what takes no memory is answered without any.
+#![tactic(auto)]
+
+mod context;
+mod fault;
+
+pub use context::{MAX_BODY, read_context};
+pub use fault::ContextFault;
