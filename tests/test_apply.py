@@ -106,7 +106,7 @@ class Apply(ProgramTest):
 
     def test_a_site_beyond_32_bits_is_a_mistake(self):
         files = {"d": document(), "p": FREE}
-        self.assert_mistake(["apply", "d", "p", "color", "4294967296"], files, "4294967296")
+        self.assert_mistake(["apply", "d", "p", "color", "4294967296"], files, "from 0 to 4294967295")
 
     def assert_no_plan(self, text):
         """A text is refused as no plan."""

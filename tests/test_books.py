@@ -205,7 +205,7 @@ class Unions(ProgramTest):
                 self.assertEqual(ran.files, files)
 
     def test_a_page_that_is_too_small_for_all(self):
-        front = '{"book":1}\n{"by":null,"flag":"color","site":0}\n'
+        front = '{"book":1}\n{"by":"{\\"var\\":[\\"key\\"]}","flag":"color","site":0}\n'
         full = front + "".join(f'"{number:06}"\n' for number in range(MOST))
         more = front + '"n"\n'
         files = {"d": document(), "a": asks_of("color", [{"key": "n"}]), "full": full, "more": more, "o": "as before"}
