@@ -9,16 +9,19 @@
 ghost use Rattle.std.specs.Prelude.{◌≡◌, false, map, drop, IfErr, IfOk, IsErrOf};
 ghost use Rattle.std.specs.Process.{exit_status};
 ghost use Rattle.std.specs.Vec.Iter.{into_iter_items};
-ghost use Rattle.flagops.specs.First.{begins_with, OnFiles, OnFollow, OnServe, WhereFiles, WhereFollow, WhereServe};
-ghost use Rattle.flagops_commands.specs.Commands.{LeavesAsked};
-ghost use Rattle.flagops_commands.specs.Ended.{AnswersAsked, AnswersStored, AnswersUnread, ComplainsAt, TellsUnasked};
-ghost use Rattle.flagops_network.specs.Ended.{AnswersServe, FollowsAsked, RefusesUnread, ServesAsked, TellsFollow, TellsServe};
-ghost use Rattle.flagops_words.specs.Words.{asked_by};
+ghost use Rattle.flagops.specs.Comes.{Comes};
+ghost use Rattle.flagops.specs.First.{family_of};
+ghost use Rattle.flagops_commands.specs.Ended.{ComplainsAt};
 
+mod family;
+mod outputs;
+
+use family::{Family, family_of};
 use flag_text::{Outlet, WriteOutlet};
 use flagops_commands::{complain, run};
 use flagops_files::{Call, FileSet, SystemFiles, want};
 use flagops_network::{follow, serve};
+use outputs::Persistent;
 use std::alloc::Global;
 use std::convert::AsStr;
 use std::env::{self, Args};
@@ -26,15 +29,79 @@ use std::io;
 use std::net::{Net, TcpListener, TcpStream};
 use std::process::ExitCode;
 use std::sync::Wait;
-use std::thread::Threads;
+use std::thread::{self, Builder, Threads};
 use std::time::Clock;
 
+/// The bytes of the stack that the commands run on: more than the deepest of documents, contexts and plans take.
+const STACK: usize = 4 * 1024 * 1024;
+
 fn main(rt: HostRuntime) -> ExitCode {
-    let mut files = SystemFiles::new(&rt);
-    let mut out = WriteOutlet::new(rt.stdout());
-    let mut err = WriteOutlet::new(rt.stderr());
     let words = behind_name(rt.alloc(), env::args(&rt));
-    flagops(&rt, words, &mut files, &mut out, &mut err)
+    let out = WriteOutlet::new(Persistent::new(rt.stdout()));
+    let err = WriteOutlet::new(Persistent::new(rt.stderr()));
+    match on_stack(&rt, words, SystemFiles::new(&rt), out, err) {
+        Some(code) => code,
+        None => {
+            let mut out = WriteOutlet::new(Persistent::new(rt.stdout()));
+            let mut err = WriteOutlet::new(Persistent::new(rt.stderr()));
+            ExitCode::from(want(&mut out, &mut err, Call::Flagops))
+        }
+    }
+}
+
+/// Does what the words ask for on a stack of its own, where there is memory for one.
+fn on_stack<R, S, F, O, E>(
+    rt: &R,
+    words: io::Result<Vec<S>>,
+    files: F,
+    out: O,
+    err: E,
+) -> Option<ExitCode>
+where
+    R: AllocGlobal
+        + Net<Listener = TcpListener, Stream = TcpStream>
+        + Clock
+        + Threads
+        + Wait
+        + Sync,
+    S: AsStr + Send + Drop,
+    F: FileSet + Send + Drop,
+    O: Outlet + Send + Drop,
+    E: Outlet + Send + Drop,
+    requires out_whole { O.is_broken out ≡ false }
+    requires err_whole { E.is_broken err ≡ false }
+{
+    let commands = move || -> ExitCode
+        requires { (O.is_broken out ≡ false) × (E.is_broken err ≡ false) }
+    {
+        let (mut files, mut out, mut err) = (files, out, err);
+        flagops(rt, words, &mut files, &mut out, &mut err)
+    };
+    spawned(rt, commands)
+}
+
+/// What a call gives on a stack of its own, where there is memory for one.
+fn spawned<R: Threads + Wait, C: FnOnce() -> ExitCode + Send + Drop>(
+    rt: &R,
+    commands: C,
+) -> Option<ExitCode>
+    requires { C.pre commands }
+{
+    thread::scope(
+        thread::scope_env(),
+        rt,
+        move |scope| -> Option<ExitCode>
+            requires { C.pre commands }
+        {
+            match Builder::new()
+                .stack_size(STACK)
+                .spawn_scoped(scope, commands)
+            {
+                Ok(thread) => Some(thread.join(rt)),
+                Err(_) => None,
+            }
+        },
+    )
 }
 
 /// The words behind the first, which is the program's name.
@@ -73,37 +140,9 @@ where
     E: Outlet + Drop,
     requires out_whole { O.is_broken out.old ≡ false }
     requires err_whole { E.is_broken err.old ≡ false }
-    ensures answers { OnFiles (λ w. map S.text w.items) words (λ l.
-        AnswersAsked O.bytes O.is_broken out.old out.new E.bytes E.is_broken err.old err.new (exit_status result)
-        F.holding F.has_failed files.old files.new l) }
-    ensures unread { OnFiles (λ w. map S.text w.items) words (λ l.
-        AnswersUnread O.bytes O.is_broken out.old out.new E.bytes E.is_broken err.old err.new (exit_status result)
-        F.holding F.has_failed files.old files.new) }
-    ensures tells { OnFiles (λ w. map S.text w.items) words (λ l.
-        TellsUnasked O.bytes O.is_broken out.old out.new E.bytes E.is_broken err.old err.new (exit_status result) l) }
-    ensures left { OnFiles (λ w. map S.text w.items) words (λ l.
-        LeavesAsked (asked_by l) (F.holding files.old) (F.holding files.new)) }
-    ensures stored { OnFiles (λ w. map S.text w.items) words (λ l.
-        AnswersStored O.bytes O.is_broken out.old out.new E.bytes E.is_broken err.old err.new (exit_status result)
-        F.holding F.has_failed files.old files.new) }
-    ensures serve_answers { OnServe (λ w. map S.text w.items) words (λ l.
-        AnswersServe O.bytes O.is_broken out.old out.new E.bytes E.is_broken err.old err.new (exit_status result)
-        F.holding files.old l) }
-    ensures serves { OnServe (λ w. map S.text w.items) words (λ l.
-        ServesAsked O.bytes O.is_broken out.old out.new E.bytes E.is_broken err.old err.new (exit_status result) l) }
-    ensures serve_unread { OnServe (λ w. map S.text w.items) words (λ l.
-        RefusesUnread O.bytes O.is_broken out.old out.new E.bytes E.is_broken err.old err.new (exit_status result)
-        F.has_failed files.old files.new) }
-    ensures serve_tells { OnServe (λ w. map S.text w.items) words (λ l.
-        TellsServe O.bytes O.is_broken out.old out.new E.bytes E.is_broken err.old err.new (exit_status result) l) }
-    ensures serve_kept { OnServe (λ w. map S.text w.items) words (λ l.
-        F.holding files.new ≡ F.holding files.old) }
-    ensures follows { OnFollow (λ w. map S.text w.items) words (λ l.
-        FollowsAsked O.bytes O.is_broken out.old out.new E.bytes E.is_broken err.old err.new (exit_status result) l) }
-    ensures follow_tells { OnFollow (λ w. map S.text w.items) words (λ l.
-        TellsFollow O.bytes O.is_broken out.old out.new E.bytes E.is_broken err.old err.new (exit_status result) l) }
-    ensures follow_kept { OnFollow (λ w. map S.text w.items) words (λ l.
-        files.new ≡ files.old) }
+    ensures comes { IfOk words (λ w.
+        Comes O.bytes O.is_broken out.old out.new E.bytes E.is_broken err.old err.new F.holding F.has_failed files.old files.new
+        (exit_status result) (family_of (map S.text w.items)) (map S.text w.items)) }
     ensures no_words { IfErr words (λ _. ComplainsAt O.bytes O.is_broken out.old out.new E.bytes E.is_broken err.old err.new (exit_status result)) }
     ensures no_words_kept { IfErr words (λ _. files.new ≡ files.old) }
 {
@@ -131,53 +170,12 @@ where
     E: Outlet + Drop,
     requires out_whole { O.is_broken out.old ≡ false }
     requires err_whole { E.is_broken err.old ≡ false }
-    ensures answers { WhereFiles (map S.text words.now)
-        (AnswersAsked O.bytes O.is_broken out.old out.new E.bytes E.is_broken err.old err.new result
-        F.holding F.has_failed files.old files.new (map S.text words.now)) }
-    ensures unread { WhereFiles (map S.text words.now)
-        (AnswersUnread O.bytes O.is_broken out.old out.new E.bytes E.is_broken err.old err.new result
-        F.holding F.has_failed files.old files.new) }
-    ensures tells { WhereFiles (map S.text words.now)
-        (TellsUnasked O.bytes O.is_broken out.old out.new E.bytes E.is_broken err.old err.new result (map S.text words.now)) }
-    ensures left { WhereFiles (map S.text words.now)
-        (LeavesAsked (asked_by (map S.text words.now)) (F.holding files.old) (F.holding files.new)) }
-    ensures stored { WhereFiles (map S.text words.now)
-        (AnswersStored O.bytes O.is_broken out.old out.new E.bytes E.is_broken err.old err.new result
-        F.holding F.has_failed files.old files.new) }
-    ensures serve_answers { WhereServe (map S.text words.now)
-        (AnswersServe O.bytes O.is_broken out.old out.new E.bytes E.is_broken err.old err.new result
-        F.holding files.old (map S.text words.now)) }
-    ensures serves { WhereServe (map S.text words.now)
-        (ServesAsked O.bytes O.is_broken out.old out.new E.bytes E.is_broken err.old err.new result (map S.text words.now)) }
-    ensures serve_unread { WhereServe (map S.text words.now)
-        (RefusesUnread O.bytes O.is_broken out.old out.new E.bytes E.is_broken err.old err.new result
-        F.has_failed files.old files.new) }
-    ensures serve_tells { WhereServe (map S.text words.now)
-        (TellsServe O.bytes O.is_broken out.old out.new E.bytes E.is_broken err.old err.new result (map S.text words.now)) }
-    ensures serve_kept { WhereServe (map S.text words.now)
-        (F.holding files.new ≡ F.holding files.old) }
-    ensures follows { WhereFollow (map S.text words.now)
-        (FollowsAsked O.bytes O.is_broken out.old out.new E.bytes E.is_broken err.old err.new result (map S.text words.now)) }
-    ensures follow_tells { WhereFollow (map S.text words.now)
-        (TellsFollow O.bytes O.is_broken out.old out.new E.bytes E.is_broken err.old err.new result (map S.text words.now)) }
-    ensures follow_kept { WhereFollow (map S.text words.now)
-        (files.new ≡ files.old) }
+    ensures { Comes O.bytes O.is_broken out.old out.new E.bytes E.is_broken err.old err.new F.holding F.has_failed files.old files.new
+        result (family_of (map S.text words.now)) (map S.text words.now) }
 {
-    if begins_with(words, "serve") {
-        serve(rt, words, files, out, err)
-    } else if begins_with(words, "follow") {
-        follow(rt, words, out, err)
-    } else {
-        run(rt, words, files, out, err)
-    }
-}
-
-/// Whether the first of the words is this one.
-fn begins_with<S: AsStr>(words: &[S], word: &str) -> bool
-    ensures { result ≡ begins_with (map S.text words.now) word.now }
-{
-    match words.first() {
-        Some(first) => first.as_str() == word,
-        None => false,
+    match family_of(words) {
+        Family::Files => run(rt, words, files, out, err),
+        Family::Serve => serve(rt, words, files, out, err),
+        Family::Follow => follow(rt, words, out, err),
     }
 }
