@@ -12,9 +12,9 @@ LAST = r"\n[1-9]\d* cases, \d+ bad\n$"
 
 
 class Hostile(unittest.TestCase):
-    def last(self, script, count):
-        """What a script tells in all of this count, once it went to its end."""
-        words = [sys.executable, os.path.join(FOLDER, script), str(count)]
+    def last(self, script, *given):
+        """What a script tells in all of these words, once it went to its end."""
+        words = [sys.executable, os.path.join(FOLDER, script), *map(str, given)]
         ended = subprocess.run(words, stdout=subprocess.PIPE, stderr=subprocess.PIPE, encoding="utf-8", timeout=SECONDS, check=False)
         self.assertRegex(ended.stdout, LAST, ended.stderr)
         self.assertEqual(ended.stderr, "")
@@ -31,6 +31,12 @@ class Hostile(unittest.TestCase):
 
     def test_bad_peers(self):
         self.last("network.py", 1)
+
+    def test_costly_documents(self):
+        self.assertEqual(self.last("costly.py", "levels"), "2 cases, 0 bad")
+
+    def test_many_at_once(self):
+        self.assertEqual(self.last("many.py", 4, 1), "5 cases, 0 bad")
 
 
 if __name__ == "__main__":
