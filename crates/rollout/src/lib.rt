@@ -34,9 +34,14 @@
 mod application;
 mod laws;
 mod planner;
+mod tallied;
 
 pub use application::apply;
-pub use laws::{applied_is_local, plans_are_valid};
+pub use laws::{applied_is_local, plans_are_valid, tallies_plan_as_books};
 pub use plan_text::{PlanFileFault, Planned, print_planned, print_planned_line, read_planned};
 pub use planner::{plan, plan_counted, plan_refined};
-pub use rollout_checks::{RolloutFault, VerifyFault, verify, verify_refined};
+pub use rollout_checks::{
+    RolloutFault, VerifyFault, verify, verify_refined, verify_tally, verify_tally_refined,
+};
+pub use tally_core::PageTally;
+pub use tallied::plan_tally;
