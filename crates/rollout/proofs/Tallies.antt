@@ -1,6 +1,6 @@
 -- What is asked of a tally is asked of a book with its inputs, and a plan is one for all inputs of which so many fall on each point.
-use Rattle.std.proofs.Common.{◌≡◌, ◌==◌, ◌&&◌, ◌*◌, ◌<◌, ℕ, ℤ, pos, ◌+ℤ◌, ◌≤ℤ◌, List, [], Bool, true, false, cond, Option, Some, None, unwrap_or, length, Result, Ok, Err, refl, sym, ap, ◌∙◌, subst, arith}
-use Rattle.std.specs.List.{range_with_len, slice_index}
+use Rattle.std.proofs.Common.{◌≡◌, ◌==◌, ◌&&◌, ◌*◌, ◌<◌, ℕ, ℤ, pos, ◌+ℤ◌, ◌≤ℤ◌, List, [], Bool, true, false, cond, unwrap_or, Result, Ok, Err, refl, sym, ap, ◌∙◌, subst, arith}
+use Rattle.std.specs.List.{range_with_len}
 use Rattle.std.specs.Map.{keys_of, lookup}
 use Rattle.std.proofs.lemmas.Bool.{eqb-true}
 use Rattle.std.proofs.lemmas.Option.{slice_get_within}
@@ -9,7 +9,7 @@ use Rattle.bucket_core.proofs.Refined.{total_weight-refinement}
 use Rattle.flag_documents.specs.Document.{Definitions}
 use Rattle.book_core.specs.Book.{Contents, Inputs, inputs_on}
 use Rattle.book_core.specs.Counts.{counts_of}
-use Rattle.book_core.specs.Page.{PageName, page_eq}
+use Rattle.book_core.specs.Page.{page_eq}
 use Rattle.price_core.specs.Cost.{cost_of}
 use Rattle.price_core.specs.Limits.{Limits}
 use Rattle.price_core.specs.Pricing.{price_of}
@@ -19,7 +19,7 @@ use Rattle.tally_core.specs.Tally.{PageTally}
 use Rattle.tally_core.proofs.Pages.{same_page}
 use Rattle.transport_instance.specs.Certificate.{DualPrices, IsCertified, alpha_at, beta_of}
 use Rattle.transport_instance.specs.Dual.{inputs_at, least_value}
-use Rattle.transport_instance.specs.Fits.{Fits, IsLeast}
+use Rattle.transport_instance.specs.Fits.{IsLeast}
 use Rattle.transport_instance.specs.Groups.{AreGroups, GroupKey, group_at, is_same_group, size_of}
 use Rattle.transport_instance.specs.Sum.{sum_z}
 use Rattle.transport_instance.specs.declared.certificate.CutKind.TheVariants.{Over, Under}
@@ -28,11 +28,10 @@ use Rattle.transport_instance.proofs.DualSums.{range_place}
 use Rattle.transport_instance.proofs.Inputs.{sum_placed}
 use Rattle.transport_instance.proofs.Points.{length-points}
 use Rattle.transport_instance.proofs.Ranges.{count-same}
-use Rattle.plan_text.specs.Answer.{Answer, emit, none_exists, planned_view}
+use Rattle.plan_text.specs.Answer.{Answer, emit, none_exists}
 use Rattle.plan_text.specs.declared.planned.Planned.{Planned}
 use Rattle.rollout_checks.specs.Lawful.{Place, Problem, and_then, by_price, factor, limits_for, place_of, problem_at, problem_of, problem_on, sized, weighed}
 use Rattle.rollout_checks.specs.Tallied.{AreTallied, TallyProblem, of_place, tally_problem_at, tally_problem_of, with_counts, with_inputs}
-use Rattle.rollout_checks.specs.Verified.{Proves, Shows}
 use Rattle.rollout_checks.specs.declared.fault.RolloutFault.{RolloutFault}
 use Rattle.rollout_checks.specs.declared.fault.RolloutFault.TheVariants.{OtherTally}
 use Rattle.rollout_checks.specs.declared.refining.Refining.{Refining}
