@@ -108,13 +108,12 @@ tally_in : TallyProblem → Result TallyProblem RolloutFault → TallyProblem
 tally_in d (Ok p) = p
 tally_in d (Err e) = d
 
-inputs_in : Inputs → Problem → Problem
+abbrev inputs_in : Inputs → Problem → Problem
 inputs_in inputs p = record { old = p.old; limits = p.limits; pricing = p.pricing; inputs = inputs }
 
 -- what is asked does not depend on the inputs
 problem_with : (refining : Refining) (inputs : Inputs) (asked : Asked) (place : Place) (p : Problem) → problem_on refining [] asked place ≡ Ok p → problem_on refining inputs asked place ≡ Ok (inputs_in inputs p)
 unfolding problem_in
-unfolding inputs_in
 problem_with refining inputs asked place p h =
     let k = factor refining (total_weight place.entries) in
     let total : ℕ = total_weight place.entries * k in
@@ -135,10 +134,21 @@ of_place_is refining t place u h = by (page_eq place.page t.page) (total_weight 
     by true false page total h = cc
     by false b page total h = cc
 
+-- what is planned on has the total of the site's rule, times the factor
+old_total : (refining : Refining) (asked : Asked) (place : Place) (q : Problem) → problem_on refining [] asked place ≡ Ok q → total_weight q.old ≡ total_weight place.entries * factor refining (total_weight place.entries)
+unfolding problem_in
+old_total refining asked place q h =
+    let k = factor refining (total_weight place.entries) in
+    let total : ℕ = total_weight place.entries * k in
+    let problem : Limits → Problem = λ limits. record { old = refinement k place.entries; limits = limits; pricing = asked.prices; inputs = [] } in
+    let limits = came (limits_for place asked) (λ limits. and_then (sized limits total) (λ _. Ok (problem limits))) q h in
+    let size = came (sized limits.from total) (λ _. Ok (problem limits.from)) q limits.gives in
+    let is : problem limits.from ≡ q = ap (problem_in (problem limits.from)) size.gives in
+    ap (λ (x : Problem). total_weight x.old) (sym is) ∙ total_weight-refinement k place.entries
+
 pub asks_alike : (refining : Refining) (flags : Definitions) (request : List ℕ) (book : Contents) (t : PageTally) (p : TallyProblem) → IsTallyOf (inputs_on book t.page) t → tally_problem_of refining flags request t ≡ Ok p
     → (problem_of refining flags request book ≡ Ok (with_inputs p (inputs_on book t.page))) × AreTallied p (inputs_on book t.page)
 unfolding tally_in
-unfolding inputs_in
 asks_alike refining flags request book t p of_book h =
     let inputs = inputs_on book t.page in
     let asked = came (by_price (asked_of request)) (λ asked. and_then (place_of flags asked.flag asked.site) (λ place. tally_problem_at refining t asked place)) p h in
@@ -148,26 +158,14 @@ asks_alike refining flags request book t p of_book h =
     let problem = came (problem_on refining [] asked.from place.from) (λ q. Ok (with_counts q t.counts)) p page.gives in
     let is : with_counts problem.from t.counts ≡ p = ap (tally_in p) problem.gives in
     let where_is = of_place_is refining t place.from page.from page.was in
-    let total : total_weight p.old ≡ t.total = ap (λ (q : TallyProblem). total_weight q.old) (sym is) ∙ (old_total refining asked.from place.from problem.from problem.was ∙ where_is.1) in
-    (
+    let total : total_weight p.old ≡ t.total = ap (λ (q : TallyProblem). total_weight q.old) (sym is) ∙ (old_total refining asked.from place.from problem.from problem.was ∙ where_is.1) in (
       ap (λ r. and_then r (λ asked. and_then (place_of flags asked.flag asked.site) (λ place. problem_at refining book asked place))) asked.was
-      ∙ (ap (λ r. and_then r (λ place. problem_at refining book asked.from place)) place.was
-      ∙ (ap (λ r. and_then r (λ _. problem_on refining (inputs_on book place.from.page) asked.from place.from)) weight.was
-      ∙ (ap (λ page. problem_on refining (inputs_on book page) asked.from place.from) where_is.0
-      ∙ (problem_with refining inputs asked.from place.from problem.from problem.was ∙ ap (λ (q : TallyProblem). Ok (with_inputs q inputs)) is)))),
+          ∙ (ap (λ r. and_then r (λ place. problem_at refining book asked.from place)) place.was
+          ∙ (ap (λ r. and_then r (λ _. problem_on refining (inputs_on book place.from.page) asked.from place.from)) weight.was
+          ∙ (ap (λ page. problem_on refining (inputs_on book page) asked.from place.from) where_is.0
+          ∙ (problem_with refining inputs asked.from place.from problem.from problem.was ∙ ap (λ (q : TallyProblem). Ok (with_inputs q inputs)) is)))),
       ap (λ (q : TallyProblem). q.counts) (sym is) ∙ (of_book.counts ∙ ap (counts_of inputs) (sym total)),
     )
-  where
-    old_total : (refining : Refining) (asked : Asked) (place : Place) (q : Problem) → problem_on refining [] asked place ≡ Ok q → total_weight q.old ≡ total_weight place.entries * factor refining (total_weight place.entries)
-    unfolding problem_in
-    old_total refining asked place q h =
-        let k = factor refining (total_weight place.entries) in
-        let total : ℕ = total_weight place.entries * k in
-        let problem : Limits → Problem = λ limits. record { old = refinement k place.entries; limits = limits; pricing = asked.prices; inputs = [] } in
-        let limits = came (limits_for place asked) (λ limits. and_then (sized limits total) (λ _. Ok (problem limits))) q h in
-        let size = came (sized limits.from total) (λ _. Ok (problem limits.from)) q limits.gives in
-        let is : problem limits.from ≡ q = ap (problem_in (problem limits.from)) size.gives in
-        ap (λ (x : Problem). total_weight x.old) (sym is) ∙ total_weight-refinement k place.entries
 
 -- what is planned on the tally is planned on the book
 pub plans_of_book : (refining : Refining) (flags : Definitions) (request : List ℕ) (book : Contents) (t : PageTally) (p : TallyProblem) (planned : Planned) → IsTallyOf (inputs_on book t.page) t → tally_problem_of refining flags request t ≡ Ok p
