@@ -1,5 +1,5 @@
 -- The counts of a tally of the total that is planned on are a tally of its rule.
-use Rattle.std.proofs.Common.{◌≡◌, ◌==◌, ◌*◌, ℕ, true, Result, Ok, sym, ap, ◌∙◌, rules}
+use Rattle.std.proofs.Common.{◌≡◌, ◌==◌, ◌*◌, Result, Ok, sym, ap, ◌∙◌, rules}
 use Rattle.std.proofs.lemmas.Bool.{and_parts, eqb-true}
 use Rattle.bucket_core.specs.Rule.{Entries, entries_view, refinement, total_weight}
 use Rattle.book_core.specs.Page.{page_eq}
