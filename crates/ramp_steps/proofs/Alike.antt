@@ -6,7 +6,7 @@ use Rattle.flag_text.specs.Readers.{as_text, as_whole, find_member, member_of}
 use Rattle.flag_text.specs.Shape.{Shape, null, boolean, whole, other, text, list, object, Members, no_members, member}
 use Rattle.price_core.specs.Limits.{Limits}
 use Rattle.price_core.specs.Pricing.{Pair, Pricing}
-use Rattle.price_core.specs.Request.{Asked, Written, asked_of, bar_parts, barred_in, flag_in, form_in, has_self_pair, if_judged, if_priced, if_there, is_range, judged, max_request, named_in, number_below, once_each, pairs_in, price_parts, pricing_of, request_of, site_in, totals_in, usual_in, written_of}
+use Rattle.price_core.specs.Request.{Asked, Written, asked_of, bar_parts, barred_in, flag_in, form_in, has_self_pair, if_judged, if_priced, if_there, is_range, judged as judged_written, max_request, named_in, number_below, once_each, pairs_in, price_parts, pricing_of, request_of, site_in, totals_in, usual_in, written_of}
 use Rattle.price_core.specs.declared.fault.PriceFault.{PriceFault}
 use Rattle.price_core.specs.declared.fault.PriceFault.TheVariants as price
 use Rattle.std.proofs.lemmas.Bool.{ltb-false}
@@ -47,7 +47,7 @@ record Of (t : Shape) (a : Asked) : Type 0 where
   site : site_in t ≡ Some a.site
   prices : prices_in t ≡ Some a.prices
 
-of_written : (w : Written) (a : Asked) → judged w ≡ Ok a → (w.flag ≡ a.flag) × (w.site ≡ a.site) × (pricing_of w ≡ Some a.prices)
+of_written : (w : Written) (a : Asked) → judged_written w ≡ Ok a → (w.flag ≡ a.flag) × (w.site ≡ a.site) × (pricing_of w ≡ Some a.prices)
 of_written w a h = go (has_self_pair w) (pricing_of w) h
   where
     in_range : (b : Bool) (p : Pricing) → (let r : Result Asked PriceFault = cond b (Ok (record { flag = w.flag; site = w.site; totals = w.totals; prices = p })) (Err price.EmptyRange) in r) ≡ Ok a
@@ -141,11 +141,11 @@ asks_all t first x [] is all = tt
 asks_all t first x (r ∷ rs) is all = (one_asks t first x r is all.0, asks_all t first x rs is all.1)
 
 -- the requests of steps that were judged
-pub ask_alike : (t : Shape) (requests : List (List ℕ)) → judged 1 requests ≡ Ok tt → AllByRecursion (AsksAsTree t) requests → AskAlike requests
-ask_alike t [] is all = (record { flag = []; site = 0; totals = []; prices = record { usual = 0; named = []; barred = [] } }, tt)
-ask_alike t (r ∷ rs) is all = go (asked_of r) refl is
+pub ask_alike : {u : Unit {0}} (t : Shape) (requests : List (List ℕ)) → judged 1 requests ≡ Ok u → AllByRecursion (AsksAsTree t) requests → AskAlike requests
+ask_alike {u} t [] is all = (record { flag = []; site = 0; totals = []; prices = record { usual = 0; named = []; barred = [] } }, tt)
+ask_alike {u} t (r ∷ rs) is all = go (asked_of r) refl is
   where
-    go : (o : Result Asked PriceFault) → asked_of r ≡ o → judged_by 1 o (judged 2 rs) ≡ Ok tt → AskAlike (r ∷ rs)
+    go : (o : Result Asked PriceFault) → asked_of r ≡ o → judged_by 1 o (judged 2 rs) ≡ Ok u → AskAlike (r ∷ rs)
     go (Err e) asks h = absurd (cc)
     go (Ok first) asks h = (first, asks_all t first all.0.0 (r ∷ rs) (sym (all.0.1 (fits r first asks)) ∙ asks) all)
 
