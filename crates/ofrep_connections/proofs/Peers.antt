@@ -1,11 +1,10 @@
 -- The peers of a slab, as it changes.
-use Rattle.std.proofs.Common.{◌≡◌, ◌≢◌, ℕ, ◌==◌, Bool, true, false, List, [], Some, None, Option, Result, Ok, Err, IfOk, OnErr, ap, refl, sym, subst, ◌∙◌}
+use Rattle.std.proofs.Common.{◌≡◌, ℕ, ◌==◌, true, false, List, Some, None, Option, Result, Ok, Err, IfOk, OnErr, ap, refl, sym, subst, ◌∙◌}
 use Rattle.std.proofs.lemmas.Bool.{eqb-true, eqb-false}
 use Rattle.http.specs.declared.request.Request.{Request}
 use Rattle.http_server.specs.declared.response.Response.{Response}
 use Rattle.http_server.specs.Connection.{history}
 use Rattle.slab.specs.Slab.{Slab, Updates, get}
-use Rattle.http_server.specs.Exchange.{Call}
 use Rattle.recorded_answers.specs.Stand.{AllStand}
 use Rattle.recorded_answers.proofs.Standing.{Leads, still_stand}
 use Rattle.ofrep_connections.specs.Stand.{PeersStand}

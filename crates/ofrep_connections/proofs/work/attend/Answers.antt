@@ -1,4 +1,4 @@
-use Rattle.std.proofs.Common.{Some, None, sym, ◌∙◌}
+use Rattle.std.proofs.Common.{Some, sym, ◌∙◌}
 use Rattle.ofrep_connections.proofs.Peers.{peers_stay, removed, updated}
 use Rattle.ofrep_connections.proofs.work.attend.Goals as goal
 

@@ -1,5 +1,4 @@
-use Rattle.std.proofs.Common.{sym, ap, subst, List}
-use Rattle.http_server.specs.Connection.{history}
+use Rattle.std.proofs.Common.{sym, subst, List}
 use Rattle.http_server.specs.Exchange.{Call}
 use Rattle.recorded_answers.specs.Stand.{AllStand}
 use Rattle.recorded_answers.proofs.Standing.{leads_on, stand_after}
