@@ -1,0 +1,6 @@
+pub mod Lines
+mod Batches
+mod Moved
+mod Recorded
+mod LastLine
+mod Kept

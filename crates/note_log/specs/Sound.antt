@@ -1,0 +1,23 @@
+-- What holds of every log of notes.
+use Rattle.std.specs.Prelude.{ℕ, List, ◌++◌, take, Contains, Vec}
+use Rattle.std.specs.List.{flat_map}
+use Rattle.std.specs.declared.alloc.Global.{Global}
+use Rattle.bytes.specs.declared.unique.BytesMut.{BytesMut}
+use Rattle.note_log.specs.Line.{EndsLine, HasLine}
+
+-- the bytes that were taken by writes, of each of which this says what it was given and how much it took
+abbrev pub handed_in : List (BytesMut Global × ℕ) → List ℕ
+handed_in writes = flat_map (λ w. take w.1 w.0.items) writes
+
+-- lines that are remembered
+abbrev pub Remembered : Type 0
+Remembered = List (Vec ℕ Global × Unit {0})
+
+-- each remembered line stands in the bytes
+abbrev pub Stand : List ℕ → Remembered → Type 0
+Stand bytes remembered = (e : Vec ℕ Global × Unit {0}) → Contains remembered e → HasLine e.0.items bytes
+
+-- it ends with a whole line, once what waits is handed over, and what is remembered was handed over
+pub record IsSound (handed waiting : List ℕ) (remembered : Remembered) : Type 0 where
+  pub ends : EndsLine (handed ++ waiting)
+  pub stand : Stand handed remembered

@@ -1,0 +1,64 @@
+//! The lines of notes that are not remembered.
+ghost use Rattle.std.specs.Prelude.{IfOk, OnOk};
+ghost use Rattle.note_log.specs.Batch.{Adds, IsBatch};
+
+use bytes::BytesMut;
+use lru::LruCache;
+use note_lines::{Note, note_line};
+use std::alloc::{AllocError, Global};
+use std::hash::RandomState;
+
+/// The most bytes that the input of a note has.
+const MOST_BYTES: usize = 1024;
+
+/// The lines of notes, and the same one after the other.
+#[derive(Drop)]
+pub(crate) struct Batch {
+    pub(crate) lines: Vec<Vec<u8>>,
+    pub(crate) bytes: BytesMut,
+    /// How many inputs were too long for a note.
+    pub(crate) too_long: u64,
+}
+
+/// The lines of these notes that are not remembered. A note whose input is too long has none.
+pub(crate) fn batch_of(
+    alloc: Global,
+    notes: &[Note],
+    remembered: &LruCache<Vec<u8>, (), RandomState>,
+) -> Result<Batch, AllocError>
+    ensures { IfOk result (λ batch. IsBatch notes.now remembered.now.entries batch) }
+{
+    let mut batch = Batch {
+        lines: Vec::new(alloc),
+        bytes: BytesMut::new(alloc),
+        too_long: 0,
+    };
+    for note in notes {
+        batch.add(alloc, note, remembered)?;
+    }
+    Ok(batch)
+}
+
+impl Batch {
+    /// Adds the line of a note, where it has one that is not remembered.
+    fn add(
+        &mut self,
+        alloc: Global,
+        note: &Note,
+        remembered: &LruCache<Vec<u8>, (), RandomState>,
+    ) -> Result<(), AllocError>
+        ensures { OnOk result (Adds note.now remembered.now.entries self.old self.new) }
+    {
+        if note.input.len() > MOST_BYTES {
+            self.too_long = self.too_long.saturating_add(1);
+            return Ok(());
+        }
+        let line = note_line(alloc, &note.page, note.input.as_str())?;
+        if remembered.contains(line.as_slice()) {
+            return Ok(());
+        }
+        self.bytes.extend_from_slice(line.as_slice())?;
+        self.lines.push(line)?;
+        Ok(())
+    }
+}

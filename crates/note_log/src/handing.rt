@@ -1,0 +1,30 @@
+//! Bytes handed to an outlet.
+ghost use Rattle.std.specs.Prelude.{◌≡◌, ◌==◌, length};
+ghost use Rattle.note_log.specs.Sound.{handed_in};
+ghost use Rattle.note_log.specs.Handing.{Moves};
+
+use bytes::{Buf, BytesMut};
+use flag_text::Outlet;
+use http_server::Log;
+
+/// Hands over the bytes that wait, as far as the outlet takes them, and says whether it took all.
+pub(crate) fn hand_over<O: Outlet>(
+    outlet: &mut O,
+    handed: &mut Log<BytesMut, usize>,
+    waiting: &mut BytesMut,
+) -> bool
+    ensures moves { Moves (O.bytes outlet.old) (O.bytes outlet.new) (handed_in handed.old.items) (handed_in handed.new.items) waiting.old.items waiting.new.items }
+    ensures all { result ≡ (length waiting.new.items == 0) }
+{
+    while !waiting.is_empty() {
+        match outlet.write(waiting.as_slice()) {
+            Ok(0) => return false,
+            Ok(count) => {
+                *handed = handed.and(waiting, &count);
+                waiting.advance(count);
+            }
+            Err(_) => return false,
+        }
+    }
+    true
+}

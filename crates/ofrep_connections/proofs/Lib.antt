@@ -1,0 +1,2 @@
+mod Peers
+mod ReadCalls

@@ -1,0 +1,8 @@
+use Rattle.http_server.specs.Connection.{history}
+use Rattle.recorded_answers.specs.Stand.{AllStand}
+use Rattle.recorded_answers.proofs.Standing.{Leads}
+use Rattle.ofrep_connections.proofs.peer.Peer.go_on.Given as goal
+
+abbrev pub invariant-loop : goal.invariant-loop
+invariant-loop g l =
+    Leads g.S.Service.answers l.fn.service l.service × AllStand g.S.Recording.stands l.service (history l.self.connection).calls

@@ -1,0 +1,232 @@
+//! The loop of a worker.
+ghost use Rattle.std.specs.Prelude.{List};
+ghost use Rattle.http_server.specs.Connection.{history};
+ghost use Rattle.http_server.specs.Exchange.{Call, Chain};
+ghost use Rattle.recorded_answers.specs.Stand.{AllStand};
+ghost use Rattle.ofrep_connections.specs.Stand.{PeersStand};
+
+use crate::peer::{Peer, Stay};
+use http_server::{Config, Connection};
+use mio::net::TcpListener;
+use mio::{Events, Interest, Poll, Registry, Token};
+use recorded_answers::Recording;
+use slab::Slab;
+use std::alloc::Global;
+use std::hash::RandomState;
+use std::net::Net;
+use std::sync::atomic::{AtomicBool, Ordering};
+use std::time::{Clock, Duration, Instant};
+use std::{io, net};
+
+/// The most connections of a worker. A further one is closed.
+const MAX_PEERS: usize = 1024;
+
+/// The token of the listener; those of the peers are below.
+const LISTENER: usize = MAX_PEERS;
+
+/// How long a wait lasts before the flag is looked at.
+const TURN_MILLIS: u64 = 200;
+
+/// A connection that has nothing to do for so long is closed.
+const IDLE_SECONDS: u64 = 60;
+
+/// What the connections of a worker are made with.
+#[derive(Clone, Copy)]
+pub(crate) struct Making {
+    pub(crate) alloc: Global,
+    pub(crate) keys: RandomState,
+    pub(crate) config: Config,
+}
+
+/// Answers the connections of a listener, which must not block, until the flag is set or the system fails.
+pub fn answer_connections<S: Recording, R: Net + Clock>(
+    rt: &R,
+    alloc: Global,
+    keys: RandomState,
+    config: Config,
+    listener: net::TcpListener,
+    stop: &AtomicBool,
+    service: &mut S,
+) -> io::Result<()>
+    ensures { (calls : List Call) × Chain S.answers service.old calls service.new }
+{
+    let mut poll = Poll::new(rt)?;
+    let mut listener = TcpListener::from_std(listener);
+    poll.registry()
+        .register(&mut listener, Token(LISTENER), Interest::READABLE)?;
+    let mut peers = Slab::new(alloc);
+    let mut events = Events::with_capacity(alloc, 256)?;
+    let making = Making {
+        alloc,
+        keys,
+        config,
+    };
+    turn(
+        rt,
+        making,
+        &mut poll,
+        &mut events,
+        &listener,
+        &mut peers,
+        stop,
+        service,
+    )
+}
+
+fn turn<S: Recording, R: Clock>(
+    rt: &R,
+    making: Making,
+    poll: &mut Poll,
+    events: &mut Events,
+    listener: &TcpListener,
+    peers: &mut Slab<Peer>,
+    stop: &AtomicBool,
+    service: &mut S,
+) -> io::Result<()>
+    requires { PeersStand S.stands service.old peers.old }
+    ensures { (calls : List Call) × Chain S.answers service.old calls service.new }
+{
+    let mut swept = Instant::now(rt)?;
+    for _ in 0..u64::MAX {
+        if stop.load(Ordering::SeqCst) {
+            return Ok(());
+        }
+        poll.poll(events, Some(Duration::from_millis(TURN_MILLIS)))?;
+        let now = Instant::now(rt)?;
+        for event in events.iter() {
+            let Token(key) = event.token();
+            answer_event(making, now, poll.registry(), listener, peers, key, service);
+        }
+        if now.duration_since(swept).as_secs() > 0 {
+            leave_idle(now, poll.registry(), service, peers);
+            swept = now;
+        }
+    }
+    Ok(())
+}
+
+/// Does what a socket is ready for.
+fn answer_event<S: Recording>(
+    making: Making,
+    now: Instant,
+    registry: &Registry,
+    listener: &TcpListener,
+    peers: &mut Slab<Peer>,
+    key: usize,
+    service: &mut S,
+)
+    requires { PeersStand S.stands service.old peers.old }
+    ensures stand { PeersStand S.stands service.new peers.new }
+    ensures chain { (calls : List Call) × Chain S.answers service.old calls service.new }
+{
+    if key == LISTENER {
+        admit(making, now, registry, listener, service, peers);
+    } else {
+        attend(now, registry, peers, key, service);
+    }
+}
+
+/// Admits the peers that wait.
+fn admit<S: Recording>(
+    making: Making,
+    now: Instant,
+    registry: &Registry,
+    listener: &TcpListener,
+    service: &S,
+    peers: &mut Slab<Peer>,
+)
+    requires { PeersStand S.stands service.now peers.old }
+    ensures { PeersStand S.stands service.now peers.new }
+{
+    for _ in 0..MAX_PEERS {
+        let Ok((stream, _address)) = listener.accept() else {
+            return;
+        };
+        let _ = stream.set_nodelay(true);
+        let connection = Connection::new(making.alloc, making.keys, making.config);
+        let key = peers.vacant_key();
+        if key >= MAX_PEERS {
+            continue;
+        }
+        let mut peer = Peer {
+            stream,
+            connection,
+            active: now,
+        };
+        let both = Interest::READABLE | Interest::WRITABLE;
+        let is_registered = registry
+            .register(&mut peer.stream, Token(key), both)
+            .is_ok();
+        welcome(service, peers, peer, is_registered);
+    }
+}
+
+/// Keeps a peer that is registered. Where memory runs out it is closed.
+fn welcome<S: Recording>(service: &S, peers: &mut Slab<Peer>, peer: Peer, is_registered: bool)
+    requires stand { PeersStand S.stands service.now peers.old }
+    requires own { AllStand S.stands service.now (history peer.connection).calls }
+    ensures { PeersStand S.stands service.now peers.new }
+{
+    // The contract alone names the service.
+    let _ = service;
+    if !is_registered {
+        return;
+    }
+    let _ = peers.insert(peer);
+}
+
+/// Goes on with one peer.
+fn attend<S: Recording>(
+    now: Instant,
+    registry: &Registry,
+    peers: &mut Slab<Peer>,
+    key: usize,
+    service: &mut S,
+)
+    requires { PeersStand S.stands service.old peers.old }
+    ensures stand { PeersStand S.stands service.new peers.new }
+    ensures chain { (calls : List Call) × Chain S.answers service.old calls service.new }
+{
+    let Some(mut peer) = peers.try_remove(key) else {
+        return;
+    };
+    peer.active = now;
+    if peer.go_on(service) == Stay::Waits {
+        peers.insert_reserved(peer);
+    } else {
+        let _ = registry.deregister(&mut peer.stream);
+    }
+}
+
+/// Closes the connections that have had nothing to do for long.
+fn leave_idle<S: Recording>(now: Instant, registry: &Registry, service: &S, peers: &mut Slab<Peer>)
+    requires { PeersStand S.stands service.now peers.old }
+    ensures { PeersStand S.stands service.now peers.new }
+{
+    for key in 0..MAX_PEERS {
+        if is_idle(peers.get(key), now) {
+            leave(registry, service, peers, key);
+        }
+    }
+}
+
+/// Closes the connection of a peer.
+#[tactic(auto, using(crate::proofs::Peers::removed))]
+fn leave<S: Recording>(registry: &Registry, service: &S, peers: &mut Slab<Peer>, key: usize)
+    requires { PeersStand S.stands service.now peers.old }
+    ensures { PeersStand S.stands service.now peers.new }
+{
+    // The contract alone names the service.
+    let _ = service;
+    if let Some(mut peer) = peers.try_remove(key) {
+        let _ = registry.deregister(&mut peer.stream);
+    }
+}
+
+/// Whether a peer has had nothing to do for long.
+fn is_idle(peer: Option<&Peer>, now: Instant) -> bool {
+    match peer {
+        Some(peer) => now.duration_since(peer.active).as_secs() >= IDLE_SECONDS,
+        None => false,
+    }
+}
