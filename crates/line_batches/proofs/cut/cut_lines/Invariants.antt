@@ -1,0 +1,9 @@
+use Rattle.std.proofs.Common.{length}
+use Rattle.line_batches.specs.Lines.{IsCut, lines_view}
+use Rattle.line_batches.proofs.cut.cut_lines.Given as goal
+
+abbrev pub invariant-lines : goal.invariant-lines
+invariant-lines l = IsCut l.bytes (lines_view l.lines.items) l.rest
+
+abbrev pub decreases-lines : goal.decreases-lines
+decreases-lines l = length l.rest

@@ -1,0 +1,124 @@
+-- What is recorded of lines is that of the first ones and then of the others.
+use denote.Ref.{Bor}
+use Rattle.std.proofs.Common.{◌≡◌, ◌<◌, ◌≤◌, ◌+◌, ℕ, get_or, drop-cons, add-one, Result, Ok, Err, IfOk, Bool, true, false, Option, Some, None, nat_lt, if◌then◌else◌, drop, List, [], ◌∷◌, ◌++◌, length, append-nil, append_assoc, refl, sym, ap, ap₂, ◌∙◌, arith}
+use Rattle.std.proofs.lemmas.List.{map-append, length-map, drop_all}
+use Rattle.flag_text.specs.Shape.{Shape}
+use Rattle.record_lines.specs.Lines.{lines_view}
+use Rattle.record_lines.specs.Record.{Scene, Recorded, nothing, joined, refused, most_line, is_blank, context_of, of_context, of_line, record_of}
+
+pub joined-first : (r : Recorded) → joined nothing r ≡ r
+unfolding joined
+joined-first r =
+    let same : 0 + r.lines ≡ r.lines = omega arith in
+    λ i. record { text = r.text; lines = same i; refused = r.refused }
+
+assoc : (t : List ℕ) (n : ℕ) (b : Bool) (two three : Recorded) → joined (joined (record { text = t; lines = n; refused = b }) two) three ≡ joined (record { text = t; lines = n; refused = b }) (joined two three)
+unfolding joined
+assoc t n true two three = refl
+assoc t n false two three = later two.text two.lines two.refused three
+  where
+    later : (u : List ℕ) (m : ℕ) (c : Bool) (r : Recorded) → joined (record { text = t ++ u; lines = n + m; refused = c }) r ≡ joined (record { text = t; lines = n; refused = false }) (joined (record { text = u; lines = m; refused = c }) r)
+    later u m true r = refl
+    later u m false r =
+        let texts = append_assoc t u r.text in
+        let sums : n + m + r.lines ≡ n + (m + r.lines) = omega arith in
+        λ i. record { text = texts i; lines = sums i; refused = r.refused }
+
+pub joined-assoc : (one two three : Recorded) → joined (joined one two) three ≡ joined one (joined two three)
+joined-assoc one two three = assoc one.text one.lines one.refused two three
+
+pub record-append : (s : Scene) (xs ys : List (List ℕ)) → record_of s (xs ++ ys) ≡ joined (record_of s xs) (record_of s ys)
+record-append s [] ys = sym (joined-first (record_of s ys))
+record-append s (x ∷ xs) ys = ap (joined (of_line s x)) (record-append s xs ys) ∙ sym (joined-assoc (of_line s x) (record_of s xs) (record_of s ys))
+
+-- what comes behind a line that is no context is not looked at
+pub joined-refused : (one other : Recorded) → one.refused ≡ true → joined one other ≡ one
+unfolding joined
+joined-refused one other e = rw e refl
+
+pub joined-last : (r : Recorded) → joined r nothing ≡ r
+unfolding joined
+joined-last r = last r.text r.lines r.refused
+  where
+    last : (t : List ℕ) (n : ℕ) (b : Bool) → joined (record { text = t; lines = n; refused = b }) nothing ≡ record { text = t; lines = n; refused = b }
+    last t n true = refl
+    last t n false =
+        let texts = append-nil t in
+        let sums : n + 0 ≡ n = omega arith in
+        λ i. record { text = texts i; lines = sums i; refused = false }
+
+line_count : (t : List ℕ) (n : ℕ) (b : Bool) (r : Recorded) → (joined (record { text = t; lines = n; refused = b }) r).lines ≤ n + r.lines
+unfolding joined
+line_count t n true r = omega arith
+line_count t n false r = omega arith
+
+-- the next line is recorded
+pub next_line : (s : Scene) (lines : List (Bor (List ℕ))) (i : ℕ) (line : List ℕ) (out new all : Recorded) → lines_view (drop i lines) ≡ line ∷ lines_view (drop (i + 1) lines) → joined out (record_of s (lines_view (drop i lines))) ≡ all → new ≡ joined out (of_line s line)
+    → joined new (record_of s (lines_view (drop (i + 1) lines))) ≡ all
+next_line s lines i line out new all next so_far is =
+    let later = record_of s (lines_view (drop (i + 1) lines)) in
+    ap (λ (r : Recorded). joined r later) is ∙ joined-assoc out (of_line s line) later ∙ ap (λ (ls : List (List ℕ)). joined out (record_of s ls)) (sym next) ∙ so_far
+
+-- the first of the lines that are left
+pub first_left : (lines : List (Bor (List ℕ))) (i : ℕ) (d : Bor (List ℕ)) → i < length lines → lines_view (drop i lines) ≡ (get_or lines i d).now ∷ lines_view (drop (i + 1) lines)
+first_left lines i d within =
+    let next : drop i lines ≡ get_or lines i d ∷ drop (i + 1) lines = rw (add-one, drop-cons lines i d) refl in
+    ap lines_view next
+
+pub none_left : (s : Scene) (lines : List (Bor (List ℕ))) (i : ℕ) (out all : Recorded) → length lines ≤ i → joined out (record_of s (lines_view (drop i lines))) ≡ all → out ≡ all
+none_left s lines i out all past so_far =
+    sym (joined-last out) ∙ ap (λ (ls : List (Bor (List ℕ))). joined out (record_of s (lines_view ls))) (sym (drop_all i lines past)) ∙ so_far
+
+-- of lines in two parts
+pub in_parts : (s : Scene) (lines front back : List (Bor (List ℕ))) (one other r : Recorded) → front ++ back ≡ lines → one ≡ record_of s (lines_view front) → other ≡ record_of s (lines_view back) → r ≡ joined one other → r ≡ record_of s (lines_view lines)
+in_parts s lines front back one other r whole first second is =
+    is ∙ ap₂ joined first second ∙ sym (record-append s (lines_view front) (lines_view back))
+    ∙ ap (record_of s) (sym (map-append (λ (line : Bor (List ℕ)). line.now) front back) ∙ ap lines_view whole)
+
+line_counts : (one two : Recorded) → (joined one two).lines ≤ one.lines + two.lines
+line_counts one two = line_count one.text one.lines one.refused two
+
+of_line-one : (s : Scene) (line : List ℕ) → (of_line s line).lines ≡ 1
+unfolding of_line
+of_line-one s line = long (nat_lt most_line (length line)) (is_blank line) (context_of line)
+  where
+    context : (o : Option Shape) → (of_context s o).lines ≡ 1
+    context None = refl
+    context (Some t) = refl
+
+    long : (b d : Bool) (o : Option Shape) → (if b then refused else (if d then record { text = []; lines = 1; refused = false } else of_context s o)).lines ≡ 1
+    long true d o = refl
+    long false true o = refl
+    long false false o = context o
+
+-- no more lines than there are
+pub few_lines : (s : Scene) (lines : List (List ℕ)) → (record_of s lines).lines ≤ length lines
+few_lines s [] = omega arith
+few_lines s (line ∷ lines) =
+    let one = of_line-one s line in
+    let both = line_counts (of_line s line) (record_of s lines) in
+    let later = few_lines s lines in
+    omega (arith, one, both, later)
+
+-- no more lines than there are in two parts
+pub both_few : (s : Scene) (front back : List (Bor (List ℕ))) (one other : Recorded) → one ≡ record_of s (lines_view front) → other ≡ record_of s (lines_view back) → one.lines + other.lines ≤ length front + length back
+both_few s front back one other first second =
+    let a = few_lines s (lines_view front) in
+    let b = few_lines s (lines_view back) in
+    let la = length-map front (λ (line : Bor (List ℕ)). line.now) in
+    let lb = length-map back (λ (line : Bor (List ℕ)). line.now) in
+    let e = ap (λ (r : Recorded). r.lines) first in
+    let f = ap (λ (r : Recorded). r.lines) second in
+    omega (arith, a, b, la, lb, e, f)
+
+-- the next line is one more
+pub one_more : (s : Scene) (line : List ℕ) (out new : Recorded) (i : ℕ) → new ≡ joined out (of_line s line) → out.lines ≤ i → new.lines ≤ i + 1
+one_more s line out new i is few =
+    let sum = line_counts out (of_line s line) in
+    let one = of_line-one s line in
+    let e = ap (λ (r : Recorded). r.lines) is in
+    omega (arith, sum, one, e, few)
+
+pub when_ok : {X E : Type 0} {P Q : X → Type 0} (r : Result X E) → ((x : X) → P x → Q x) → IfOk r P → IfOk r Q
+when_ok (Ok x) f p = f x p
+when_ok (Err e) f p = tt

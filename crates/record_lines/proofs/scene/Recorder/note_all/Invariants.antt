@@ -1,0 +1,12 @@
+use Rattle.std.proofs.Common.{◌≡◌, ◌++◌, drop, map, flat_map}
+use Rattle.logic_evaluator.specs.Views.{reach_view}
+use Rattle.record_lines.specs.Record.{note_of}
+use Rattle.record_lines.specs.Scene.{scene_of}
+use Rattle.record_lines.proofs.scene.Recorder.note_all.Given as goal
+
+abbrev pub invariant-loop-reach : goal.invariant-loop-reach
+invariant-loop-reach l = record {
+  text : l.out.text.items ++ flat_map (note_of (scene_of l.self)) (map reach_view (drop l.reach-index l.reached)) ≡ l.fn.out.text.items ++ flat_map (note_of (scene_of l.self)) (map reach_view l.reached);
+  lines : l.out.lines ≡ l.fn.out.lines;
+  refused : l.out.refused ≡ l.fn.out.refused;
+}

@@ -1,0 +1,163 @@
+//! What is recorded of one context.
+ghost use Rattle.std.specs.Prelude.{◌≡◌, ◌≤◌, ◌<◌, ◌^◌, ◌+◌, ◌++◌, ◌||◌, ◌↔◌, true, false, map, flat_map, length, slice_get, string_bytes, IfOk, IfSome, OnOk, IfErr, Some, None, Err, Ok, ◌≢◌};
+ghost use Rattle.std.specs.Map.{lookup};
+ghost use Rattle.std.specs.Str.{bytes_eq};
+ghost use Rattle.flag_text.specs.Shape.{is_whole};
+ghost use Rattle.flag_text.specs.View.{view};
+ghost use Rattle.flag_documents.specs.Flag.{flag_view, is_broken, targeting_in};
+ghost use Rattle.flag_defs.specs.Flags.{flags_view};
+ghost use Rattle.logic_evaluator.specs.Views.{reach_view};
+ghost use Rattle.record_lines.specs.Scene.{scene_of};
+ghost use Rattle.record_lines.specs.Record.{IsSceneOf, PagesIn, is_good, reached_in, note_of};
+ghost use Rattle.record_lines.specs.declared.recorder.RecordFault.TheVariants.{WantOfMemory};
+
+use crate::recorded::Recorded;
+use crate::scene::Recorder;
+use book_core::Page;
+use flag_defs::{Flag, Flags};
+use flag_resolve::{Kind, resolve};
+use flag_text::Tree;
+use logic_eval::Reached;
+use note_lines::note_line;
+use site_pages::pages_of;
+use std::alloc::{AllocError, Global};
+use thiserror::Error;
+
+/// The most bytes that a noted input has.
+const MOST_BYTES: usize = 1024;
+
+/// Why nothing is recorded of a flag.
+#[derive(Clone, Copy, Debug, PartialEq, Eq, Error)]
+pub enum RecordFault {
+    /// Memory ran out.
+    #[error("out of memory")]
+    WantOfMemory,
+    /// No flag has the key, or it is broken.
+    #[error("no good flag has the key")]
+    UnknownFlag,
+}
+
+impl From<AllocError> for RecordFault {
+    ghost from_gives = { λ _ e. e ≡ WantOfMemory };
+
+    fn from(_e: AllocError) -> RecordFault {
+        RecordFault::WantOfMemory
+    }
+}
+
+/// The good flag of a key.
+fn good_flag<'a>(flags: &'a Flags, key: &str) -> Result<&'a Flag, RecordFault>
+    ensures flag { IfOk result (λ f. lookup (bytes_eq key.now) (flags_view flags.entry.now) ≡ Some (flag_view f.now)) }
+    ensures good { IfOk result (λ f. is_broken (flag_view f.now) ≡ false) }
+    ensures refused { IfErr result (λ e. (e ≡ RecordFault.UnknownFlag) × (is_good (lookup (bytes_eq key.now) (flags_view flags.entry.now)) ≡ false)) }
+{
+    match flags.get(key) {
+        None => Err(RecordFault::UnknownFlag),
+        Some(flag) => if_good(flag),
+    }
+}
+
+/// The same of a flag.
+fn if_good(flag: &Flag) -> Result<&Flag, RecordFault>
+    ensures flag { IfOk result (λ f. flag_view f.now ≡ flag_view flag.entry.now) }
+    ensures good { IfOk result (λ f. is_broken (flag_view f.now) ≡ false) }
+    ensures refused { IfErr result (λ e. (e ≡ RecordFault.UnknownFlag) × (is_broken (flag_view flag.entry.now) ≡ true)) }
+{
+    if flag.is_broken() {
+        Err(RecordFault::UnknownFlag)
+    } else {
+        Ok(flag)
+    }
+}
+
+/// The pages of the sites of a flag.
+fn site_pages(alloc: Global, key: &str, flag: &Flag) -> Result<Vec<Page>, AllocError>
+    ensures { IfOk result (λ pages. PagesIn key.now pages.items (targeting_in (flag_view flag.now))) }
+{
+    match flag.targeting() {
+        None => Ok(Vec::new(alloc)),
+        Some(targeting) => pages_of(alloc, key, targeting),
+    }
+}
+
+impl<'a> Recorder<'a> {
+    /// Records the flag of a key. The condition is a moment of at most 2^53-1.
+    pub fn new(
+        alloc: Global,
+        flags: &'a Flags,
+        key: &'a str,
+        moment: u64,
+    ) -> Result<Recorder<'a>, RecordFault>
+        requires { moment < 2 ^ 53 }
+        ensures scene { IfOk result (λ r. IsSceneOf (flags_view flags.entry.now) key.entry.now moment (scene_of r)) }
+        ensures refused { IfErr result (λ e. e ≢ RecordFault.WantOfMemory → (e ≡ RecordFault.UnknownFlag) × (is_good (lookup (bytes_eq key.entry.now) (flags_view flags.entry.now)) ≡ false)) }
+    {
+        let flag = good_flag(flags, key)?;
+        let pages = site_pages(alloc, key, flag)?;
+        Ok(Recorder {
+            flags,
+            key,
+            moment,
+            pages,
+        })
+    }
+
+    /// Adds the lines of what is reached in a context.
+    pub(crate) fn record(
+        &self,
+        alloc: Global,
+        context: &Tree,
+        out: &mut Recorded,
+    ) -> Result<(), AllocError>
+        requires { is_whole (view context.now) ≡ true }
+        ensures text { OnOk result (out.new.text.items ≡ out.old.text.items ++ flat_map (note_of (scene_of self.now)) (reached_in (scene_of self.now) (view context.now))) }
+        ensures lines { out.new.lines ≡ out.old.lines }
+        ensures refused { out.new.refused ≡ out.old.refused }
+    {
+        let resolution = resolve(
+            alloc,
+            Some(self.flags),
+            self.key,
+            Kind::Text,
+            &Tree::Null,
+            context,
+            self.moment,
+        )?;
+        self.note_all(alloc, resolution.reached.as_slice(), out)
+    }
+
+    /// Adds the lines of the inputs that were reached.
+    fn note_all(
+        &self,
+        alloc: Global,
+        reached: &[Reached],
+        out: &mut Recorded,
+    ) -> Result<(), AllocError>
+        ensures text { OnOk result (out.new.text.items ≡ out.old.text.items ++ flat_map (note_of (scene_of self.now)) (map reach_view reached.now)) }
+        ensures lines { out.new.lines ≡ out.old.lines }
+        ensures refused { out.new.refused ≡ out.old.refused }
+    {
+        for reach in reached {
+            self.note(alloc, reach, out)?;
+        }
+        Ok(())
+    }
+
+    /// Adds the line of an input, unless it has too many bytes.
+    fn note(&self, alloc: Global, reach: &Reached, out: &mut Recorded) -> Result<(), AllocError>
+        ensures text { OnOk result (out.new.text.items ≡ out.old.text.items ++ note_of (scene_of self.now) (reach_view reach.now)) }
+        ensures lines { out.new.lines ≡ out.old.lines }
+        ensures refused { out.new.refused ≡ out.old.refused }
+    {
+        let input = reach.input.as_str();
+        if input.len() > MOST_BYTES {
+            out.long = out.long.saturating_add(1);
+            return Ok(());
+        }
+        let Some(page) = self.pages.get(reach.site as usize) else {
+            return Ok(());
+        };
+        let line = note_line(alloc, page, input)?;
+        out.text.extend_from_slice(line.as_slice())
+    }
+}

@@ -1,0 +1,2 @@
+mod Filtering
+mod Uniting

@@ -1,0 +1,5 @@
+use Rattle.tally_filters.proofs.Filtering.{stream}
+use Rattle.tally_filters.proofs.laws.a_stream_is_tallied.Goals as goal
+
+pub returns : goal.returns
+returns c = stream c.a_tally_is_of_its_lines.ensures

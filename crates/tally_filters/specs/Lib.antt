@@ -1,0 +1,10 @@
+pub use Rattle.bucket_core.specs.Rule
+pub use Rattle.book_core.specs.Page
+pub use Rattle.note_lines.specs.Note
+pub use Rattle.tally_core.specs.Join
+pub use Rattle.tally_core.specs.Tally
+pub use Rattle.line_tally.specs.Lines
+pub mod Blank
+pub mod Fault
+pub mod Filter
+pub mod Joined

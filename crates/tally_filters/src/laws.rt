@@ -1,0 +1,21 @@
+//! What the definitions amount to.
+ghost use Rattle.tally_filters.specs.Filter.{StreamIsTallied};
+ghost use Rattle.tally_filters.specs.Joined.{JoinsAllSets};
+
+use line_tally::a_tally_is_of_its_lines;
+use tally_core::a_join_is_the_tally_of_both;
+
+/// Where no line of a stream was refused, its note lines rise strictly, and what was tallied is the tally of the page's inputs
+/// among them, each there once.
+pub fn a_stream_is_tallied()
+    ensures { StreamIsTallied }
+{
+    a_tally_is_of_its_lines();
+}
+
+/// What is joined of the tallies of sets of inputs is the tally of their union, in which each input is there once.
+pub fn joined_tallies_are_of_all()
+    ensures { JoinsAllSets }
+{
+    a_join_is_the_tally_of_both();
+}

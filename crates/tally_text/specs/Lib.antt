@@ -1,0 +1,11 @@
+pub use Rattle.flag_text.specs.Shape
+pub use Rattle.book_core.specs.Page
+pub use Rattle.point_lines.specs.Point
+pub use Rattle.tally_core.specs.Tally
+pub mod Counts
+pub mod Cut
+pub mod Ends
+pub mod Fault
+pub mod File
+pub mod Members
+pub mod Reading
