@@ -1,0 +1,64 @@
+//! The escaping of texts.
+ghost use Rattle.std.specs.Prelude.{◌≡◌, ◌++◌, IfOk, OnOk, chars, string_bytes};
+ghost use Rattle.xml_text.specs.Escape.{allowed, begun, escaped, escaped_char};
+
+use std::alloc::{AllocError, Global};
+
+/// The text as character data of XML.
+pub fn escaped(alloc: Global, text: &str) -> Result<String, AllocError>
+    ensures { IfOk result (λ s. string_bytes s ≡ escaped text.now) }
+{
+    let mut out = String::new(alloc);
+    push_escaped(&mut out, text)?;
+    Ok(out)
+}
+
+/// Adds the text as character data of XML.
+pub fn push_escaped(out: &mut String, text: &str) -> Result<(), AllocError>
+    ensures { OnOk result (string_bytes out.new ≡ string_bytes out.old ++ escaped text.now) }
+{
+    for c in text.chars() {
+        push_char(out, c)?;
+    }
+    Ok(())
+}
+
+/// Adds the first characters of the text, so many at most, and an ellipsis where it has more.
+pub fn push_start(out: &mut String, text: &str, most: u32) -> Result<(), AllocError>
+    ensures { OnOk result (string_bytes out.new ≡ string_bytes out.old ++ begun most (chars text.now)) }
+{
+    let mut left = most;
+    for c in text.chars() {
+        if left == 0 {
+            out.push('…')?;
+            return Ok(());
+        }
+        left -= 1;
+        push_char(out, c)?;
+    }
+    Ok(())
+}
+
+fn push_char(out: &mut String, c: char) -> Result<(), AllocError>
+    ensures { OnOk result (string_bytes out.new ≡ string_bytes out.old ++ escaped_char c) }
+{
+    match c {
+        '&' => out.push_str("&amp;"),
+        '<' => out.push_str("&lt;"),
+        '>' => out.push_str("&gt;"),
+        '"' => out.push_str("&quot;"),
+        '\'' => out.push_str("&apos;"),
+        _ => out.push(allowed(c)),
+    }
+}
+
+/// The character, or U+FFFD for one that no document may have.
+fn allowed(c: char) -> char
+    ensures { result ≡ allowed c }
+{
+    match c {
+        '\t' | '\n' | '\r' => c,
+        '\0'..='\x1f' | '\u{fffe}' | '\u{ffff}' => char::REPLACEMENT_CHARACTER,
+        _ => c,
+    }
+}
