@@ -9,7 +9,6 @@ use denote.Struct.Field.{row_field}
 use denote.Struct.Tuple.{TupleAt, type_at}
 use Rattle.std.proofs.Crossing.{crosses}
 use denote.Builtin.{usize}
-use Rattle.std.specs.contracts.alloc.Global as Global
 use Rattle.std.specs.contracts.net.tcp.TcpStream as TcpStream
 use Rattle.snap_share.specs.declared.history.ShareName as ShareName
 use Rattle.snap_share.specs.contracts.seat.ReadSeat as ReadSeat
@@ -17,14 +16,11 @@ use Rattle.snap_share.proofs.Crossings.{ReadSeat-send, Told-send}
 use Rattle.flagops_streams.specs.contracts.board.Board as Board
 use Rattle.flagops_streams.specs.contracts.board.News as News
 
--- six captures that may go may be captured by one closure
-captured_send : (ν : Sym) (A B C D E F : RattleType) → IsSend A → IsSend B → IsSend C → IsSend D → IsSend E → IsSend F → IsSend (TupleAt ν (A ∷ B ∷ C ∷ D ∷ E ∷ F ∷ []))
-captured_send ν A B C D E F a b c d e f =
-    declared_send (type_at ν (A ∷ B ∷ C ∷ D ∷ E ∷ F ∷ []))
-    (as_row_send (row_field A) a, (as_row_send (row_field B) b, (as_row_send (row_field C) c, (as_row_send (row_field D) d, (as_row_send (row_field E) e, (as_row_send (row_field F) f, tt))))))
-
-Global-send : IsSend Global.the_row
-Global-send = search (sendable, crosses) depth 20
+-- five captures that may go may be captured by one closure
+captured_send : (ν : Sym) (A B C D E : RattleType) → IsSend A → IsSend B → IsSend C → IsSend D → IsSend E → IsSend (TupleAt ν (A ∷ B ∷ C ∷ D ∷ E ∷ []))
+captured_send ν A B C D E a b c d e =
+    declared_send (type_at ν (A ∷ B ∷ C ∷ D ∷ E ∷ []))
+    (as_row_send (row_field A) a, (as_row_send (row_field B) b, (as_row_send (row_field C) c, (as_row_send (row_field D) d, (as_row_send (row_field E) e, tt)))))
 
 usize-send : IsSend usize
 usize-send = search (sendable, crosses) depth 20
@@ -32,9 +28,9 @@ usize-send = search (sendable, crosses) depth 20
 TcpStream-send : IsSend TcpStream.the_row
 TcpStream-send = search (sendable, crosses) depth 40
 
--- the captures of a subscriber's thread: the handle, the allocator, the board, its place, its seat and its connection
+-- the captures of a subscriber's thread: the handle, the board, its place, its seat and its connection
 abbrev pub Attending : (T : RattleType) → ShareName.Ghosts T.Denot → Sym → NamedLft → NamedLft → RattleType → RattleType
-Attending T g ν r b R = TupleAt ν (ShrRef r.mir r.lft R ∷ Global.the_row ∷ ShrRef b.mir b.lft (Board.the_row T g) ∷ usize ∷ ReadSeat.the_row T g ∷ TcpStream.the_row ∷ [])
+Attending T g ν r b R = TupleAt ν (ShrRef r.mir r.lft R ∷ ShrRef b.mir b.lft (Board.the_row T g) ∷ usize ∷ ReadSeat.the_row T g ∷ TcpStream.the_row ∷ [])
 
 module _ (T : RattleType) (g : ShareName.Ghosts T.Denot) (send : IsSend T) (sync : IsSync T) where
   News-send : IsSend (News.the_row T g)
@@ -45,5 +41,5 @@ module _ (T : RattleType) (g : ShareName.Ghosts T.Denot) (send : IsSend T) (sync
 
   pub attend_send : (ν : Sym) (r b : NamedLft) (R : RattleType) → IsSync R → IsSend (Attending T g ν r b R)
   attend_send ν r b R s =
-      captured_send ν (ShrRef r.mir r.lft R) Global.the_row (ShrRef b.mir b.lft (Board.the_row T g)) usize (ReadSeat.the_row T g) TcpStream.the_row
-      (shr_send r.mir r.lft R s) Global-send (shr_send b.mir b.lft (Board.the_row T g) Board-sync) usize-send (ReadSeat-send T g send sync) TcpStream-send
+      captured_send ν (ShrRef r.mir r.lft R) (ShrRef b.mir b.lft (Board.the_row T g)) usize (ReadSeat.the_row T g) TcpStream.the_row
+      (shr_send r.mir r.lft R s) (shr_send b.mir b.lft (Board.the_row T g) Board-sync) usize-send (ReadSeat-send T g send sync) TcpStream-send

@@ -335,7 +335,7 @@ fn serve_in_scope<
             let mut all = true;
             for (place, (seat, stream)) in seats.into_iter().zip(streams).enumerate() {
                 board.enter(rt);
-                let spawned = scope.spawn(move || attend(rt, alloc, board, place, seat, stream));
+                let spawned = scope.spawn(move || attend(rt, board, place, seat, stream));
                 if spawned.is_err() {
                     board.leave(rt, place, None);
                     all = false;

@@ -4,14 +4,13 @@ ghost use mathlib.Core.List.{IsPrefix};
 use crate::board::{Board, Gone, Numbers};
 use crate::parting::part;
 use flag_text::WriteOutlet;
-use snap_core::Snapshot;
 use snap_share::{Current, ReadSeat, ShareFault, ShareName, Told};
-use std::alloc::Global;
 use std::cell::Cell;
 use std::io::Write;
 use std::net::TcpStream;
 use std::sync::Wait;
 use std::time::Clock;
+use sync_frames::SharedSnapshot;
 use sync_server::{StreamEnd, serve_stream};
 
 /// The most turns of one stream.
@@ -29,9 +28,9 @@ impl<J: ShareName> Current for Learning<'_, J> {
 
     ghost known = { λ l. snapshots_of l.seat };
 
-    fn current(&mut self, alloc: Global) -> Result<Snapshot, ShareFault> {
+    fn current(&mut self) -> Result<SharedSnapshot, ShareFault> {
         self.learn();
-        self.seat.current(alloc)
+        self.seat.current()
     }
 }
 
@@ -51,13 +50,12 @@ impl<J: ShareName> Learning<'_, J> {
 /// Serves a subscriber over its connection until its stream ends, closes the connection, and says so on the board.
 pub(crate) fn attend<J: ShareName, R: Wait + Clock>(
     rt: &R,
-    alloc: Global,
     board: &Board<J>,
     place: usize,
     seat: ReadSeat<J>,
     stream: TcpStream,
 ) {
-    let (end, frames) = send(rt, alloc, board, seat, &stream);
+    let (end, frames) = send(rt, board, seat, &stream);
     let end = part(rt, stream, end);
     board.leave(rt, place, Some(Gone { end, frames }));
 }
@@ -65,7 +63,6 @@ pub(crate) fn attend<J: ShareName, R: Wait + Clock>(
 /// Sends a subscriber its stream, and answers why it ended and how many frames are whole.
 fn send<J: ShareName, R: Wait, W: Write + Drop>(
     rt: &R,
-    alloc: Global,
     board: &Board<J>,
     seat: ReadSeat<J>,
     stream: W,
@@ -74,5 +71,5 @@ fn send<J: ShareName, R: Wait, W: Write + Drop>(
     let mut current = Learning { seat, told: &told };
     let mut numbers = Numbers::new(rt, board, &told);
     let mut out = WriteOutlet::new(stream);
-    serve_stream(alloc, &mut current, &mut numbers, &mut out, MOST_TURNS)
+    serve_stream(&mut current, &mut numbers, &mut out, MOST_TURNS)
 }

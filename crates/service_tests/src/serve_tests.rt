@@ -127,6 +127,6 @@ fn serves<J: ShareName, R: Wait>(
         calls: 0,
         closed: false,
     };
-    let ended = serve_stream(alloc, &mut seat, &mut script, &mut out, limit);
+    let ended = serve_stream(&mut seat, &mut script, &mut out, limit);
     ended == (end, count) && out.bytes.len() == bytes && FRAMES.starts_with(out.bytes.as_slice())
 }

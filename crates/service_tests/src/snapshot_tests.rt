@@ -43,14 +43,10 @@ pub(crate) fn publishes<J: ShareName, R: Wait>(
 }
 
 /// Whether each seat reads a snapshot of this number, or has this fault.
-fn read<J: ShareName>(
-    alloc: Global,
-    seats: &mut [ReadSeat<J>],
-    want: Result<u64, ShareFault>,
-) -> bool {
+fn read<J: ShareName>(seats: &mut [ReadSeat<J>], want: Result<u64, ShareFault>) -> bool {
     for seat in seats.iter_mut() {
-        let number = match seat.current(alloc) {
-            Ok(snapshot) => Ok(snapshot.number),
+        let number = match seat.current() {
+            Ok(snapshot) => Ok(snapshot.number()),
             Err(fault) => Err(fault),
         };
         if number != want {
@@ -67,14 +63,14 @@ fn learn<J: ShareName, R: Wait>(
     publisher: &mut Publisher<J>,
     seats: &mut [ReadSeat<J>],
 ) -> bool {
-    if !read(alloc, seats, Ok(1)) || !publishes(rt, alloc, publisher, 2) {
+    if !read(seats, Ok(1)) || !publishes(rt, alloc, publisher, 2) {
         return false;
     }
     let told = publisher.tell();
     for seat in seats.iter_mut() {
         seat.learn(told.again());
     }
-    told.number() == 2 && read(alloc, seats, Ok(2))
+    told.number() == 2 && read(seats, Ok(2))
 }
 
 /// Whether this fault comes of sharing flags among so many seats: that of the refusal, or Closed where all seats read, learn,
@@ -95,7 +91,7 @@ fn comes_to<J: ShareName, R: Wait + Abort>(
             let has_learned = learn(rt, alloc, &mut publisher, &mut seats);
             publisher.close(rt);
             has_learned
-                && read(alloc, &mut seats, Err(ShareFault::Closed))
+                && read(&mut seats, Err(ShareFault::Closed))
                 && want == ShareFault::Closed
         }
         Err(fault) => fault == Some(want),

@@ -38,7 +38,7 @@ fn reads_of_eight<J: ShareName + Send + Sync, R: Threads + Wait + Abort + Sync>(
                 alloc,
                 publisher: &mut publisher,
             };
-            let good = read_beside(rt, alloc, seats, numbers);
+            let good = read_beside(rt, seats, numbers);
             publisher.close(rt);
             good == Some(8)
         }
@@ -75,7 +75,6 @@ impl<J: ShareName, R: Wait> Publishing for Numbers<'_, J, R> {
 /// was published.
 fn read_beside<J: ShareName + Send + Sync, R: Threads + Wait + Sync, P: Publishing + Drop>(
     rt: &R,
-    alloc: Global,
     seats: Vec<ReadSeat<J>>,
     publishing: P,
 ) -> Option<u64> {
@@ -89,7 +88,7 @@ fn read_beside<J: ShareName + Send + Sync, R: Threads + Wait + Sync, P: Publishi
         {
             for seat in seats {
                 let _handle = scope.spawn(move || {
-                    if goes_forward(alloc, seat) {
+                    if goes_forward(seat) {
                         shared.fetch_add(1, Ordering::SeqCst);
                     }
                 });
@@ -105,17 +104,18 @@ fn read_beside<J: ShareName + Send + Sync, R: Threads + Wait + Sync, P: Publishi
 }
 
 /// Reads until the last number has come, and says whether no number was below the one before.
-fn goes_forward<J: ShareName>(alloc: Global, seat: ReadSeat<J>) -> bool {
+fn goes_forward<J: ShareName>(seat: ReadSeat<J>) -> bool {
     let mut seat = seat;
     let mut last = 0;
     for _turn in 0..100_000_000 {
-        let Ok(snapshot) = seat.current(alloc) else {
+        let Ok(snapshot) = seat.current() else {
             return false;
         };
-        if snapshot.number < last {
+        let number = snapshot.number();
+        if number < last {
             return false;
         }
-        last = snapshot.number;
+        last = number;
         if last == LAST {
             return true;
         }

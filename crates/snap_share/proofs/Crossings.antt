@@ -16,6 +16,9 @@ use Rattle.logic_ast.specs.contracts.operator.Operator as Operator
 use Rattle.logic_ast.specs.contracts.expr.Expr as Expr
 use Rattle.flag_documents.specs.contracts.flag.Flag as Flag
 use Rattle.flag_defs.specs.contracts.flags.Flags as Flags
+use Rattle.snap_core.specs.contracts.snapshot.Snapshot as Snapshot
+use Rattle.sync_frames.specs.contracts.framed.FramedSnapshot as Framed
+use Rattle.sync_frames.specs.contracts.framed.FramedSnapshot.TheInside as FramedInside
 use Rattle.snap_share.specs.declared.history.ShareName as ShareName
 use Rattle.snap_share.specs.contracts.front.Front as Front
 use Rattle.snap_share.specs.contracts.front.Front.TheInside as FrontInside
@@ -102,6 +105,20 @@ Flag-send = search (sendable, crosses, Tree-send, Expr-send) depth 40
 pub Flags-send : IsSend Flags.the_row
 Flags-send = search (sendable, crosses, Flag-send) depth 40
 
+-- ---- so may a snapshot with its frame
+
+Snapshot-sync : IsSync Snapshot.the_row
+Snapshot-sync = declared_sync Snapshot.the_type (search (sendable, crosses) depth 20, (Flags-sync, tt))
+
+Snapshot-send : IsSend Snapshot.the_row
+Snapshot-send = declared_send Snapshot.the_type (search (sendable, crosses) depth 20, (Flags-send, tt))
+
+Framed-sync : IsSync Framed.the_row
+Framed-sync = view_sync _ _ _ _ _ (declared_sync FramedInside.the_type (Snapshot-sync, (search (sendable, crosses) depth 40, tt)))
+
+Framed-send : IsSend Framed.the_row
+Framed-send = view_send _ _ _ _ _ (declared_send FramedInside.the_type (Snapshot-send, (search (sendable, crosses) depth 40, tt)))
+
 -- ---- a seat, and what it is told
 
 module _ (T : RattleType) (g : ShareName.Ghosts T.Denot) (send : IsSend T) (sync : IsSync T) where
@@ -116,12 +133,12 @@ module _ (T : RattleType) (g : ShareName.Ghosts T.Denot) (send : IsSend T) (sync
       (declared_send (FrontInside.the_type T g) (search (sendable, crosses) depth 40, (seen.the_send _ _ _ law.ghosts, (search (sendable, crosses) depth 40, tt))))
 
   Stamp-sync : IsSync (Stamp.the_row T g)
-  Stamp-sync = view_sync _ _ _ _ _ (declared_sync (StampInside.the_type T g) (search (sendable, crosses, Flags-send, Flags-sync) depth 40, (Front-sync, tt)))
+  Stamp-sync = view_sync _ _ _ _ _ (declared_sync (StampInside.the_type T g) (search (sendable, crosses, Framed-send, Framed-sync) depth 40, (Front-sync, tt)))
 
   pub ReadSeat-send : IsSend (ReadSeat.the_row T g)
   ReadSeat-send =
       view_send _ _ _ _ _
-      (declared_send (SeatInside.the_type T g) (search (sendable, crosses, Stamp-sync, part.the_send, part.the_sync, place.the_send, shared.the_send, shared.the_sync, lease.the_send, lease.the_sync) depth 80, (Front-send, tt)))
+      (declared_send (SeatInside.the_type T g) (search (sendable, crosses, Stamp-sync, part.the_send, place.the_send, shared.the_send, shared.the_sync, lease.the_send, lease.the_sync) depth 80, (Front-send, tt)))
 
   -- what was told goes with a lock from thread to thread
   pub Told-send : IsSend (Told.the_row T g)

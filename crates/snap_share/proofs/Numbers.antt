@@ -1,14 +1,12 @@
 -- Published flags and their numbers.
-use Rattle.std.proofs.Common.{◌≡◌, ℕ, ◌+◌, List, [], ◌∷◌, ◌++◌, length, Contains, refl, ap, ap₂, sym, subst, ◌∙◌, arith, length-append, Some, Result, Ok, Err, IfOk}
+use Rattle.std.proofs.Common.{◌≡◌, ℕ, ◌+◌, List, [], ◌∷◌, ◌++◌, length, Contains, refl, ap, sym, subst, ◌∙◌, arith, length-append, Some, Result, Ok, Err, IfOk}
 use Rattle.std.proofs.lemmas.List.Elements.{Contains-append_right}
 use mathlib.Core.List.{IsPrefix}
-use Rattle.flag_documents.specs.Document.{Definitions}
-use Rattle.flag_defs.specs.Flags.{flags_view}
 use Rattle.flag_defs.specs.declared.flags.Flags.{Flags}
 use Rattle.snap_core.specs.Hub.{Numbered}
 use Rattle.snap_core.specs.HubView.{snapshot_view}
 use Rattle.snap_core.specs.declared.snapshot.Snapshot.{Snapshot}
-use Rattle.snap_share.specs.Known.{IsLastOf, last_of, numbered, numbered_from, snapshots_of}
+use Rattle.snap_share.specs.Known.{IsLastOf, IsSnapshotOf, last_of, numbered, numbered_from, snapshots_of}
 use Rattle.snap_share.specs.Lists.{StartsWith}
 use Rattle.snap_share.specs.declared.fault.ShareFault.{ShareFault}
 
@@ -39,10 +37,17 @@ is_known xs s (f, last, is) =
     let all : snapshots_of xs ≡ snapshots_of r.0 ++ numbered (1 + length r.0) f ∷ [] = ap snapshots_of r.1 ∙ numbered_append 1 r.0 (f ∷ []) in
     subst (λ (l : List Numbered). Contains l s) (sym all) (Contains-append_right (snapshots_of r.0) (numbered (1 + length r.0) f ∷ []) s (0, omega arith, sym here))
 
-pub answer_known : (r : Result Snapshot ShareFault) (xs : List Flags) → IfOk r (λ s. IsLastOf xs (snapshot_view s)) → IfOk r (λ s. Contains (snapshots_of xs) (snapshot_view s))
-answer_known (Ok s) xs h = is_known xs (snapshot_view s) h
-answer_known (Err e) xs h = tt
+pub answer_known : {X : Type 0} (view : X → Snapshot) (r : Result X ShareFault) (xs : List Flags) → IfOk r (λ s. IsLastOf xs (snapshot_view (view s))) → IfOk r (λ s. Contains (snapshots_of xs) (snapshot_view (view s)))
+answer_known view (Ok s) xs h = is_known xs (snapshot_view (view s)) h
+answer_known view (Err e) xs h = tt
 
--- a copy of the last flags, with their number
-pub is_last : (xs : List Flags) (f : Flags) (n : ℕ) (copy : Definitions) → last_of xs ≡ Some f → n ≡ length xs → copy ≡ flags_view f → IsLastOf xs (record { number = n; flags = copy })
-is_last xs f n copy last number same = (f, last, ap₂ (λ (k : ℕ) (d : Definitions). record { number = k; flags = d }) number same)
+-- a snapshot of the last flags is the last of the snapshots
+pub is_last : (xs : List Flags) (s : Snapshot) → IsSnapshotOf xs s → IsLastOf xs (snapshot_view s)
+is_last xs s is = (s.flags, is.last, ap (λ (k : ℕ). numbered k s.flags) is.number)
+
+-- a snapshot of flags that were put behind others
+pub snapshot_of_snoc : (xs : List Flags) (s : Snapshot) → s.number ≡ length xs + 1 → IsSnapshotOf (xs ++ s.flags ∷ []) s
+snapshot_of_snoc xs s number = record { last = last_of_snoc xs s.flags; number = omega (arith, number, length-append xs (s.flags ∷ [])) }
+
+pub first_snapshot : (s : Snapshot) → s.number ≡ 1 → IsSnapshotOf (s.flags ∷ []) s
+first_snapshot s number = snapshot_of_snoc [] s number

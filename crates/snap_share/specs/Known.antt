@@ -3,6 +3,7 @@ use Rattle.std.specs.Prelude.{◌≡◌, ℕ, ◌+◌, List, [], ◌∷◌, leng
 use Rattle.flag_defs.specs.Flags.{flags_view}
 use Rattle.flag_defs.specs.declared.flags.Flags.{Flags}
 use Rattle.snap_core.specs.Hub.{Numbered}
+use Rattle.snap_core.specs.declared.snapshot.Snapshot.{Snapshot}
 
 abbrev pub last_of : {X : Type 0} → List X → Option X
 last_of [] = None
@@ -23,3 +24,8 @@ snapshots_of published = numbered_from 1 published
 -- the snapshot is the last of these: its number is their length
 abbrev pub IsLastOf : List Flags → Numbered → Type 0
 IsLastOf published s = (f : Flags) × (last_of published ≡ Some f) × (s ≡ numbered (length published) f)
+
+-- the snapshot has the last of these flags, and their length as its number
+pub record IsSnapshotOf (published : List Flags) (s : Snapshot) : Type 0 where
+  pub last : last_of published ≡ Some s.flags
+  pub number : s.number ≡ length published

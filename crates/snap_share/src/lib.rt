@@ -1,7 +1,8 @@
 //! The current snapshot, for many readers that never go back, and one publisher.
 //!
-//! [`share`] makes a [`Publisher`] and [`ReadSeat`]s. The current flags lie in two copies (`left_right`): reading takes no
-//! lock and waits for nobody, publishing waits for readers that still copy. What a publisher [`Publisher::tell`]s, a seat
+//! [`share`] makes a [`Publisher`] and [`ReadSeat`]s. The current snapshot with its frame, made once, is shared by two stamps
+//! (`left_right`) and all who read it: reading takes no lock, copies no flags and waits for nobody, publishing waits for
+//! readers that still take the stamp. What a publisher [`Publisher::tell`]s, a seat
 //! can [`ReadSeat::learn`], and from then on sees no less.
 //!
 //! ```rust
@@ -14,7 +15,7 @@
 //!     let mut seen = 0;
 //!     for seat in seats.iter_mut() {
 //!         seat.learn(publisher.tell());
-//!         seen = seat.current(alloc).map_or(0, |snapshot| snapshot.number);    // no less than what was told
+//!         seen = seat.current().map_or(0, |snapshot| snapshot.number());    // no less than what was told
 //!     }
 //!     publisher.close(rt);    // a publisher ends here alone
 //!     published?;

@@ -12,10 +12,12 @@ use core::mem::replace_with;
 use crossbeam_utils::rule::Unruled;
 use flag_defs::Flags;
 use left_right::Absorb;
+use snap_core::Snapshot;
 use std::alloc::{AllocError, Global};
 use std::marker::Model;
 use std::rc::Rc;
 use std::sync::{Arc, Wait};
+use sync_frames::FramedSnapshot;
 
 /// Publishes flags. Contracts see it as the history up to the stamp that readers are shown. It is not dropped, but closed.
 pub struct Publisher<J: ShareName>
@@ -65,7 +67,7 @@ where
 
     /// Publishes flags behind all others, and answers their number. It is refused with LastNumber where no number is left,
     /// and then nothing was published; else with WantOfMemory, or with Closed where another has added to the history, which
-    /// no publisher does, or the copies did not take the flags. It waits for readers that still copy what was published before the last.
+    /// no publisher does, or the copies did not take the flags. Their frame is made here, for all who read them. It waits for readers that still copy what was published before the last.
     pub fn publish<R: Wait>(
         &mut self,
         rt: &R,
@@ -83,7 +85,7 @@ where
         self.publish_next(rt, alloc, flags)
     }
 
-    #[tactic(auto, using(crate::proofs::Numbers::last_of_snoc))]
+    #[tactic(auto, using(crate::proofs::Numbers::snapshot_of_snoc))]
     /// Publishes flags where a number is left. All that can run out of memory is done before the history grows.
     fn publish_next<R: Wait>(
         &mut self,
@@ -97,16 +99,18 @@ where
         ensures other { IfErr result (λ fault. fault ≢ ShareFault.LastNumber) }
         ensures faults { IfErr result (λ fault. is_of_publish fault ≡ true) }
     {
-        let first = Arc::new(alloc, flags)?;
+        let number = self.front().len() + 1;
+        let framed = FramedSnapshot::make(alloc, Snapshot { number, flags })?;
+        let first = Arc::new(alloc, framed)?;
         let second = Arc::try_clone(&first)?;
         let places = Rc::new(alloc, Places::empty())?;
         let mut front = self.front().again();
         let operation = Handover {
-            number: front.len() + 1,
+            number,
             places: places.clone()?,
         };
         hand_over(&mut self.writer, operation)?;
-        if !front.add(&self.head, &first) {
+        if !front.add(&self.head, first.flags()) {
             return Err(ShareFault::Closed);
         }
         places.first.set(Some(Stamp::of(first, front.again())));

@@ -1,6 +1,7 @@
 //! The seats that read.
 ghost use Rattle.std.specs.Prelude.{◌≡◌, true, Contains, IfErr, IfOk};
 ghost use mathlib.Core.List.{IsPrefix};
+ghost use Rattle.std.specs.Arc.{arc_value};
 ghost use Rattle.snap_core.specs.HubView.{snapshot_view};
 ghost use Rattle.snap_share.specs.Fault.{is_of_current};
 ghost use Rattle.snap_share.specs.Known.{IsLastOf, snapshots_of};
@@ -14,9 +15,8 @@ use crate::history::ShareName;
 use crate::publisher::Told;
 use crate::stamp::Stamp;
 use core::mem::replace_with;
-use snap_core::Snapshot;
-use std::alloc::Global;
 use std::marker::Model;
+use sync_frames::SharedSnapshot;
 
 /// Reads the current snapshot, and never goes back. Contracts see it as the published flags that it knows.
 #[derive(Drop)]
@@ -58,9 +58,9 @@ impl<J: ShareName> ReadSeat<J> {
     }
 
     /// The current snapshot, the last of what the seat then knows.
-    fn read_on(&mut self, alloc: Global) -> Result<Snapshot, ShareFault>
+    fn read_on(&mut self) -> Result<SharedSnapshot, ShareFault>
         ensures forward { IsPrefix self.old self.new }
-        ensures last { IfOk result (λ s. IsLastOf self.new (snapshot_view s)) }
+        ensures last { IfOk result (λ s. IsLastOf self.new (snapshot_view (arc_value s))) }
         ensures faults { IfErr result (λ fault. is_of_current fault ≡ true) }
     {
         let stamp = self.read_stamp()?;
@@ -68,7 +68,7 @@ impl<J: ShareName> ReadSeat<J> {
             return Err(ShareFault::Closed);
         }
         self.known = stamp.front().again();
-        Ok(stamp.snapshot(alloc)?)
+        Ok(stamp.into_snapshot())
     }
 
     /// What the copies show.
@@ -90,14 +90,14 @@ impl<J: ShareName> Current for ReadSeat<J> {
     ghost known = { λ seat. snapshots_of seat };
 
     /// The current snapshot: the last of what the seat then knows. It is refused with Closed where the publisher was given
-    /// up, and with WantOfMemory; what the seat knows may then have grown.
-    fn current(&mut self, alloc: Global) -> Result<Snapshot, ShareFault>
+    /// up, and with WantOfMemory where too many share it; what the seat knows may then have grown.
+    fn current(&mut self) -> Result<SharedSnapshot, ShareFault>
         ensures forward { IsPrefix self.old self.new }
-        ensures last { IfOk result (λ s. IsLastOf self.new (snapshot_view s)) }
+        ensures last { IfOk result (λ s. IsLastOf self.new (snapshot_view (arc_value s))) }
         ensures grows { StartsWith (snapshots_of self.new) (snapshots_of self.old) }
-        ensures known { IfOk result (λ s. Contains (snapshots_of self.new) (snapshot_view s)) }
+        ensures known { IfOk result (λ s. Contains (snapshots_of self.new) (snapshot_view (arc_value s))) }
         ensures faults { IfErr result (λ fault. is_of_current fault ≡ true) }
     {
-        self.read_on(alloc)
+        self.read_on()
     }
 }

@@ -11,8 +11,10 @@ use crate::seat::ReadSeat;
 use crate::stamp::Stamp;
 use flag_defs::Flags;
 use left_right::writer::Writer;
+use snap_core::Snapshot;
 use std::alloc::Global;
 use std::sync::{Arc, Wait};
+use sync_frames::FramedSnapshot;
 
 /// The most seats.
 const MOST_SEATS: usize = 64;
@@ -44,7 +46,7 @@ pub fn share<J: ShareName, R: Wait>(
 }
 
 /// Shares flags among a right number of seats.
-#[tactic(auto, using(crate::proofs::Numbers::last_of_snoc))]
+#[tactic(auto, using(crate::proofs::Numbers::first_snapshot))]
 fn share_among<J: ShareName, R: Wait>(
     rt: &R,
     alloc: Global,
@@ -59,10 +61,11 @@ fn share_among<J: ShareName, R: Wait>(
     ensures published { IfOk result (λ r. r.0 ≡ flags ∷ []) }
     ensures seats { IfOk result (λ r. (vec_len r.1 ≡ seats) × All (λ seat. seat ≡ flags ∷ []) r.1.items) }
 {
-    let first = Arc::new(alloc, flags)?;
+    let framed = FramedSnapshot::make(alloc, Snapshot { number: 1, flags })?;
+    let first = Arc::new(alloc, framed)?;
     let second = Arc::try_clone(&first)?;
     let (head, mut front) = history.named::<J>();
-    if !front.add(&head, &first) {
+    if !front.add(&head, first.flags()) {
         return Err(ShareFault::NoReader);
     }
     let first = Stamp::of(first, front.again());

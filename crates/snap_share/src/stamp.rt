@@ -1,32 +1,31 @@
-//! What readers take: flags, and the history whose last they are.
-ghost use Rattle.std.specs.Prelude.{◌≡◌, length, Some, IfOk};
+//! What readers take: a snapshot, and the history whose last its flags are.
+ghost use Rattle.std.specs.Prelude.{◌≡◌, length, IfOk};
 ghost use Rattle.std.specs.Bool.{MatchBool};
 ghost use Rattle.std.specs.Arc.{arc_value};
 ghost use Rattle.snap_core.specs.HubView.{snapshot_view};
-ghost use Rattle.snap_share.specs.Known.{IsLastOf, last_of};
+ghost use Rattle.snap_share.specs.Known.{IsLastOf, IsSnapshotOf};
 
 use crate::front::Front;
 use crate::history::ShareName;
-use flag_defs::Flags;
-use snap_core::Snapshot;
-use std::alloc::{AllocError, Global};
+use std::alloc::AllocError;
 use std::marker::Model;
 use std::sync::Arc;
+use sync_frames::SharedSnapshot;
 
-/// Published flags, with the history up to them. Contracts see it as that history.
+/// A published snapshot, with the history up to its flags. Contracts see it as that history.
 #[derive(Drop)]
 pub struct Stamp<J: ShareName> {
-    flags: Arc<Flags>,
+    snapshot: SharedSnapshot,
     front: Front<J>,
 }
 
 impl<J: ShareName> Model for Stamp<J> {
-    ghost use Rattle.std.specs.Prelude.{◌≡◌, List, Some};
+    ghost use Rattle.std.specs.Prelude.{List};
     ghost use Rattle.std.specs.Arc.{arc_value};
     ghost use Rattle.flag_defs.specs.declared.flags.Flags.{Flags};
     ghost use Rattle.flag_defs.specs.contracts.flags.Flags as entry;
     ghost use Rattle.std.specs.Coded.{codes};
-    ghost use Rattle.snap_share.specs.Known.{last_of};
+    ghost use Rattle.snap_share.specs.Known.{IsSnapshotOf};
 
     ghost Value = { List Flags };
 
@@ -34,23 +33,23 @@ impl<J: ShareName> Model for Stamp<J> {
 
     ghost view = { λ stamp. stamp.front };
 
-    ghost invariant = { λ stamp. last_of stamp.front ≡ Some (arc_value stamp.flags) };
+    ghost invariant = { λ stamp. IsSnapshotOf stamp.front (arc_value stamp.snapshot) };
 }
 
 impl<J: ShareName> Stamp<J> {
-    pub(crate) fn of(flags: Arc<Flags>, front: Front<J>) -> Stamp<J>
-        requires { last_of front ≡ Some (arc_value flags) }
+    pub(crate) fn of(snapshot: SharedSnapshot, front: Front<J>) -> Stamp<J>
+        requires { IsSnapshotOf front (arc_value snapshot) }
         ensures { result ≡ front }
     {
-        Stamp { flags, front }
+        Stamp { snapshot, front }
     }
 
     /// The same, once more.
     pub(crate) fn another(&self) -> Result<Stamp<J>, AllocError>
         ensures { IfOk result (λ s. s ≡ self.now) }
     {
-        let flags = Arc::try_clone(&self.flags)?;
-        Ok(Stamp::of(flags, self.front.again()))
+        let snapshot = Arc::try_clone(&self.snapshot)?;
+        Ok(Stamp::of(snapshot, self.front.again()))
     }
 
     /// Takes the place of this one where it is there and has this number, and says whether it did.
@@ -73,14 +72,14 @@ impl<J: ShareName> Stamp<J> {
         &self.front
     }
 
-    /// The flags with their number.
-    pub(crate) fn snapshot(&self, alloc: Global) -> Result<Snapshot, AllocError>
-        ensures { IfOk result (λ s. IsLastOf self.now (snapshot_view s)) }
+    /// The snapshot.
+    pub(crate) fn into_snapshot(self) -> SharedSnapshot
+        ensures { IsLastOf self (snapshot_view (arc_value result)) }
     {
-        let flags = self.flags.copy(alloc)?;
-        Ok(Snapshot {
-            number: self.front.len(),
-            flags,
-        })
+        let Stamp {
+            snapshot,
+            front: _front,
+        } = self;
+        snapshot
     }
 }

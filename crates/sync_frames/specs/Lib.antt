@@ -1,5 +1,6 @@
 pub mod Fault
 pub mod Feed
+pub mod Framed
 pub mod Frames
 pub mod Header
 pub mod Received

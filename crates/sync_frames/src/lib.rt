@@ -1,8 +1,8 @@
 //! Frames: how numbered snapshots of flags travel in a stream of bytes.
 //!
 //! A frame is how many bytes follow in 4 bytes, a snapshot's number in 8, and the flags as a document; both numbers have
-//! their high byte first. [`write_frame`] writes one. A [`Feed`] is given a stream in pieces, cut anywhere, and answers
-//! each [`snap_core::Snapshot`] with the piece that has the last byte of its frame.
+//! their high byte first. [`write_frame`] writes one, a [`FramedSnapshot`] keeps it for all who send it. A [`Feed`] is given a
+//! stream in pieces, cut anywhere, and answers each [`snap_core::Snapshot`] with the piece that has the last byte of its frame.
 //!
 //! ```rust
 //! use flag_defs::read_flags;
@@ -20,6 +20,7 @@
 //! What is proved, over the definitions in `specs/`:
 //! - A stream is one front, the frames of as many snapshots as can be with numbers that rise strictly, and a rest, which
 //!   may show a fault: a length that no frame has, a number that does not rise, a document that is refused (`Frames`).
+//! - A [`FramedSnapshot`] keeps the frame of its snapshot, which reads back as that (`Framed`).
 //! - [`Feed::feed`] speaks of the whole stream that the feed was given, and not of the piece: it answers the snapshots whose
 //!   frames have become whole, or else the fault that the rest shows, or else nothing; after a fault it stays failed
 //!   (`Feed`). Where memory runs out it is as it was, and the piece can be given again.
@@ -29,6 +30,7 @@
 
 mod fault;
 mod feed;
+mod framed;
 mod header;
 mod laws;
 mod received;
@@ -37,5 +39,6 @@ mod write;
 
 pub use fault::FrameFault;
 pub use feed::Feed;
+pub use framed::{FramedSnapshot, SharedSnapshot};
 pub use laws::streams_give_what_was_sent;
 pub use write::write_frame;

@@ -9,10 +9,7 @@ ghost use Rattle.sync_server.specs.Served.{SendsLast, SendsOn, Serves, Wrote};
 use crate::end::StreamEnd;
 use crate::next::NextNumber;
 use flag_text::Outlet;
-use snap_core::Snapshot;
 use snap_share::{Current, ShareFault};
-use std::alloc::Global;
-use sync_frames::write_frame;
 
 /// What was written of a stream: the last number, 0 at first, and how many frames.
 #[derive(Clone, Copy)]
@@ -24,9 +21,9 @@ struct Progress {
 /// Writes frames of the current snapshot until the numbers are closed, a write fails, the current snapshot can't be read,
 /// memory runs out, or `limit` turns were taken, which is told before another number is asked for; answers why, and how many
 /// whole frames were written. A turn asks for a number above the last one that was written, 0 at first, reads the current
-/// snapshot, and writes its frame where its number is above the last. The conditions are numbers that are not closed and an outlet that is not broken.
+/// snapshot, and writes its frame, which all who serve it share, where its number is above the last. The conditions are
+/// numbers that are not closed and an outlet that is not broken.
 pub fn serve_stream<C: Current, N: NextNumber, O: Outlet>(
-    alloc: Global,
     current: &mut C,
     next: &mut N,
     out: &mut O,
@@ -43,7 +40,7 @@ pub fn serve_stream<C: Current, N: NextNumber, O: Outlet>(
         if next.next(progress.last).is_none() {
             return (StreamEnd::Closed, progress.count);
         }
-        match take_turn(alloc, current, out, &mut progress) {
+        match take_turn(current, out, &mut progress) {
             None => {}
             Some(end) => return (end, progress.count),
         }
@@ -53,7 +50,6 @@ pub fn serve_stream<C: Current, N: NextNumber, O: Outlet>(
 
 /// Writes the current snapshot where it is newer than the last, and says why the stream ends, if it does.
 fn take_turn<C: Current, O: Outlet>(
-    alloc: Global,
     current: &mut C,
     out: &mut O,
     progress: &mut Progress,
@@ -69,7 +65,7 @@ fn take_turn<C: Current, O: Outlet>(
     ensures limit { IfSome result (λ end. is_limit_end end ≡ false) }
     ensures broken { IfSome result (λ end. O.is_broken out.new ≡ is_write_fault end) }
 {
-    match write_newer(alloc, current, out, progress.last) {
+    match write_newer(current, out, progress.last) {
         Ok(Some(number)) => {
             progress.last = number;
             progress.count += 1;
@@ -82,7 +78,6 @@ fn take_turn<C: Current, O: Outlet>(
 
 /// Writes the frame of the current snapshot where its number is above the last, and answers that number.
 fn write_newer<C: Current, O: Outlet>(
-    alloc: Global,
     current: &mut C,
     out: &mut O,
     last: u64,
@@ -94,19 +89,17 @@ fn write_newer<C: Current, O: Outlet>(
     ensures limit { IfErr result (λ end. is_limit_end end ≡ false) }
     ensures broken { MatchResult result (λ _. O.is_broken out.new ≡ false) (λ end. O.is_broken out.new ≡ is_write_fault end) }
 {
-    let snapshot = match current.current(alloc) {
+    let snapshot = match current.current() {
         Ok(snapshot) => snapshot,
         Err(ShareFault::WantOfMemory) => return Err(StreamEnd::WantOfMemory),
         Err(_) => return Err(StreamEnd::ReadSeatFault),
     };
-    if snapshot.number <= last {
+    let number = snapshot.number();
+    if number <= last {
         return Ok(None);
     }
-    let Ok(frame) = write_frame(alloc, &snapshot) else {
-        return Err(StreamEnd::WantOfMemory);
-    };
-    if write_all(out, frame.as_slice()) {
-        Ok(Some(snapshot.number))
+    if write_all(out, snapshot.frame()) {
+        Ok(Some(number))
     } else {
         Err(StreamEnd::WriteFault)
     }

@@ -1,19 +1,23 @@
-use Rattle.std.proofs.Common.{arith, take, ◌∙◌}
+use Rattle.std.proofs.Common.{ap, arith, subst, take}
+use Rattle.std.specs.Arc.{arc_value}
 use Rattle.flag_documents.specs.Document.{printed}
 use Rattle.flag_defs.specs.Flags.{flags_view}
 use Rattle.snap_core.specs.HubView.{snapshot_view}
+use Rattle.snap_core.specs.declared.snapshot.Snapshot.{Snapshot}
+use Rattle.sync_frames.specs.Framed.{IsFrameOf}
 use Rattle.sync_server.proofs.Serving.{begins}
 use Rattle.sync_server.proofs.serve.write_newer.Goals as goal
 
 pub returns-clause-wrote : goal.returns-clause-wrote
 returns-clause-wrote g c =
-    let s = c.in-Ok.snapshot in
-    let bytes = c.as_slice.result.now in
+    let s = arc_value c.in-Ok.snapshot in
+    let bytes = c.frame.result.now in
+    let framed = subst (λ (x : Snapshot). IsFrameOf (snapshot_view x) bytes) c.deref-2.ensures c.frame.ensures in
     let b = c.if-write_all.ensures.bytes in (
       snapshot_view s,
       take b.0 bytes,
       c.in-Ok.ensures.known,
-      omega (arith, c.if-snapshot-last.false),
-      begins (snapshot_view s) (printed (flags_view s.flags)) bytes b.0 c.in-Ok-write_frame.ensures.reads_back (c.as_slice.ensures.value ∙ c.in-Ok-write_frame.ensures.frame) b.1,
+      omega (arith, c.if-number-last.false, c.number-number.ensures, ap (λ (x : Snapshot). x.number) c.deref.ensures),
+      begins (snapshot_view s) (printed (flags_view s.flags)) bytes b.0 framed.is_document framed.whole b.1,
       b.2,
     )
