@@ -1,5 +1,0 @@
-pub use Rattle.ofrep_answers.specs.Answer
-pub mod Asked
-pub mod Notes
-pub mod Sent
-pub mod Answers
