@@ -93,6 +93,9 @@ MISTAKES = [
     "serve 8013 65 d",
     "serve 8013 -1 d",
     "serve 8013 1 d --fast",
+    "serve 8013 1 d --wait",
+    "serve 8013 1 d --wait -1",
+    "serve 8013 1 d --wait 86401",
     "follow",
     "follow 8013",
     "follow 0 1000",
@@ -102,6 +105,7 @@ MISTAKES = [
     "follow 8013 many",
     "follow 8013 1000 d",
     "follow 8013 1000 --fast",
+    "follow 8013 1000 --wait x",
 ]
 
 
@@ -134,14 +138,14 @@ class Streams(unittest.TestCase):
         self.addCleanup(child.kill)
         return child
 
-    def serve(self, subscribers, *documents):
+    def serve(self, subscribers, *documents, wait="0"):
         """A server of these documents, once it listens on the port that it was given, and that port."""
         names = [f"{place}.json" for place in range(1, len(documents) + 1)]
         for name, text in zip(names, documents):
             with open(os.path.join(self.folder, name), "w", encoding="utf-8") as file:
                 file.write(text)
         port = free_port()
-        server = self.start("serve", port, str(subscribers), *names)
+        server = self.start("serve", port, str(subscribers), *names, "--wait", wait)
         self.assertIn(f"127.0.0.1:{port},", server.stderr.readline())
         return server, port
 
@@ -286,6 +290,37 @@ class Streams(unittest.TestCase):
         told = self.assert_ends(server, "refused set 4 Refused 1 NotJson\n", 1)
         self.assertIn('error: "2.json" is no JSON: ', told)
         self.assertTrue(told.endswith("  the subscribers have what was published before it\n"), told)
+
+    def test_a_first_document_is_refused_before_anybody_is_waited_for(self):
+        with open(os.path.join(self.folder, "d"), "w", encoding="utf-8") as file:
+            file.write('{"flags":{},\n')
+        told = self.assert_ends(self.start("serve", free_port(), "1", "d"), "refused set 4 Refused 1 NotJson\n", 1)
+        self.assertTrue(told.startswith('error: "d" is no JSON: '), told)
+
+    def test_who_does_not_come_in_time(self):
+        """Those who have come are served, and the others are counted; where none has come there is nobody to serve."""
+        server, port = self.serve(3, ONE, wait="1")
+        self.assertEqual([number for number, _ in self.received(port)], [1])
+        self.assert_ends(server, "refused serve 1 Unserved 2\n", 1)
+        server, _ = self.serve(2, ONE, wait="1")
+        self.assert_ends(server, "refused accept 1 NoConnection\n", 1)
+
+    def test_who_reads_nothing_in_time(self):
+        """Its stream is cut, since 4 MB are more than the system keeps for it, and the others have the last snapshot."""
+        flag = {"state": "ENABLED", "variants": {"v": "value" * 830_000}}
+        server, port = self.serve(2, json.dumps({"flags": {"a": flag}}), wait="1")
+        with socket.create_connection(("127.0.0.1", int(port)), SECONDS):
+            self.assertEqual([number for number, _ in self.received(port)], [1])
+            self.assert_ends(server, "refused serve 1 Unserved 1\n", 1)
+
+    def test_a_silent_server(self):
+        listener, port = listening()
+        with listener:
+            follower = self.start("follow", port, "1000", "--wait", "1")
+            stream, _ = listener.accept()
+            with stream:
+                stream.sendall(FRAME)
+                self.assert_ends(follower, "snapshot 1 flags 0\nstopped ReadFault\n", 1)
 
     def test_a_port_in_use(self):
         listener, port = listening()

@@ -6,9 +6,11 @@
 `serve` has one subscriber that reads all, and others that send, read nothing, reset or close at each byte, or come by hundreds: the
 one gets the last snapshot, and the server ends with `published N`, or tells of those that were not served. `follow` is sent each prefix of a stream, and reset behind it,
 random bytes, frames of each wrong kind, a byte a second, long frames by the hundred, a length of 4 GB, or nothing until it closes.
+With `--wait` a subscriber that reads nothing or does not come is not served, however many there are, and a server that is silent
+is left; 64 subscribers of a document of 4 MB take less than 400 MB together.
 COUNT bounds the places of each kind, spread over all, and is the number of random streams (100 where it is not given). A run is bad
-where it prints or ends otherwise, is ended by a signal, goes on 10 seconds behind the last byte, or takes more than 500 MB.
-2,893 cases took 35 seconds of a busy machine. The last line is 'N cases, M bad'; ends with 1 where M is not 0."""
+where it prints or ends otherwise, is ended by a signal, goes on 10 seconds behind the last byte (with `--wait` 10 seconds more), or
+takes more than 500 MB. 2,893 cases without `--wait` took 35 seconds of a busy machine. The last line is 'N cases, M bad'; ends with 1 where M is not 0."""
 import json
 import os
 import random
@@ -49,9 +51,9 @@ def started(words, **how):
     return CHILDREN[-1]
 
 
-def ended(child):
-    """How a run ends within 10 seconds: its status (nothing where it went on), what it printed, kilobytes."""
-    timer = threading.Timer(SECONDS, child.kill)
+def ended(child, seconds=SECONDS):
+    """How a run ends within these seconds: its status (nothing where it went on), what it printed, kilobytes."""
+    timer = threading.Timer(seconds, child.kill)
     timer.start()
     out = child.stdout.read().decode(errors="replace")
     _, status, usage = os.wait4(child.pid, 0)
@@ -83,7 +85,7 @@ def taken(stream, count=None):
 class Server:
     """A `serve` of documents for some subscribers, which listens."""
 
-    def __init__(self, folder, seats, documents):
+    def __init__(self, folder, seats, documents, wait=0):
         with socket.socket() as probe:
             probe.bind(("127.0.0.1", 0))
             self.port = probe.getsockname()[1]
@@ -92,7 +94,8 @@ class Server:
             write(folder, name, text)
         self.told = os.path.join(folder, "told")
         with open(self.told, "wb") as told:
-            self.child = started(["serve", str(self.port), str(seats), *names], cwd=folder, stderr=told)
+            waits = ["--wait", str(wait)] if wait else []
+            self.child = started(["serve", str(self.port), str(seats), *names, *waits], cwd=folder, stderr=told)
         while os.path.getsize(self.told) == 0 and self.child.poll() is None:
             time.sleep(0.002)
 
@@ -172,13 +175,88 @@ def serve_cases(folder, count):
     yield "subscribers by hundreds go", 63, served(folder, documents, 63, lambda stream: closed(stream, True))
 
 
-def followed(sends, turns=1000):
+def waited(folder, document, seats, mute, good):
+    """What is bad about a `serve` with `--wait 2` of which `good` subscribers read all, `mute` come and read nothing, and the others
+    of the seats do not come; nothing where each good one has the last snapshot and the others are told as not served."""
+    server, why = Server(folder, seats, [document], 2), []
+    readers = [server.connect() for _ in range(good)]
+    silent = [server.connect() for _ in range(mute)]
+    for reader in readers:
+        try:
+            gets_the_last([document])(reader)
+        except OSError as fault:
+            why.append(f"a good subscriber met: {fault}")
+        reader.close()
+    end = ended(server.child, 2 * SECONDS + 2)
+    for stream in silent:
+        stream.close()
+    wanted = "refused accept 1 NoConnection\n" if good + mute == 0 else f"refused serve 1 Unserved {seats - good}\n"
+    if end[:2] != (1, wanted) or end[2] > KILOBYTES:
+        why.append(f"{end}")
+    return "; ".join(why)
+
+
+def highest(pid):
+    """The most memory that a process that runs has had, in kilobytes."""
+    with open(f"/proc/{pid}/status", encoding="ascii") as status:
+        return int(re.search(r"VmHWM:\s+(\d+) kB", status.read()).group(1))
+
+
+def held(folder, document, seats):
+    """What is bad about the memory of a `serve` of a document to so many subscribers that all read it, or nothing."""
+    server = Server(folder, seats, [document], 60)
+    streams, found = [server.connect() for _ in range(seats)], []
+    readers = [threading.Thread(target=lambda stream=stream: found.append(last_of(taken(stream)))) for stream in streams]
+    for reader in readers:
+        reader.start()
+    for reader in readers:
+        reader.join()
+    kilobytes = highest(server.child.pid)
+    for stream in streams:
+        stream.close()
+    end = ended(server.child)
+    is_good = end[:2] == (0, "published 1\n") and found == [1] * seats and kilobytes < 400_000
+    return None if is_good else f"{end}, {kilobytes} KB, {Counter(found)}"
+
+
+def wait_cases(folder):
+    """The kinds of those who keep one waiting, with what is bad about a run with `--wait` beside each."""
+    large = flags(1, LARGE - 200)
+    yield "--wait: subscribers read nothing", "3 of 4", waited(folder, large, 4, 3, 1)
+    yield "--wait: subscribers read nothing", "63 of 64", waited(folder, large, 64, 63, 1)
+    yield "--wait: hundreds read nothing", "300 for 64 seats", crowded(folder, large)
+    yield "--wait: subscribers do not come", "2 of 3", waited(folder, flags(1), 3, 0, 1)
+    yield "--wait: subscribers do not come", "3 of 3", waited(folder, flags(1), 3, 0, 0)
+    yield "--wait: a silent server", "", judged(followed(lambda stream: time.sleep(3), wait=1), "stopped ReadFault\n")
+    frames = [frame(number, flags(1)) for number in (1, 2, 3)]
+    slow = lambda stream: [(stream.sendall(text), time.sleep(1)) for text in frames]
+    lines = "".join(f"snapshot {number} flags 1\n" for number in (1, 2, 3))
+    yield "--wait: a slow server", "", judged(followed(slow, wait=2), lines + "ended\n")
+    yield "memory of 64 subscribers", "4 MB", held(folder, large, 64)
+
+
+def crowded(folder, document):
+    """What is bad about a `serve` with `--wait 2` for 64 subscribers to which 300 come that read nothing, or nothing."""
+    server, streams = Server(folder, 64, [document], 2), []
+    for _ in range(300):
+        try:
+            streams.append(server.connect())
+        except OSError:
+            break
+    end = ended(server.child, 2 * SECONDS + 2)
+    for stream in streams:
+        stream.close()
+    return None if end[:2] == (1, "refused serve 1 Unserved 64\n") and end[2] < KILOBYTES else f"{end}"
+
+
+def followed(sends, turns=1000, wait=0):
     """How a `follow` of a server ends that is sent so."""
     with socket.socket() as listener:
         listener.bind(("127.0.0.1", 0))
         listener.listen()
         listener.settimeout(SECONDS)
-        child = started(["follow", str(listener.getsockname()[1]), str(turns)], stderr=subprocess.DEVNULL)
+        waits = ["--wait", str(wait)] if wait else []
+        child = started(["follow", str(listener.getsockname()[1]), str(turns), *waits], stderr=subprocess.DEVNULL)
         stream, _ = listener.accept()
         stream.settimeout(SECONDS)
         try:
@@ -254,7 +332,11 @@ def main(count=1_000_000, seed=0):
     found, bad = Counter(), 0
     with tempfile.TemporaryDirectory() as top:
         fill(top)
-        cases = [serve_cases(top, int(count)), follow_cases(int(count), min(int(count), 100), random.Random(int(seed)))]
+        cases = [
+            serve_cases(top, int(count)),
+            follow_cases(int(count), min(int(count), 100), random.Random(int(seed))),
+            wait_cases(top),
+        ]
         for kind, case, why in (case for group in cases for case in group):
             found[kind] += 1
             if why:

@@ -1,5 +1,5 @@
 #!/usr/bin/env python3
-"""Refuses each request for memory of a `serve` and of a `follow` of the shipped program, over the loopback and `memory.c`.
+"""Refuses each request for memory of a `serve` and of a `follow` with `--wait` of the shipped program, over the loopback and `memory.c`.
 
     bench/hostile/streams.py [COUNT]
 
@@ -51,7 +51,7 @@ def follow(folder, **settings):
         listener.bind(("127.0.0.1", 0))
         listener.listen()
         listener.settimeout(0.1)
-        child = started(["follow", str(listener.getsockname()[1]), "1000"], folder, **settings)
+        child = started(["follow", str(listener.getsockname()[1]), "1000", "--wait", str(SECONDS)], folder, **settings)
         stream = None
         while stream is None and child.poll() is None:
             try:
@@ -68,7 +68,7 @@ def serve(folder, **settings):
     with socket.socket() as probe:
         probe.bind(("127.0.0.1", 0))
         port = probe.getsockname()[1]
-    child = started(["serve", str(port), "1", "0.json", "1.json"], folder, **settings)
+    child = started(["serve", str(port), "1", "0.json", "1.json", "--wait", str(SECONDS)], folder, **settings)
     last = None
     while last is None and child.poll() is None:
         try:

@@ -20,7 +20,7 @@ use family::{Family, family_of};
 use flag_text::{Outlet, WriteOutlet};
 use flagops_commands::{complain, run};
 use flagops_files::{Call, FileSet, SystemFiles, want};
-use flagops_network::{follow, serve};
+use flagops_network::{follow, open_standard, serve};
 use flagops_ramps::{ramp, verify_ramp};
 use outputs::Persistent;
 use std::alloc::Global;
@@ -37,6 +37,7 @@ use std::time::Clock;
 const STACK: usize = 4 * 1024 * 1024;
 
 fn main(rt: HostRuntime) -> ExitCode {
+    let _are_open = open_standard(&rt);
     let words = behind_name(rt.alloc(), env::args(&rt));
     let out = WriteOutlet::new(Persistent::new(rt.stdout()));
     let err = WriteOutlet::new(Persistent::new(rt.stderr()));

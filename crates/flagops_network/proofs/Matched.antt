@@ -8,16 +8,16 @@ use Rattle.clap.specs.Words.{App, HasMatchesOf, IsAmong, Kinds, Text, found_of, 
 use Rattle.clap.specs.declared.error.kind.ErrorKind.{ErrorKind}
 use Rattle.clap.specs.declared.error.kind.ErrorKind.TheVariants.{InvalidValue, OutOfMemory}
 use Rattle.clap.specs.declared.parser.matches.ArgMatches.{ArgMatches}
-use Rattle.flagops_network.specs.Words.{IsToldBy, asked_in, faults_in, follow_app, if_any, serve_app}
+use Rattle.flagops_network.specs.Words.{IsToldBy, asked_in, faults_in, follow_app, if_any, serve_app, serve_begun}
 
 pub ruleset values = (first_value-rows, raw_values-rows)
 
 pub serve_plain : is_simple serve_app ≡ true
-unfolding serve_app
+unfolding serve_app serve_begun
 serve_plain = refl
 
 pub serve_free : is_simple_and_free serve_app ≡ true
-unfolding serve_app
+unfolding serve_app serve_begun
 serve_free = refl
 
 pub follow_plain : is_simple follow_app ≡ true

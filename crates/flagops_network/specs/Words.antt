@@ -9,26 +9,28 @@ use Rattle.clap.specs.declared.builder.value_parser.ValueParser.TheVariants.{Uns
 use Rattle.clap.specs.declared.error.kind.ErrorKind.{ErrorKind}
 use Rattle.clap.specs.declared.error.kind.ErrorKind.TheVariants.{InvalidValue, OutOfMemory}
 use Rattle.flagops_words.specs.Numbers.{number_in}
-use Rattle.flagops_words.specs.Words.{◌>>=◌, if_faultless, required}
+use Rattle.flagops_words.specs.Words.{◌>>=◌, if_faultless, option_number, required}
 use Rattle.flagops_network.specs.declared.asked.Following as code_follow
 use Rattle.flagops_network.specs.declared.asked.Serving as code_serve
 
--- documents, by their paths, for so many subscribers on a port
+-- documents, by their paths, for so many subscribers on a port, each within so many seconds, 0 for ever
 pub record Serving : Type 0 where
   pub port : ℕ
   pub subscribers : ℕ
+  pub wait : ℕ
   pub documents : List Text
 
--- so many turns of the stream on a port
+-- so many turns of the stream on a port, none of which waits longer than so many seconds, 0 for ever
 pub record Following : Type 0 where
   pub port : ℕ
   pub turns : ℕ
+  pub wait : ℕ
 
 abbrev pub serving_view : code_serve.Serving → Serving
-serving_view s = record { port = s.port; subscribers = s.subscribers; documents = map (λ d. d.now) s.documents.items }
+serving_view s = record { port = s.port; subscribers = s.subscribers; wait = s.wait; documents = map (λ d. d.now) s.documents.items }
 
 abbrev pub following_view : code_follow.Following → Following
-following_view f = record { port = f.port; turns = f.turns }
+following_view f = record { port = f.port; turns = f.turns; wait = f.wait }
 
 -- ---- what the commands take
 
@@ -41,6 +43,10 @@ max_subscribers = 64
 abbrev pub max_turns : ℕ
 max_turns = 1000000
 
+-- a day, in seconds
+abbrev pub max_wait : ℕ
+max_wait = 86400
+
 -- a number from 1 to a bound that has to be there
 abbrev pub number : Text → ℕ → Rule
 number id most = record (required id) { parser = Some (Unsigned 1 most) }
@@ -49,14 +55,22 @@ number id most = record (required id) { parser = Some (Unsigned 1 most) }
 abbrev pub some_words : Text → Rule
 some_words id = record (required id) { range = Some (record { start_inclusive = 1; end_inclusive = usize_max }) }
 
--- `serve PORT SUBSCRIBERS DOC..`
-unfoldable pub serve_app : App
-serve_app =
+-- `--wait SECONDS`
+abbrev pub wait_option : Rule
+wait_option = option_number (codes "SECONDS") (codes "wait") 0 max_wait
+
+-- `serve PORT SUBSCRIBERS DOC..`: the words that have to be there
+unfoldable pub serve_begun : App
+serve_begun =
     with_rule (with_rule (with_rule (new_app (codes "serve")) (number (codes "PORT") max_port)) (number (codes "SUBSCRIBERS") max_subscribers)) (some_words (codes "DOC"))
 
--- `follow PORT TURNS`
+-- the same with `--wait SECONDS`
+unfoldable pub serve_app : App
+serve_app = with_rule serve_begun wait_option
+
+-- `follow PORT TURNS`, with `--wait SECONDS`
 unfoldable pub follow_app : App
-follow_app = with_rule (with_rule (new_app (codes "follow")) (number (codes "PORT") max_port)) (number (codes "TURNS") max_turns)
+follow_app = with_rule (with_rule (with_rule (new_app (codes "follow")) (number (codes "PORT") max_port)) (number (codes "TURNS") max_turns)) wait_option
 
 -- ---- what the words ask for
 
@@ -75,18 +89,28 @@ texts_at id rows = do
   texts ← all_of id rows
   if_any texts
 
+-- 0 where no seconds are given
+abbrev pub seconds_in : Option Text → Option ℕ
+seconds_in None = Some 0
+seconds_in (Some word) = number_in 0 max_wait word
+
+abbrev pub wait_in : List Row → Option ℕ
+wait_in rows = seconds_in (first_of (codes "SECONDS") rows)
+
 abbrev pub serving_in : List Row → Option Serving
 serving_in rows = do
   port ← number_at (codes "PORT") max_port rows
   subscribers ← number_at (codes "SUBSCRIBERS") max_subscribers rows
+  wait ← wait_in rows
   documents ← texts_at (codes "DOC") rows
-  Some (record { port = port; subscribers = subscribers; documents = documents })
+  Some (record { port = port; subscribers = subscribers; wait = wait; documents = documents })
 
 abbrev pub following_in : List Row → Option Following
 following_in rows = do
   port ← number_at (codes "PORT") max_port rows
   turns ← number_at (codes "TURNS") max_turns rows
-  Some (record { port = port; turns = turns })
+  wait ← wait_in rows
+  Some (record { port = port; turns = turns; wait = wait })
 
 -- the mistakes of the words of a command: those that `clap` finds, and a value that is not there
 abbrev pub faults_in : {X : Type 0} → App → (List Row → Option X) → List Text → Kinds

@@ -2,6 +2,7 @@
 ghost use Rattle.std.specs.Prelude.{◌≡◌, false, map};
 ghost use Rattle.flagops_network.specs.Ended.{FollowsAsked, TellsFollow};
 
+use crate::asked::Following;
 use crate::words::read_follow;
 use flag_text::Outlet;
 use flagops_commands::explain;
@@ -12,7 +13,7 @@ use std::time::Clock;
 
 /// Does what the words after the program's name ask of `follow`, which is the first of them, and gives the status to end
 /// with. It prints a line for each snapshot of the stream when it has come, and a last one that says how the stream ended:
-/// 0 where it ended or all turns were taken, else 1.
+/// 0 where it ended or all turns were taken, else 1, also where nothing came for as long as the words allow.
 pub fn follow<R: AllocGlobal + Net + Clock, S: AsStr, O: Outlet, E: Outlet>(
     rt: &R,
     words: &[S],
@@ -26,7 +27,10 @@ pub fn follow<R: AllocGlobal + Net + Clock, S: AsStr, O: Outlet, E: Outlet>(
 {
     let alloc = rt.alloc();
     match read_follow(alloc, words) {
-        Ok(following) => follow_port(rt, following.port, following.turns, out, err),
+        Ok(following) => {
+            let Following { port, turns, wait } = following;
+            follow_port(rt, port, turns, wait, out, err)
+        }
         Err(error) => explain(alloc, &error, out, err),
     }
 }

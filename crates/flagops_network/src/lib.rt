@@ -26,8 +26,10 @@ mod asked;
 mod following;
 mod loading;
 mod serving;
+mod standard;
 mod usage;
 mod words;
 
 pub use following::follow;
 pub use serving::serve;
+pub use standard::open_standard;

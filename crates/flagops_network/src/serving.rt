@@ -55,6 +55,7 @@ where
             rt,
             serving.port,
             serving.subscribers,
+            serving.wait,
             documents,
             &AtPaths { paths },
             out,

@@ -2,7 +2,7 @@
 ghost use Rattle.std.specs.Prelude.{◌≡◌, IfOk, false};
 ghost use Rattle.clap.specs.Words.{app_of, kind_of, rule_of};
 ghost use Rattle.clap.specs.declared.error.kind.ErrorKind.TheVariants.{InvalidValue};
-ghost use Rattle.flagops_network.specs.Words.{follow_app, number, serve_app, some_words};
+ghost use Rattle.flagops_network.specs.Words.{follow_app, number, serve_app, serve_begun, some_words, wait_option};
 
 use clap::builder::ValueParser;
 use clap::error::ErrorKind;
@@ -18,10 +18,24 @@ pub const MOST_SUBSCRIBERS: u64 = 64;
 /// The most turns of a follower.
 pub const MOST_TURNS: u64 = 1_000_000;
 
+/// The most seconds that are waited, a day.
+pub const LONGEST_WAIT: u64 = 86_400;
+
 /// The command `serve`. Its name is the first of the words, as a program's.
 #[tactic(auto, unfolding(crate::specs::Words::serve_app))]
 pub fn serve<'a>(alloc: Global) -> Result<Command<'a>, AllocError>
     ensures { IfOk result (λ c. app_of c ≡ serve_app) }
+{
+    serve_begun(alloc)?.arg(wait(
+        alloc,
+        "How many seconds are given to the subscribers to come, and to each to be served, at most 86400; 0 is for ever",
+    ))
+}
+
+/// The command `serve` with the words that have to be there.
+#[tactic(auto, unfolding(crate::specs::Words::serve_begun))]
+fn serve_begun<'a>(alloc: Global) -> Result<Command<'a>, AllocError>
+    ensures { IfOk result (λ c. app_of c ≡ serve_begun) }
 {
     let port = number(
         alloc,
@@ -69,7 +83,11 @@ pub fn follow<'a>(alloc: Global) -> Result<Command<'a>, AllocError>
         .bin_name("flagops follow")?
         .about("Prints a line for each snapshot that is served on a port of this host")
         .arg(port)?
-        .arg(turns)
+        .arg(turns)?
+        .arg(wait(
+            alloc,
+            "How many seconds a read waits, at most 86400; 0 is for ever",
+        ))
 }
 
 /// The mistake of a value that is not there.
@@ -92,6 +110,17 @@ fn number<'a>(alloc: Global, name: &'a str, help: &'a str, most: u64) -> Arg<'a>
         .required(true)
         .help(help)
         .value_parser(ValueParser::Unsigned(1, most))
+}
+
+/// `--wait SECONDS`, which may be left out.
+fn wait<'a>(alloc: Global, help: &'a str) -> Arg<'a>
+    ensures rule { rule_of result ≡ wait_option }
+    ensures local { result.global ≡ false }
+{
+    Arg::new(alloc, "SECONDS")
+        .long("wait")
+        .help(help)
+        .value_parser(ValueParser::Unsigned(0, LONGEST_WAIT))
 }
 
 /// One word or more.

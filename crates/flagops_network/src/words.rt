@@ -2,10 +2,12 @@
 ghost use Rattle.std.specs.Prelude.{◌≡◌, ◌≤◌, ◌<◌, ◌&&◌, nat_le, None, if◌then◌else◌, IfErr, IfOk, IfSome, Some, length, map, option_map};
 ghost use Rattle.clap.specs.Words.{found_of, kind_of, rows_of};
 ghost use Rattle.flagops_words.specs.Numbers.{number_in};
-ghost use Rattle.flagops_network.specs.Words.{IsToldBy, follow_by, follow_faults, following_in, following_view, number_at, serve_by, serve_faults, serving_in, serving_view, texts_at};
+ghost use Rattle.flagops_network.specs.Words.{IsToldBy, follow_by, follow_faults, following_in, following_view, number_at, serve_by, serve_faults, serving_in, serving_view, texts_at, wait_in};
 
 use crate::asked::{Following, Serving};
-use crate::usage::{LARGEST_PORT, MOST_SUBSCRIBERS, MOST_TURNS, follow, missing_value, serve};
+use crate::usage::{
+    LARGEST_PORT, LONGEST_WAIT, MOST_SUBSCRIBERS, MOST_TURNS, follow, missing_value, serve,
+};
 use clap::{ArgMatches, Error};
 use std::alloc::{AllocError, Global};
 use std::convert::AsStr;
@@ -50,12 +52,16 @@ fn serving_in<'a>(
     let Some(subscribers) = number_at(matches, "SUBSCRIBERS", MOST_SUBSCRIBERS) else {
         return Ok(None);
     };
+    let Some(wait) = wait_in(matches) else {
+        return Ok(None);
+    };
     let Some(documents) = texts_at(matches, "DOC") else {
         return Ok(None);
     };
     Ok(Some(Serving {
         port: port as u16,
         subscribers: subscribers as usize,
+        wait,
         documents: documents.to_vec(alloc)?,
     }))
 }
@@ -78,10 +84,23 @@ fn following_in(matches: &ArgMatches<'_>) -> Option<Following>
 {
     let port = number_at(matches, "PORT", LARGEST_PORT)?;
     let turns = number_at(matches, "TURNS", MOST_TURNS)?;
+    let wait = wait_in(matches)?;
     Some(Following {
         port: port as u16,
         turns,
+        wait,
     })
+}
+
+/// The seconds that are given for `--wait`, 0 where it is left out.
+#[tactic(auto, using(crate::proofs::Matched::values))]
+fn wait_in(matches: &ArgMatches<'_>) -> Option<u64>
+    ensures { result ≡ wait_in (rows_of (found_of matches.now)) }
+{
+    match matches.get_str("SECONDS") {
+        Some(word) => spelled(word, 0, LONGEST_WAIT),
+        None => Some(0),
+    }
 }
 
 /// The number from 1 to a bound that is given for an argument.
@@ -91,25 +110,25 @@ fn number_at(matches: &ArgMatches<'_>, name: &str, most: u64) -> Option<u64>
     ensures bounds { IfSome result (λ n. (1 ≤ n) × (n ≤ most)) }
 {
     let word = matches.get_str(name)?;
-    spelled(word, most)
+    spelled(word, 1, most)
 }
 
-/// The number from 1 to a bound that a word spells in decimal digits, perhaps after a plus.
-fn spelled(word: &str, most: u64) -> Option<u64>
-    ensures number { result ≡ number_in 1 most word.now }
-    ensures bounds { IfSome result (λ n. (1 ≤ n) × (n ≤ most)) }
+/// The number within bounds that a word spells in decimal digits, perhaps after a plus.
+fn spelled(word: &str, least: u64, most: u64) -> Option<u64>
+    ensures number { result ≡ number_in least most word.now }
+    ensures bounds { IfSome result (λ n. (least ≤ n) × (n ≤ most)) }
 {
     match word.parse::<u64>() {
-        Ok(number) => within(number, most),
+        Ok(number) => within(number, least, most),
         Err(_) => None,
     }
 }
 
-fn within(number: u64, most: u64) -> Option<u64>
-    ensures number { result ≡ (if nat_le 1 number && nat_le number most then Some number else None) }
-    ensures bounds { IfSome result (λ n. (1 ≤ n) × (n ≤ most)) }
+fn within(number: u64, least: u64, most: u64) -> Option<u64>
+    ensures number { result ≡ (if nat_le least number && nat_le number most then Some number else None) }
+    ensures bounds { IfSome result (λ n. (least ≤ n) × (n ≤ most)) }
 {
-    if 1 <= number && number <= most {
+    if least <= number && number <= most {
         Some(number)
     } else {
         None

@@ -37,7 +37,7 @@ module _ (T : RattleType) (g : ShareName.Ghosts T.Denot) (send : IsSend T) (sync
   News-send = declared_send (News.the_type T g) (Told-send T g send sync, (search (sendable, crosses) depth 20, (search (sendable, crosses) depth 20, (search (sendable, crosses) depth 40, tt))))
 
   Board-sync : IsSync (Board.the_row T g)
-  Board-sync = declared_sync (Board.the_type T g) (search (sendable, crosses, News-send) depth 40, (search (sendable, crosses) depth 40, tt))
+  Board-sync = declared_sync (Board.the_type T g) (search (sendable, crosses, News-send) depth 40, (search (sendable, crosses) depth 40, (search (sendable, crosses) depth 20, tt)))
 
   pub attend_send : (ν : Sym) (r b : NamedLft) (R : RattleType) → IsSync R → IsSend (Attending T g ν r b R)
   attend_send ν r b R s =

@@ -61,6 +61,15 @@ not_shared seats share.NoReader result is none many of = tt
 not_shared seats share.LastNumber result is none many of = absurd (cc (of))
 not_shared seats share.Closed result is none many of = absurd (cc (of))
 
+-- the same, where more subscribers have not come; some have, if any were waited for
+pub more_fail : (came absent : ℕ) (fault : ShareFault) → (came ≡ 0 → absent ≡ 0) → MayFail came (Share fault) → MayFail (came + absent) (Share fault)
+more_fail came absent share.WantOfMemory some may = tt
+more_fail came absent share.NoSeats some may = omega (arith, may, some may)
+more_fail came absent share.TooManySeats some may = omega (arith, may)
+more_fail came absent share.NoReader some may = tt
+more_fail came absent share.LastNumber some may = absurd may
+more_fail came absent share.Closed some may = absurd may
+
 -- what is served beside threads
 pub beside_served : (subscribers : ℕ) (sources : SourceList) (texts : List (List ℕ)) (published : List Definitions) (result : Result (List Flags) Refusal)
     → (result ≡ Err NoThread) ⊎ GivesSome subscribers (Gives sources texts published) (told_view result) → ServesTo subscribers sources texts published (told_view result)

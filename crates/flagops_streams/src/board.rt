@@ -32,14 +32,17 @@ struct News<J: ShareName> {
 pub(crate) struct Board<J: ShareName> {
     news: Mutex<News<J>>,
     changed: Condvar,
+    /// The seconds in which a subscriber is to be served, 0 for ever.
+    wait: u64,
 }
 
 impl<J: ShareName> Board<J> {
-    /// A board for so many subscribers.
+    /// A board for so many subscribers, of whom each is to be served in so many seconds, 0 for ever.
     pub(crate) fn new(
         alloc: Global,
         told: Told<J>,
         subscribers: usize,
+        wait: u64,
     ) -> Result<Board<J>, AllocError> {
         let gone = vec![in alloc; None::<Gone>; subscribers]?;
         let news = News {
@@ -51,7 +54,13 @@ impl<J: ShareName> Board<J> {
         Ok(Board {
             news: Mutex::new(news),
             changed: Condvar::new(),
+            wait,
         })
+    }
+
+    /// The seconds in which a subscriber is to be served, 0 for ever.
+    pub(crate) fn wait(&self) -> u64 {
+        self.wait
     }
 
     /// Something was published.

@@ -15,9 +15,9 @@ use core::mem::replace_with;
 use flag_text::{Outlet, write_whole};
 use snap_core::Snapshot;
 use std::alloc::{AllocError, Global};
-use std::net::{Net, SocketAddr, TcpStream};
-use std::thread;
+use std::net::{Net, OpenStream, SocketAddr, TcpStream};
 use std::time::{Clock, Duration};
+use std::{io, thread};
 use sync_server::{Inlet, ReadEnd, ReadInlet, Sink, follow_stream};
 
 /// How often a connection is tried.
@@ -26,12 +26,13 @@ const TRIES: u32 = 100;
 /// The milliseconds between two tries.
 const PAUSE: u64 = 50;
 
-/// Follows the stream that somebody serves on a port of this host, as [`follow_lines`] does, and tells a person nothing. Where
-/// nobody listens, that is written and told.
+/// Follows the stream that somebody serves on a port of this host, as [`follow_lines`] does, and tells a person nothing. A read
+/// that brings nothing for `wait` seconds has failed; 0 is for ever. Where nobody listens, that is written and told.
 pub fn follow_port<R: AllocGlobal + Net + Clock, O: Outlet, E: Outlet>(
     rt: &R,
     port: u16,
     turns: u64,
+    wait: u64,
     out: &mut O,
     err: &mut E,
 ) -> u8
@@ -40,7 +41,7 @@ pub fn follow_port<R: AllocGlobal + Net + Clock, O: Outlet, E: Outlet>(
         ⊎ FindsNobody (O.bytes out.old) (O.bytes out.new) (O.is_broken out.new) (E.bytes err.old) (E.bytes err.new) (E.is_broken err.new) result }
 {
     let alloc = rt.alloc();
-    match connect(rt, port) {
+    match connect(rt, port, wait) {
         Some(stream) => replace_with(
             out,
             (alloc, stream, turns),
@@ -59,11 +60,12 @@ pub fn follow_port<R: AllocGlobal + Net + Clock, O: Outlet, E: Outlet>(
     }
 }
 
-/// A connection to whoever listens on a port of this host, tried once more after each pause.
-fn connect<R: Net + Clock>(rt: &R, port: u16) -> Option<R::Stream> {
+/// A connection to whoever listens on a port of this host, tried once more after each pause. Its reads wait for so many
+/// seconds, 0 for ever.
+fn connect<R: Net + Clock>(rt: &R, port: u16, wait: u64) -> Option<R::Stream> {
     let address = SocketAddr::from(([127, 0, 0, 1], port));
     for left in (0..TRIES).rev() {
-        if let Ok(stream) = TcpStream::connect(rt, address) {
+        if let Ok(stream) = connect_once(rt, address, wait) {
             return Some(stream);
         }
         if left > 0 {
@@ -71,6 +73,14 @@ fn connect<R: Net + Clock>(rt: &R, port: u16) -> Option<R::Stream> {
         }
     }
     None
+}
+
+fn connect_once<R: Net + Clock>(rt: &R, address: SocketAddr, wait: u64) -> io::Result<R::Stream> {
+    let stream = TcpStream::connect(rt, address)?;
+    if wait > 0 {
+        stream.set_read_timeout(Some(Duration::from_secs(wait)))?;
+    }
+    Ok(stream)
 }
 
 /// Prints a line for each snapshot of a stream when it has come: its number, and how many flags it has. The last line says

@@ -26,6 +26,7 @@
 //! is but that subscribers come and go, by `serve` (`Told`).
 #![tactic(auto)]
 
+mod arrivals;
 mod board;
 mod documents;
 mod follow;
@@ -35,6 +36,7 @@ mod remark;
 mod report;
 mod serve;
 mod subscriber;
+mod timed;
 
 pub use documents::Documents;
 pub use follow::{follow_lines, follow_port};

@@ -184,7 +184,8 @@ fn reason_of(refusal: Refusal) -> &'static str {
         Refusal::Share(_) | Refusal::Publish(_) => "the flags cannot be shared with the threads",
         Refusal::Unbound =>
             "the port is in use, or may not be listened on; choose another, from 1024 on",
-        Refusal::NoConnection => "the connection of a subscriber failed as it came",
+        Refusal::NoConnection =>
+            "the connection of a subscriber failed as it came, or none has come in time",
         Refusal::NoThread => "the system makes no more threads; serve fewer subscribers",
         Refusal::Unreachable => "nobody listens on the port",
         Refusal::Unserved(_) => "not every subscriber was sent the last snapshot",

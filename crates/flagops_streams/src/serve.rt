@@ -1,17 +1,18 @@
 //! The command `serve`: documents published to subscribers.
-ghost use Rattle.std.specs.Prelude.{◌≡◌, ◌⊎◌, ◌<◌, ◌≤◌, ◌∷◌, [], Err, false, is_ok, length, map, nat_eq, vec_len, IfErr, IfOk};
+ghost use Rattle.std.specs.Prelude.{◌≡◌, ◌⊎◌, ◌+◌, ◌^◌, ◌<◌, ◌≤◌, ◌∷◌, [], Err, false, is_ok, length, map, nat_eq, vec_len, IfOk};
 ghost use denote.Param.Send.{IsSend, IsSync};
 ghost use Rattle.flag_defs.specs.Flags.{flags_view};
 ghost use Rattle.source_merge.specs.View.{sources_view};
-ghost use Rattle.flagops_streams.specs.Documents.{Answer, Counts, Gives, GivesSome, MayFail, ServesAll, ServesTo, count_of, documents_in, less_missed, texts_of, told_view};
+ghost use Rattle.flagops_streams.specs.Documents.{Answer, Counts, Gives, GivesSome, ServesAll, ServesTo, count_of, documents_in, less_missed, texts_of, told_view};
 ghost use Rattle.flagops_streams.specs.Report.{Reports, Serves};
 ghost use Rattle.sync_server.specs.End.{is_closed_end};
-ghost use Rattle.flagops_streams.specs.Told.{IsArrival, IsGone, IsOfSubscribers, TellsLines};
+ghost use Rattle.flagops_streams.specs.Told.{IsGone, IsOfSubscribers, TellsLines};
 
+use crate::arrivals::{Arrived, arrivals};
 use crate::board::Board;
 use crate::documents::{Documents, merge_next};
 use crate::refusal::Refusal;
-use crate::remark::{Remarks, say_came, say_gone, say_listening};
+use crate::remark::{Remarks, say_gone};
 use crate::report::report_answer;
 use crate::subscriber::attend;
 use core::mem::replace_with;
@@ -21,7 +22,7 @@ use snap_share::{History, Publisher, ReadSeat, ShareName, Told, share};
 use source_merge::Sources;
 use std::alloc::Global;
 use std::marker::Brand;
-use std::net::{Net, SocketAddr, TcpListener, TcpStream};
+use std::net::{Net, TcpListener, TcpStream};
 use std::sync::Wait;
 use std::thread;
 use std::thread::Threads;
@@ -29,12 +30,14 @@ use std::time::Clock;
 use sync_server::StreamEnd;
 
 /// Publishes documents to so many subscribers, which it first waits for on a port of this host, and writes what came of it.
+/// `wait` seconds are given to the subscribers to come, and to each to be served; 0 is for ever.
 /// `remarks` has the words for a person where a document is refused.
 /// The conditions are an output that is not broken and one document at least.
 pub fn serve_documents<R, D, O, E>(
     rt: &R,
     port: u16,
     subscribers: usize,
+    wait: u64,
     documents: Documents,
     remarks: &D,
     out: &mut O,
@@ -58,20 +61,22 @@ where
     let alloc = rt.alloc();
     let Documents { sources, texts } = documents;
     let texts = texts.as_slice();
-    let answer = publish_documents(rt, port, subscribers, sources, texts, err);
+    let answer = publish_documents(rt, port, subscribers, wait, sources, texts, err);
     report_answer(alloc, out, err, remarks, texts, answer)
 }
 
 /// Publishes documents, of which there is one at least, one after the other, to so many subscribers, which it first waits for
 /// on a port of this host. It answers how many were published. `sources` has a source without a document for each of them,
-/// named by its place from 1. The refusals are those of the network (`Unbound`, `NoConnection`), then of the first document
-/// that is not accepted (`Set`, with its place) or whose merge with those before it is too large (`Merged`), of the seats
+/// named by its place from 1. The refusals are that of the first document, before anybody is waited for, then those of the network
+/// (`Unbound`, `NoConnection`), of the next document that is not accepted (`Set`, with its place) or whose merge with those before
+/// it is too large (`Merged`), of the seats
 /// (`Share`: no subscribers, or more than 64), and of the threads (`NoThread`). What was published before a document that is
-/// refused stays with the subscribers.
+/// refused stays with the subscribers. Those who have not come in time are counted as not served (`Unserved`).
 fn publish_documents<R, E>(
     rt: &R,
     port: u16,
     subscribers: usize,
+    wait: u64,
     sources: Sources,
     texts: &[Vec<u8>],
     err: &mut E,
@@ -90,46 +95,14 @@ where
     ensures stays { E.is_broken err.new ≡ false → E.is_broken err.old ≡ false }
 {
     let alloc = rt.alloc();
-    let streams = connections(rt, alloc, port, subscribers, err)?;
     let [first, others @ ..] = texts else {
         unreachable!()
     };
     let mut sources = sources;
     let flags = merge_next(alloc, &mut sources, 1, first.as_slice())?;
+    let arrived = arrivals(rt, alloc, port, subscribers, wait, err)?;
     let history = History::new();
-    publish_to::<Brand, R, E>(rt, alloc, history, flags, sources, others, streams, err)
-}
-
-/// The connections of so many subscribers, in the order in which they came.
-fn connections<R, E>(
-    rt: &R,
-    alloc: Global,
-    port: u16,
-    subscribers: usize,
-    err: &mut E,
-) -> Result<Vec<TcpStream>, Refusal>
-where
-    R: Net<Listener = TcpListener, Stream = TcpStream>,
-    E: Outlet,
-    ensures came { IfOk result (λ streams. vec_len streams ≡ subscribers) }
-    ensures refused { IfErr result (λ refusal. MayFail subscribers refusal) }
-    ensures lines { TellsLines (IsArrival port subscribers) (E.bytes err.old) (E.bytes err.new) (E.is_broken err.new) }
-    ensures stays { E.is_broken err.new ≡ false → E.is_broken err.old ≡ false }
-{
-    let address = SocketAddr::from(([127, 0, 0, 1], port));
-    let Ok(listener) = TcpListener::bind(rt, address) else {
-        return Err(Refusal::Unbound);
-    };
-    say_listening(alloc, err, port, subscribers);
-    let mut streams = Vec::with_capacity(alloc, subscribers)?;
-    for place in 0..subscribers {
-        let Ok((stream, _address)) = listener.accept() else {
-            return Err(Refusal::NoConnection);
-        };
-        streams.push(stream)?;
-        say_came(alloc, err, place.saturating_add(1), subscribers);
-    }
-    Ok(streams)
+    publish_to::<Brand, R, E>(rt, alloc, history, flags, sources, others, arrived, err)
 }
 
 /// Shares flags, and publishes the other documents to a thread for each connection. It answers how many were published with
@@ -141,15 +114,21 @@ fn publish_to<J: ShareName + Send + Sync, R: Clock + Threads + Wait + Sync, E: O
     flags: Flags,
     sources: Sources,
     texts: &[Vec<u8>],
-    streams: Vec<TcpStream>,
+    arrived: Arrived,
     err: &mut E,
 ) -> Result<u64, Refusal>
     requires { history.seen.book ≡ J.book }
-    ensures serves { Counts (ServesTo (vec_len streams) (sources_view sources) (texts_of texts.now) (flags_view flags ∷ [])) result }
+    ensures serves { Counts (ServesTo (vec_len arrived.streams + arrived.absent) (sources_view sources) (texts_of texts.now) (flags_view flags ∷ [])) result }
     ensures lines { TellsLines (IsGone (is_ok result)) (E.bytes err.old) (E.bytes err.new) (E.is_broken err.new) }
     ensures stays { E.is_broken err.new ≡ false → E.is_broken err.old ≡ false }
 {
-    let (mut publisher, seats) = match share::<J, R>(rt, alloc, history, flags, streams.len()) {
+    let (mut publisher, seats) = match share::<J, R>(
+        rt,
+        alloc,
+        history,
+        flags,
+        arrived.streams.len(),
+    ) {
         Ok(shared) => shared,
         Err(fault) => return Err(Refusal::Share(fault)),
     };
@@ -160,7 +139,7 @@ fn publish_to<J: ShareName + Send + Sync, R: Clock + Threads + Wait + Sync, E: O
         seats,
         sources,
         texts,
-        streams,
+        arrived,
         err,
     );
     publisher.close(rt);
@@ -179,16 +158,16 @@ fn publish_shared<J: ShareName + Send + Sync, R: Clock + Threads + Wait + Sync, 
     seats: Vec<ReadSeat<J>>,
     sources: Sources,
     texts: &[Vec<u8>],
-    streams: Vec<TcpStream>,
+    arrived: Arrived,
     err: &mut E,
 ) -> Result<Told<J>, Refusal>
     requires { length publisher.old ≡ 1 }
-    ensures serves { ServesTo (vec_len streams) (sources_view sources) (texts_of texts.now) (map flags_view publisher.old) (told_view result) }
+    ensures serves { ServesTo (vec_len arrived.streams + arrived.absent) (sources_view sources) (texts_of texts.now) (map flags_view publisher.old) (told_view result) }
     ensures lines { TellsLines (IsGone (is_ok result)) (E.bytes err.old) (E.bytes err.new) (E.is_broken err.new) }
     ensures stays { E.is_broken err.new ≡ false → E.is_broken err.old ≡ false }
 {
     let told = publisher.tell();
-    let board = Board::new(alloc, told, streams.len())?;
+    let board = Board::new(alloc, told, arrived.streams.len(), arrived.wait)?;
     let others = Others {
         rt,
         alloc,
@@ -197,7 +176,7 @@ fn publish_shared<J: ShareName + Send + Sync, R: Clock + Threads + Wait + Sync, 
         sources,
         texts,
     };
-    serve_beside(rt, alloc, &board, seats, streams, others, err)
+    serve_beside(rt, alloc, &board, seats, arrived, others, err)
 }
 
 /// What is done beside the threads of the subscribers.
@@ -283,11 +262,11 @@ fn serve_beside<
     alloc: Global,
     board: &Board<J>,
     seats: Vec<ReadSeat<J>>,
-    streams: Vec<TcpStream>,
+    arrived: Arrived,
     publishing: P,
     err: &mut E,
 ) -> Result<Told<J>, Refusal>
-    ensures gives { (result ≡ Err Refusal.NoThread) ⊎ GivesSome (vec_len streams) (P.gives publishing) (told_view result) }
+    ensures gives { (result ≡ Err Refusal.NoThread) ⊎ GivesSome (vec_len arrived.streams + arrived.absent) (P.gives publishing) (told_view result) }
     ensures lines { TellsLines (IsGone (is_ok result)) (E.bytes err.old) (E.bytes err.new) (E.is_broken err.new) }
     ensures stays { E.is_broken err.new ≡ false → E.is_broken err.old ≡ false }
 {
@@ -296,10 +275,10 @@ fn serve_beside<
         publishing,
         |err: E, publishing: P| -> (E, Result<Told<J>, Refusal>)
             requires { IsSend J.row × IsSync J.row × IsSync R.row }
-            ensures gives { (result.1 ≡ Err Refusal.NoThread) ⊎ GivesSome (vec_len streams) (P.gives publishing) (told_view result.1) }
+            ensures gives { (result.1 ≡ Err Refusal.NoThread) ⊎ GivesSome (vec_len arrived.streams + arrived.absent) (P.gives publishing) (told_view result.1) }
             ensures lines { TellsLines (IsGone (is_ok result.1)) (E.bytes err) (E.bytes result.0) (E.is_broken result.0) }
             ensures stays { E.is_broken result.0 ≡ false → E.is_broken err ≡ false }
-        { serve_in_scope(rt, alloc, board, seats, streams, publishing, err) },
+        { serve_in_scope(rt, alloc, board, seats, arrived, publishing, err) },
     )
 }
 
@@ -314,11 +293,11 @@ fn serve_in_scope<
     alloc: Global,
     board: &Board<J>,
     seats: Vec<ReadSeat<J>>,
-    streams: Vec<TcpStream>,
+    arrived: Arrived,
     publishing: P,
     err: E,
 ) -> (E, Result<Told<J>, Refusal>)
-    ensures gives { (result.1 ≡ Err Refusal.NoThread) ⊎ GivesSome (vec_len streams) (P.gives publishing) (told_view result.1) }
+    ensures gives { (result.1 ≡ Err Refusal.NoThread) ⊎ GivesSome (vec_len arrived.streams + arrived.absent) (P.gives publishing) (told_view result.1) }
     ensures lines { TellsLines (IsGone (is_ok result.1)) (E.bytes err) (E.bytes result.0) (E.is_broken result.0) }
     ensures stays { E.is_broken result.0 ≡ false → E.is_broken err ≡ false }
 {
@@ -326,11 +305,16 @@ fn serve_in_scope<
         thread::scope_env(),
         rt,
         move |scope| -> (E, Result<Told<J>, Refusal>)
-            requires { IsSend J.row × IsSync J.row × IsSync R.row }
-            ensures gives { (result.1 ≡ Err Refusal.NoThread) ⊎ GivesSome (vec_len streams) (P.gives publishing) (told_view result.1) }
+            requires { IsSend J.row × IsSync J.row × IsSync R.row × (vec_len arrived.streams + arrived.absent < 2 ^ 64) }
+            ensures gives { (result.1 ≡ Err Refusal.NoThread) ⊎ GivesSome (vec_len arrived.streams + arrived.absent) (P.gives publishing) (told_view result.1) }
             ensures lines { TellsLines (IsGone (is_ok result.1)) (E.bytes err) (E.bytes result.0) (E.is_broken result.0) }
             ensures stays { E.is_broken result.0 ≡ false → E.is_broken err ≡ false }
         {
+            let Arrived {
+                streams,
+                absent,
+                wait: _wait,
+            } = arrived;
             let count = streams.len();
             let mut all = true;
             for (place, (seat, stream)) in seats.into_iter().zip(streams).enumerate() {
@@ -345,7 +329,8 @@ fn serve_in_scope<
             let outcome = publish_if(all, publishing);
             board.close(rt);
             let mut err = err;
-            let missed = tell_gone(rt, alloc, board, count, &mut err);
+            let unserved = tell_gone(rt, alloc, board, count, &mut err);
+            let missed = unserved + absent;
             (err, unless_missed(outcome, missed))
         },
     )

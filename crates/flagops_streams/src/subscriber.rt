@@ -3,6 +3,7 @@ ghost use mathlib.Core.List.{IsPrefix};
 
 use crate::board::{Board, Gone, Numbers};
 use crate::parting::part;
+use crate::timed::Timed;
 use flag_text::WriteOutlet;
 use snap_share::{Current, ReadSeat, ShareFault, ShareName, Told};
 use std::cell::Cell;
@@ -47,7 +48,8 @@ impl<J: ShareName> Learning<'_, J> {
     }
 }
 
-/// Serves a subscriber over its connection until its stream ends, closes the connection, and says so on the board.
+/// Serves a subscriber over its connection until its stream ends or its time is over, closes the connection, and says so on
+/// the board.
 pub(crate) fn attend<J: ShareName, R: Wait + Clock>(
     rt: &R,
     board: &Board<J>,
@@ -55,7 +57,10 @@ pub(crate) fn attend<J: ShareName, R: Wait + Clock>(
     seat: ReadSeat<J>,
     stream: TcpStream,
 ) {
-    let (end, frames) = send(rt, board, seat, &stream);
+    let (end, frames) = match Timed::new(rt, &stream, board.wait()) {
+        Ok(timed) => send(rt, board, seat, timed),
+        Err(_) => (StreamEnd::WriteFault, 0),
+    };
     let end = part(rt, stream, end);
     board.leave(rt, place, Some(Gone { end, frames }));
 }

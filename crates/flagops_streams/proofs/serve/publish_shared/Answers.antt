@@ -1,4 +1,4 @@
-use Rattle.std.proofs.Common.{◌≡◌, ◌⊎◌, List, Err, map, subst, vec_len}
+use Rattle.std.proofs.Common.{◌≡◌, ◌⊎◌, ◌+◌, List, Err, map, subst, vec_len}
 use Rattle.flag_defs.specs.Flags.{flags_view}
 use Rattle.flag_defs.specs.declared.flags.Flags.{Flags}
 use Rattle.source_merge.specs.View.{sources_view}
@@ -10,7 +10,7 @@ use Rattle.flagops_streams.proofs.serve.publish_shared.Goals as goal
 -- telling leaves what is published
 pub returns-clause-serves : goal.returns-clause-serves
 returns-clause-serves g c =
-    let count = vec_len c.args.streams in
+    let count = vec_len c.args.arrived.streams + c.args.arrived.absent in
     let sources = sources_view c.args.sources in
     let texts = texts_of c.args.texts.now in
     let result = c.serve_beside.result in

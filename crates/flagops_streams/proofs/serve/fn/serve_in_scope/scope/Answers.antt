@@ -3,11 +3,11 @@ use base.Fml.{Lft}
 use denote.Param.{param}
 use denote.Param.Send.{param_send}
 use denote.Ref.{NamedLft}
-use Rattle.std.proofs.Common.{◌≡◌, ◌∙◌, [], arith, is_ok, nat_eq, true, vec_len}
+use Rattle.std.proofs.Common.{◌≡◌, ◌∙◌, ◌+◌, [], arith, is_ok, nat_eq, true, vec_len}
 use Rattle.flagops_streams.specs.Documents.{told_view}
 use Rattle.flagops_streams.specs.Told.{IsGone}
 use Rattle.flagops_streams.proofs.Gives.{none_missed_at, told_ok, unless_beside}
-use Rattle.flagops_streams.proofs.Told.{gone_as, lines_as}
+use Rattle.flagops_streams.proofs.Told.{gone_as, left_zero, lines_as}
 use Rattle.flagops_streams.proofs.Crossings.{Attending, attend_send}
 use Rattle.flagops_streams.proofs.serve.fn.serve_in_scope.scope.Goals as goal
 
@@ -22,15 +22,21 @@ spawn-spawned-requires-send-F g c = λ κs within.
     let given = param_send 1 (Attending (param 0 g.row.J) g.J.ShareName [] (at_life κs.1.1.1.1.1.0) (at_life κs.1.1.1.1.1.1.0) (param 1 g.row.R)) sent in
     record { owned = given.owned; leaving = given.leaving }
 
+pub overflow_add-missed : goal.overflow_add-missed
+overflow_add-missed g c = omega (arith, c.requires.3, c.tell_gone-unserved.ensures.few, c.len-count.ensures)
+
 -- what was published, unless some were missed, and the lines of all that have gone
 pub returns : goal.returns
 returns g c =
-    let missed = c.tell_gone-missed.result in
+    let unserved = c.tell_gone-unserved.result in
+    let absent = c.captures.arrived-absent in
+    let missed = unserved + absent in
     let outcome = c.publish_if-outcome.result in
     let result = c.unless_missed.result in
-    let sent : is_ok result ≡ true → nat_eq missed 0 ≡ true = λ ok. none_missed_at missed (told_view outcome) (told_view result) c.unless_missed.ensures (told_ok result ∙ ok) in
+    let sent : is_ok result ≡ true → nat_eq unserved 0 ≡ true =
+    λ ok. left_zero unserved absent (none_missed_at missed (told_view outcome) (told_view result) c.unless_missed.ensures (told_ok result ∙ ok)) in
     record {
-      gives = unless_beside (vec_len c.captures.streams) missed (g.P.Publishing.gives c.captures.publishing) outcome result (omega (arith, c.tell_gone-missed.ensures.few, c.len-count.ensures)) c.publish_if-outcome.ensures c.unless_missed.ensures;
-      lines = lines_as (IsGone (nat_eq missed 0)) (IsGone (is_ok result)) (gone_as (nat_eq missed 0) (is_ok result) sent) _ _ _ c.tell_gone-missed.ensures.lines;
-      stays = c.tell_gone-missed.ensures.stays;
+      gives = unless_beside (vec_len c.captures.arrived-streams + absent) missed (g.P.Publishing.gives c.captures.publishing) outcome result (omega (arith, c.tell_gone-unserved.ensures.few, c.len-count.ensures)) c.publish_if-outcome.ensures c.unless_missed.ensures;
+      lines = lines_as (IsGone (nat_eq unserved 0)) (IsGone (is_ok result)) (gone_as (nat_eq unserved 0) (is_ok result) sent) _ _ _ c.tell_gone-unserved.ensures.lines;
+      stays = c.tell_gone-unserved.ensures.stays;
     }

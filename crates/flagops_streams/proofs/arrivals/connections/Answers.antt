@@ -1,7 +1,7 @@
 use Rattle.std.proofs.Common.{◌≡◌, List, Option, ℕ, Bool, rules, inl, inr}
 use Rattle.flagops_streams.specs.Told.{IsCame, IsArrival, TellsLines, listening_line}
 use Rattle.flagops_streams.proofs.Told.{lines_as, lines_behind}
-use Rattle.flagops_streams.proofs.serve.connections.Goals as goal
+use Rattle.flagops_streams.proofs.arrivals.connections.Goals as goal
 
 -- where `serve` listens is told of its subscribers
 listens : (port subscribers : ℕ) (old new : Option (List ℕ)) (is_mute : Bool) → TellsLines (λ line. line ≡ listening_line port subscribers) old new is_mute → TellsLines (IsArrival port subscribers) old new is_mute

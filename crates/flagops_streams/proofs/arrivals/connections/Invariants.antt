@@ -1,6 +1,6 @@
 use Rattle.std.proofs.Common.{◌≡◌, false, vec_len}
 use Rattle.flagops_streams.specs.Told.{IsArrival, TellsLines}
-use Rattle.flagops_streams.proofs.serve.connections.Given as goal
+use Rattle.flagops_streams.proofs.arrivals.connections.Given as goal
 
 -- a connection for each place so far, and nothing told but that they have come
 abbrev pub invariant-loop-place : goal.invariant-loop-place
