@@ -90,9 +90,7 @@ fn comes_to<J: ShareName, R: Wait + Abort>(
             let mut seats = seats;
             let has_learned = learn(rt, alloc, &mut publisher, &mut seats);
             publisher.close(rt);
-            has_learned
-                && read(&mut seats, Err(ShareFault::Closed))
-                && want == ShareFault::Closed
+            has_learned && read(&mut seats, Err(ShareFault::Closed)) && want == ShareFault::Closed
         }
         Err(fault) => fault == Some(want),
     }
