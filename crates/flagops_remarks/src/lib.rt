@@ -34,6 +34,7 @@ mod requests;
 mod search;
 mod sites;
 mod texts;
+mod unread;
 mod way;
 mod wrongs;
 
@@ -48,3 +49,4 @@ pub use plans::{of_large_plan, of_plan_file};
 pub use requests::of_request;
 pub use sites::{of_applied, of_rollout};
 pub use texts::{of_text, of_word};
+pub use unread::of_unread;
