@@ -17,6 +17,7 @@ FAULTS = {
     "PlanFileFault": set(),
     "LoadFault": set(),
     "PriceMismatch": set(),
+    "Doubt": set(),
     "StoreFault": set(),
     "DriveFault": set(),
     "DriveRefusal": {"Drive"},

@@ -51,7 +51,7 @@ pub use outcome::{Outcome, Status};
 pub use plan_file::load_planned;
 pub use question::{Question, load_question};
 pub use quoting::quoted;
-pub use refusal::{Call, PriceMismatch, Refusal};
+pub use refusal::{Call, Doubt, PriceMismatch, Refusal};
 pub use refused::{Refused, Remark};
 pub use reports::{report, tell, want};
 pub use storing::store;
