@@ -2,11 +2,13 @@ pub mod AddedUp
 pub mod Checked
 pub mod Driving
 mod Distinct
+mod Doubting
 mod Gathered
 pub mod Hexadecimal
 mod Keeping
 pub mod Leaving
 mod Noted
+mod Passed
 pub mod Refusing
 mod Telling
 pub mod Uniting

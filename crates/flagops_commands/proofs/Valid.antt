@@ -1,5 +1,5 @@
 -- What was planned and printed is told as valid.
-use Rattle.std.proofs.Common.{◌≡◌, ◌≤◌, ◌+◌, ◌*◌, ◌%◌, ◌==◌, ℕ, zero, suc, List, length, Bool, true, false, cond, Option, Some, None, unwrap_or, refl, sym, ap, subst, ◌∙◌, arith, eq-eqb}
+use Rattle.std.proofs.Common.{◌≡◌, ◌≤◌, ◌+◌, ◌*◌, ◌%◌, ◌==◌, ℕ, zero, suc, List, length, Bool, true, false, cond, Option, Some, None, is_some, unwrap_or, refl, sym, ap, subst, ◌∙◌, arith, eq-eqb}
 use Rattle.std.specs.Prelude.{Result, Ok, Err}
 use Rattle.std.proofs.lemmas.Bool.{ltb-false}
 use Rattle.std.proofs.lemmas.List.{take_all}
@@ -37,8 +37,9 @@ use Rattle.flagops_files.specs.PlanFile.{plan_at}
 use Rattle.flagops_files.specs.declared.refusal.Refusal.{Refusal}
 use Rattle.flagops_files.specs.declared.refusal.Refusal.TheVariants.{Load, ReadPlanned}
 use Rattle.flagops_files.specs.Question.{Question}
-use Rattle.flagops_files.specs.Report.{Report, beside}
-use Rattle.flagops_commands.specs.Unrecorded.{is_unrecorded}
+use Rattle.flagops_files.specs.Report.{Report}
+use Rattle.flagops_commands.specs.Doubts.{doubt_of, settle}
+use Rattle.flagops_files.specs.declared.refusal.Call.TheVariants as call
 
 -- ---- a rule of the refined total tells its factor
 
@@ -102,7 +103,7 @@ same_problem None (emit rule c) q p h proves = at_request q.flags q.book rule c 
 
 -- ---- what proves a problem is told as valid
 
-told_valid : (b : Bool) (p : Problem) (answer : Answer) (verdict : Result (Unit {0}) VerifyFault) → Proves p answer → IsOutcome (Ok p) answer verdict → IsValid answer (beside b (told answer verdict))
+told_valid : (b : Bool) (p : Problem) (answer : Answer) (verdict : Result (Unit {0}) VerifyFault) → Proves p answer → IsOutcome (Ok p) answer verdict → IsValid answer (told (Ok b) answer verdict)
 told_valid b p answer (Ok u) proves h = (refl, refl)
 told_valid b p answer (Err (Request e)) proves h = rw h refl
 told_valid b p answer (Err (Check check.WantOfMemory)) proves h = refl
@@ -137,17 +138,17 @@ module _ (refine : Option ℕ) (q : Question) (report : Report) (p : Planned) wh
     answer = planned_view p;
     holds = holds;
     valid = λ at path r is told_of.
-        let verdict : IsVerdict refine (Ok q) (Ok (planned_view p)) r = subst (λ (it : Result Answer Refusal). IsVerdict refine (Ok q) it r) (saved_plan at path report.text (planned_view p) is holds) told_of in
+        let verdict : IsVerdict false refine (Ok q) (Ok (planned_view p)) r = subst (λ (it : Result Answer Refusal). IsVerdict false refine (Ok q) it r) (saved_plan at path report.text (planned_view p) is holds) told_of in
         let outcome = subst (λ (it : Result Problem RolloutFault). IsOutcome it (planned_view p) verdict.0) (same_problem refine (planned_view p) q problem e h.proves) verdict.1.told in
-        subst (IsValid (planned_view p)) (sym verdict.2) (told_valid (is_unrecorded q) problem (planned_view p) verdict.0 h.proves outcome);
+        subst (IsValid (planned_view p)) (sym verdict.2) (told_valid (is_some (doubt_of q)) problem (planned_view p) verdict.0 h.proves outcome);
   }
 
   planned_valid : MayBePlanned refine q (Ok p) → Holds (planned_view p) report.text → IsValidPlan refine q report.text
   planned_valid may holds = valid_at (problem_refined (unwrap_or refine 1) q.flags q.request q.book) refl may.answers holds
 
-pub plans_are_valid : (refine : Option ℕ) (q : Question) (report : Report) → IsPlanOf refine (Ok q) (Ok report) → IsValidPlan refine q report.text
-plans_are_valid refine q report (planned, may, is, back) = go planned may is back
+pub plans_are_valid : (strict : Bool) (refine : Option ℕ) (q : Question) (report : Report) → IsPlanOf strict refine (Ok q) (Ok report) → IsValidPlan refine q report.text
+plans_are_valid strict refine q report (planned, may, is, back) = go planned may is back
   where
-    go : (planned : Result Planned RolloutFault) → MayBePlanned refine q planned → Ok report ≡ beside (is_unrecorded q) (report_planned planned) → ReadsBack planned (Ok report) → IsValidPlan refine q report.text
+    go : (planned : Result Planned RolloutFault) → MayBePlanned refine q planned → Ok report ≡ report_planned (settle call.Plan strict (doubt_of q)) planned → ReadsBack planned (Ok report) → IsValidPlan refine q report.text
     go (Err e) may is back = absurd (refused (sym is))
     go (Ok p) may is back = planned_valid refine q report p may back

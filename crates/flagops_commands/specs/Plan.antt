@@ -1,5 +1,5 @@
 -- What the command `plan` answers.
-use Rattle.std.specs.Prelude.{◌≡◌, ℕ, false, List, unwrap_or, IfOk, Option, Result, Ok, Err}
+use Rattle.std.specs.Prelude.{◌≡◌, ℕ, Bool, false, List, unwrap_or, IfOk, Option, Result, Ok, Err}
 use Rattle.plan_text.specs.Answer.{Answer, emit, none_exists, IsOrdered, planned_view}
 use Rattle.plan_text.specs.PlanFile.{IsWhole, answer_of, plan_line}
 use Rattle.rollout.specs.Planned.{IsPlanned}
@@ -10,7 +10,8 @@ use Rattle.flagops_files.specs.Files.{Holding}
 use Rattle.flagops_files.specs.Loading.{◌>>=◌, refused_by}
 use Rattle.flagops_files.specs.Question.{Question, IsQuestionAt}
 use Rattle.flagops_files.specs.Report.{Outcomes, Report, beside}
-use Rattle.flagops_commands.specs.Unrecorded.{is_unrecorded}
+use Rattle.flagops_commands.specs.Doubts.{doubt_of, settle}
+use Rattle.flagops_files.specs.declared.refusal.Call.TheVariants as call
 use Rattle.flagops_files.specs.declared.refusal.Refusal.{Refusal}
 use Rattle.flagops_files.specs.declared.refusal.Refusal.TheVariants.{Plan, PrintPlanned}
 
@@ -23,9 +24,9 @@ plan_status (none_exists kind names) = 3
 abbrev pub plan_report : Answer → Result Report Refusal
 plan_report answer = refused_by PrintPlanned (plan_line answer) >>= λ text. Ok (record { text = text; status = plan_status answer; is_told = false })
 
--- the report of what was planned
-abbrev pub report_planned : Result Planned RolloutFault → Result Report Refusal
-report_planned planned = refused_by Plan planned >>= λ p. plan_report (planned_view p)
+-- the report of what was planned, beside which a person is told, or not
+abbrev pub report_planned : Result Bool Refusal → Result Planned RolloutFault → Result Report Refusal
+report_planned settled planned = refused_by Plan planned >>= λ p. settled >>= λ told. beside told (plan_report (planned_view p))
 
 -- what may be planned of a question, on the rule itself where no factor is given
 pub record MayBePlanned (refine : Option ℕ) (q : Question) (planned : Result Planned RolloutFault) : Type 0 where
@@ -46,9 +47,12 @@ ReadsBack (Err e) r = Unit {0}
 ReadsBack (Ok p) (Err e) = Unit {0}
 ReadsBack (Ok p) (Ok report) = Holds (planned_view p) report.text
 
-abbrev pub IsPlanOf : Option ℕ → Result Question Refusal → Outcomes
-IsPlanOf refine (Err e) r = r ≡ Err e
-IsPlanOf refine (Ok q) r = (planned : Result Planned RolloutFault) × MayBePlanned refine q planned × (r ≡ beside (is_unrecorded q) (report_planned planned)) × ReadsBack planned r
+-- what was planned, unless it is doubted and `--strict` refuses that
+abbrev pub IsPlanOf : Bool → Option ℕ → Result Question Refusal → Outcomes
+IsPlanOf strict refine (Err e) r = r ≡ Err e
+IsPlanOf strict refine (Ok q) r =
+    (planned : Result Planned RolloutFault) × MayBePlanned refine q planned × (r ≡ report_planned (settle call.Plan strict (doubt_of q)) planned) × ReadsBack planned r
 
-unfoldable pub IsPlanReport : Holding → List ℕ → List ℕ → List ℕ → Option ℕ → Outcomes
-IsPlanReport at document request book refine r = (question : Result Question Refusal) × IsQuestionAt at document request book question × IsPlanOf refine question r
+unfoldable pub IsPlanReport : Holding → List ℕ → List ℕ → List ℕ → Option ℕ → Bool → Outcomes
+IsPlanReport at document request book refine strict r =
+    (question : Result Question Refusal) × IsQuestionAt at document request book question × IsPlanOf strict refine question r

@@ -1,5 +1,5 @@
 -- What `verify` tells of what `plan` printed.
-use Rattle.std.specs.Prelude.{◌≡◌, ℕ, List, true, Option, Some, Result, Ok, Err}
+use Rattle.std.specs.Prelude.{◌≡◌, ℕ, Bool, List, false, true, Option, Some, Result, Ok, Err}
 use Rattle.plan_text.specs.Answer.{Answer}
 use Rattle.flagops_commands.specs.Plan.{Holds, IsPlanOf}
 use Rattle.flagops_commands.specs.Verify.{IsVerdict, valid_text}
@@ -19,8 +19,8 @@ IsValid answer (Err e) = is_want e ≡ true
 pub record IsValidPlan (refine : Option ℕ) (q : Question) (text : List ℕ) : Type 0 where
   pub answer : Answer
   pub holds : Holds answer text
-  pub valid : (at : Holding) (path : List ℕ) (told : Result Report Refusal) → at path ≡ Some text → IsVerdict refine (Ok q) (plan_at at path) told → IsValid answer told
+  pub valid : (at : Holding) (path : List ℕ) (told : Result Report Refusal) → at path ≡ Some text → IsVerdict false refine (Ok q) (plan_at at path) told → IsValid answer told
 
 -- so it is with each report of `plan`, by the same factor
 abbrev pub PlansAreValid : Type 0
-PlansAreValid = (refine : Option ℕ) (q : Question) (report : Report) → IsPlanOf refine (Ok q) (Ok report) → IsValidPlan refine q report.text
+PlansAreValid = (strict : Bool) (refine : Option ℕ) (q : Question) (report : Report) → IsPlanOf strict refine (Ok q) (Ok report) → IsValidPlan refine q report.text

@@ -29,5 +29,5 @@ mod program;
 mod rollouts;
 mod rules;
 
-pub use laws::printed_plans_are_valid;
+pub use laws::{printed_plans_are_valid, unread_members_are_passed_over};
 pub use program::{complain, explain, run};

@@ -1,6 +1,7 @@
 //! The commands on rollouts.
 
 pub mod apply;
+pub mod doubts;
 pub mod keep;
 mod kept;
 pub mod plan;

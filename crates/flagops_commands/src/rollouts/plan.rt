@@ -7,11 +7,11 @@ ghost use Rattle.flagops_files.specs.Question.{question_view};
 ghost use Rattle.flagops_commands.specs.Calls.{plan_calls, prints_plan};
 ghost use Rattle.flagops_files.specs.Refusal.{ComesFrom, GivesOne, GivesUnlessWant, is_file_fault};
 ghost use Rattle.flagops_files.specs.Report.{beside, outcome_view, status_number};
-ghost use Rattle.flagops_remarks.specs.Named.{Names};
 ghost use Rattle.flagops_files.specs.Told.{Says, TellsOfOne, file, word};
 ghost use Rattle.flagops_commands.specs.Subjects.{is_of_request, is_of_size, plan_subjects, the_plan};
+ghost use Rattle.flagops_commands.specs.Doubts.{NamesDoubted, doubt_subjects};
 
-use crate::rollouts::unrecorded::unrecorded;
+use crate::rollouts::doubts::settled;
 use flagops_files::{
     Call, FileSet, Outcome, Question, Refusal, Refused, Remark, Status, load_question,
 };
@@ -19,11 +19,12 @@ use flagops_remarks::{of_large_plan, of_rollout};
 use flagops_words::Factor;
 use plan_text::{Planned, print_planned_line};
 use rollout::{RolloutFault, plan_refined};
-use std::alloc::{AllocError, Global};
+use std::alloc::Global;
 use std::thread::Threads;
 
 /// The plan file of the rule that meets a request and costs the recorded inputs the least, or of a set of names which
-/// shows that no rule meets it, as a line. The status tells which of the two.
+/// shows that no rule meets it, as a line. The status tells which of the two. What is doubted of it is told, or refused
+/// where that is asked for.
 #[tactic(auto, unfolding(crate::specs::Plan::IsPlanReport))]
 pub fn plan<R: Threads + Sync, F: FileSet>(
     rt: &R,
@@ -33,20 +34,21 @@ pub fn plan<R: Threads + Sync, F: FileSet>(
     request: &str,
     book: &str,
     refine: Option<Factor>,
+    strict: bool,
 ) -> Result<Outcome, Refused>
-    ensures exact { IfSome (F.holding files.old) (λ at. GivesOne outcome_view result (IsPlanReport at document.now request.now book.now (option_map (λ m. m.number) refine))) }
+    ensures exact { IfSome (F.holding files.old) (λ at. GivesOne outcome_view result (IsPlanReport at document.now request.now book.now (option_map (λ m. m.number) refine) strict)) }
     ensures calls { ComesFrom plan_calls result }
     ensures failed { F.has_failed files.new ≡ (F.has_failed files.old || is_file_fault result) }
     ensures kept { F.holding files.new ≡ F.holding files.old }
     ensures names { TellsOfOne (plan_subjects document.now request.now book.now) result }
-    ensures notes { IfOk result (λ o. IfSome o.remark (Says (Names book.now))) }
+    ensures notes { IfOk result (λ o. IfSome o.remark (Says (NamesDoubted request.now book.now))) }
 {
     let question = load_question(rt, alloc, files, document, request, book, factor_of(refine))?;
-    answer(rt, alloc, request, book, &question, refine)
+    answer(rt, alloc, request, book, &question, refine, strict)
 }
 
 /// The report on a question, which was loaded from these paths.
-#[tactic(auto, using(flagops_files::proofs::Told::says))]
+#[tactic(auto, using(flagops_files::proofs::Told::says, crate::proofs::Doubting::plan_doubted, crate::proofs::Doubting::plan_told))]
 fn answer(
     rt: &(impl Threads + Sync),
     alloc: Global,
@@ -54,12 +56,13 @@ fn answer(
     book: &str,
     question: &Question,
     refine: Option<Factor>,
+    strict: bool,
 ) -> Result<Outcome, Refused>
-    ensures exact { GivesOne outcome_view result (IsPlanOf (option_map (λ m. m.number) refine) (Ok (question_view question.now))) }
+    ensures exact { GivesOne outcome_view result (IsPlanOf strict (option_map (λ m. m.number) refine) (Ok (question_view question.now))) }
     ensures calls { ComesFrom prints_plan result }
     ensures read { is_file_fault result ≡ false }
-    ensures names { TellsOfOne ((file request.now, is_of_request) ∷ (word the_plan, is_of_size) ∷ []) result }
-    ensures notes { IfOk result (λ o. IfSome o.remark (Says (Names book.now))) }
+    ensures names { TellsOfOne ((file request.now, is_of_request) ∷ (word the_plan, is_of_size) ∷ doubt_subjects request.now book.now) result }
+    ensures notes { IfOk result (λ o. IfSome o.remark (Says (NamesDoubted request.now book.now))) }
 {
     let planned = match planned(rt, alloc, question, refine) {
         Ok(planned) => planned,
@@ -72,13 +75,8 @@ fn answer(
             });
         }
     };
-    match unrecorded(rt, alloc, book, question) {
-        Ok(remark) => printed(alloc, &planned, remark),
-        Err(AllocError) => Err(Refused {
-            refusal: Refusal::WantOfMemory(Call::Plan),
-            remark: Remark::Short,
-        }),
-    }
+    let remark = settled(rt, alloc, Call::Plan, request, book, question, strict)?;
+    printed(alloc, &planned, remark)
 }
 
 /// What is planned, on the site's rule refined by the factor where one is given.
