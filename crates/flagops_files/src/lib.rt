@@ -25,6 +25,7 @@
 //! told where there is one, whatever becomes of the output, and changes neither text nor status.
 #![tactic(auto)]
 
+mod beginning;
 mod books;
 mod documents;
 mod files;
@@ -42,7 +43,8 @@ mod reports;
 mod storing;
 mod system_files;
 
-pub use books::load_book;
+pub use beginning::may_begin_book;
+pub use books::{check_replaceable, load_book};
 pub use documents::{Document, load_document, load_flags};
 pub use files::{FileSet, LoadFault, StoreFault};
 pub use keeping::KeepRefusal;
