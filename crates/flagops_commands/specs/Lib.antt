@@ -10,6 +10,7 @@ pub mod Keep
 pub mod Plan
 pub mod Price
 pub mod Resolve
+pub mod Strangers
 pub mod Subjects
 pub mod Telling
 pub mod Totals

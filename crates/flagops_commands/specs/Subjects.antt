@@ -158,13 +158,14 @@ subjects_of (drive document asks workers book add) = drive_subjects document ask
 subjects_of (unite out files) = unite_subjects out files
 subjects_of (completions shell) = []
 
--- what a person is told beside the report of a command that was not refused: which flags are broken, and that the book has
--- no input for the request
+-- what a person is told beside the report of a command that was not refused: which flags are broken, that the book has no
+-- input for the request, and what the asks ended in
 abbrev pub notes_of : Holding → Asked → List ℕ → Type 0
 notes_of at (check document) = TellsBrokenAt at document
 notes_of at (verify document request book answer refine) = Names book
 notes_of at (plan document request book refine) = Names book
 notes_of at (keep document answer request book write refine) = Names book
+notes_of at (drive document asks workers book add) = Names asks
 notes_of at asked = λ lines. Unit {0}
 
 -- the remark on what a command comes to
