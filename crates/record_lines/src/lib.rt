@@ -12,8 +12,10 @@ mod lines;
 mod recorded;
 mod recorder;
 mod scene;
+mod workers;
 
 pub use lines::record_lines;
 pub use recorded::Recorded;
 pub use recorder::RecordFault;
 pub use scene::Recorder;
+pub use workers::record;
