@@ -13,10 +13,6 @@ pub enum Family {
     Serve,
     /// `follow`.
     Follow,
-    /// `ramp`.
-    Ramp,
-    /// `verify-ramp`.
-    VerifyRamp,
 }
 
 /// The family of the command that the first of the words names.
@@ -35,8 +31,6 @@ fn family_named(word: &str) -> Family
     match word {
         "serve" => Family::Serve,
         "follow" => Family::Follow,
-        "ramp" => Family::Ramp,
-        "verify-ramp" => Family::VerifyRamp,
         _ => Family::Files,
     }
 }

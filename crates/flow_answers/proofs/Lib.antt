@@ -5,5 +5,6 @@ pub mod Largest
 pub mod Listed
 pub mod Numbered
 pub mod Offering
+pub mod Paid
 pub mod Priced
 pub mod Pushed

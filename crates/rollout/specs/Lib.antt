@@ -8,4 +8,3 @@ pub mod Change
 pub mod Effort
 pub mod Laws
 pub mod Planned
-pub mod Tallied

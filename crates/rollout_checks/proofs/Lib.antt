@@ -1,5 +1,4 @@
 pub mod Bounded
-pub mod OfTally
 pub mod Outcomes
 pub mod Refines
 pub mod Variants

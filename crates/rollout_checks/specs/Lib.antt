@@ -1,6 +1,5 @@
 pub mod Fault
 pub mod Lawful
 pub mod Refined
-pub mod Tallied
 pub mod Verified
 pub mod VerifyFault

@@ -1,4 +1,0 @@
-mod Ending
-mod Loaded
-pub mod Matched
-mod Stepped

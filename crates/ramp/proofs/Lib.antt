@@ -1,5 +1,0 @@
-mod Kept
-mod Sites
-mod Steps
-mod Told
-mod Walked

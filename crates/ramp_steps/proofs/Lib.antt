@@ -1,5 +1,0 @@
-mod Alike
-mod Levels
-mod Parts
-mod Requests
-mod Whole
