@@ -13,7 +13,7 @@ use Rattle.std.proofs.lemmas.Option.{same_Some, slice_get-get_or, slice_get_with
 use Rattle.bucket_core.specs.Rule.{Entries, total_weight, at, names_at}
 use Rattle.bucket_core.specs.Rule.{points as points_of}
 use Rattle.transport_instance.specs.Assignment.{Arc, HasAssignment, is_same_arc, arc_at, arc_flows}
-use Rattle.transport_instance.specs.Groups.{GroupKey, AreSizes, is_same_group, group_at, group_cmp}
+use Rattle.transport_instance.specs.Groups.{GroupKey, AreSizesBy, is_same_group, group_at, group_by, group_cmp}
 use Rattle.transport_instance.specs.Rows.{amount_of}
 use Rattle.transport_instance.proofs.DualSums.{stands_group}
 use Rattle.transport_instance.proofs.Keys.{get-map, not_below_itself}
@@ -61,11 +61,11 @@ same_tests true false to from = sym (to refl)
 same_tests false true to from = from refl
 same_tests false false to from = refl
 
-module _ (old : Entries) (inputs : List (List ℕ)) (groups : List (GroupKey × ℕ)) (sizes : AreSizes old inputs groups) (points : List ℕ) (many : length points ≡ total_weight old)
-    (grouped : (p : ℕ) → p < total_weight old → slice_get (keys_of groups) (get_or points p 0) ≡ Some (group_at old inputs p)) where
+module _ (old : Entries) (load : ℕ → ℕ) (groups : List (GroupKey × ℕ)) (sizes : AreSizesBy old load groups) (points : List ℕ) (many : length points ≡ total_weight old)
+    (grouped : (p : ℕ) → p < total_weight old → slice_get (keys_of groups) (get_or points p 0) ≡ Some (group_by old load p)) where
   pub group_within : All (λ g. g < length groups) points
   group_within p d below =
-      let stands = slice_get_within (keys_of groups) (get_or points p 0) (group_at old inputs p) (grouped p (omega (arith, below, many))) in
+      let stands = slice_get_within (keys_of groups) (get_or points p 0) (group_by old load p) (grouped p (omega (arith, below, many))) in
       omega (arith, stands, length-keys_of groups, get_or_default points p d 0 below)
 
   -- as many points are of a group as it has
@@ -74,22 +74,24 @@ module _ (old : Entries) (inputs : List (List ℕ)) (groups : List (GroupKey × 
       let e = get_or groups g d in
       let here : slice_get groups g ≡ Some e = slice_get-get_or groups g d below in
       let key_is : slice_get (keys_of groups) g ≡ Some e.0 = get-map (λ (x : GroupKey × ℕ). x.0) groups g e here in
-      let test : (p : ℕ) → p < length points → cond (is_same_group e.0 (group_at old inputs (0 + p))) 1 0 ≡ cond (get_or points p 0 == g) 1 0 = λ p inside.
+      let test : (p : ℕ) → p < length points → cond (is_same_group e.0 (group_by old load (0 + p))) 1 0 ≡ cond (get_or points p 0 == g) 1 0 = λ p inside.
       let zeros : 0 + p ≡ p = omega arith in
       let stands = grouped p (omega (arith, inside, many)) in
-      let tests : is_same_group e.0 (group_at old inputs p) ≡ (get_or points p 0 == g) = same_tests (is_same_group e.0 (group_at old inputs p)) (get_or points p 0 == g)
-      (λ same. eq-eqb (get_or points p 0) g (stands_once (keys_of groups) (get_or points p 0) g e.0 sizes.rise (stands ∙ ap Some (sym (same_group e.0 (group_at old inputs p) same))) key_is))
+      let tests : is_same_group e.0 (group_by old load p) ≡ (get_or points p 0 == g) = same_tests (is_same_group e.0 (group_by old load p)) (get_or points p 0 == g)
+      (λ same. eq-eqb (get_or points p 0) g (stands_once (keys_of groups) (get_or points p 0) g e.0 sizes.rise (stands ∙ ap Some (sym (same_group e.0 (group_by old load p) same))) key_is))
       (λ same.
       let one : get_or points p 0 ≡ g = eqb-true (get_or points p 0) g same in
-      let equal : Some e.0 ≡ Some (group_at old inputs p) = sym key_is ∙ (ap (slice_get (keys_of groups)) (sym one) ∙ stands) in
-      let keys : e.0 ≡ group_at old inputs p = same_Some e.0 (group_at old inputs p) equal in
+      let equal : Some e.0 ≡ Some (group_by old load p) = sym key_is ∙ (ap (slice_get (keys_of groups)) (sym one) ∙ stands) in
+      let keys : e.0 ≡ group_by old load p = same_Some e.0 (group_by old load p) equal in
       subst (λ k. is_same_group e.0 k ≡ true) keys (is_same_itself e.0)) in
-      ap (λ q. cond (is_same_group e.0 (group_at old inputs q)) 1 0) zeros ∙ ap (λ (b : Bool). let n : ℕ = cond b 1 0 in n) tests
+      ap (λ q. cond (is_same_group e.0 (group_by old load q)) 1 0) zeros ∙ ap (λ (b : Bool). let n : ℕ = cond b 1 0 in n) tests
       in
-      sym (stands_group old inputs groups sizes g e here) ∙ (ap (λ n. count_by (λ p. is_same_group e.0 (group_at old inputs p)) (range_with_len 0 n)) (sym many) ∙ sum_placed (λ h. cond (h == g) 1 0) points 0 (λ p. cond (is_same_group e.0 (group_at old inputs p)) 1 0) test)
+      sym (stands_group old load groups sizes g e here) ∙ (ap (λ n. count_by (λ p. is_same_group e.0 (group_by old load p)) (range_with_len 0 n)) (sym many) ∙ sum_placed (λ h. cond (h == g) 1 0) points 0 (λ p. cond (is_same_group e.0 (group_by old load p)) 1 0) test)
 
-  -- ---- the rule
+-- ---- the rule
 
+module _ (old : Entries) (inputs : List (List ℕ)) (groups : List (GroupKey × ℕ)) (points : List ℕ) (many : length points ≡ total_weight old)
+    (grouped : (p : ℕ) → p < total_weight old → slice_get (keys_of groups) (get_or points p 0) ≡ Some (group_at old inputs p)) where
   pub has_assignment : (names : List (List ℕ)) (numbers items : List ℕ) (new : Entries) → IsDealt (length groups) (length names) numbers points items → length items ≡ length points → points_of new ≡ names_at names items
       → HasAssignment old new inputs (arc_flows (keys_of groups) names numbers)
   has_assignment names numbers items new dealt long named =

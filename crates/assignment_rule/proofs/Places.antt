@@ -1,7 +1,7 @@
 -- Where a key stands among keys that rise, as halving finds it.
 use Rattle.std.proofs.Common.{◌≡◌, ℕ, ◌+◌, ◌-◌, ◌<◌, ◌≤◌, ⊎_elim, List, [], ◌∷◌, ◌++◌, Bor, length, map, drop, get_or, true, false, Option, Some, unwrap_or, Ordering, refl, sym, ap, ◌∙◌, subst, arith, length-append, length-drop}
 use Rattle.std.specs.Cmp.{IsTotalOrder}
-use Rattle.std.specs.List.{All, Contains, slice_get, slice_range}
+use Rattle.std.specs.List.{All, Contains, slice_get, slice_index, slice_range}
 use Rattle.std.specs.List.Sorted.{IsStrictlySortedBy, IsPartitionedBy, IsPartitionPoint}
 use Rattle.std.specs.Ordering.{is_lt}
 use Rattle.std.specs.declared.cmp.Ordering.TheVariants.{Less, Equal, Greater}
@@ -10,15 +10,12 @@ use Rattle.std.proofs.lemmas.Bool.{cases_order, cases_eq, cases_lt, false≢true
 use Rattle.std.proofs.lemmas.List.{length-map, length-take, get_or-take, get_or-drop, get_or_default, get_or_append_left, get_or-append-add}
 use Rattle.std.proofs.lemmas.Map.Keys.{Less-from_sorted}
 use Rattle.std.proofs.lemmas.Option.{slice_get_within, get_or_from_slice_get}
-use Rattle.transport_instance.proofs.Costs.{counted_at}
 use Rattle.transport_instance.proofs.Keys.{not_below_itself}
 use Rattle.transport_instance.proofs.DualSums.{size-some, group_stands}
 use Rattle.transport_instance.proofs.Members.{place_from_contains, contains_from_place}
 use Rattle.transport_instance.proofs.Points.{get_below}
-use Rattle.book_core.specs.Counts.{counts_of}
 use Rattle.bucket_core.specs.Rule.{Entries, IsRun, total_weight, at}
-use Rattle.transport_instance.specs.Dual.{inputs_at}
-use Rattle.transport_instance.specs.Groups.{GroupKey, AreSizes, group_at, row_view, rows_view}
+use Rattle.transport_instance.specs.Groups.{GroupKey, AreSizesBy, group_by, row_view, rows_view}
 use Rattle.assignment_rule.specs.Placing.{AddsPlaces}
 use Rattle.std.specs.Map.{keys_of}
 
@@ -71,14 +68,11 @@ keys-rows (r ∷ rows) = ap (λ ks. (row_view r).0 ∷ ks) (keys-rows rows)
 
 -- ---- the groups of the points
 
-pub group_here : (old : Entries) (inputs : List (List ℕ)) (counts : List ℕ) (p : ℕ) (name : List ℕ) → counts ≡ counts_of inputs (total_weight old) → p < total_weight old → at old p ≡ Some name
-    → group_at old inputs p ≡ (name, get_or counts p 0)
-group_here old inputs counts p name counted below named =
-    let count = sym (counted_at inputs (total_weight old) counts p counted below) in
-    ap (λ (o : Option (List ℕ)). let g : GroupKey = (unwrap_or o [], inputs_at (total_weight old) inputs p) in g) named ∙ ap (λ (n : ℕ). let g : GroupKey = (name, n) in g) count
+pub group_here : (old : Entries) (load : ℕ → ℕ) (p : ℕ) (name : List ℕ) → at old p ≡ Some name → group_by old load p ≡ (name, load p)
+group_here old load p name named = ap (λ (o : Option (List ℕ)). let g : GroupKey = (unwrap_or o [], load p) in g) named
 
-pub group_listed : (old : Entries) (inputs : List (List ℕ)) (groups : List (GroupKey × ℕ)) (p : ℕ) → AreSizes old inputs groups → p < total_weight old → Contains (keys_of groups) (group_at old inputs p)
-group_listed old inputs groups p sizes below = contains_from_place (keys_of groups) (group_at old inputs p) (group_stands old inputs groups sizes (group_at old inputs p) (size-some old inputs p below))
+pub group_listed : (old : Entries) (load : ℕ → ℕ) (groups : List (GroupKey × ℕ)) (p : ℕ) → AreSizesBy old load groups → p < total_weight old → Contains (keys_of groups) (group_by old load p)
+group_listed old load groups p sizes below = contains_from_place (keys_of groups) (group_by old load p) (group_stands old load groups sizes (group_by old load p) (size-some old load p below))
 
 -- ---- points in a row
 
@@ -111,24 +105,24 @@ part_at counts from to q below = get_or-take (to - from) (drop from counts) q 0 
 pub length-part : (counts : List ℕ) (from to : ℕ) → from ≤ to → to ≤ length counts → length (slice_range counts from to) ≡ to - from
 length-part counts from to order inside = omega (arith, length-take (to - from) (drop from counts), length-drop from counts)
 
-module _ (old : Entries) (inputs : List (List ℕ)) (counts : List ℕ) (counted : counts ≡ counts_of inputs (total_weight old)) (from to : ℕ) (order : from ≤ to) (inside : to ≤ length counts) (within : to ≤ total_weight old) (name : List ℕ)
+module _ (old : Entries) (counts : List ℕ) (from to : ℕ) (order : from ≤ to) (inside : to ≤ length counts) (within : to ≤ total_weight old) (name : List ℕ)
     (is : at old from ≡ Some name) (run : IsRun old from to) where
-  part_group : (q : ℕ) → q < to - from → (name, get_or (slice_range counts from to) q 0) ≡ group_at old inputs (from + q)
+  part_group : (q : ℕ) → q < to - from → (name, get_or (slice_range counts from to) q 0) ≡ group_by old (slice_index counts) (from + q)
   part_group q below =
-      let key = group_here old inputs counts (from + q) name counted (omega (arith, below, within)) (run (from + q) (omega arith) (omega (arith, below)) ∙ is) in
+      let key = group_here old (slice_index counts) (from + q) name (run (from + q) (omega arith) (omega (arith, below)) ∙ is) in
       ap (λ (n : ℕ). let g : GroupKey = (name, n) in g) (part_at counts from to q below) ∙ sym key
 
   -- the groups of the run's points stand among the groups
-  pub run_listed : (groups : List (GroupKey × ℕ)) → AreSizes old inputs groups → All (λ n. Contains (keys_of groups) (name, n)) (slice_range counts from to)
+  pub run_listed : (groups : List (GroupKey × ℕ)) → AreSizesBy old (slice_index counts) groups → All (λ n. Contains (keys_of groups) (name, n)) (slice_range counts from to)
   run_listed groups sizes q d below =
       let inner : q < to - from = omega (arith, below, length-part counts from to order inside) in
-      let listed = group_listed old inputs groups (from + q) sizes (omega (arith, inner, within)) in
+      let listed = group_listed old (slice_index counts) groups (from + q) sizes (omega (arith, inner, within)) in
       let zeros : get_or (slice_range counts from to) q d ≡ get_or (slice_range counts from to) q 0 = get_or_default (slice_range counts from to) q d 0 below in
       subst (λ n. Contains (keys_of groups) (name, n)) (sym zeros) (subst (λ (g : GroupKey). Contains (keys_of groups) g) (sym (part_group q inner)) listed)
 
   -- with them all points up to the end of the run are placed
-  pub run_placed : (keys : List GroupKey) (before after : List ℕ) → length before ≡ from → ((q : ℕ) → q < from → slice_get keys (get_or before q 0) ≡ Some (group_at old inputs q))
-      → AddsPlaces keys name (slice_range counts from to) (length (slice_range counts from to)) before after → (q : ℕ) → q < to → slice_get keys (get_or after q 0) ≡ Some (group_at old inputs q)
+  pub run_placed : (keys : List GroupKey) (before after : List ℕ) → length before ≡ from → ((q : ℕ) → q < from → slice_get keys (get_or before q 0) ≡ Some (group_by old (slice_index counts) q))
+      → AddsPlaces keys name (slice_range counts from to) (length (slice_range counts from to)) before after → (q : ℕ) → q < to → slice_get keys (get_or after q 0) ≡ Some (group_by old (slice_index counts) q)
   run_placed keys before after many placed adds q below =
       ⊎_elim
       (λ (earlier : q < from). ap (slice_get keys) (adds.kept q (omega (arith, earlier, many))) ∙ placed q earlier)
@@ -137,5 +131,5 @@ module _ (old : Entries) (inputs : List (List ℕ)) (counts : List ℕ) (counted
       let place : length before + (q - from) ≡ q = omega (arith, many, later) in
       let point : from + (q - from) ≡ q = omega (arith, later) in
       ap (λ k. slice_get keys (get_or after k 0)) (sym place)
-      ∙ (adds.placed (q - from) (omega (arith, inner, length-part counts from to order inside)) ∙ (ap Some (part_group (q - from) inner) ∙ ap (λ k. Some (group_at old inputs k)) point)))
+      ∙ (adds.placed (q - from) (omega (arith, inner, length-part counts from to order inside)) ∙ (ap Some (part_group (q - from) inner) ∙ ap (λ k. Some (group_by old (slice_index counts) k)) point)))
       (cases_lt q from)

@@ -1,15 +1,13 @@
 //! Where groups stand, which is found by halving.
-ghost use Rattle.std.specs.Prelude.{◌≡◌, ◌≤◌, ◌<◌, ℕ, List, Some, IfOk, OnOk, length, slice_get, slice_index};
+ghost use Rattle.std.specs.Prelude.{◌≡◌, ◌≤◌, ◌<◌, ℕ, Some, IfOk, OnOk, length, slice_get, slice_index};
 ghost use Rattle.std.specs.Cmp.Lexicographic.{slice_cmp};
 ghost use Rattle.std.specs.List.{All, Contains};
 ghost use Rattle.std.specs.List.Sorted.{IsStrictlySortedBy};
 ghost use Rattle.std.specs.Map.{keys_of};
 ghost use Rattle.std.specs.Ordering.{nat_cmp};
-ghost use Rattle.book_core.specs.Counts.{counts_of};
 ghost use Rattle.bucket_core.specs.Rule.{names_view, total_weight};
-ghost use Rattle.transport_instance.specs.Groups.{AreSizes, group_at, group_cmp, rows_view};
+ghost use Rattle.transport_instance.specs.Groups.{AreSizesBy, group_by, group_cmp, rows_view};
 ghost use Rattle.transport_instance.specs.Instance.{max_planned_total};
-ghost use Rattle.transport_instance.specs.Tally.{IsTally};
 ghost use Rattle.assignment_rule.specs.Placing.{AddsPlaces};
 
 use bucket_core::Rule;
@@ -23,12 +21,11 @@ pub(crate) fn groups_of(
     counts: &[u32],
     groups: &[((&str, u32), u32)],
 ) -> Result<Vec<u32>, AllocError>
-    requires tally { IsTally (total_weight old.now) counts.now }
-    requires sizes { (inputs : List (List ℕ)) → counts.now ≡ counts_of inputs (total_weight old.now) → AreSizes old.now inputs (rows_view groups.now) }
+    requires sizes { AreSizesBy old.now (slice_index counts.now) (rows_view groups.now) }
     requires whole { length counts.now ≡ total_weight old.now }
     requires few { length groups.now ≤ max_planned_total }
     ensures many { IfOk result (λ v. length v.items ≡ total_weight old.now) }
-    ensures grouped { IfOk result (λ v. (inputs : List (List ℕ)) → counts.now ≡ counts_of inputs (total_weight old.now) → (p : ℕ) → p < total_weight old.now → slice_get (keys_of (rows_view groups.now)) (slice_index v.items p) ≡ Some (group_at old.now inputs p)) }
+    ensures grouped { IfOk result (λ v. (p : ℕ) → p < total_weight old.now → slice_get (keys_of (rows_view groups.now)) (slice_index v.items p) ≡ Some (group_by old.now (slice_index counts.now) p)) }
 {
     let mut points = Vec::with_capacity(alloc, counts.len())?;
     let total = old.total();

@@ -1,5 +1,5 @@
 //! From an assignment to a rule: of each group's points those change that make the fewest entries.
-ghost use Rattle.std.specs.Prelude.{◌≡◌, ◌≤◌, ℕ, List, true, length, IfOk};
+ghost use Rattle.std.specs.Prelude.{◌≡◌, ◌≤◌, ℕ, List, true, length, slice_index, IfOk};
 ghost use Rattle.std.specs.Cmp.Lexicographic.{slice_cmp};
 ghost use Rattle.std.specs.List.Sorted.{IsStrictlySortedBy};
 ghost use Rattle.std.specs.Map.{keys_of};
@@ -9,7 +9,7 @@ ghost use Rattle.bucket_core.specs.Canonical.{IsCanonical};
 ghost use Rattle.bucket_core.specs.Rule.{names_view, total_weight};
 ghost use Rattle.price_core.specs.Limits.{limits_view};
 ghost use Rattle.transport_instance.specs.Assignment.{HasAssignment, arc_flows, flows_of, spends_all};
-ghost use Rattle.transport_instance.specs.Groups.{AreSizes, rows_view};
+ghost use Rattle.transport_instance.specs.Groups.{AreSizesBy, rows_view};
 ghost use Rattle.transport_instance.specs.Instance.{max_names, max_planned_total};
 ghost use Rattle.transport_instance.specs.Tally.{IsTally};
 
@@ -23,8 +23,8 @@ use transport_instance::{Assignment, Instance};
 /// The rule whose points have the names of the assignment, and which has no other rule's shape: no entry has weight 0, and
 /// neighbours have different names. Which of a group's points change is no promise: those do that make few entries. It goes
 /// over the points some times, and takes `O(log n)` steps at n groups where the name or the number is another than at the
-/// point before. The conditions are that the groups are those of the old rule and of the inputs, of which so
-/// many fall on each point, and that the numbers of each group sum to its points.
+/// point before. The conditions are that the groups are those of the old rule, where so many inputs fall on each point, and
+/// that the numbers of each group sum to its points.
 pub fn spread(
     alloc: Global,
     old: &Rule,
@@ -33,7 +33,7 @@ pub fn spread(
     assignment: Assignment,
 ) -> Result<Rule, AllocError>
     requires tally { IsTally (total_weight old.now) counts.now }
-    requires sizes { (inputs : List (List ℕ)) → counts.now ≡ counts_of inputs (total_weight old.now) → AreSizes old.now inputs instance.now.groups }
+    requires sizes { AreSizesBy old.now (slice_index counts.now) instance.now.groups }
     requires spent { spends_all instance.now.groups (length instance.now.limits) assignment.numbers.items ≡ true }
     ensures canonical { IfOk result IsCanonical }
     ensures assigned { IfOk result (λ rule. (inputs : List (List ℕ)) → counts.now ≡ counts_of inputs (total_weight old.now) → HasAssignment old.now rule inputs (flows_of instance.now assignment.numbers.items)) }
@@ -60,7 +60,7 @@ fn spread_over(
     numbers: Vec<u32>,
 ) -> Result<Rule, AllocError>
     requires tally { IsTally (total_weight old.now) counts.now }
-    requires sizes { (inputs : List (List ℕ)) → counts.now ≡ counts_of inputs (total_weight old.now) → AreSizes old.now inputs (rows_view groups.now) }
+    requires sizes { AreSizesBy old.now (slice_index counts.now) (rows_view groups.now) }
     requires few { length groups.now ≤ max_planned_total }
     requires names { length names.now ≤ max_names }
     requires rise { IsStrictlySortedBy (slice_cmp nat_cmp) (names_view names.now) }

@@ -13,6 +13,10 @@ pub enum Family {
     Serve,
     /// `follow`.
     Follow,
+    /// `ramp`.
+    Ramp,
+    /// `verify-ramp`.
+    VerifyRamp,
 }
 
 /// The family of the command that the first of the words names.
@@ -31,6 +35,8 @@ fn family_named(word: &str) -> Family
     match word {
         "serve" => Family::Serve,
         "follow" => Family::Follow,
+        "ramp" => Family::Ramp,
+        "verify-ramp" => Family::VerifyRamp,
         _ => Family::Files,
     }
 }

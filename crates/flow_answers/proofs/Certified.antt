@@ -24,12 +24,11 @@ use Rattle.transport_instance.specs.Instance.{TransportProblem, IsProblem}
 use Rattle.transport_network.specs.Numbered.{IsNumbered}
 use Rattle.flow_answers.specs.Costs.{all_cost}
 use Rattle.flow_answers.specs.Prices.{IsLeastAt}
-use Rattle.flow_answers.proofs.Bounded.{price_in}
+use Rattle.flow_answers.proofs.Bounded.{all_small, price_in}
 use Rattle.flow_answers.proofs.Costs.{cost_listed}
 use Rattle.flow_answers.proofs.Largest.{IsHeld, alpha_whole, beta_whole, charge_small}
 use Rattle.flow_answers.proofs.Numbered.{optimal_is, spent_is}
 use Rattle.flow_answers.proofs.Offering.{least_offers}
-use Rattle.flow_answers.proofs.Paid.{all_paid, inputs_numbered}
 
 -- the prices of the names of a cheapest flow, by number, and those of the groups
 pub record ArePrices (q : FlowProblem) (s : Search) (alpha beta : List ℤ) : Type 0 where
@@ -129,8 +128,8 @@ module _ (p : TransportProblem) (q : FlowProblem) (f : Flow) (s : Search) (alpha
   -- the cost is at most the largest price for each input
   cost_held : is_in_range (pos cost) ≡ true
   cost_held =
-      let paid = all_paid q.groups.items q.prices.items f.placed.items (names_of q) lawful.groups lawful.prices flow.tables.spent in
-      lt-ltb cost (2 ^ 53) (omega (arith, paid, cost_is, inputs_numbered p q are, problem.inputs))
+      let paid = all_small q.groups.items q.prices.items f.placed.items (names_of q) lawful.groups lawful.prices flow.tables.spent (groups_of q) (omega arith) in
+      lt-ltb cost (2 ^ 53) (omega (arith, paid, cost_is))
 
   pub is_whole : has_whole_numbers (certificate_of p alpha beta cost) ≡ true
   is_whole =

@@ -9,6 +9,7 @@ use Rattle.flag_text.proofs.Bools.{both}
 use Rattle.flag_text.specs.Shape.{is_in_range, items_are_whole}
 use Rattle.plan_text.specs.PlanFile.{alpha_written, beta_written, items_by}
 use Rattle.residual_arcs.specs.Offered.{IsPrice}
+use Rattle.residual_arcs.specs.Problem.{max_count}
 use Rattle.transport_instance.specs.Groups.{GroupKey}
 
 -- a number that a plan file can hold
@@ -21,14 +22,14 @@ in_range (pos n) held = lt-ltb n (2 ^ 53) (omega (arith, ints, held.high))
 in_range (negsuc n) held = lt-ltb (suc n) (2 ^ 53) (omega (arith, ints, held.low))
 
 -- what a switch costs the inputs of a point
-pub charge_small : (count : ℕ) (price : ℤ) → count ≤ 1000000 → IsPrice price → (pos 0 ≤ℤ (pos count *ℤ price)) × ((pos count *ℤ price) ≤ℤ pos (1000000 * 1000000))
+pub charge_small : (count : ℕ) (price : ℤ) → count ≤ max_count → IsPrice price → (pos 0 ≤ℤ (pos count *ℤ price)) × ((pos count *ℤ price) ≤ℤ pos (max_count * 1000000))
 charge_small count (pos n) few is =
     let small : n ≤ 1000000 = omega (arith, ints, is.high) in
-    let most : count * n ≤ 1000000 * 1000000 = mul-le-mul few small in
+    let most : count * n ≤ max_count * 1000000 = mul-le-mul few small in
     (omega (arith, ints), omega (arith, ints, most))
 charge_small count (negsuc n) few is = absurd (omega (arith, ints, is.low))
 
-pub alpha_whole : (gs : List (GroupKey × ℕ)) (d : GroupKey × ℕ) (alpha : List ℤ) → ((g : ℕ) → g < length gs → (get_or gs g d).0.1 ≤ 1000000) → ((g : ℕ) → g < length alpha → IsHeld (get_or alpha g (pos 0)))
+pub alpha_whole : (gs : List (GroupKey × ℕ)) (d : GroupKey × ℕ) (alpha : List ℤ) → ((g : ℕ) → g < length gs → (get_or gs g d).0.1 ≤ max_count) → ((g : ℕ) → g < length alpha → IsHeld (get_or alpha g (pos 0)))
     → items_are_whole (items_by alpha_written (zip (keys_of gs) alpha)) ≡ true
 alpha_whole [] d alpha few held = refl
 alpha_whole (g ∷ gs) d [] few held = refl

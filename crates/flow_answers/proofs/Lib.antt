@@ -5,6 +5,5 @@ pub mod Largest
 pub mod Listed
 pub mod Numbered
 pub mod Offering
-pub mod Paid
 pub mod Priced
 pub mod Pushed

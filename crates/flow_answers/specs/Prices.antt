@@ -1,12 +1,12 @@
 -- The dual prices of names and groups, by number.
-use Rattle.std.specs.Prelude.{◌≡◌, ℕ, ◌<◌, ◌^◌, ℤ, pos, negsuc, ◌+ℤ◌, ◌*ℤ◌, ◌≤ℤ◌, List, Option, Some, slice_index_or}
+use Rattle.std.specs.Prelude.{◌≡◌, ℕ, ◌-◌, ◌<◌, ◌^◌, ℤ, pos, negsuc, ◌+ℤ◌, ◌*ℤ◌, ◌≤ℤ◌, List, Option, Some, slice_index_or}
 use Rattle.residual_arcs.specs.Problem.{group_at, price_at}
 use Rattle.residual_arcs.specs.declared.problem.Group.{Group}
 
--- a potential so near 0 that a plan file can hold the difference of two
+-- a potential, not above 0, so near it that a plan file can hold the difference of two
 pub record IsNear (z : ℤ) : Type 0 where
-  pub low : negsuc (2 ^ 51) ≤ℤ z
-  pub high : z ≤ℤ pos (2 ^ 51)
+  pub low : negsuc (2 ^ 53 - 2) ≤ℤ z
+  pub high : z ≤ℤ pos 0
 
 -- the price of a group: the least that a switch of one of its points costs, less the price of the new name
 pub record IsLeastAt (groups : List Group) (prices : List (Option ℤ)) (width : ℕ) (names : List ℤ) (g : ℕ) (alpha : ℤ) : Type 0 where

@@ -2,7 +2,7 @@
 ghost use Rattle.std.specs.Prelude.{◌≡◌, ◌<◌, ◌≤◌, ◌*◌, ℕ, ℤ, Some, length};
 ghost use Rattle.flow_answers.specs.Costs.{all_cost, row_cost, unit_of};
 ghost use Rattle.residual_arcs.specs.Offered.{IsPrice};
-ghost use Rattle.residual_arcs.specs.Problem.{AreGroups, ArePrices, group_at, sum_to};
+ghost use Rattle.residual_arcs.specs.Problem.{AreGroups, ArePrices, group_at, inputs_of, max_count, sum_to};
 ghost use Rattle.residual_flow.specs.Flow.{cell_at};
 
 use residual_arcs::Group;
@@ -38,7 +38,7 @@ fn cost_of_row(
     requires placed { length placed.now ≡ length groups.now * names }
     requires spent { sum_to names (cell_at placed.now names g) ≡ (group_at groups.now g).points }
     ensures value { result ≡ row_cost groups.now prices.now placed.now names g names }
-    ensures small { result ≤ (group_at groups.now g).points * (1000000 * 1000000) }
+    ensures small { result ≤ inputs_of groups.now g * 1000000 }
 {
     let Group { variant, count, .. } = groups[g];
     let mut cost = 0;
@@ -50,10 +50,9 @@ fn cost_of_row(
 
 /// What a switch costs the inputs of a point, and 0 where it is forbidden.
 fn unit(count: u32, price: Option<i64>) -> u64
-    requires count { count ≤ 1000000 }
+    requires count { count ≤ max_count }
     requires price { (z : ℤ) → price ≡ Some z → IsPrice z }
-    ensures value { result ≡ unit_of count price }
-    ensures small { result ≤ 1000000 * 1000000 }
+    ensures { result ≡ unit_of count price }
 {
     match price {
         Some(price) => u64::from(count) * price.unsigned_abs(),

@@ -2,7 +2,7 @@
 use Rattle.std.proofs.Common.{◌≡◌, ℕ, ◌+◌, ◌<◌, ◌≤◌, pos, get_or, arith}
 use Rattle.std.proofs.lemmas.Int.{ints}
 use Rattle.flow_laws.specs.Optimal.{IsOptimal}
-use Rattle.residual_arcs.specs.Problem.{names_of}
+use Rattle.residual_arcs.specs.Problem.{IsFlowProblem, names_of}
 use Rattle.residual_arcs.specs.declared.problem.FlowProblem.{FlowProblem}
 use Rattle.residual_flow.specs.Flow.{IsFlow, flows_of, total_at}
 use Rattle.residual_flow.specs.declared.flow.Flow.{Flow}
@@ -28,16 +28,15 @@ first_midway p f s flow optimal size zero = record {
 }
 
 -- the second pass takes over where all are within the high limits
-pub then_meeting : (p : FlowProblem) (f : Flow) (s : Search) → IsMidway p f s → ((v : ℕ) → v < names_of p → total_at f v ≤ get_or p.high.items v 0) → IsMeeting p f s
-then_meeting p f s midway placed = record {
+pub then_meeting : (p : FlowProblem) (ok : IsFlowProblem p) (f : Flow) (s : Search) → IsMidway p f s → ((v : ℕ) → v < names_of p → total_at f v ≤ get_or p.high.items v 0) → IsMeeting p f s
+then_meeting p ok f s midway placed = record {
   flow = midway.flow;
   optimal = midway.optimal;
   size = midway.size;
   placed = placed;
-  low = λ v v_in. omega (arith, ints, midway.low v v_in);
-  high = λ v v_in. omega (arith, ints, midway.high v v_in);
-  below_low = λ v v_in _. midway.low v (omega (arith, v_in));
-  below_high = λ v v_in _. midway.high v (omega (arith, v_in));
+  low = midway.low;
+  high = midway.high;
+  below = λ v v_in under. omega (arith, ints, midway.limits, midway.optimal.room v v_in (omega (arith, under, ok.ordered v v_in)));
 }
 
 pub at_last : (p : FlowProblem) (f : Flow) (s : Search) → IsMeeting p f s → ((v : ℕ) → v < names_of p → get_or p.low.items v 0 ≤ total_at f v) → IsCheapest p f s

@@ -20,11 +20,11 @@ use Rattle.flow_passes.specs.Placing.{IsMidway, IsStuckAbove, IsWay, StayPlaced,
 
 -- the bounds of potentials after a search whose node is the limits
 pub near_after : (n : ℕ) (arc : ℕ → ℕ → Option Arc) (wanted : List Bool) (source : ℕ) (pot pot' : ℕ → ℤ) (parent rank : ℕ → ℕ) (k : ℕ) → n ≤ 65 → HasFound n arc wanted source pot pot' parent rank k → pot k ≡ pos 0
-    → ((v : ℕ) → v < n → neg_ℤ (pos reach) ≤ℤ pot v) → ((v : ℕ) → v < n → pot v ≤ℤ pos reach) → (v : ℕ) → v < n → (neg_ℤ (pos reach) ≤ℤ pot' v) × (pot' v ≤ℤ pos reach)
+    → ((v : ℕ) → v < n → neg_ℤ (pos reach) ≤ℤ pot v) → ((v : ℕ) → v < n → pot v ≤ℤ pos 0) → (v : ℕ) → v < n → (neg_ℤ (pos reach) ≤ℤ pot' v) × (pot' v ≤ℤ pos 0)
 near_after n arc wanted source pot pot' parent rank k few found zero low high v v_in =
     let most : n * max_cost ≤ 65 * max_cost = mul-le-mul_right max_cost few in
     ⊎_elim
-    (λ (settled : rank v < n). (omega (arith, ints, zero, most, found.low v v_in settled), omega (arith, ints, zero, most, found.high v v_in settled)))
+    (λ (settled : rank v < n). (omega (arith, ints, zero, most, found.low v v_in settled), omega (arith, ints, found.fallen v v_in settled, high v v_in)))
     (λ (not : n ≤ rank v). (omega (arith, ints, found.kept v v_in not, low v v_in), omega (arith, ints, found.kept v v_in not, high v v_in)))
     (cases_lt (rank v) n)
 
@@ -175,7 +175,7 @@ fewer_after p old new s source last way aug =
     aug.settled
 
 -- a potential is short
-pub short_potential : (z : ℤ) → neg_ℤ (pos reach) ≤ℤ z → z ≤ℤ pos reach → IsShort z
+pub short_potential : (z : ℤ) → neg_ℤ (pos reach) ≤ℤ z → z ≤ℤ pos 0 → IsShort z
 short_potential z low high = record { low = omega (arith, ints, low); high = omega (arith, ints, high) }
 
 -- what holds before each turn

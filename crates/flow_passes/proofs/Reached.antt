@@ -14,7 +14,7 @@ use Rattle.residual_flow.specs.Flow.{IsFlow, flows_of, total_at}
 use Rattle.residual_flow.specs.declared.flow.Flow.{Flow}
 use Rattle.residual_flow.proofs.Sums.{sum_one}
 use Rattle.shortest_path.specs.Found.{HasFound, HasSize, IsStuck, parent_of, potential_of, rank_of}
-use Rattle.shortest_path.specs.Network.{IsShort, arc_at, max_cost}
+use Rattle.shortest_path.specs.Network.{arc_at, max_cost}
 use Rattle.shortest_path.specs.declared.arc.Arc.{Arc}
 use Rattle.shortest_path.specs.declared.search.Search.{Search}
 use Rattle.flow_passes.specs.Meeting.{IsMeeting, IsStuckBelow, IsWayBelow, WantsBelow, missing}
@@ -35,13 +35,13 @@ wants_name p f wanted wants v v_in is =
 pub wanted_name : (p : FlowProblem) (f : Flow) (wanted : List Bool) → WantsBelow p f wanted → (v : ℕ) → v < names_of p → total_at f v < get_or p.low.items v 0 → slice_get wanted v ≡ Some true
 wanted_name p f wanted wants v v_in under = slice_get-get_or wanted v false (omega (arith, v_in, wants.size)) ∙ ap Some (wants.each v v_in ∙ less_true (total_at f v) (get_or p.low.items v 0) under)
 
--- the bounds of a potential after a search whose node is near 0
+-- the bounds of a potential after a search whose node is not below 0
 near_below : (n : ℕ) (arc : ℕ → ℕ → Option Arc) (wanted : List Bool) (source : ℕ) (pot pot' : ℕ → ℤ) (parent rank : ℕ → ℕ) (node : ℕ) → n ≤ 65 → HasFound n arc wanted source pot pot' parent rank node
-    → neg_ℤ (pos reach) ≤ℤ pot node → pot node ≤ℤ pos reach → (v : ℕ) → v < n → neg_ℤ (pos (2 * reach)) ≤ℤ pot v → pot v ≤ℤ pos (2 * reach) → (neg_ℤ (pos (2 * reach)) ≤ℤ pot' v) × (pot' v ≤ℤ pos (2 * reach))
-near_below n arc wanted source pot pot' parent rank node few found node_low node_high v v_in low high =
+    → pos 0 ≤ℤ pot node → (v : ℕ) → v < n → neg_ℤ (pos reach) ≤ℤ pot v → pot v ≤ℤ pos 0 → (neg_ℤ (pos reach) ≤ℤ pot' v) × (pot' v ≤ℤ pos 0)
+near_below n arc wanted source pot pot' parent rank node few found node_low v v_in low high =
     let most : n * max_cost ≤ 65 * max_cost = mul-le-mul_right max_cost few in
     ⊎_elim
-    (λ (settled : rank v < n). (omega (arith, ints, node_low, most, found.low v v_in settled), omega (arith, ints, node_high, most, found.high v v_in settled)))
+    (λ (settled : rank v < n). (omega (arith, ints, node_low, most, found.low v v_in settled), omega (arith, ints, found.fallen v v_in settled, high)))
     (λ (not : n ≤ rank v). (omega (arith, ints, found.kept v v_in not, low), omega (arith, ints, found.kept v v_in not, high)))
     (cases_lt (rank v) n)
 
@@ -51,8 +51,8 @@ way_below p ok f s s' wanted node meeting wants size found =
     let n : ℕ = names_of p + 1 in
     let few : n ≤ 65 = omega (arith, ok.names) in
     let here = wants_name p f wanted wants node found.within found.is_wanted in
-    let near : (v : ℕ) → v < n → (neg_ℤ (pos (2 * reach)) ≤ℤ potential_of s' v) × (potential_of s' v ≤ℤ pos (2 * reach)) =
-    λ v v_in. near_below n (arc_at f.arcs.items n) wanted (names_of p) (potential_of s) (potential_of s') (parent_of s') (rank_of s') node few found (meeting.below_low node here.0 here.1) (meeting.below_high node here.0 here.1) v v_in (meeting.low v v_in) (meeting.high v v_in) in
+    let near : (v : ℕ) → v < n → (neg_ℤ (pos reach) ≤ℤ potential_of s' v) × (potential_of s' v ≤ℤ pos 0) =
+    λ v v_in. near_below n (arc_at f.arcs.items n) wanted (names_of p) (potential_of s) (potential_of s') (parent_of s') (rank_of s') node few found (meeting.below node here.0 here.1) v v_in (meeting.low v v_in) (meeting.high v v_in) in
     let unsettled : (v : ℕ) → v < names_of p → total_at f v < get_or p.low.items v 0 → n ≤ rank_of s' v =
     λ v v_in under.
     ⊎_elim (λ (settled : rank_of s' v < n). absurd (found.unwanted v (omega (arith, v_in)) settled (wanted_name p f wanted wants v v_in under))) (λ (not : n ≤ rank_of s' v). not) (cases_lt (rank_of s' v) n) in
@@ -64,8 +64,7 @@ way_below p ok f s s' wanted node meeting wants size found =
         placed = meeting.placed;
         low = λ v v_in. (near v v_in).0;
         high = λ v v_in. (near v v_in).1;
-        below_low = λ v v_in under. omega (arith, ints, found.kept v (omega (arith, v_in)) (unsettled v v_in under), meeting.below_low v v_in under);
-        below_high = λ v v_in under. omega (arith, ints, found.kept v (omega (arith, v_in)) (unsettled v v_in under), meeting.below_high v v_in under);
+        below = λ v v_in under. omega (arith, ints, found.kept v (omega (arith, v_in)) (unsettled v v_in under), meeting.below v v_in under);
       };
       within = here.0;
       under = here.1;
@@ -174,8 +173,7 @@ module _ (p : FlowProblem) (ok : IsFlowProblem p) (old new : Flow) (s : Search) 
         (cases_eq v aug.first);
     low = way.meeting.low;
     high = way.meeting.high;
-    below_low = λ v v_in under. way.meeting.below_low v v_in (was_below v under);
-    below_high = λ v v_in under. way.meeting.below_high v v_in (was_below v under);
+    below = λ v v_in under. way.meeting.below v v_in (was_below v under);
   }
 
   same_deficit : (v : ℕ) → v < names_of p → (v ≡ last → ⊥) → (get_or p.low.items v 0 - total_at new v) ≡ (get_or p.low.items v 0 - total_at old v)
@@ -195,6 +193,3 @@ module _ (p : FlowProblem) (ok : IsFlowProblem p) (old new : Flow) (s : Search) 
         aug.below,
         way.under,
       )
-
-pub short_meeting : (z : ℤ) → neg_ℤ (pos (2 * reach)) ≤ℤ z → z ≤ℤ pos (2 * reach) → IsShort z
-short_meeting z low high = record { low = omega (arith, ints, low); high = omega (arith, ints, high) }

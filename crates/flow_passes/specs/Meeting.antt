@@ -1,5 +1,5 @@
 -- A flow within the high limits that is brought to meet the low ones.
-use Rattle.std.specs.Prelude.{◌≡◌, ℕ, ◌*◌, ◌+◌, ◌-◌, ◌<◌, ◌≤◌, pos, ◌≤ℤ◌, false, Bool, List, length, nat_lt, slice_index, slice_index_or}
+use Rattle.std.specs.Prelude.{◌≡◌, ℕ, ◌+◌, ◌-◌, ◌<◌, ◌≤◌, pos, ◌≤ℤ◌, false, Bool, List, length, nat_lt, slice_index, slice_index_or}
 use Rattle.std.proofs.Common.{neg_ℤ}
 use Rattle.augmenting_paths.specs.Paths.{AreTraced}
 use Rattle.flow_laws.specs.Optimal.{IsOptimal}
@@ -12,17 +12,16 @@ use Rattle.shortest_path.specs.Network.{arc_at}
 use Rattle.shortest_path.specs.declared.search.Search.{Search}
 use Rattle.flow_passes.specs.Placing.{IsClosed, reach}
 
--- The flow is within the high limits and optimal by the potentials; those of names below their low limits are as near 0 as the
--- first pass left them, and all others near these.
+-- The flow is within the high limits and optimal by the potentials, which are not above 0 and near it; those of names below their
+-- low limits are 0.
 pub record IsMeeting (p : FlowProblem) (f : Flow) (s : Search) : Type 0 where
   pub flow : IsFlow p f
   pub optimal : IsOptimal (flows_of p f) (potential_of s)
   pub size : HasSize (names_of p + 1) s
   pub placed : (v : ℕ) → v < names_of p → total_at f v ≤ slice_index p.high.items v
-  pub low : (v : ℕ) → v < names_of p + 1 → neg_ℤ (pos (2 * reach)) ≤ℤ potential_of s v
-  pub high : (v : ℕ) → v < names_of p + 1 → potential_of s v ≤ℤ pos (2 * reach)
-  pub below_low : (v : ℕ) → v < names_of p → total_at f v < slice_index p.low.items v → neg_ℤ (pos reach) ≤ℤ potential_of s v
-  pub below_high : (v : ℕ) → v < names_of p → total_at f v < slice_index p.low.items v → potential_of s v ≤ℤ pos reach
+  pub low : (v : ℕ) → v < names_of p + 1 → neg_ℤ (pos reach) ≤ℤ potential_of s v
+  pub high : (v : ℕ) → v < names_of p + 1 → potential_of s v ≤ℤ pos 0
+  pub below : (v : ℕ) → v < names_of p → total_at f v < slice_index p.low.items v → pos 0 ≤ℤ potential_of s v
 
 -- the names below their low limits are wanted
 pub record WantsBelow (p : FlowProblem) (f : Flow) (wanted : List Bool) : Type 0 where

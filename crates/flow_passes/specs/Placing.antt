@@ -11,7 +11,7 @@ use Rattle.shortest_path.specs.Found.{HasSize, parent_of, potential_of, rank_of}
 use Rattle.shortest_path.specs.Network.{arc_at, max_cost}
 use Rattle.shortest_path.specs.declared.search.Search.{Search}
 
--- how far potentials are from that of the node that a search finds
+-- how far potentials fall below that of the node that a search finds
 abbrev pub reach : ℕ
 reach = 2 * (65 * max_cost)
 
@@ -19,14 +19,14 @@ reach = 2 * (65 * max_cost)
 abbrev pub excess : FlowProblem → Flow → ℕ
 excess p f = sum_to (names_of p) (λ v. total_at f v - slice_index p.high.items v)
 
--- the flow is optimal by the potentials, which are near that of the limits, 0
+-- the flow is optimal by the potentials, which are not above that of the limits, 0, and near it
 pub record IsMidway (p : FlowProblem) (f : Flow) (s : Search) : Type 0 where
   pub flow : IsFlow p f
   pub optimal : IsOptimal (flows_of p f) (potential_of s)
   pub size : HasSize (names_of p + 1) s
   pub limits : potential_of s (names_of p) ≡ pos 0
   pub low : (v : ℕ) → v < names_of p + 1 → neg_ℤ (pos reach) ≤ℤ potential_of s v
-  pub high : (v : ℕ) → v < names_of p + 1 → potential_of s v ≤ℤ pos reach
+  pub high : (v : ℕ) → v < names_of p + 1 → potential_of s v ≤ℤ pos 0
 
 -- only the limits are wanted
 pub record WantsLimits (p : FlowProblem) (wanted : List Bool) : Type 0 where

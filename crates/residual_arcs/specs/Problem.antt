@@ -35,14 +35,26 @@ may_take groups prices names g w = is_there (price_at prices names (group_at gro
 abbrev pub cost_at : List Group → List (Option ℤ) → ℕ → ℕ → ℕ → ℤ
 cost_at groups prices names g w = pos (group_at groups g).count *ℤ or_free (price_at prices names (group_at groups g).variant w)
 
+-- the most inputs at one point, and at all
+abbrev pub max_count : ℕ
+max_count = 67108864
+
+abbrev pub max_inputs : ℕ
+max_inputs = 8589934592
+
+-- the inputs at a group's points
+abbrev pub inputs_of : List Group → ℕ → ℕ
+inputs_of groups g = (group_at groups g).count * (group_at groups g).points
+
 -- groups stand by old variant and count, and their points may stay
 pub record AreGroups (names : ℕ) (prices : List (Option ℤ)) (groups : List Group) : Type 0 where
   pub variant : (g : ℕ) → g < length groups → (group_at groups g).variant < names
   pub stay : (g : ℕ) → g < length groups → price_at prices names (group_at groups g).variant (group_at groups g).variant ≡ Some (pos 0)
-  pub count : (g : ℕ) → g < length groups → (group_at groups g).count ≤ 1000000
+  pub count : (g : ℕ) → g < length groups → (group_at groups g).count ≤ max_count
   pub rising : (g h : ℕ) → g < h → h < length groups → (group_at groups g).variant ≡ (group_at groups h).variant → (group_at groups g).count ≤ (group_at groups h).count
   pub few : length groups ≤ 1000000
   pub weight : sum_to (length groups) (λ g. (group_at groups g).points) ≤ 1000000
+  pub inputs : sum_to (length groups) (inputs_of groups) ≤ max_inputs
 
 -- a price for each two names
 pub record ArePrices (names : ℕ) (prices : List (Option ℤ)) : Type 0 where

@@ -4,7 +4,7 @@ use Rattle.std.proofs.Math.Nat.{mul-le-mul}
 use Rattle.std.proofs.lemmas.Bool.{cases_lt}
 use Rattle.std.proofs.lemmas.Int.{ints}
 use Rattle.residual_arcs.specs.Offered.{IsPrice}
-use Rattle.residual_arcs.specs.Problem.{IsFlowProblem, cost_at, group_at, may_take, names_of, or_free, price_at}
+use Rattle.residual_arcs.specs.Problem.{IsFlowProblem, cost_at, group_at, max_count, may_take, names_of, or_free, price_at}
 use Rattle.residual_arcs.specs.declared.problem.FlowProblem.{FlowProblem}
 use Rattle.residual_arcs.proofs.Cells.{cell_in}
 use Rattle.residual_arcs.proofs.Entering.{there_is}
@@ -13,10 +13,10 @@ use Rattle.shortest_path.specs.Network.{IsWithin, arc_at, max_cost}
 use Rattle.shortest_path.specs.declared.arc.Arc.{Arc}
 
 -- what a name costs a point
-charge_small : (c : ℕ) (o : Option ℤ) (z : ℤ) → c ≤ 1000000 → o ≡ Some z → IsPrice z → (pos 0 ≤ℤ (pos c *ℤ or_free o)) × ((pos c *ℤ or_free o) ≤ℤ pos max_cost)
+charge_small : (c : ℕ) (o : Option ℤ) (z : ℤ) → c ≤ max_count → o ≡ Some z → IsPrice z → (pos 0 ≤ℤ (pos c *ℤ or_free o)) × ((pos c *ℤ or_free o) ≤ℤ pos max_cost)
 charge_small c o (pos n) few is price =
     let low : n ≤ 1000000 = omega (arith, ints, price.high) in
-    let small : c * n ≤ 1000000 * 1000000 = mul-le-mul few low in
+    let small : c * n ≤ max_count * 1000000 = mul-le-mul few low in
     let value : (pos c *ℤ or_free o) ≡ pos (c * n) = ap (λ x. pos c *ℤ or_free x) is in
     (omega (arith, ints, value), omega (arith, ints, value, small))
 charge_small c o (negsuc n) few is price = absurd (omega (arith, ints, price.low))

@@ -4,4 +4,5 @@ mod Effort
 pub mod Plans
 pub mod Resolved
 pub mod Sites
+mod Tallies
 pub mod Verifies

@@ -3,7 +3,7 @@ use Rattle.std.proofs.Common.{◌≡◌, ◌≢◌, ℕ, ◌<◌, List, Result, 
 use Rattle.std.specs.Cmp.Lexicographic.{slice_cmp}
 use Rattle.std.specs.List.Sorted.{IsStrictlySortedBy}
 use Rattle.std.specs.Ordering.{nat_cmp}
-use Rattle.std.specs.Prelude.{MatchResult}
+use Rattle.std.specs.Prelude.{IfErr, MatchResult}
 use Rattle.bucket_core.specs.Canonical.{IsCanonical}
 use Rattle.bucket_core.specs.Rule.{Entries, total_weight, names_view}
 use Rattle.price_core.specs.Limits.{AreLimits}
@@ -23,8 +23,11 @@ use Rattle.transport_instance.proofs.Deficits.{deficient_fits_none}
 use Rattle.transport_plan.specs.Solved.{IsCut, IsNeverOver}
 use Rattle.transport_plan.specs.Solved.{IsPlan as IsSolved}
 use Rattle.plan_text.specs.Answer.{emit, none_exists, IsOrdered, planned_view}
+use Rattle.book_core.specs.Book.{Inputs}
 use Rattle.rollout_checks.specs.Lawful.{Problem}
+use Rattle.rollout_checks.specs.Tallied.{AreTallied, TallyProblem, with_inputs}
 use Rattle.rollout.specs.Planned.{IsUnderLast, IsPlan, IsPlanned}
+use Rattle.rollout.specs.Tallied.{IsTallyPlanned}
 use Rattle.rollout_checks.specs.declared.fault.RolloutFault.{RolloutFault}
 use Rattle.rollout_checks.specs.declared.fault.RolloutFault.TheVariants.{WantOfMemory}
 use Rattle.plan_text.specs.declared.planned.Planned.{Planned}
@@ -86,3 +89,14 @@ planned_refused (Ok p) e h = only_want e (λ want. let same = h want in cc)
 pub planned_as : (r : Result Problem RolloutFault) (p : Problem) (answer : Result Planned RolloutFault) → r ≡ Ok p → MatchResult answer (λ a. IsPlan p (planned_view a)) (λ e. e ≡ WantOfMemory) → IsPlanned r answer
 planned_as r p (Ok a) is h = rw is h
 planned_as r p (Err e) is h = rw is h
+
+-- ---- the same of a tally
+
+pub tally_refused : (r : Result TallyProblem RolloutFault) (e : RolloutFault) → (e ≢ WantOfMemory → r ≡ Err e) → IsTallyPlanned r (Err e)
+tally_refused (Err f) e h = λ want. let same = h want in cc
+tally_refused (Ok p) e h = only_want e (λ want. let same = h want in cc)
+
+pub tally_as : (r : Result TallyProblem RolloutFault) (p : TallyProblem) (answer : Result Planned RolloutFault) → r ≡ Ok p
+    → ((inputs : Inputs) → AreTallied p inputs → MatchResult answer (λ a. IsPlan (with_inputs p inputs) (planned_view a)) (λ e. e ≡ WantOfMemory)) → IfErr answer (λ e. e ≡ WantOfMemory) → IsTallyPlanned r answer
+tally_as r p (Ok a) is h decides = rw is h
+tally_as r p (Err e) is h decides = rw is decides

@@ -8,3 +8,4 @@ pub mod Change
 pub mod Effort
 pub mod Laws
 pub mod Planned
+pub mod Tallied

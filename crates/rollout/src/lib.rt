@@ -29,14 +29,21 @@
 //!   limits only where no set is over its high ones (`Planned`). A lawful request is always decided: memory that runs out is
 //!   all that can hinder it. What is answered can be printed and read again, and is told as valid ([`plans_are_valid`]). Where
 //!   the request is not lawful, they refuse as [`verify`] does.
+//! - [`plan_tally`] answers so on a tally, for all inputs of which so many fall on each point (`Tallied`). It has the answers to
+//!   give that [`plan_refined`] has on a book with these inputs ([`tallies_plan_as_books`]).
 #![tactic(auto)]
 
 mod application;
 mod laws;
 mod planner;
+mod tallied;
 
 pub use application::apply;
-pub use laws::{applied_is_local, plans_are_valid};
+pub use laws::{applied_is_local, plans_are_valid, tallies_plan_as_books};
 pub use plan_text::{PlanFileFault, Planned, print_planned, print_planned_line, read_planned};
 pub use planner::{plan, plan_counted, plan_refined};
-pub use rollout_checks::{RolloutFault, VerifyFault, verify, verify_refined};
+pub use rollout_checks::{
+    RolloutFault, VerifyFault, verify, verify_refined, verify_tally, verify_tally_refined,
+};
+pub use tallied::plan_tally;
+pub use tally_core::PageTally;

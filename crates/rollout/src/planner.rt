@@ -1,5 +1,5 @@
 //! The answer of the planner to a request.
-ghost use Rattle.std.specs.Prelude.{◌≡◌, ◌≤◌, ◌<◌, true, false, length, IfOk, IsErrOf, MatchResult};
+ghost use Rattle.std.specs.Prelude.{◌≡◌, ◌≤◌, ◌<◌, true, false, length, slice_index, IfOk, IfErr, IsErrOf, MatchResult};
 ghost use Rattle.std.specs.Cmp.Lexicographic.{slice_cmp};
 ghost use Rattle.std.specs.List.Sorted.{IsStrictlySortedBy};
 ghost use Rattle.std.specs.Ordering.{nat_cmp};
@@ -11,7 +11,7 @@ ghost use Rattle.price_core.specs.Request.{max_request};
 ghost use Rattle.price_core.specs.declared.fault.PriceFault.TheVariants.{BadRequest};
 ghost use Rattle.transport_instance.specs.Assignment.{IsProved};
 ghost use Rattle.transport_instance.specs.Certificate.{certificate_view};
-ghost use Rattle.transport_instance.specs.Groups.{AreSizes};
+ghost use Rattle.transport_instance.specs.Groups.{AreSizes, AreSizesBy};
 ghost use Rattle.transport_instance.specs.Instance.{AreListed, MissTotal, max_planned_total, max_names};
 ghost use Rattle.transport_instance.specs.Tally.{IsTally};
 ghost use Rattle.plan_text.specs.Answer.{IsOrdered, planned_view};
@@ -167,7 +167,7 @@ fn plan_by<L: Ledger, R: Threads + Sync, B: Recorded>(
 }
 
 /// The answer to what a lawful request asks.
-fn plan_on<L: Ledger>(
+pub(crate) fn plan_on<L: Ledger>(
     alloc: Global,
     problem: &Problem,
     effort: &mut Effort<L>,
@@ -178,6 +178,7 @@ fn plan_on<L: Ledger>(
     requires met { ¬ (MissTotal problem.now.old problem.now.totals) }
     requires tally { IsTally (total_weight problem.now.old) problem.now.counts.items }
     ensures exact { (inputs : Inputs) → IsCounted problem.now inputs → MatchResult result (λ a. IsPlan (problem_view problem.now inputs) (planned_view a)) (λ e. e ≡ WantOfMemory) }
+    ensures decides { IfErr result (λ e. e ≡ WantOfMemory) }
     ensures ordered { IfOk result (λ a. IsOrdered (planned_view a)) }
     ensures whole { IfOk result (λ a. IsWhole (planned_view a)) }
     ensures spent { (inputs : Inputs) → IsCounted problem.now inputs → SpendsOn (problem_view problem.now inputs) effort.old effort.new }
@@ -203,6 +204,7 @@ fn answer(
     solved: Solved,
 ) -> Result<Planned, AllocError>
     requires tally { IsTally (total_weight problem.now.old) problem.now.counts.items }
+    requires loads { AreSizesBy problem.now.old (slice_index problem.now.counts.items) instance.now.groups }
     requires groups { (inputs : Inputs) → IsCounted problem.now inputs → AreSizes problem.now.old inputs instance.now.groups }
     requires limits { instance.now.limits ≡ problem.now.totals }
     requires pricing { instance.now.pricing ≡ problem.now.request.prices }

@@ -17,14 +17,16 @@ use Rattle.flag_documents.specs.Definition.{Definition, broken, good, member_cou
 use Rattle.flag_documents.specs.Document.{Definitions}
 use Rattle.flag_documents.specs.Flag.{member_names, variant_names, targeting_in, is_definition}
 use Rattle.flag_defs.specs.Flags.{AreFlags}
-use Rattle.book_core.specs.Book.{Contents, inputs_on}
+use Rattle.book_core.specs.Book.{Contents, Inputs, inputs_on}
 use Rattle.book_core.specs.Site.{page_at}
 use Rattle.price_core.specs.Limits.{Limits, limits_of}
 use Rattle.price_core.specs.Request.{Asked, asked_of, limits_on, all_known}
 use Rattle.price_core.specs.declared.fault.PriceFault.TheVariants as price
+use Rattle.tally_core.specs.Tally.{PageTally}
 use Rattle.transport_instance.specs.Instance.{AreListed, MissTotal, max_planned_total, max_names}
 use Rattle.rollout_checks.proofs.Variants.{names_limited}
-use Rattle.rollout_checks.specs.Lawful.{Problem, Place, and_then, by_price, by_logic, or_refuse, place_in, place_of, has_names_of, limits_for, is_unmet, max_planned, factor, sized, weighed, problem_at, problem_of}
+use Rattle.rollout_checks.specs.Lawful.{Problem, Place, and_then, by_price, by_logic, or_refuse, place_in, place_of, has_names_of, limits_for, is_unmet, max_planned, factor, sized, weighed, problem_at, problem_of, problem_on}
+use Rattle.rollout_checks.specs.Tallied.{TallyProblem, of_place, tally_problem_at, tally_problem_of, with_counts, with_inputs}
 use Rattle.rollout_checks.specs.declared.fault.RolloutFault.{RolloutFault}
 use Rattle.rollout_checks.specs.declared.fault.RolloutFault.TheVariants.{UnknownFlag, NoSite, UnknownVariant, TotalsSum, TotalTooLarge}
 use Rattle.rollout_checks.specs.declared.refining.Refining.{Refining}
@@ -146,14 +148,13 @@ record IsBounded (place : Place) (asked : Asked) (p : Problem) : Type 0 where
   old : refinement factor place.entries ≡ p.old
   limits : limits_for place asked ≡ Ok p.limits
 
-bounded_at : (refining : Refining) (book : Contents) (asked : Asked) (place : Place) (p : Problem) → problem_at refining book asked place ≡ Ok p → IsBounded place asked p
+bounded_on : (refining : Refining) (inputs : Inputs) (asked : Asked) (place : Place) (p : Problem) → problem_on refining inputs asked place ≡ Ok p → IsBounded place asked p
 unfolding problem_in
-bounded_at refining book asked place p h =
+bounded_on refining inputs asked place p h =
     let total = total_weight place.entries in
     let k = factor refining total in
-    let problem : Limits → Problem = λ limits. record { old = refinement k place.entries; limits = limits; pricing = asked.prices; inputs = inputs_on book place.page } in
-    let weight = came (weighed place.entries) (λ _. and_then (limits_for place asked) (λ limits. and_then (sized limits (total * k)) (λ _. Ok (problem limits)))) p h in
-    let limits = came (limits_for place asked) (λ limits. and_then (sized limits (total * k)) (λ _. Ok (problem limits))) p weight.gives in
+    let problem : Limits → Problem = λ limits. record { old = refinement k place.entries; limits = limits; pricing = asked.prices; inputs = inputs } in
+    let limits = came (limits_for place asked) (λ limits. and_then (sized limits (total * k)) (λ _. Ok (problem limits))) p h in
     let size = came (sized limits.from (total * k)) (λ _. Ok (problem limits.from)) p limits.gives in
     let is : problem limits.from ≡ p = ap (problem_in (problem limits.from)) size.gives in
     record {
@@ -174,18 +175,47 @@ pub record IsSmall (p : Problem) : Type 0 where
   pub small : total_weight p.old ≤ max_planned_total
   pub few : length p.limits ≤ max_names
 
+small_on : (refining : Refining) (flags : Definitions) (inputs : Inputs) (asked : Asked) (place : Place) (p : Problem) → AreFlags flags → place_of flags asked.flag asked.site ≡ Ok place → problem_on refining inputs asked place ≡ Ok p → IsSmall p
+small_on refining flags inputs asked place p lawful was h =
+    let bounds = bounded_on refining inputs asked place p h in
+    let good = subst (λ o. IfSome o (λ d. is_definition d ≡ true)) (placed flags asked.flag asked.site place was) (All-lookup (λ d. is_definition d ≡ true) (bytes_eq asked.flag) flags lawful.each) in
+    let names = few_variants place.flag good in
+    let made = ap (λ (ls : Limits). length ls) (limited place asked p.limits bounds.limits) in
+    let listed = names_limited place.flag place.entries bounds.factor asked.totals (named place asked p.limits bounds.limits) in
+    record {
+      listed = subst (λ (ls : Limits). AreListed p.old ls) (limited place asked p.limits bounds.limits) (subst (λ (r : Entries). AreListed r (limits_on asked.totals (variant_names place.flag))) bounds.old listed);
+      small = bounds.small;
+      met = bounds.met;
+      few = omega (arith, made, length-limits_on asked.totals (variant_names place.flag), names);
+    }
+
 pub lawful_small : (refining : Refining) (flags : Definitions) (bytes : List ℕ) (book : Contents) (p : Problem) → AreFlags flags → problem_of refining flags bytes book ≡ Ok p → IsSmall p
 lawful_small refining flags bytes book p lawful h =
     let asked = came (by_price (asked_of bytes)) (λ asked. and_then (place_of flags asked.flag asked.site) (λ place. problem_at refining book asked place)) p h in
     let place = came (place_of flags asked.from.flag asked.from.site) (λ place. problem_at refining book asked.from place) p asked.gives in
-    let bounds = bounded_at refining book asked.from place.from p place.gives in
-    let good = subst (λ o. IfSome o (λ d. is_definition d ≡ true)) (placed flags asked.from.flag asked.from.site place.from place.was) (All-lookup (λ d. is_definition d ≡ true) (bytes_eq asked.from.flag) flags lawful.each) in
-    let names = few_variants place.from.flag good in
-    let made = ap (λ (ls : Limits). length ls) (limited place.from asked.from p.limits bounds.limits) in
-    let listed = names_limited place.from.flag place.from.entries bounds.factor asked.from.totals (named place.from asked.from p.limits bounds.limits) in
+    let weight = came (weighed place.from.entries) (λ _. problem_on refining (inputs_on book place.from.page) asked.from place.from) p place.gives in
+    small_on refining flags (inputs_on book place.from.page) asked.from place.from p lawful place.was weight.gives
+
+tally_in : TallyProblem → Result TallyProblem RolloutFault → TallyProblem
+tally_in d (Ok p) = p
+tally_in d (Err e) = d
+
+-- the same of what a request asks of a tally
+pub tally_small : (refining : Refining) (flags : Definitions) (bytes : List ℕ) (t : PageTally) (p : TallyProblem) → AreFlags flags → tally_problem_of refining flags bytes t ≡ Ok p → IsSmall (with_inputs p [])
+unfolding tally_in
+tally_small refining flags bytes t p lawful h =
+    let asked = came (by_price (asked_of bytes)) (λ asked. and_then (place_of flags asked.flag asked.site) (λ place. tally_problem_at refining t asked place)) p h in
+    let place = came (place_of flags asked.from.flag asked.from.site) (λ place. tally_problem_at refining t asked.from place) p asked.gives in
+    let weight = came (weighed place.from.entries) (λ _. and_then (of_place refining t place.from) (λ _. and_then (problem_on refining [] asked.from place.from) (λ q. Ok (with_counts q t.counts)))) p place.gives in
+    let page = came (of_place refining t place.from) (λ _. and_then (problem_on refining [] asked.from place.from) (λ q. Ok (with_counts q t.counts))) p weight.gives in
+    let problem = came (problem_on refining [] asked.from place.from) (λ q. Ok (with_counts q t.counts)) p page.gives in
+    let is : with_counts problem.from t.counts ≡ p = ap (tally_in p) problem.gives in
+    let small = small_on refining flags [] asked.from place.from problem.from lawful place.was problem.was in
+    let old : problem.from.old ≡ p.old = ap (λ (q : TallyProblem). q.old) is in
+    let limits : problem.from.limits ≡ p.limits = ap (λ (q : TallyProblem). q.limits) is in
     record {
-      listed = subst (λ (ls : Limits). AreListed p.old ls) (limited place.from asked.from p.limits bounds.limits) (subst (λ (r : Entries). AreListed r (limits_on asked.from.totals (variant_names place.from.flag))) bounds.old listed);
-      small = bounds.small;
-      met = bounds.met;
-      few = omega (arith, made, length-limits_on asked.from.totals (variant_names place.from.flag), names);
+      listed = subst (λ (ls : Limits). AreListed p.old ls) limits (subst (λ (r : Entries). AreListed r problem.from.limits) old small.listed);
+      small = omega (arith, small.small, ap total_weight old);
+      met = subst (λ (ls : Limits). MissTotal p.old ls → ⊥) limits (subst (λ (r : Entries). MissTotal r problem.from.limits → ⊥) old small.met);
+      few = omega (arith, small.few, ap (λ (ls : Limits). length ls) limits);
     }

@@ -1,4 +1,5 @@
 pub mod Bounded
+pub mod OfTally
 pub mod Outcomes
 pub mod Refines
 pub mod Variants

@@ -2,7 +2,9 @@
 use Rattle.std.proofs.Common.{◌≡◌, ◌≢◌, Result, Ok, Err, refl}
 use Rattle.transport_instance.specs.declared.fault.CheckFault.{CheckFault}
 use Rattle.plan_text.specs.Answer.{Answer}
+use Rattle.book_core.specs.Book.{Inputs}
 use Rattle.rollout_checks.specs.Lawful.{Problem, IsLawful}
+use Rattle.rollout_checks.specs.Tallied.{AreTallied, IsTallyOutcome, IsTallyShown, TallyProblem, with_inputs}
 use Rattle.rollout_checks.specs.Verified.{Proves, Shows, Denies, IsOutcome, IsShown}
 use Rattle.rollout_checks.specs.declared.fault.RolloutFault.{RolloutFault}
 use Rattle.rollout_checks.specs.declared.fault.RolloutFault.TheVariants as fault
@@ -19,6 +21,7 @@ only_want fault.TotalsSum h = absurd (h (λ q. cc))
 only_want fault.TotalTooLarge h = absurd (h (λ q. cc))
 only_want fault.NoWeight h = absurd (h (λ q. cc))
 only_want fault.TooLarge h = absurd (h (λ q. cc))
+only_want fault.OtherTally h = absurd (h (λ q. cc))
 
 -- a refusal of the request
 pub outcome_request : (r : Result Problem RolloutFault) (a : Answer) (e : RolloutFault) → (e ≢ fault.WantOfMemory → r ≡ Err e) → IsOutcome r a (Err (Request e))
@@ -34,3 +37,18 @@ outcome_right r p a is h = rw is h
 
 pub shown_right : (r : Result Problem RolloutFault) (p : Problem) (a : Answer) → r ≡ Ok p → IsLawful p → Shows p a → IsShown r a
 shown_right r p a is lawful h = rw is (lawful, h)
+
+-- ---- the same of a tally
+
+pub tally_request : (r : Result TallyProblem RolloutFault) (a : Answer) (e : RolloutFault) → (e ≢ fault.WantOfMemory → r ≡ Err e) → IsTallyOutcome r a (Err (Request e))
+tally_request (Err f) a e h = λ want. let same = h want in cc
+tally_request (Ok p) a e h = only_want e (λ want. let same = h want in cc)
+
+pub tally_check : (r : Result TallyProblem RolloutFault) (p : TallyProblem) (a : Answer) (e : CheckFault) → r ≡ Ok p → ((inputs : Inputs) → AreTallied p inputs → Denies (with_inputs p inputs) a e) → IsTallyOutcome r a (Err (Check e))
+tally_check r p a e is h = rw is h
+
+pub tally_right : (r : Result TallyProblem RolloutFault) (p : TallyProblem) (a : Answer) → r ≡ Ok p → ((inputs : Inputs) → AreTallied p inputs → Proves (with_inputs p inputs) a) → IsTallyOutcome r a (Ok tt)
+tally_right r p a is h = rw is h
+
+pub tally_shown : (r : Result TallyProblem RolloutFault) (p : TallyProblem) (a : Answer) → r ≡ Ok p → ((inputs : Inputs) → AreTallied p inputs → IsLawful (with_inputs p inputs) × Shows (with_inputs p inputs) a) → IsTallyShown r a
+tally_shown r p a is h = rw is h

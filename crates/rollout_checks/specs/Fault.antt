@@ -13,7 +13,7 @@ use Rattle.transport_instance.specs.declared.fault.CheckFault.TheVariants as che
 use Rattle.transport_plan.specs.declared.fault.PlanFault.{PlanFault}
 use Rattle.transport_plan.specs.declared.fault.PlanFault.TheVariants as plan
 use Rattle.rollout_checks.specs.declared.fault.RolloutFault.{RolloutFault}
-use Rattle.rollout_checks.specs.declared.fault.RolloutFault.TheVariants.{WantOfMemory, Request, UnknownFlag, NoSite, Computed, UnknownVariant, TotalsSum, TotalTooLarge, NoWeight, TooLarge}
+use Rattle.rollout_checks.specs.declared.fault.RolloutFault.TheVariants.{WantOfMemory, Request, UnknownFlag, NoSite, Computed, UnknownVariant, TotalsSum, TotalTooLarge, NoWeight, TooLarge, OtherTally}
 
 -- want of memory is 0
 abbrev pub number_of : RolloutFault → ℕ
@@ -27,6 +27,7 @@ number_of TotalsSum = 6
 number_of TotalTooLarge = 7
 number_of NoWeight = 9
 number_of TooLarge = 10
+number_of OtherTally = 11
 
 -- the name of the variant
 abbrev pub name_of : RolloutFault → List ℕ
@@ -40,6 +41,7 @@ name_of TotalsSum = codes "TotalsSum"
 name_of TotalTooLarge = codes "TotalTooLarge"
 name_of NoWeight = codes "NoWeight"
 name_of TooLarge = codes "TooLarge"
+name_of OtherTally = codes "OtherTally"
 
 -- A name that the flag lacks is told of requests and rules alike. Every other refusal of a request is carried.
 abbrev pub of_price : PriceFault → RolloutFault

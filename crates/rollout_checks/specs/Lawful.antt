@@ -103,12 +103,15 @@ weighed entries = if total_weight entries == 0 then Err NoWeight else Ok tt
 
 -- ---- the whole
 
-abbrev pub problem_at : Refining → Contents → Asked → Place → Result Problem RolloutFault
-problem_at refining book asked place =
-    and_then (weighed place.entries) (λ _.
+-- what is asked of these inputs, at a site with weight
+abbrev pub problem_on : Refining → Inputs → Asked → Place → Result Problem RolloutFault
+problem_on refining inputs asked place =
     and_then (limits_for place asked) (λ limits.
     and_then (sized limits (total_weight place.entries * factor refining (total_weight place.entries))) (λ _.
-    Ok (record { old = refinement (factor refining (total_weight place.entries)) place.entries; limits = limits; pricing = asked.prices; inputs = inputs_on book place.page }))))
+    Ok (record { old = refinement (factor refining (total_weight place.entries)) place.entries; limits = limits; pricing = asked.prices; inputs = inputs })))
+
+abbrev pub problem_at : Refining → Contents → Asked → Place → Result Problem RolloutFault
+problem_at refining book asked place = and_then (weighed place.entries) (λ _. problem_on refining (inputs_on book place.page) asked place)
 
 -- What the bytes of a request ask, or its first refusal: the request itself, the flag, the site, its buckets, its weight, the names, the sums, the total.
 abbrev pub problem_of : Refining → Definitions → List ℕ → Contents → Result Problem RolloutFault

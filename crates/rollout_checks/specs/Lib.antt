@@ -1,5 +1,6 @@
 pub mod Fault
 pub mod Lawful
 pub mod Refined
+pub mod Tallied
 pub mod Verified
 pub mod VerifyFault

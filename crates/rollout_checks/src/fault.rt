@@ -11,7 +11,8 @@ use thiserror::Error;
 use transport_core::CheckFault;
 use transport_plan::PlanFault;
 
-/// Why a rollout is refused. A request is tested for 1, 2, 3, 4, 9, 5, 6 and 7 in that order. No refusal has the number 8.
+/// Why a rollout is refused. A request is tested for 1, 2, 3, 4, 9, 11, 5, 6 and 7 in that order, for 11 on a
+/// tally alone. No refusal has the number 8.
 #[derive(Clone, Copy, Debug, PartialEq, Eq, Error)]
 pub enum RolloutFault {
     /// Memory ran out.
@@ -44,6 +45,9 @@ pub enum RolloutFault {
     /// The document with the new rule is too large when it is printed.
     #[error("the document is too large")]
     TooLarge,
+    /// A tally is of another page than the request's, or of another total than that of the rule that is planned on.
+    #[error("the tally is of another page or total")]
+    OtherTally,
 }
 
 impl RolloutFault {
@@ -62,6 +66,7 @@ impl RolloutFault {
             RolloutFault::TotalTooLarge => 7,
             RolloutFault::NoWeight => 9,
             RolloutFault::TooLarge => 10,
+            RolloutFault::OtherTally => 11,
         }
     }
 
@@ -80,6 +85,7 @@ impl RolloutFault {
             RolloutFault::TotalTooLarge => "TotalTooLarge",
             RolloutFault::NoWeight => "NoWeight",
             RolloutFault::TooLarge => "TooLarge",
+            RolloutFault::OtherTally => "OtherTally",
         }
     }
 }

@@ -1,23 +1,29 @@
 //! What a lawful request asks.
-ghost use Rattle.std.specs.Prelude.{◌≡◌, ◌≤◌, ◌<◌, ◌*◌, false, length, Ok, IsErrOf};
+ghost use Rattle.std.specs.Prelude.{◌≡◌, ◌≤◌, ◌<◌, ◌*◌, ◌==◌, ◌&&◌, false, length, Ok, IfOk, IsErrOf};
 ghost use Rattle.std.specs.Str.{is_utf8};
 ghost use Rattle.flag_text.specs.Outcome.{GivesUnless};
 ghost use Rattle.bucket_core.specs.Rule.{total_weight, refinement, entries_view};
+ghost use Rattle.book_core.specs.Page.{page_eq};
 ghost use Rattle.flag_documents.specs.Flag.{flag_view, is_broken};
 ghost use Rattle.flag_defs.specs.Flags.{flags_view};
 ghost use Rattle.price_core.specs.Request.{max_request};
 ghost use Rattle.price_core.specs.declared.fault.PriceFault.TheVariants.{BadRequest};
 ghost use Rattle.rollout_checks.specs.Lawful.{IsRefining, PosesUnless, max_planned, problem_of, problem_at, sized, place_view};
+ghost use Rattle.rollout_checks.specs.Tallied.{tally_problem_of, tally_problem_at, tally_view};
+ghost use Rattle.tally_core.specs.Tally.{IsPageTally};
+ghost use Rattle.transport_instance.specs.Tally.{IsTally};
 
 use crate::fault::RolloutFault;
 use crate::place::{Place, limits_for, place_of};
 use crate::refining::Refining;
+use book_core::Page;
 use bucket_core::{Rule, total_weight};
 use flag_defs::Flags;
 use page_tally::Recorded;
 use price_core::{Request, Totals};
 use std::alloc::Global;
 use std::thread::Threads;
+use tally_core::PageTally;
 
 /// The largest total that is planned on.
 pub(crate) const MAX_PLANNED: u128 = 1_000_000;
@@ -87,6 +93,78 @@ fn problem_at<R: Threads + Sync, B: Recorded>(
         request,
         counts,
     })
+}
+
+/// What the bytes of a request ask of the flags and of a tally, where it is lawful. The condition is a factor from 1.
+///
+/// It refuses as [`problem_of`], and after `NoWeight` with `OtherTally` where the tally is of another page than the request's,
+/// or of another total than the refined rule's.
+pub fn problem_of_tally(
+    alloc: Global,
+    refining: Refining,
+    flags: &Flags,
+    request: &[u8],
+    tally: &PageTally,
+) -> Result<Problem, RolloutFault>
+    requires { IsRefining refining }
+    ensures exact { GivesUnless RolloutFault.WantOfMemory tally_view result (tally_problem_of refining (flags_view flags.now) request.now tally.now) }
+    ensures tally { IfOk result (λ p. IsTally (total_weight p.old) p.counts.items) }
+    ensures large { max_request < length request.now → IsErrOf result (RolloutFault.Request BadRequest) }
+    ensures no_text { length request.now ≤ max_request → is_utf8 request.now ≡ false → IsErrOf result (RolloutFault.Request BadRequest) }
+{
+    let request = Request::read(alloc, request)?;
+    let place = place_of(alloc, flags, request.flag(), request.site())?;
+    tally_problem_at(alloc, refining, tally, request, place)
+}
+
+fn tally_problem_at(
+    alloc: Global,
+    refining: Refining,
+    tally: &PageTally,
+    request: Request,
+    place: Place<'_>,
+) -> Result<Problem, RolloutFault>
+    requires lawful { IsRefining refining }
+    requires good { is_broken (flag_view place.flag.now) ≡ false }
+    ensures exact { GivesUnless RolloutFault.WantOfMemory tally_view result (tally_problem_at refining tally.now request (place_view place.entry)) }
+    ensures tally { IfOk result (λ p. IsTally (total_weight p.old) p.counts.items) }
+{
+    let total = total_weight(place.entries.as_slice());
+    if total == 0 {
+        return Err(RolloutFault::NoWeight);
+    }
+    let factor = refining.factor(total);
+    if !is_of(tally, &place.page, total, factor) {
+        return Err(RolloutFault::OtherTally);
+    }
+    let totals = limits_for(alloc, &place, &request)?;
+    check_size(&totals, total, factor)?;
+    let Place { entries, .. } = place;
+    let old = refined(alloc, entries, factor)?;
+    let counts = counts_in(tally).to_vec(alloc)?;
+    Ok(Problem {
+        old,
+        totals,
+        request,
+        counts,
+    })
+}
+
+/// The counts of a tally, by point.
+fn counts_in(tally: &PageTally) -> &[u32]
+    ensures value { result.now ≡ tally.now.counts }
+    ensures lawful { IsPageTally tally.now }
+{
+    tally.counts.as_slice()
+}
+
+/// Whether a tally is of a page, and of this many times the total.
+fn is_of(tally: &PageTally, page: &Page, total: u128, factor: u32) -> bool
+    ensures { result ≡ (page_eq page.now tally.now.page && (total * factor == tally.now.total)) }
+{
+    // What saturates is above each total of a tally, as the product is.
+    let total = total.saturating_mul(u128::from(factor));
+    *page == tally.page && total == u128::from(tally.total)
 }
 
 /// Whether the limits can be met by this many times the total, which is not too large to plan on.

@@ -9,11 +9,12 @@ ghost use Rattle.price_core.specs.declared.fault.PriceFault.TheVariants.{BadRequ
 ghost use Rattle.plan_text.specs.Answer.{planned_view};
 ghost use Rattle.transport_instance.specs.Tally.{IsTally};
 ghost use Rattle.rollout_checks.specs.Lawful.{IsCounted, IsLawful, IsRefining, problem_of, problem_view};
+ghost use Rattle.rollout_checks.specs.Tallied.{IsTallyOutcome, IsTallyShown, tally_problem_of};
 ghost use Rattle.rollout_checks.specs.Verified.{IsOutcome, Proves, Shows, Denies, IsShown, refining_for};
 ghost use Rattle.rollout_checks.specs.declared.fault.RolloutFault.{RolloutFault};
 ghost use Rattle.rollout_checks.specs.declared.refining.Refining.TheVariants.{Times};
 
-use crate::problem::{Problem, problem_of};
+use crate::problem::{Problem, problem_of, problem_of_tally};
 use crate::refining::Refining;
 use crate::verify_fault::VerifyFault;
 use flag_defs::Flags;
@@ -21,6 +22,7 @@ use page_tally::Recorded;
 use plan_text::Planned;
 use std::alloc::Global;
 use std::thread::Threads;
+use tally_core::PageTally;
 use transport_core::{CheckFault, check_cut, check_plan};
 
 /// Checks that a request is lawful and that an answer is right for it. A rule is checked against the site's rule, refined
@@ -71,6 +73,41 @@ pub fn verify_refined<R: Threads + Sync, B: Recorded>(
     verify_by(rt, alloc, Refining::Times(m), flags, request, book, planned)
 }
 
+/// As [`verify`], on a tally of the request's page: the answer is right for all inputs of which so many fall on each point.
+pub fn verify_tally(
+    alloc: Global,
+    flags: &Flags,
+    request: &[u8],
+    tally: &PageTally,
+    planned: &Planned,
+) -> Result<(), VerifyFault>
+    ensures exact { IsTallyOutcome (tally_problem_of (refining_for (planned_view planned.now)) (flags_view flags.now) request.now tally.now) (planned_view planned.now) result }
+    ensures shown { OnOk result (IsTallyShown (tally_problem_of (refining_for (planned_view planned.now)) (flags_view flags.now) request.now tally.now) (planned_view planned.now)) }
+    ensures large { max_request < length request.now → IsErrOf result (VerifyFault.Request (RolloutFault.Request BadRequest)) }
+    ensures no_text { length request.now ≤ max_request → is_utf8 request.now ≡ false → IsErrOf result (VerifyFault.Request (RolloutFault.Request BadRequest)) }
+{
+    let refining = refining_for(planned);
+    verify_tally_by(alloc, refining, flags, request, tally, planned)
+}
+
+/// As [`verify_tally`], with the site's rule refined by m for both kinds of answer. The condition is m from 1.
+pub fn verify_tally_refined(
+    alloc: Global,
+    flags: &Flags,
+    request: &[u8],
+    tally: &PageTally,
+    planned: &Planned,
+    m: u32,
+) -> Result<(), VerifyFault>
+    requires { 0 < m }
+    ensures exact { IsTallyOutcome (tally_problem_of (Times m) (flags_view flags.now) request.now tally.now) (planned_view planned.now) result }
+    ensures shown { OnOk result (IsTallyShown (tally_problem_of (Times m) (flags_view flags.now) request.now tally.now) (planned_view planned.now)) }
+    ensures large { max_request < length request.now → IsErrOf result (VerifyFault.Request (RolloutFault.Request BadRequest)) }
+    ensures no_text { length request.now ≤ max_request → is_utf8 request.now ≡ false → IsErrOf result (VerifyFault.Request (RolloutFault.Request BadRequest)) }
+{
+    verify_tally_by(alloc, Refining::Times(m), flags, request, tally, planned)
+}
+
 fn refining_for(planned: &Planned) -> Refining
     ensures value { result ≡ refining_for (planned_view planned.now) }
     ensures lawful { IsRefining result }
@@ -97,6 +134,25 @@ fn verify_by<R: Threads + Sync, B: Recorded>(
     ensures no_text { length request.now ≤ max_request → is_utf8 request.now ≡ false → IsErrOf result (VerifyFault.Request (RolloutFault.Request BadRequest)) }
 {
     let problem = problem_of(rt, alloc, refining, flags, request, book)?;
+    check(alloc, &problem, planned)?;
+    Ok(())
+}
+
+fn verify_tally_by(
+    alloc: Global,
+    refining: Refining,
+    flags: &Flags,
+    request: &[u8],
+    tally: &PageTally,
+    planned: &Planned,
+) -> Result<(), VerifyFault>
+    requires { IsRefining refining }
+    ensures exact { IsTallyOutcome (tally_problem_of refining (flags_view flags.now) request.now tally.now) (planned_view planned.now) result }
+    ensures shown { OnOk result (IsTallyShown (tally_problem_of refining (flags_view flags.now) request.now tally.now) (planned_view planned.now)) }
+    ensures large { max_request < length request.now → IsErrOf result (VerifyFault.Request (RolloutFault.Request BadRequest)) }
+    ensures no_text { length request.now ≤ max_request → is_utf8 request.now ≡ false → IsErrOf result (VerifyFault.Request (RolloutFault.Request BadRequest)) }
+{
+    let problem = problem_of_tally(alloc, refining, flags, request, tally)?;
     check(alloc, &problem, planned)?;
     Ok(())
 }

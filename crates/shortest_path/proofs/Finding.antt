@@ -65,6 +65,9 @@ module _ (nodes : ℕ) (arc : ℕ → ℕ → Option Arc) (wanted : List Bool) (
     reduced = still_reduced nodes arc potential potential' source max_cost nodes len parent rank node so_far reduced search near lowered;
     tight = tight nodes arc potential potential' source max_cost nodes len parent rank node so_far reduced search near lowered;
     kept = lowered.others;
+    fallen = λ v within settled.
+        let known = search.known v within settled in
+        omega (arith, ints, lowered.settled v known.0 within settled known.1, search.order v node known.0 so_far within near.within settled near.unsettled known.1 near.reached);
     low = λ v within settled.
         let known = search.known v within settled in
         omega (arith, ints, lowered.settled v known.0 within settled known.1, search.low v known.0 within known.1, search.high node so_far near.within near.reached);

@@ -33,7 +33,7 @@ pub record IsStuck (nodes : ℕ) (arc : ℕ → ℕ → Option Arc) (wanted : Li
   pub unwanted : (v : ℕ) → v < nodes → rank v < nodes → slice_get wanted v ≡ Some true → ⊥
 
 -- A wanted node is found: no reduced cost is negative by the new potentials, those on the paths to it and to each settled node
--- are 0, only settled nodes' potentials changed, and these are near that of the node.
+-- are 0, only settled nodes' potentials changed, and these fell to near that of the node.
 pub record HasFound (nodes : ℕ) (arc : ℕ → ℕ → Option Arc) (wanted : List Bool) (source : ℕ) (potential potential' : ℕ → ℤ) (parent rank : ℕ → ℕ) (node : ℕ) : Type 0 where
   pub within : node < nodes
   pub is_wanted : slice_get wanted node ≡ Some true
@@ -42,6 +42,7 @@ pub record HasFound (nodes : ℕ) (arc : ℕ → ℕ → Option Arc) (wanted : L
   pub reduced : IsReduced nodes arc potential'
   pub tight : (v : ℕ) → v < nodes → (rank v < nodes) ⊎ (v ≡ node) → (v ≡ source) ⊎ IsTight nodes arc potential' parent rank v
   pub kept : (v : ℕ) → v < nodes → nodes ≤ rank v → potential' v ≡ potential v
+  pub fallen : (v : ℕ) → v < nodes → rank v < nodes → potential' v ≤ℤ potential v
   pub low : (v : ℕ) → v < nodes → rank v < nodes → (potential node -ℤ pos (2 * (nodes * max_cost))) ≤ℤ potential' v
   pub high : (v : ℕ) → v < nodes → rank v < nodes → potential' v ≤ℤ (potential node +ℤ pos (2 * (nodes * max_cost)))
 

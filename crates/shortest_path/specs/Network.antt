@@ -4,9 +4,9 @@ use Rattle.std.specs.Prelude.{◌≡◌, ℕ, ◌<◌, ◌+◌, ◌*◌, ◌^◌
 use Rattle.std.proofs.Common.{neg_ℤ}
 use Rattle.shortest_path.specs.declared.arc.Arc.{Arc}
 
--- the most that an arc costs, up or down, and the most nodes
+-- the most that an arc costs, up or down: the largest price for the most inputs of a point; and the most nodes
 abbrev pub max_cost : ℕ
-max_cost = 1000000 * 1000000
+max_cost = 67108864 * 1000000
 
 abbrev pub max_nodes : ℕ
 max_nodes = 65

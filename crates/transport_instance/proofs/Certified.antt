@@ -198,7 +198,7 @@ module _ (old : Entries) (inputs : List (List ℕ)) (limits : Limits) (pricing :
   slack_from none p from to was listed allowed =
       let g = group_at old inputs p in
       let below : p < total_weight old = omega (arith, place_below (points old) p from was, length-points old) in
-      let a_at = place_from_contains (keys_of c.alpha) g ((groups.occur g).1 (size-some old inputs p below)) in
+      let a_at = place_from_contains (keys_of c.alpha) g ((groups.occur g).1 (size-some old (inputs_at (total_weight old) inputs) p below)) in
       let a = entry_place c.alpha a_at.0 g a_at.1 in
       let listed_at = place_from_contains (keys_of limits) to listed in
       let b = entry_place c.beta listed_at.0 to (ap (λ ks. slice_get ks listed_at.0) names ∙ listed_at.1) in

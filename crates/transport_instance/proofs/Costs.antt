@@ -1,12 +1,13 @@
 -- What is known of inputs by how many fall on each point: their number, and what they cost.
-use Rattle.std.proofs.Common.{◌≡◌, ℕ, ◌+◌, ◌*◌, ◌<◌, pos, List, length, get_or, sum, sym, ap, ◌∙◌, arith}
+use Rattle.std.proofs.Common.{◌≡◌, ℕ, zero, suc, ◌+◌, ◌*◌, ◌<◌, ◌≤◌, pos, List, [], ◌∷◌, length, get_or, sum, refl, sym, ap, ◌∙◌, subst, arith}
 use Rattle.std.specs.List.{range_with_len, slice_index}
 use Rattle.std.proofs.lemmas.List.FromFn.{get_or-map-range_with_len, length-map-range_with_len}
-use Rattle.std.proofs.lemmas.List.Sums.{sum-map}
+use Rattle.std.proofs.lemmas.List.Sums.{sum_by-cons, sum-map}
 use Rattle.book_core.specs.Counts.{counts_of}
 use Rattle.bucket_core.specs.Rule.{Entries, total_weight}
 use Rattle.price_core.specs.Cost.{cost_of, point_cost, tally_cost}
 use Rattle.price_core.specs.Pricing.{Pricing}
+use Rattle.tally_core.specs.Tally.{most_at_point}
 use Rattle.transport_instance.specs.Dual.{inputs_at}
 use Rattle.transport_instance.specs.Tally.{IsTally}
 use Rattle.transport_instance.proofs.Duality.{cost-by_points}
@@ -23,9 +24,6 @@ counted_at inputs total counts p is below =
 pub length-counts : (inputs : List (List ℕ)) (total : ℕ) (counts : List ℕ) → counts ≡ counts_of inputs total → length counts ≡ total
 length-counts inputs total counts is = ap length is ∙ length-map-range_with_len (λ p. inputs_at total inputs p) 0 total
 
-pub length-tally : (total : ℕ) (counts : List ℕ) → IsTally total counts → length counts ≡ total
-length-tally total counts tally = length-counts tally.inputs total counts tally.counted
-
 same_number : {a b : ℕ} → pos a ≡ pos b → a ≡ b
 same_number same = cc
 
@@ -34,6 +32,21 @@ pub sum-counts : (inputs : List (List ℕ)) (total : ℕ) (counts : List ℕ) �
 sum-counts inputs total counts some is =
     let range = range_with_len 0 total in
     ap sum is ∙ (sum-map (inputs_at total inputs) range ∙ same_number (sym (sum_z-pos (inputs_at total inputs) range) ∙ points_inputs total inputs some))
+
+one_of_sum : (counts : List ℕ) (p : ℕ) → get_or counts p 0 ≤ sum counts
+one_of_sum [] p = omega arith
+one_of_sum (count ∷ counts) zero = omega (arith, sum_by-cons (λ n. n) count counts)
+one_of_sum (count ∷ counts) (suc p) = omega (arith, sum_by-cons (λ n. n) count counts, one_of_sum counts p)
+
+-- a list of inputs that is not too long has a tally
+pub tally_of : (inputs : List (List ℕ)) (total : ℕ) (counts : List ℕ) → counts ≡ counts_of inputs total → length inputs ≤ most_at_point → IsTally total counts
+tally_of inputs zero counts is few = subst (IsTally zero) (sym is) none
+  where
+    none : IsTally zero []
+    none = record { whole = refl; small = λ p. omega arith; few = omega arith }
+tally_of inputs (suc n) counts is few =
+    let all = sum-counts inputs (suc n) counts (omega arith) is in
+    record { whole = length-counts inputs (suc n) counts is; small = λ p. omega (arith, all, few, one_of_sum counts p); few = omega (arith, all, few) }
 
 -- what they cost, point by point
 pub cost-tally : (old new : Entries) (inputs : List (List ℕ)) (counts : List ℕ) (pricing : Pricing) → 0 < total_weight old → total_weight new ≡ total_weight old → counts ≡ counts_of inputs (total_weight old)

@@ -15,8 +15,8 @@ use Rattle.std.proofs.lemmas.Slice.Eq.{bytes_eq-Decides}
 use Rattle.bucket_core.specs.Rule.{Entries, total_weight}
 use Rattle.price_core.specs.Limits.{Limits}
 use Rattle.transport_instance.specs.Certificate.{alpha_at, beta_of, gains, losses, group_sum}
-use Rattle.transport_instance.specs.Dual.{least_value}
-use Rattle.transport_instance.specs.Groups.{GroupKey, is_same_group, group_cmp, group_at, size_of, AreGroups, AreSizes}
+use Rattle.transport_instance.specs.Dual.{inputs_at, least_value}
+use Rattle.transport_instance.specs.Groups.{GroupKey, is_same_group, group_cmp, group_at, group_by, size_by, size_of, AreGroups, AreSizes, AreSizesBy}
 use Rattle.transport_instance.specs.Sum.{sum_z}
 use Rattle.transport_instance.proofs.Keys.{once_in_sorted}
 use Rattle.transport_instance.proofs.Members.{Stands, place_below, contains_from_place, place_from_contains, found_place, lookup_place, entry_place, sorted_unique}
@@ -40,11 +40,11 @@ place_in_range a (suc n) p low high =
     (cases_eq p a)
 
 -- the group of a point has points
-pub size-some : (old : Entries) (inputs : List (List ℕ)) (p : ℕ) → p < total_weight old → 0 < size_of old inputs (group_at old inputs p)
-size-some old inputs p below =
+pub size-some : (old : Entries) (load : ℕ → ℕ) (p : ℕ) → p < total_weight old → 0 < size_by old load (group_by old load p)
+size-some old load p below =
     let s = place_in_range 0 (total_weight old) p (omega arith) (omega arith) in
-    let g = group_at old inputs p in
-    counted (λ q. is_same_group g (group_at old inputs q)) (range_with_len 0 (total_weight old)) s.0 p s.1 (is_same_itself g)
+    let g = group_by old load p in
+    counted (λ q. is_same_group g (group_by old load q)) (range_with_len 0 (total_weight old)) s.0 p s.1 (is_same_itself g)
 
 all_placed : (groups : List (GroupKey × ℕ)) (i : ℕ) (e : GroupKey × ℕ) → All (λ r. 0 < r.1) groups → slice_get groups i ≡ Some e → 0 < e.1
 all_placed groups i e all is =
@@ -56,36 +56,37 @@ some_found : (o : Option ℕ) → 0 < unwrap_or o 0 → (n : ℕ) × (o ≡ Some
 some_found None some = absurd (omega arith)
 some_found (Some n) some = (n, refl)
 
-module _ (old : Entries) (inputs : List (List ℕ)) (groups : List (GroupKey × ℕ)) (sizes : AreSizes old inputs groups) where
+module _ (old : Entries) (load : ℕ → ℕ) (groups : List (GroupKey × ℕ)) (sizes : AreSizesBy old load groups) where
   -- a group with points stands among the groups
-  pub group_stands : (g : GroupKey) → 0 < size_of old inputs g → Stands (keys_of groups) g
+  pub group_stands : (g : GroupKey) → 0 < size_by old load g → Stands (keys_of groups) g
   group_stands g some =
       let found = some_found (lookup (is_same_group g) groups) (omega (arith, some, sizes.sizes g)) in
       found_place is_same_group same_group is_same_itself groups g found.0 found.1
 
   -- what stands among the groups is one with its points
-  pub stands_group : (i : ℕ) (e : GroupKey × ℕ) → slice_get groups i ≡ Some e → size_of old inputs e.0 ≡ e.1
+  pub stands_group : (i : ℕ) (e : GroupKey × ℕ) → slice_get groups i ≡ Some e → size_by old load e.0 ≡ e.1
   stands_group i e is = sym (sizes.sizes e.0) ∙ ap (λ o. unwrap_or o 0) (lookup_place is_same_group same_group is_same_itself group_cmp group_order groups i e sizes.rise is)
 
-  stands_some : (g : GroupKey) → Stands (keys_of groups) g → 0 < size_of old inputs g
+  pub stands_some : (g : GroupKey) → Stands (keys_of groups) g → 0 < size_by old load g
   stands_some g s =
       let entry = entry_place groups s.0 g s.1 in
       let below = place_below groups s.0 entry.0 entry.1 in
       let positive : 0 < entry.0.1 = all_placed groups s.0 entry.0 sizes.some entry.1 in
-      omega (arith, stands_group s.0 entry.0 entry.1, positive, ap (size_of old inputs) entry.2)
+      omega (arith, stands_group s.0 entry.0 entry.1, positive, ap (size_by old load) entry.2)
 
+module _ (old : Entries) (inputs : List (List ℕ)) (groups : List (GroupKey × ℕ)) (sizes : AreSizes old inputs groups) where
   pub groups_are : AreGroups old inputs (keys_of groups)
   groups_are = record {
     rise = sizes.rise;
-    occur = λ g. (λ c. stands_some g (place_from_contains (keys_of groups) g c), λ some. contains_from_place (keys_of groups) g (group_stands g some));
+    occur = λ g. (λ c. stands_some old (inputs_at (total_weight old) inputs) groups sizes g (place_from_contains (keys_of groups) g c), λ some. contains_from_place (keys_of groups) g (group_stands old (inputs_at (total_weight old) inputs) groups sizes g some));
   }
 
   -- only the groups' keys are exactly the groups
   pub groups_only : (keys : List GroupKey) → AreGroups old inputs keys → keys ≡ keys_of groups
   groups_only keys are =
       sorted_unique group_cmp group_order keys (keys_of groups) are.rise sizes.rise
-      (λ g s. group_stands g ((are.occur g).0 (contains_from_place keys g s)))
-      (λ g s. place_from_contains keys g ((are.occur g).1 (stands_some g s)))
+      (λ g s. group_stands old (inputs_at (total_weight old) inputs) groups sizes g ((are.occur g).0 (contains_from_place keys g s)))
+      (λ g s. place_from_contains keys g ((are.occur g).1 (stands_some old (inputs_at (total_weight old) inputs) groups sizes g s)))
 
 -- ---- the sum over the points
 
@@ -112,13 +113,13 @@ group_sum-is old inputs groups alpha sizes keys =
     let rise : IsStrictlySortedBy group_cmp (keys_of alpha) = subst (λ ks. IsStrictlySortedBy group_cmp ks) (sym keys) sizes.rise in
     let picks : (i p : ℕ) → slice_get range i ≡ Some p → PicksOne (λ (e : Row). is_same_group e.0 (at_point p)) alpha (λ e. f e.0) (f (at_point p)) =
     λ i p is.
-    let stands = group_stands old inputs groups sizes (at_point p) (size-some old inputs p (omega (arith, range_place 0 (total_weight old) i p is))) in
+    let stands = group_stands old (inputs_at (total_weight old) inputs) groups sizes (at_point p) (size-some old (inputs_at (total_weight old) inputs) p (omega (arith, range_place 0 (total_weight old) i p is))) in
     let some : list_any (λ k. is_same_group k (at_point p)) (keys_of alpha) ≡ true =
     any_passes_from_place (λ k. is_same_group k (at_point p)) (keys_of alpha) stands.0 (at_point p) (ap (λ ks. slice_get ks stands.0) keys ∙ stands.1) (is_same_itself (at_point p)) in
     let once = once_in_sorted group_cmp group_order (λ (e : Row). e.0) (λ k. is_same_group k (at_point p)) (at_point p) (λ k h. same_group k (at_point p) h) alpha rise some in
     picks_one (λ (e : Row). is_same_group e.0 (at_point p)) (λ e. f e.0) (f (at_point p)) alpha once (λ e h. ap f (same_group e.0 (at_point p) h)) in
     regroup (λ p (e : Row). is_same_group e.0 (at_point p)) (λ e. f e.0) (alpha_at old inputs alpha) alpha range picks
-    ∙ zip_weighted groups alpha (size_of old inputs) f keys (stands_group old inputs groups sizes)
+    ∙ zip_weighted groups alpha (size_of old inputs) f keys (stands_group old (inputs_at (total_weight old) inputs) groups sizes)
     (λ k e is. ap (λ o. unwrap_or o (pos 0)) (lookup_place is_same_group same_group is_same_itself group_cmp group_order alpha k e rise is))
 
 -- ---- the sum over the names

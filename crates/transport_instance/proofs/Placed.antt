@@ -15,8 +15,7 @@ use Rattle.std.proofs.lemmas.List.Sums.{sum_by-cons}
 use Rattle.std.proofs.lemmas.Map.Text.{is_eq-slice_cmp}
 use Rattle.std.proofs.lemmas.Slice.Eq.{bytes_eq-Decides}
 use Rattle.bucket_core.specs.Rule.{Entries, total_weight}
-use Rattle.transport_instance.specs.Dual.{inputs_at}
-use Rattle.transport_instance.specs.Groups.{GroupKey, is_same_group, group_cmp, AreSizes, row_view, rows_view}
+use Rattle.transport_instance.specs.Groups.{GroupKey, is_same_group, group_cmp, AreSizesBy, row_view, rows_view}
 use Rattle.transport_instance.specs.Rows.{whole_amount, joined, CoversPoints}
 use Rattle.transport_instance.proofs.Joined.{step, rise-joined, joined-seen, amount-joined, passed-joined, some-joined, lookup-amount}
 
@@ -66,14 +65,14 @@ abbrev pub same_key : Bor (List ℕ) × ℕ → Bor (List ℕ) × ℕ → Bool
 same_key x y = is_same_group (key_view x) (key_view y)
 
 -- the groups of a rule, from its runs, sorted and joined
-pub sizes-joined : (rule : Entries) (inputs : List (List ℕ)) (rows sorted : List ((Bor (List ℕ) × ℕ) × ℕ)) → CoversPoints rule (inputs_at (total_weight rule) inputs) (total_weight rule) (rows_view rows)
-    → IsPermutation rows sorted → IsSortedBy row_lt sorted → AreSizes rule inputs (rows_view (joined same_key sorted))
-sizes-joined rule inputs rows sorted covers moved rises =
+pub sizes-joined : (rule : Entries) (load : ℕ → ℕ) (rows sorted : List ((Bor (List ℕ) × ℕ) × ℕ)) → CoversPoints rule load (total_weight rule) (rows_view rows)
+    → IsPermutation rows sorted → IsSortedBy row_lt sorted → AreSizesBy rule load (rows_view (joined same_key sorted))
+sizes-joined rule load rows sorted covers moved rises =
     let as_seen : rows_view (joined same_key sorted) ≡ joined is_same_group (rows_view sorted) = joined-seen key_view same_key is_same_group (λ a b. refl) sorted in
     let moved_view : IsPermutation (rows_view rows) (rows_view sorted) = IsPermutation-map row_view rows sorted moved in
     let rise : IsStrictlySortedBy group_cmp (keys_of (joined is_same_group (rows_view sorted))) =
     rise-joined key_view is_same_group same_group group_cmp group_order row_lt (λ x y above. step is_same_group group_cmp group_order group_ties (key_view x.0) (key_view y.0) (nat_cmp y.1 x.1) above) sorted rises in
-    let sizes : AreSizes rule inputs (joined is_same_group (rows_view sorted)) = record {
+    let sizes : AreSizesBy rule load (joined is_same_group (rows_view sorted)) = record {
       rise = rise;
       sizes = λ g.
           let found = lookup-amount is_same_group same_group group_cmp group_order g (joined is_same_group (rows_view sorted)) rise in
@@ -82,7 +81,7 @@ sizes-joined rule inputs rows sorted covers moved rises =
           found ∙ (kept ∙ (same ∙ covers.amounts g));
       some = some-joined is_same_group (rows_view sorted) (All-permutation (λ (r : GroupKey × ℕ). 0 < r.1) (rows_view rows) (rows_view sorted) moved_view covers.some);
     } in
-    subst (λ rs. AreSizes rule inputs rs) (sym as_seen) sizes
+    subst (λ rs. AreSizesBy rule load rs) (sym as_seen) sizes
 
 pub whole-view : (rows : List ((Bor (List ℕ) × ℕ) × ℕ)) → whole_amount (rows_view rows) ≡ whole_amount rows
 whole-view [] = refl

@@ -21,7 +21,7 @@ use Rattle.transport_instance.specs.Certificate.{DualPrices, IsCertified}
 use Rattle.transport_instance.specs.Deficient.{may_become, is_among, IsOver}
 use Rattle.transport_instance.specs.Dual.{inputs_at}
 use Rattle.transport_instance.specs.Fits.{Fits, IsLeast}
-use Rattle.transport_instance.specs.Groups.{GroupKey, is_same_group, group_cmp, group_at, AreGroups, AreSizes, row_view, rows_view}
+use Rattle.transport_instance.specs.Groups.{GroupKey, is_same_group, group_cmp, group_at, group_by, AreGroups, AreSizes, AreSizesBy, row_view, rows_view}
 use Rattle.transport_instance.specs.Instance.{TransportProblem}
 use Rattle.transport_instance.specs.Refusals.{is_broken, pairs_of}
 use Rattle.transport_instance.specs.Rows.{whole_amount}
@@ -57,9 +57,9 @@ sum-points r n g many =
 
 -- ---- groups
 
-module _ (old : Entries) (inputs : List (List ℕ)) (groups : List (GroupKey × ℕ)) (sizes : AreSizes old inputs groups) where
-  by_groups : (f : GroupKey → ℕ) → sum_by (λ p. f (group_at old inputs p)) (range_with_len 0 (total_weight old)) ≡ weigh f groups
-  by_groups f = weighed is_same_group same_group is_same_itself (group_at old inputs) f (range_with_len 0 (total_weight old)) groups
+module _ (old : Entries) (load : ℕ → ℕ) (groups : List (GroupKey × ℕ)) (sizes : AreSizesBy old load groups) where
+  weigh_groups : (f : GroupKey → ℕ) → sum_by (λ p. f (group_by old load p)) (range_with_len 0 (total_weight old)) ≡ weigh f groups
+  weigh_groups f = weighed is_same_group same_group is_same_itself (group_by old load) f (range_with_len 0 (total_weight old)) groups
       (λ g. sym (sizes.sizes g) ∙ lookup-amount is_same_group same_group group_cmp group_order g groups sizes.rise)
 
   one_each : (gs : List (GroupKey × ℕ)) → weigh (λ (g : GroupKey). 1) gs ≡ whole_amount gs
@@ -67,8 +67,15 @@ module _ (old : Entries) (inputs : List (List ℕ)) (groups : List (GroupKey × 
   one_each (g ∷ gs) = omega (arith, sum_by-cons (λ (r : GroupKey × ℕ). r.1 * 1) g gs, sum_by-cons (λ (r : GroupKey × ℕ). r.1) g gs, one_each gs)
 
   -- the groups hold all points
+  pub whole-sizes : whole_amount groups ≡ total_weight old
+  whole-sizes = sym (one_each groups) ∙ (sym (weigh_groups (λ g. 1)) ∙ count-all 0 (total_weight old))
+
+module _ (old : Entries) (inputs : List (List ℕ)) (groups : List (GroupKey × ℕ)) (sizes : AreSizes old inputs groups) where
+  by_groups : (f : GroupKey → ℕ) → sum_by (λ p. f (group_at old inputs p)) (range_with_len 0 (total_weight old)) ≡ weigh f groups
+  by_groups f = weigh_groups old (inputs_at (total_weight old) inputs) groups sizes f
+
   pub whole-groups : whole_amount groups ≡ total_weight old
-  whole-groups = sym (one_each groups) ∙ (sym (by_groups (λ g. 1)) ∙ count-all 0 (total_weight old))
+  whole-groups = whole-sizes old (inputs_at (total_weight old) inputs) groups sizes
 
   passing : (test : List ℕ → Bool) (gs : List (GroupKey × ℕ)) → weigh (λ (g : GroupKey). cond (test g.0) 1 0) gs ≡ sum_by (λ g. cond (test g.0.0) g.1 0) gs
   passing test [] = refl

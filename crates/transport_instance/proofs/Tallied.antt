@@ -6,8 +6,8 @@ use Rattle.std.proofs.lemmas.List.{length-take}
 use Rattle.std.proofs.lemmas.List.Elements.{All-push}
 use Rattle.std.proofs.lemmas.List.Sorted.{sum_by-IsPermutation, length_permutation}
 use Rattle.std.proofs.lemmas.List.Sums.{sum_by-cons, sum_by_push}
-use Rattle.bucket_core.specs.Rule.{Entries, at, IsRun}
-use Rattle.transport_instance.specs.Groups.{GroupKey, is_same_group}
+use Rattle.bucket_core.specs.Rule.{Entries, at, total_weight, IsRun}
+use Rattle.transport_instance.specs.Groups.{GroupKey, is_same_group, AreSizesBy}
 use Rattle.transport_instance.specs.Rows.{amount_of, whole_amount, AddsCounts, CoversPoints}
 use Rattle.transport_instance.proofs.Ranges.{count-split, count-same}
 
@@ -130,3 +130,13 @@ covers_alike rule load other upto rows alike covers =
       whole = covers.whole;
       some = covers.some;
     }
+
+pub sizes_alike : (rule : Entries) (load other : ℕ → ℕ) (groups : List (GroupKey × ℕ)) → ((p : ℕ) → p < total_weight rule → load p ≡ other p) → AreSizesBy rule load groups → AreSizesBy rule other groups
+sizes_alike rule load other groups alike sizes = record {
+  rise = sizes.rise;
+  sizes = λ g.
+      sizes.sizes g
+      ∙ count-same (λ p. is_same_group g (unwrap_or (at rule p) [], load p)) (λ p. is_same_group g (unwrap_or (at rule p) [], other p)) 0 (total_weight rule)
+      (λ p low high. ap (λ n. is_same_group g (unwrap_or (at rule p) [], n)) (alike p (omega arith)));
+  some = sizes.some;
+}

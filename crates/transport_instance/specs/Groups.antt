@@ -22,13 +22,20 @@ is_same_group g h = bytes_eq g.0 h.0 && (g.1 == h.1)
 abbrev pub group_cmp : GroupKey → GroupKey → Ordering
 group_cmp g h = ordering_then (slice_cmp nat_cmp g.0 h.0) (nat_cmp g.1 h.1)
 
--- the variant at a point, with the number of inputs there
-abbrev pub group_at : Entries → List (List ℕ) → ℕ → GroupKey
-group_at old inputs p = (unwrap_or (at old p) [], inputs_at (total_weight old) inputs p)
+-- the variant at a point, with the number of inputs there, of which so many fall on each point
+abbrev pub group_by : Entries → (ℕ → ℕ) → ℕ → GroupKey
+group_by old load p = (unwrap_or (at old p) [], load p)
 
 -- how many points a group has
+abbrev pub size_by : Entries → (ℕ → ℕ) → GroupKey → ℕ
+size_by old load g = count_by (λ p. is_same_group g (group_by old load p)) (range_with_len 0 (total_weight old))
+
+-- the same of these inputs
+abbrev pub group_at : Entries → List (List ℕ) → ℕ → GroupKey
+group_at old inputs p = group_by old (inputs_at (total_weight old) inputs) p
+
 abbrev pub size_of : Entries → List (List ℕ) → GroupKey → ℕ
-size_of old inputs g = count_by (λ p. is_same_group g (group_at old inputs p)) (range_with_len 0 (total_weight old))
+size_of old inputs g = size_by old (inputs_at (total_weight old) inputs) g
 
 -- exactly the groups, in order
 pub record AreGroups (old : Entries) (inputs : List (List ℕ)) (groups : List GroupKey) : Type 0 where
@@ -36,10 +43,14 @@ pub record AreGroups (old : Entries) (inputs : List (List ℕ)) (groups : List G
   pub occur : (g : GroupKey) → Contains groups g ↔ (0 < size_of old inputs g)
 
 -- exactly the groups, in order, each with its number of points
-pub record AreSizes (old : Entries) (inputs : List (List ℕ)) (groups : List (GroupKey × ℕ)) : Type 0 where
+pub record AreSizesBy (old : Entries) (load : ℕ → ℕ) (groups : List (GroupKey × ℕ)) : Type 0 where
   pub rise : IsStrictlySortedBy group_cmp (keys_of groups)
-  pub sizes : (g : GroupKey) → unwrap_or (lookup (is_same_group g) groups) 0 ≡ size_of old inputs g
+  pub sizes : (g : GroupKey) → unwrap_or (lookup (is_same_group g) groups) 0 ≡ size_by old load g
   pub some : All (λ e. 0 < e.1) groups
+
+-- the same of these inputs
+abbrev pub AreSizes : Entries → List (List ℕ) → List (GroupKey × ℕ) → Type 0
+AreSizes old inputs groups = AreSizesBy old (inputs_at (total_weight old) inputs) groups
 
 -- groups with their points, of the program, without where the names lie in memory
 abbrev pub row_view : (Bor (List ℕ) × ℕ) × ℕ → GroupKey × ℕ

@@ -1,10 +1,9 @@
 -- What a planner needs to know of recorded inputs: how many fall on each point.
-use Rattle.std.specs.Prelude.{◌≡◌, ℕ, ◌≤◌, List, length}
-use Rattle.book_core.specs.Book.{most_inputs}
-use Rattle.book_core.specs.Counts.{counts_of}
+use Rattle.std.specs.Prelude.{◌≡◌, ℕ, ◌≤◌, List, length, get_or, sum}
+use Rattle.tally_core.specs.Tally.{most_at_point, most_in_all}
 
--- for each point below the total, how many of some inputs fall on it, which are no more than a page takes
+-- a count for each point below the total, and no more inputs than are planned for on a point and in all
 pub record IsTally (total : ℕ) (counts : List ℕ) : Type 0 where
-  pub inputs : List (List ℕ)
-  pub few : length inputs ≤ most_inputs
-  pub counted : counts ≡ counts_of inputs total
+  pub whole : length counts ≡ total
+  pub small : (p : ℕ) → get_or counts p 0 ≤ most_at_point
+  pub few : sum counts ≤ most_in_all

@@ -1,8 +1,8 @@
 //! The groups of a rule's points: of one name, with one number of inputs on each.
-ghost use Rattle.std.specs.Prelude.{◌≡◌, ◌<◌, ◌^◌, List, ℕ, IfOk, length};
+ghost use Rattle.std.specs.Prelude.{◌≡◌, ◌<◌, ◌^◌, List, ℕ, IfOk, length, slice_index};
 ghost use Rattle.book_core.specs.Counts.{counts_of};
 ghost use Rattle.bucket_core.specs.Rule.{total_weight};
-ghost use Rattle.transport_instance.specs.Groups.{AreSizes, rows_view};
+ghost use Rattle.transport_instance.specs.Groups.{AreSizes, AreSizesBy, rows_view};
 ghost use Rattle.transport_instance.specs.Rows.{whole_amount};
 
 use crate::counted::counted_rows;
@@ -15,6 +15,7 @@ use std::alloc::{AllocError, Global};
 /// each point.
 pub fn groups<'a>(alloc: Global, rule: &'a Rule, counts: &[u32]) -> Result<Vec<Row<'a>>, AllocError>
     requires { length counts.now ≡ total_weight rule.now }
+    ensures loads { IfOk result (λ v. AreSizesBy rule.now (slice_index counts.now) (rows_view v.items)) }
     ensures sizes { IfOk result (λ v. (inputs : List (List ℕ)) → counts.now ≡ counts_of inputs (total_weight rule.now) → AreSizes rule.now inputs (rows_view v.items)) }
     ensures few { IfOk result (λ v. whole_amount v.items < 2 ^ 32) }
 {

@@ -1,8 +1,8 @@
 //! Instances: what a planner is given.
-ghost use Rattle.std.specs.Prelude.{◌≡◌, ◌≤◌, ◌⊎◌, ◌↔◌, List, ℕ, IfOk, IfErr, IsErrOf, IsTrue, length};
+ghost use Rattle.std.specs.Prelude.{◌≡◌, ◌≤◌, ◌⊎◌, ◌↔◌, List, ℕ, IfOk, IfErr, IsErrOf, IsTrue, length, slice_index};
 ghost use Rattle.book_core.specs.Counts.{counts_of};
 ghost use Rattle.bucket_core.specs.Rule.{total_weight};
-ghost use Rattle.transport_instance.specs.Groups.{AreSizes, rows_view};
+ghost use Rattle.transport_instance.specs.Groups.{AreSizes, AreSizesBy, rows_view};
 ghost use Rattle.transport_instance.specs.Instance.{IsProblem, AreListed, MissTotal, max_names, max_planned_total};
 ghost use Rattle.transport_instance.specs.Tally.{IsTally};
 
@@ -50,6 +50,7 @@ impl<'a> Instance<'a> {
         requires names { length totals.now ≤ max_names }
         requires listed { AreListed old.now totals.now }
         requires tally { IsTally (total_weight old.now) counts.now }
+        ensures loads { IfOk result (λ i. AreSizesBy old.now (slice_index counts.now) i.groups) }
         ensures groups { IfOk result (λ i. (inputs : List (List ℕ)) → counts.now ≡ counts_of inputs (total_weight old.now) → AreSizes old.now inputs i.groups) }
         ensures limits { IfOk result (λ i. i.limits ≡ totals.now) }
         ensures pricing { IfOk result (λ i. i.pricing ≡ prices.now) }

@@ -19,7 +19,7 @@ use Rattle.std.proofs.lemmas.Map.Keys.{Less-from_sorted}
 use Rattle.std.proofs.lemmas.Option.{slice_get-get_or, slice_get_within, get_or_from_slice_get}
 use Rattle.std.proofs.lemmas.Slice.Eq.{bytes_eq-Decides}
 use Rattle.price_core.specs.Pricing.{Pricing}
-use Rattle.residual_arcs.specs.Problem.{IsFlowProblem, sum_to, group_at, names_of, no_group, price_at}
+use Rattle.residual_arcs.specs.Problem.{IsFlowProblem, sum_to, group_at, inputs_of, names_of, no_group, price_at}
 use Rattle.residual_arcs.specs.declared.problem.FlowProblem.{FlowProblem}
 use Rattle.transport_instance.specs.Groups.{GroupKey, group_cmp}
 use Rattle.transport_instance.specs.Instance.{TransportProblem, IsProblem}
@@ -136,6 +136,14 @@ module _ (t : TransportProblem) (problem : IsProblem t) (q : FlowProblem) (are :
       ap (λ n. sum_to n (λ g. (group_at q.groups.items g).points)) are.many
       ∙ sum_to-list (λ (e : GroupKey × ℕ). e.1) t.groups (λ g. (group_at q.groups.items g).points) (λ d g below. (group_here g below).points ∙ ap (λ (e : GroupKey × ℕ). e.1) (get_or_default t.groups g no_row d below))
 
+  inputs_sum : sum_to (length q.groups.items) (inputs_of q.groups.items) ≡ sum_by (λ g. g.0.1 * g.1) t.groups
+  inputs_sum =
+      ap (λ n. sum_to n (inputs_of q.groups.items)) are.many
+      ∙ sum_to-list (λ (e : GroupKey × ℕ). e.0.1 * e.1) t.groups (inputs_of q.groups.items)
+      (λ d g below.
+      ap (λ n. n * (group_at q.groups.items g).points) (group_here g below).count
+      ∙ (ap (λ n. (row_at t g).0.1 * n) (group_here g below).points ∙ ap (λ (e : GroupKey × ℕ). e.0.1 * e.1) (get_or_default t.groups g no_row d below)))
+
   lows_sum : sum_to (names_of q) (λ v. get_or q.low.items v 0) ≡ sum_by (λ l. l.1.0) t.limits
   lows_sum =
       ap (λ n. sum_to n (λ v. get_or q.low.items v 0)) names_many
@@ -176,5 +184,6 @@ module _ (t : TransportProblem) (problem : IsProblem t) (q : FlowProblem) (are :
       rising = λ g h later below same. rises g h later (omega (arith, below, are.many)) same;
       few = omega (arith, are.many, few_rows t.groups problem.sizes, problem.small);
       weight = omega (arith, points_sum, problem.small);
+      inputs = omega (arith, inputs_sum, problem.inputs);
     };
   }

@@ -11,11 +11,10 @@ push_groups-requires-clause-stand c =
     let counts = c.args.counts.now in
     let start = c.loop-start.start in
     let end = c.end_of-end.result in
-    let tally = c.requires.tally in
     let order : start ≤ end = omega (arith, c.entry_at-entry.ensures.below, c.end_of-end.ensures.value) in
     let inside : end ≤ length counts = omega (arith, c.end_of-end.ensures.bound, c.requires.whole) in
-    run_listed rule tally.inputs counts tally.counted start end order inside c.end_of-end.ensures.bound c.entry_name.result.now (c.entry_at-entry.ensures.name ∙ c.entry_name.ensures.value)
-    (λ q low high. c.entry_at-entry.ensures.run q low (omega (arith, high, c.end_of-end.ensures.value))) (rows_view c.args.groups.now) (c.requires.sizes tally.inputs tally.counted)
+    run_listed rule counts start end order inside c.end_of-end.ensures.bound c.entry_name.result.now (c.entry_at-entry.ensures.name ∙ c.entry_name.ensures.value)
+    (λ q low high. c.entry_at-entry.ensures.run q low (omega (arith, high, c.end_of-end.ensures.value))) (rows_view c.args.groups.now) c.requires.sizes
 
 pub loop-start-preserved : goal.loop-start-preserved
 loop-start-preserved c =
@@ -29,8 +28,8 @@ loop-start-preserved c =
     record {
       within = omega (arith, c.end_of-end.ensures.bound, c.total-total.ensures.value);
       many = omega (arith, adds.grown, length-part counts start end order inside, c.loop-start.invariant.many, order);
-      grouped = λ inputs counted q below.
-          run_placed rule inputs counts counted start end order inside c.end_of-end.ensures.bound c.entry_name.result.now (c.entry_at-entry.ensures.name ∙ c.entry_name.ensures.value)
+      grouped = λ q below.
+          run_placed rule counts start end order inside c.end_of-end.ensures.bound c.entry_name.result.now (c.entry_at-entry.ensures.name ∙ c.entry_name.ensures.value)
           (λ p low high. c.entry_at-entry.ensures.run p low (omega (arith, high, c.end_of-end.ensures.value))) (keys_of (rows_view c.args.groups.now)) c.loop-start.points.items c.push_groups.new.points.items
-          c.loop-start.invariant.many (c.loop-start.invariant.grouped inputs counted) adds q below;
+          c.loop-start.invariant.many c.loop-start.invariant.grouped adds q below;
     }

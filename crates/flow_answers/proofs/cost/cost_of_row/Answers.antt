@@ -1,12 +1,10 @@
 -- Each turn adds what one name's points pay.
-use Rattle.std.proofs.Common.{◌≡◌, ℕ, ◌+◌, ◌*◌, ◌≤◌, sym, ap, ◌∙◌, arith}
-use Rattle.std.proofs.Math.Nat.{mul-le-mul}
+use Rattle.std.proofs.Common.{◌≡◌, ℕ, ◌+◌, ◌*◌, sym, ap, ◌∙◌, arith}
 use Rattle.residual_arcs.specs.Problem.{group_at, price_at}
 use Rattle.residual_arcs.proofs.Cells.{cell_in}
 use Rattle.residual_flow.specs.Flow.{cell_at}
-use Rattle.residual_flow.proofs.Sums.{sum_has}
 use Rattle.flow_answers.specs.Costs.{row_cost, unit_of}
-use Rattle.flow_answers.proofs.Bounded.{points_few, row_more, row_small}
+use Rattle.flow_answers.proofs.Bounded.{inputs_few, row_more, row_small}
 use Rattle.flow_answers.proofs.cost.cost_of_row.Goals as goal
 
 pub bounds-prices-variant : goal.bounds-prices-variant
@@ -27,25 +25,28 @@ loop-v-preserved c =
     let k = c.args.names in
     let g = c.args.g in
     let v = c.loop-v.v in
-    added c.loop-v.cost (cell_at placed k g v) c.from.result c.unit.result v (unit_of (group_at groups g).count (price_at prices k (group_at groups g).variant v)) (row_cost groups prices placed k g v) c.from.ensures c.unit.ensures.value c.loop-v.invariant
+    added c.loop-v.cost (cell_at placed k g v) c.from.result c.unit.result v (unit_of (group_at groups g).count (price_at prices k (group_at groups g).variant v)) (row_cost groups prices placed k g v) c.from.ensures c.unit.ensures c.loop-v.invariant
     ∙ sym (row_more groups prices placed k c.requires.groups c.requires.prices g c.requires.g c.requires.spent v)
+
+-- what a name's points pay is a part of what those of all names pay
+paid : (cell r u w : ℕ) → r ≡ cell → u ≡ w → r * u ≡ cell * w
+paid cell r u w r_is u_is = ap (λ x. x * u) r_is ∙ ap (λ x. cell * x) u_is
 
 pub overflow_mul-cost : goal.overflow_mul-cost
 overflow_mul-cost c =
     let groups = c.args.groups.now in
+    let prices = c.args.prices.now in
     let placed = c.args.placed.now in
     let k = c.args.names in
     let g = c.args.g in
     let v = c.loop-v.v in
-    let few : c.from.result ≤ 1000000 = omega (
+    omega (
       arith,
-      c.from.ensures,
-      sum_has k (cell_at placed k g) v c.loop-v-test.true,
-      c.requires.spent,
-      points_few groups c.args.prices.now placed k c.requires.groups c.requires.prices g c.requires.g,
-    ) in
-    let most : c.from.result * c.unit.result ≤ 1000000 * (1000000 * 1000000) = mul-le-mul few c.unit.ensures.small in
-    omega (arith, most)
+      paid (cell_at placed k g v) c.from.result c.unit.result (unit_of (group_at groups g).count (price_at prices k (group_at groups g).variant v)) c.from.ensures c.unit.ensures,
+      row_more groups prices placed k c.requires.groups c.requires.prices g c.requires.g c.requires.spent v,
+      row_small groups prices placed k c.requires.groups c.requires.prices g c.requires.g c.requires.spent (v + 1) (omega (arith, c.loop-v-test.true)),
+      inputs_few groups prices placed k c.requires.groups c.requires.prices g c.requires.g,
+    )
 
 pub overflow_add-cost : goal.overflow_add-cost
 overflow_add-cost c =
@@ -55,13 +56,13 @@ overflow_add-cost c =
     let k = c.args.names in
     let g = c.args.g in
     let v = c.loop-v.v in
-    let sum = added c.loop-v.cost (cell_at placed k g v) c.from.result c.unit.result v (unit_of (group_at groups g).count (price_at prices k (group_at groups g).variant v)) (row_cost groups prices placed k g v) c.from.ensures c.unit.ensures.value c.loop-v.invariant
-    ∙ sym (row_more groups prices placed k c.requires.groups c.requires.prices g c.requires.g c.requires.spent v) in
     omega (
       arith,
-      sum,
+      c.loop-v.invariant,
+      paid (cell_at placed k g v) c.from.result c.unit.result (unit_of (group_at groups g).count (price_at prices k (group_at groups g).variant v)) c.from.ensures c.unit.ensures,
+      row_more groups prices placed k c.requires.groups c.requires.prices g c.requires.g c.requires.spent v,
       row_small groups prices placed k c.requires.groups c.requires.prices g c.requires.g c.requires.spent (v + 1) (omega (arith, c.loop-v-test.true)),
-      points_few groups prices placed k c.requires.groups c.requires.prices g c.requires.g,
+      inputs_few groups prices placed k c.requires.groups c.requires.prices g c.requires.g,
     )
 
 pub returns-clause-small : goal.returns-clause-small

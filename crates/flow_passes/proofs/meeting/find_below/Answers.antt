@@ -7,7 +7,8 @@ use Rattle.residual_flow.proofs.Cheap.{cheap_arcs}
 use Rattle.shortest_path.specs.Found.{potential_of}
 use Rattle.shortest_path.specs.Network.{IsReduced, IsWithin, arc_at, max_cost}
 use Rattle.shortest_path.specs.declared.arc.Arc.{Arc}
-use Rattle.flow_passes.proofs.Reached.{found_below, short_meeting}
+use Rattle.flow_passes.proofs.Filled.{short_potential}
+use Rattle.flow_passes.proofs.Reached.{found_below}
 use Rattle.flow_passes.proofs.meeting.find_below.Goals as goal
 
 pub find-requires-clause-arcs : goal.find-requires-clause-arcs
@@ -15,7 +16,7 @@ find-requires-clause-arcs g c = ap (λ (xs : List (Option Arc)). length xs) c.as
 
 pub find-requires-clause-short : goal.find-requires-clause-short
 find-requires-clause-short g c =
-    λ v v_in. short_meeting (potential_of c.args.search.now v) (c.requires.meeting.low v (omega (arith, v_in, c.requires.wanted.size))) (c.requires.meeting.high v (omega (arith, v_in, c.requires.wanted.size)))
+    λ v v_in. short_potential (potential_of c.args.search.now v) (c.requires.meeting.low v (omega (arith, v_in, c.requires.wanted.size))) (c.requires.meeting.high v (omega (arith, v_in, c.requires.wanted.size)))
 
 pub find-requires-clause-costs : goal.find-requires-clause-costs
 find-requires-clause-costs g c =

@@ -1,5 +1,8 @@
+use Rattle.std.proofs.Common.{arith}
+use Rattle.bucket_core.specs.Rule.{total_weight}
 use Rattle.flag_defs.specs.Flags.{flags_view}
 use Rattle.rollout_checks.specs.Lawful.{problem_of, problem_view}
+use Rattle.transport_instance.proofs.Costs.{tally_of}
 use Rattle.rollout_checks.proofs.Bounded.{lawful_small}
 use Rattle.rollout.proofs.Effort.{spends_none, spends_of}
 use Rattle.rollout.proofs.planner.plan_by.Goals as goal
@@ -19,6 +22,11 @@ plan_on-requires-clause-listed g c =
 pub plan_on-requires-clause-met : goal.plan_on-requires-clause-met
 plan_on-requires-clause-met g c =
     (lawful_small c.args.refining (flags_view c.args.flags.now) c.args.request.now (g.B.Recorded.contents c.args.book.now) (problem_view c.in_ok-problem.problem c.in_ok-problem.ensures.exact.inputs) c.len-count.ensures.lawful c.in_ok-problem.ensures.exact.is).met
+
+pub plan_on-requires-clause-tally : goal.plan_on-requires-clause-tally
+plan_on-requires-clause-tally g c =
+    let posed = c.in_ok-problem.ensures.exact in
+    tally_of posed.inputs (total_weight c.in_ok-problem.problem.old) c.in_ok-problem.problem.counts.items posed.counted (omega (arith, posed.few))
 
 pub returns-in_err-problem-clause-spent : goal.returns-in_err-problem-clause-spent
 returns-in_err-problem-clause-spent g c = spends_none (problem_of c.args.refining (flags_view c.args.flags.now) c.args.request.now (g.B.Recorded.contents c.args.book.now)) c.args.effort.now

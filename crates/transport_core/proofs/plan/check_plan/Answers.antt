@@ -6,7 +6,7 @@ use Rattle.transport_instance.specs.Certificate.{certificate_view, IsCertified}
 use Rattle.transport_instance.specs.declared.fault.CheckFault.{CheckFault}
 use Rattle.transport_instance.specs.declared.fault.CheckFault.TheVariants.{WantOfMemory}
 use Rattle.transport_instance.proofs.Certified.{lows-fit, refused_not, refuses_rule, refuses_duals, certified_duals, least_from, err_exit}
-use Rattle.transport_instance.proofs.Costs.{cost-tally, length-tally, sum-counts}
+use Rattle.transport_instance.proofs.Costs.{cost-tally}
 use Rattle.transport_core.proofs.plan.check_plan.Goals as goal
 
 pub returns-in_err-check_rule-clause-exact : goal.returns-in_err-check_rule-clause-exact
@@ -19,7 +19,7 @@ returns-in_err-check_rule-clause-exact c =
     (refuses_rule c.args.old.now c.args.new.now c.args.totals.now c.args.prices.now inputs plan fault c.in_err-check_rule.ensures.exact))
 
 pub check_duals-requires-clause-points : goal.check_duals-requires-clause-points
-check_duals-requires-clause-points c = length-tally (total_weight c.args.old.now) c.args.counts.now c.requires
+check_duals-requires-clause-points c = c.requires.whole
 
 pub check_duals-requires-clause-lows : goal.check_duals-requires-clause-lows
 check_duals-requires-clause-lows c =
@@ -33,13 +33,6 @@ returns-in_err-check_duals-clause-exact c =
     (λ (f : CheckFault). f ≢ WantOfMemory → (inputs : List (List ℕ)) → c.args.counts.now ≡ counts_of inputs (total_weight c.args.old.now) → ¬ IsCertified c.args.old.now c.args.new.now c.args.totals.now c.args.prices.now inputs plan) c.from_residual-in_err-check_duals.ensures.1
     (λ want inputs counted. refused_not c.args.old.now c.args.new.now c.args.totals.now c.args.prices.now inputs plan fault c.entries-limits.ensures.lawful want
     (refuses_duals c.args.old.now c.args.new.now c.args.totals.now c.args.prices.now inputs plan fault c.in_ok-check_rule.ensures.exact (c.in_err-check_duals.ensures inputs counted)))
-
-pub tally_cost-cost-requires-clause-points : goal.tally_cost-cost-requires-clause-points
-tally_cost-cost-requires-clause-points c = length-tally (total_weight c.args.old.now) c.args.counts.now c.requires
-
-pub tally_cost-cost-requires-clause-few : goal.tally_cost-cost-requires-clause-few
-tally_cost-cost-requires-clause-few c =
-    omega (arith, sum-counts c.requires.inputs (total_weight c.args.old.now) c.args.counts.now (omega (arith, c.total-total.ensures.value, c.total-total.ensures.allowed.some)) c.requires.counted, c.requires.few)
 
 pub returns-clause-certified : goal.returns-clause-certified
 returns-clause-certified c = λ inputs counted.

@@ -1,0 +1,4 @@
+mod Ending
+mod Loaded
+pub mod Matched
+mod Stepped

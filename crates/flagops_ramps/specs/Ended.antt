@@ -1,0 +1,43 @@
+-- What `ramp` and `verify-ramp` come to, by what the two outlets show before and after, what the files show, and the status.
+use Rattle.std.specs.Prelude.{◌≡◌, ◌⊎◌, ℕ, Bool, true, false, List, Option, None, IfSome, codes}
+use Rattle.clap.specs.Kinds.{Kinds, IsAmong}
+use Rattle.clap.specs.Walk.{Text}
+use Rattle.clap.specs.declared.error.kind.ErrorKind.{ErrorKind}
+use Rattle.flagops_commands.specs.Telling.{Tells, Wants}
+use Rattle.flagops_files.specs.Files.{Holding}
+use Rattle.flagops_ramps.specs.Ramp.{IsRampReport}
+use Rattle.flagops_ramps.specs.Report.{Reports}
+use Rattle.flagops_ramps.specs.Verify.{IsVerdictReport}
+use Rattle.flagops_ramps.specs.Words.{ramp_by, ramp_faults, verify_by, verify_faults}
+
+abbrev pub ramp_want : List ℕ
+ramp_want = codes "refused ramp 0 WantOfMemory\n"
+
+abbrev pub verify_want : List ℕ
+verify_want = codes "refused verify-ramp 0 WantOfMemory\n"
+
+-- words with a mistake are told by one of their mistakes, as every other command tells one, or memory ran out
+abbrev pub TellsOne : Option (List ℕ) → Option (List ℕ) → Bool → Option (List ℕ) → Option (List ℕ) → Bool → ℕ → Kinds → Type 0
+TellsOne out out_after is_broken err err_after is_err_broken status faults =
+    Wants out out_after is_broken err err_after is_err_broken status
+    ⊎ ((kind : ErrorKind) × IsAmong kind faults × Tells out out_after is_broken err err_after is_err_broken status kind)
+
+-- the output and what is told beside it, each by the bytes that are known of it and by whether it is broken
+module _ {O E : Type 0} (bytes : O → Option (List ℕ)) (is_broken : O → Bool) (out out' : O) (told : E → Option (List ℕ)) (is_mute : E → Bool) (err err' : E) (status : ℕ) where
+  -- over files whose bytes are known, the report of what the files at the paths make
+  abbrev pub AnswersRamp : {F : Type 0} → (F → Option Holding) → F → List Text → Type 0
+  AnswersRamp holding files words = IfSome (ramp_by words) (λ a. IfSome (holding files) (λ at.
+      Reports (bytes out) (bytes out') (is_broken out') (told err) (told err') (is_mute err') status ramp_want (IsRampReport at a.document a.steps a.book a.refine)
+      ⊎ Wants (bytes out) (bytes out') (is_broken out') (told err) (told err') (is_mute err') status))
+
+  abbrev pub AnswersVerify : {F : Type 0} → (F → Option Holding) → F → List Text → Type 0
+  AnswersVerify holding files words = IfSome (verify_by words) (λ a. IfSome (holding files) (λ at.
+      Reports (bytes out) (bytes out') (is_broken out') (told err) (told err') (is_mute err') status verify_want (IsVerdictReport at a.document a.steps a.book a.ramp a.refine)
+      ⊎ Wants (bytes out) (bytes out') (is_broken out') (told err) (told err') (is_mute err') status))
+
+  -- words with a mistake are told by one of their mistakes
+  abbrev pub TellsRamp : List Text → Type 0
+  TellsRamp words = ramp_by words ≡ None → TellsOne (bytes out) (bytes out') (is_broken out') (told err) (told err') (is_mute err') status (ramp_faults words)
+
+  abbrev pub TellsVerify : List Text → Type 0
+  TellsVerify words = verify_by words ≡ None → TellsOne (bytes out) (bytes out') (is_broken out') (told err) (told err') (is_mute err') status (verify_faults words)

@@ -1,0 +1,54 @@
+-- What the command `ramp` answers.
+use Rattle.std.specs.Prelude.{◌≡◌, ◌⊎◌, ℕ, false, List, [], ◌∷◌, unwrap_or, Option, Result, Ok, Err}
+use Rattle.flagops_files.specs.Files.{Holding}
+use Rattle.flagops_files.specs.Question.{Question, IsQuestionAt}
+use Rattle.flagops_files.specs.declared.refusal.Refusal.{Refusal}
+use Rattle.plan_text.specs.Answer.{Answer, emit, none_exists}
+use Rattle.plan_text.specs.declared.fault.PlanFileFault.{PlanFileFault}
+use Rattle.price_core.specs.declared.fault.PriceFault.TheVariants.{BadRequest}
+use Rattle.ramp.specs.Ramp.{ArePlans, IsRefused}
+use Rattle.ramp.specs.declared.fault.StepFault.{StepFault}
+use Rattle.ramp_steps.specs.Lines.{ramp_file}
+use Rattle.ramp_steps.specs.Steps.{steps_of}
+use Rattle.ramp_steps.specs.declared.fault.StepsFault.{StepsFault}
+use Rattle.ramp_steps.specs.declared.fault.StepsFault.TheVariants as steps
+use Rattle.rollout_checks.specs.Fault.{of_price}
+use Rattle.rollout_checks.specs.declared.fault.RolloutFault.{RolloutFault}
+use Rattle.rollout_checks.specs.declared.fault.RolloutFault.TheVariants.{WantOfMemory, Request}
+use Rattle.flagops_ramps.specs.Report.{Came}
+use Rattle.flagops_ramps.specs.declared.refusal.RampRefusal.TheVariants.{Load, Ramp, Print}
+
+-- steps that are refused are a request that is refused
+abbrev pub of_steps : StepsFault → RolloutFault
+of_steps steps.WantOfMemory = WantOfMemory
+of_steps steps.Shape = Request BadRequest
+of_steps (steps.Step n e) = of_price e
+
+-- 3 where no rule fits the last step that is answered
+abbrev pub ramp_status : List Answer → ℕ
+ramp_status [] = 0
+ramp_status (emit rule c ∷ answers) = ramp_status answers
+ramp_status (none_exists kind names ∷ answers) = 3
+
+abbrev pub report_file : List Answer → Result (List ℕ) PlanFileFault → Came
+report_file answers (Ok text) = Ok (record { text = text; status = ramp_status answers; is_told = false })
+report_file answers (Err e) = Err (Print e)
+
+-- the lines of the answers
+abbrev pub report_ramp : List Answer → Came
+report_ramp answers = report_file answers (ramp_file answers)
+
+-- the answers to the steps, each planned on the rule that the one before left, or the first refusal
+abbrev pub IsRampOver : Option ℕ → Question → Result (List (List ℕ)) StepsFault → Came → Type 0
+IsRampOver refine q (Err e) r = r ≡ Err (Ramp (of_steps e))
+IsRampOver refine q (Ok requests) r =
+    ((answers : List Answer) × ArePlans (Ok q.flags) (unwrap_or refine 1) requests q.book answers × (r ≡ report_ramp answers))
+    ⊎ ((e : StepFault) × IsRefused (Ok q.flags) (unwrap_or refine 1) requests q.book e × (r ≡ Err (Ramp e.fault)))
+
+abbrev pub IsRampOf : Option ℕ → Result Question Refusal → Came → Type 0
+IsRampOf refine (Err e) r = r ≡ Err (Load e)
+IsRampOf refine (Ok q) r = IsRampOver refine q (steps_of q.request) r
+
+-- what the files at these paths make
+unfoldable pub IsRampReport : Holding → List ℕ → List ℕ → List ℕ → Option ℕ → Came → Type 0
+IsRampReport at document steps book refine r = (question : Result Question Refusal) × IsQuestionAt at document steps book question × IsRampOf refine question r

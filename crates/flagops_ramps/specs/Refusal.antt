@@ -1,0 +1,39 @@
+-- The line that a refusal of a command on steps is written as.
+use Rattle.std.specs.Prelude.{ℕ, Bool, List, [], ◌++◌, codes, decimal, nat_eq}
+use Rattle.flagops_files.specs.Payload.{number_item, rollout_items, verify_items}
+use Rattle.flagops_files.specs.Refusal as files
+use Rattle.flagops_files.specs.Refusal.{line_with}
+use Rattle.plan_text.specs.Fault as plan_files
+use Rattle.ramp_steps.specs.Fault as ramp_files
+use Rattle.ramp_steps.specs.declared.fault.RampFileFault.{RampFileFault}
+use Rattle.ramp_steps.specs.declared.fault.RampFileFault.TheVariants.{Line}
+use Rattle.rollout_checks.specs.Fault as rollouts
+use Rattle.rollout_checks.specs.VerifyFault as verdicts
+use Rattle.flagops_ramps.specs.declared.refusal.RampRefusal.{RampRefusal}
+use Rattle.flagops_ramps.specs.declared.refusal.RampRefusal.TheVariants.{Load, Ramp, Print, Read, Verify, Lines}
+
+-- want of memory is 0, and each other number is that of the call which refused
+abbrev pub number_of : RampRefusal → ℕ
+number_of (Load e) = files.number_of e
+number_of (Ramp e) = rollouts.number_of e
+number_of (Print e) = plan_files.number_of e
+number_of (Read e) = ramp_files.number_of e
+number_of (Verify e) = verdicts.number_of e
+number_of Lines = 14
+
+abbrev pub is_want : RampRefusal → Bool
+is_want r = nat_eq (number_of r) 0
+
+-- the line at fault
+abbrev pub line_items : RampFileFault → List ℕ
+line_items (Line n) = number_item n
+line_items e = []
+
+-- `refused`, the call, the number, the name and what the fault says beyond it
+abbrev pub line_of : RampRefusal → List ℕ
+line_of (Load e) = files.line_of e
+line_of (Ramp e) = line_with (codes "ramp") (decimal (rollouts.number_of e)) (rollouts.name_of e) (rollout_items e)
+line_of (Print e) = line_with (codes "print_ramp") (decimal (plan_files.number_of e)) (plan_files.name_of e) []
+line_of (Read e) = line_with (codes "read_ramp") (decimal (ramp_files.number_of e)) (ramp_files.name_of e) (line_items e)
+line_of (Verify e) = line_with (codes "verify-ramp") (decimal (verdicts.number_of e)) (verdicts.name_of e) (verify_items e)
+line_of Lines = line_with (codes "verify-ramp") (decimal 14) (codes "Lines") []

@@ -1,0 +1,70 @@
+-- What the command `verify-ramp` answers.
+use Rattle.std.specs.Prelude.{◌≡◌, ℕ, false, List, [], ◌∷◌, ◌++◌, codes, decimal, Option, Result, Ok, Err}
+use Rattle.flagops_files.specs.Files.{Holding, load_of}
+use Rattle.flagops_files.specs.Loading.{max_rule, refused_by}
+use Rattle.flagops_files.specs.Question.{Question, IsQuestionAt}
+use Rattle.flagops_files.specs.declared.refusal.Refusal.{Refusal}
+use Rattle.flagops_files.specs.declared.refusal.Refusal.TheVariants.{Load as Unread}
+use Rattle.plan_text.specs.Answer.{Answer, emit, none_exists}
+use Rattle.ramp.specs.Right.{IsTold}
+use Rattle.ramp.specs.declared.fault.RampFault.{RampFault}
+use Rattle.ramp.specs.declared.fault.RampFault.TheVariants as ramp
+use Rattle.ramp_steps.specs.Lines.{ramp_of}
+use Rattle.ramp_steps.specs.Steps.{steps_of}
+use Rattle.ramp_steps.specs.declared.fault.RampFileFault.{RampFileFault}
+use Rattle.ramp_steps.specs.declared.fault.StepsFault.{StepsFault}
+use Rattle.rollout_checks.specs.declared.verify_fault.VerifyFault.TheVariants.{Request}
+use Rattle.flagops_ramps.specs.Ramp.{of_steps}
+use Rattle.flagops_ramps.specs.Report.{Came}
+use Rattle.flagops_ramps.specs.declared.refusal.RampRefusal.{RampRefusal}
+use Rattle.flagops_ramps.specs.declared.refusal.RampRefusal.TheVariants.{Load, Read, Verify, Lines}
+
+-- what a step costs, or `none` where no rule fits it, behind a blank
+abbrev pub cost_item : Answer → List ℕ
+cost_item (emit rule c) = codes " " ++ decimal c.cost
+cost_item (none_exists kind names) = codes " none"
+
+-- that of each step, and a line feed
+abbrev pub cost_items : List Answer → List ℕ
+cost_items [] = codes "\n"
+cost_items (answer ∷ answers) = cost_item answer ++ cost_items answers
+
+-- what right answers prove
+abbrev pub valid_ramp : List Answer → List ℕ
+valid_ramp answers = codes "valid cost" ++ cost_items answers
+
+abbrev pub refused_as : RampFault → RampRefusal
+refused_as (ramp.Step n e) = Verify e
+refused_as ramp.Lines = Lines
+
+-- the report of what is told of the answers
+abbrev pub report_told : List Answer → Result (Unit {0}) RampFault → Came
+report_told answers (Ok u) = Ok (record { text = valid_ramp answers; status = 0; is_told = false })
+report_told answers (Err e) = Err (refused_as e)
+
+abbrev pub IsVerdictOver : Option ℕ → Question → List Answer → Result (List (List ℕ)) StepsFault → Came → Type 0
+IsVerdictOver refine q answers (Err e) r = r ≡ Err (Verify (Request (of_steps e)))
+IsVerdictOver refine q answers (Ok requests) r = (told : Result (Unit {0}) RampFault) × IsTold (Ok q.flags) refine requests q.book answers told × (r ≡ report_told answers told)
+
+-- the answers of a file
+abbrev pub read_as : Result (List Answer) RampFileFault → Result (List Answer) RampRefusal
+read_as (Ok answers) = Ok answers
+read_as (Err e) = Err (Read e)
+
+abbrev pub if_loaded : Result (List ℕ) Refusal → Result (List Answer) RampRefusal
+if_loaded (Err e) = Err (Load e)
+if_loaded (Ok bytes) = read_as (ramp_of bytes)
+
+-- the answers of the file at a path
+unfoldable pub answers_at : Holding → List ℕ → Result (List Answer) RampRefusal
+answers_at at path = if_loaded (refused_by Unread (load_of at path max_rule))
+
+-- the answers are asked for where there is a question, and steps are judged behind them
+abbrev pub IsVerdictOf : Option ℕ → Result Question Refusal → Result (List Answer) RampRefusal → Came → Type 0
+IsVerdictOf refine (Err e) answers r = r ≡ Err (Load e)
+IsVerdictOf refine (Ok q) (Err e) r = r ≡ Err e
+IsVerdictOf refine (Ok q) (Ok answers) r = IsVerdictOver refine q answers (steps_of q.request) r
+
+-- what the files at these paths make
+unfoldable pub IsVerdictReport : Holding → List ℕ → List ℕ → List ℕ → List ℕ → Option ℕ → Came → Type 0
+IsVerdictReport at document steps book path refine r = (question : Result Question Refusal) × IsQuestionAt at document steps book question × IsVerdictOf refine question (answers_at at path) r

@@ -1,0 +1,87 @@
+-- What the words of `ramp` and `verify-ramp` ask for, by what `clap` reads of them.
+use Rattle.std.specs.Prelude.{◌≡◌, ◌⊎◌, ℕ, is_some, List, [], ◌∷◌, codes, Option, Some, None, option_map, if◌then◌else◌}
+use Rattle.clap.specs.Faults.{fault_of}
+use Rattle.clap.specs.Kinds.{Kinds, IsAmong, or_else}
+use Rattle.clap.specs.Simple.{App, matches_of, new_app, with_rule}
+use Rattle.clap.specs.Walk.{Row, Text, first_of}
+use Rattle.clap.specs.declared.error.kind.ErrorKind.{ErrorKind}
+use Rattle.clap.specs.declared.error.kind.ErrorKind.TheVariants.{InvalidValue, OutOfMemory}
+use Rattle.flagops_words.specs.Words.{◌>>=◌, if_faultless, refine_in, refine_option, required}
+use Rattle.flagops_ramps.specs.declared.asked.Ramping as code_ramp
+use Rattle.flagops_ramps.specs.declared.asked.Verifying as code_verify
+
+-- the paths of a document, steps and a book, and the factor of the first step
+pub record Ramping : Type 0 where
+  pub document : Text
+  pub steps : Text
+  pub book : Text
+  pub refine : Option ℕ
+
+-- the same, and the path of the answers
+pub record Verifying : Type 0 where
+  pub document : Text
+  pub steps : Text
+  pub book : Text
+  pub ramp : Text
+  pub refine : Option ℕ
+
+abbrev pub ramping_view : code_ramp.Ramping → Ramping
+ramping_view r = record { document = r.document.now; steps = r.steps.now; book = r.book.now; refine = option_map (λ m. m.number) r.refine }
+
+abbrev pub verifying_view : code_verify.Verifying → Verifying
+verifying_view v = record { document = v.document.now; steps = v.steps.now; book = v.book.now; ramp = v.ramp.now; refine = option_map (λ m. m.number) v.refine }
+
+-- `DOC STEPS BOOK`
+abbrev pub with_steps : App → App
+with_steps a = with_rule (with_rule (with_rule a (required (codes "DOC"))) (required (codes "STEPS"))) (required (codes "BOOK"))
+
+-- `ramp DOC STEPS BOOK`, with `--refine M`
+unfoldable pub ramp_app : App
+ramp_app = with_rule (with_steps (new_app (codes "ramp"))) refine_option
+
+-- `verify-ramp DOC STEPS BOOK RAMP`, with `--refine M`
+unfoldable pub verify_app : App
+verify_app = with_rule (with_rule (with_steps (new_app (codes "verify-ramp"))) (required (codes "RAMP"))) refine_option
+
+-- ---- what the words ask for
+
+abbrev pub ramp_in : List Row → Option Ramping
+ramp_in rows = do
+  document ← first_of (codes "DOC") rows
+  steps ← first_of (codes "STEPS") rows
+  book ← first_of (codes "BOOK") rows
+  factor ← refine_in rows
+  Some (record { document = document; steps = steps; book = book; refine = factor })
+
+abbrev pub verify_in : List Row → Option Verifying
+verify_in rows = do
+  document ← first_of (codes "DOC") rows
+  steps ← first_of (codes "STEPS") rows
+  book ← first_of (codes "BOOK") rows
+  ramp ← first_of (codes "RAMP") rows
+  factor ← refine_in rows
+  Some (record { document = document; steps = steps; book = book; ramp = ramp; refine = factor })
+
+-- the mistakes of the words of a command: those that `clap` finds, and a value that is not there
+abbrev pub faults_in : {X : Type 0} → App → (List Row → Option X) → List Text → Kinds
+faults_in app read words = or_else (fault_of app words) (if is_some (read (matches_of app words)) then [] else (InvalidValue ∷ []))
+
+-- what words without a mistake ask for
+abbrev pub asked_in : {X : Type 0} → App → (List Row → Option X) → List Text → Option X
+asked_in app read words = if_faultless (faults_in app read words) (read (matches_of app words))
+
+unfoldable pub ramp_faults : List Text → Kinds
+ramp_faults = faults_in ramp_app ramp_in
+
+unfoldable pub ramp_by : List Text → Option Ramping
+ramp_by = asked_in ramp_app ramp_in
+
+unfoldable pub verify_faults : List Text → Kinds
+verify_faults = faults_in verify_app verify_in
+
+unfoldable pub verify_by : List Text → Option Verifying
+verify_by = asked_in verify_app verify_in
+
+-- why the words ask for nothing: one of their mistakes, unless memory ran out
+abbrev pub IsToldBy : {X : Type 0} → Kinds → Option X → ErrorKind → Type 0
+IsToldBy faults asked kind = (kind ≡ OutOfMemory) ⊎ ((asked ≡ None) × IsAmong kind faults)

@@ -1,0 +1,21 @@
+//! The commands on steps with their words.
+use flagops_words::Factor;
+
+/// What `ramp` is asked for: the answers to steps.
+#[derive(Clone, Copy, Debug)]
+pub struct Ramping<'a> {
+    pub document: &'a str,
+    pub steps: &'a str,
+    pub book: &'a str,
+    pub refine: Option<Factor>,
+}
+
+/// What `verify-ramp` is asked for: whether answers to steps are right.
+#[derive(Clone, Copy, Debug)]
+pub struct Verifying<'a> {
+    pub document: &'a str,
+    pub steps: &'a str,
+    pub book: &'a str,
+    pub ramp: &'a str,
+    pub refine: Option<Factor>,
+}

@@ -1,0 +1,35 @@
+//! The commands on a rollout in steps: `ramp` plans each step on the rule that the step before left, `verify-ramp` checks the
+//! answers apart from the planner.
+//!
+//! [`ramp()`] and [`verify_ramp`] take the words after the program's name, of which their own name is the first, the files and
+//! two outlets, as `flagops_commands::run` does for every other command. They read the words by `clap` and load the files; what
+//! they then do is `ramp_steps` and `ramp`.
+//!
+//! ```rust
+//! use flag_text::WriteOutlet;
+//! use flagops_files::SystemFiles;
+//! use flagops_ramps::ramp;
+//!
+//! let words = ["ramp", "flags.json", "steps.json", "book.jsonl"];
+//! let mut out = WriteOutlet::new(rt.stdout());
+//! let mut err = WriteOutlet::new(rt.stderr());
+//! let status = ramp(&rt, words.as_slice(), &mut SystemFiles::new(&rt), &mut out, &mut err);
+//! ```
+//!
+//! Proved, over the definitions in `specs/`: of words with a mistake, that it is told; else, over files whose bytes are known,
+//! that the output is the report that the files at the paths make (`Ramp`, `Verify`), or that memory ran out, with its status;
+//! that a refusal is told on the error outlet too; and that files are only read.
+#![tactic(auto)]
+
+mod asked;
+mod ramping;
+mod refusal;
+mod remarks;
+mod reports;
+mod usage;
+mod verifying;
+mod words;
+
+pub use ramping::ramp;
+pub use refusal::RampRefusal;
+pub use verifying::verify_ramp;

@@ -1,0 +1,138 @@
+//! Why the commands on steps refuse.
+ghost use Rattle.std.specs.Prelude.{◌≡◌, ◌≤◌, ◌++◌, IfOk, codes, decimal, drop, length, string_bytes};
+ghost use Rattle.flagops_files.specs.Payload.{fault_items};
+ghost use Rattle.flagops_files.specs.Refusal.{line_with};
+ghost use Rattle.flagops_ramps.specs.Refusal.{is_want, line_of, number_of};
+ghost use Rattle.flagops_ramps.specs.declared.refusal.RampRefusal.TheVariants.{Ramp, Read, Verify};
+
+use flagops_files::Refusal;
+use plan_text::PlanFileFault;
+use ramp_steps::RampFileFault;
+use rollout_checks::{RolloutFault, VerifyFault};
+use std::alloc::{AllocError, Global};
+
+/// Why a command on steps refuses.
+#[derive(Debug, Drop)]
+pub enum RampRefusal {
+    /// A file is refused as every other command refuses it.
+    Load(Refusal),
+    /// The steps are refused, or one of them.
+    Ramp(RolloutFault),
+    /// The answers are too large for a file.
+    Print(PlanFileFault),
+    /// A file is none of answers to steps.
+    Read(RampFileFault),
+    /// An answer is not right for its step, or the steps are refused.
+    Verify(VerifyFault),
+    /// All answers that are there are right, but there are fewer or more than steps.
+    Lines,
+}
+
+impl RampRefusal {
+    /// The number of the fault.
+    pub fn number(&self) -> u32
+        ensures { result ≡ number_of self.now }
+    {
+        match self {
+            RampRefusal::Load(refusal) => refusal.number(),
+            RampRefusal::Ramp(fault) => fault.number(),
+            RampRefusal::Print(fault) => fault.number(),
+            RampRefusal::Read(fault) => fault.number(),
+            RampRefusal::Verify(fault) => fault.number(),
+            RampRefusal::Lines => 14,
+        }
+    }
+
+    /// Whether memory ran out.
+    pub fn is_want(&self) -> bool
+        ensures { result ≡ is_want self.now }
+    {
+        self.number() == 0
+    }
+
+    /// The line that the refusal is written as.
+    pub fn line(self, alloc: Global) -> Result<Vec<u8>, AllocError>
+        ensures { IfOk result (λ v. v.items ≡ line_of self) }
+    {
+        match self {
+            RampRefusal::Load(refusal) => Ok(refusal.line(alloc)?.into_bytes()),
+            RampRefusal::Ramp(fault) => ramp_line(alloc, fault),
+            RampRefusal::Print(fault) => {
+                fault_line(alloc, "print_ramp", fault.number(), fault.name(), "")
+            }
+            RampRefusal::Read(fault) => read_line(alloc, fault),
+            RampRefusal::Verify(fault) => verify_line(alloc, fault),
+            RampRefusal::Lines => fault_line(alloc, "verify-ramp", 14, "Lines", ""),
+        }
+    }
+}
+
+/// The line of steps that are refused.
+fn ramp_line(alloc: Global, fault: RolloutFault) -> Result<Vec<u8>, AllocError>
+    ensures { IfOk result (λ v. v.items ≡ line_of (Ramp fault)) }
+{
+    match fault {
+        RolloutFault::Request(inner) => {
+            let items = items(alloc, inner.number(), inner.name())?;
+            fault_line(alloc, "ramp", fault.number(), fault.name(), items.as_str())
+        }
+        _ => fault_line(alloc, "ramp", fault.number(), fault.name(), ""),
+    }
+}
+
+fn read_line(alloc: Global, fault: RampFileFault) -> Result<Vec<u8>, AllocError>
+    ensures { IfOk result (λ v. v.items ≡ line_of (Read fault)) }
+{
+    match fault {
+        RampFileFault::Line(n) => {
+            let item = format!(in alloc; " {n}")?;
+            fault_line(
+                alloc,
+                "read_ramp",
+                fault.number(),
+                fault.name(),
+                item.as_str(),
+            )
+        }
+        _ => fault_line(alloc, "read_ramp", fault.number(), fault.name(), ""),
+    }
+}
+
+/// The line of an answer that is not right: what `verify` says of it, under the name of this command.
+#[tactic(auto, unfolding(flagops_files::specs::Refusal::line_of))]
+fn verify_line(alloc: Global, fault: VerifyFault) -> Result<Vec<u8>, AllocError>
+    ensures { IfOk result (λ v. v.items ≡ line_of (Verify fault)) }
+{
+    let line = Refusal::Verify(fault).line(alloc)?;
+    renamed(alloc, line.as_bytes())
+}
+
+/// A line of `verify` with this command in the place of that.
+fn renamed(alloc: Global, line: &[u8]) -> Result<Vec<u8>, AllocError>
+    requires { 14 ≤ length line.now }
+    ensures { IfOk result (λ v. v.items ≡ codes "refused verify-ramp" ++ drop 14 line.now) }
+{
+    let mut bytes = Vec::new(alloc);
+    bytes.extend_from_slice(b"refused verify-ramp")?;
+    bytes.extend_from_slice(&line[14..])?;
+    Ok(bytes)
+}
+
+fn items(alloc: Global, number: u32, name: &str) -> Result<String, AllocError>
+    ensures { IfOk result (λ s. string_bytes s ≡ fault_items number name.now) }
+{
+    format!(in alloc; " {number} {name}")
+}
+
+fn fault_line(
+    alloc: Global,
+    call: &str,
+    number: u32,
+    name: &str,
+    items: &str,
+) -> Result<Vec<u8>, AllocError>
+    ensures { IfOk result (λ v. v.items ≡ line_with call.now (decimal number) name.now items.now) }
+{
+    let line = format!(in alloc; "refused {call} {number} {name}{items}\n")?;
+    Ok(line.into_bytes())
+}

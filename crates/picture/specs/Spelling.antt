@@ -1,0 +1,88 @@
+-- How the elements of a picture are spelled (Scalable Vector Graphics 2, chapters 5, 10 and 11).
+use Rattle.std.specs.Prelude.{◌≡◌, ℕ, List, [], ◌++◌, ◌==◌, chars, codes, if◌then◌else◌, Option, Some, None}
+use Rattle.std.specs.Fmt.{decimal, signed_decimal}
+use Rattle.std.specs.List.{flat_map}
+use Rattle.xml_text.specs.Escape.{begun, escaped}
+use Rattle.picture.specs.Told.{Item, told}
+use Rattle.picture.specs.Words.{class_of, text_of}
+use Rattle.picture.specs.declared.element.Band.{Band}
+use Rattle.picture.specs.declared.element.Content.{Content}
+use Rattle.picture.specs.declared.element.Content.TheVariants as content
+use Rattle.picture.specs.declared.element.Element.{Element}
+use Rattle.picture.specs.declared.element.Element.TheVariants as element
+use Rattle.picture.specs.declared.element.Extent.{Extent}
+use Rattle.picture.specs.declared.element.Look.{Look}
+use Rattle.picture.specs.declared.element.Piece.{Piece}
+use Rattle.picture.specs.declared.element.Place.{Place}
+use Rattle.picture.specs.declared.print.TheConstants.{HEAD}
+use Rattle.picture.specs.declared.words.Style.{Style}
+use Rattle.picture.specs.declared.words.Word.TheVariants as word
+
+-- where a text stands, and where and how large a rectangle is
+unfoldable pub at : Place → List ℕ
+at p = codes " x=\"" ++ (decimal p.x ++ (codes "\" y=\"" ++ (decimal p.y ++ codes "\"")))
+
+unfoldable pub sized : Extent → List ℕ
+sized e = codes " width=\"" ++ (decimal e.width ++ (codes "\" height=\"" ++ (decimal e.height ++ codes "\"/>")))
+
+-- a rectangle of a colour, and one of a pattern
+unfoldable pub coloured : Look → Place → Extent → List ℕ
+coloured l p e = codes "<rect class=\"c" ++ (decimal l.colour ++ (codes "\"" ++ (at p ++ sized e)))
+
+unfoldable pub patterned : Look → Place → Extent → List ℕ
+patterned l p e = codes "<rect fill=\"url(#p" ++ (decimal l.pattern ++ (codes ")\"" ++ (at p ++ sized e)))
+
+-- the one over the other
+unfoldable pub rectangles : Look → Place → Extent → List ℕ
+rectangles l p e = coloured l p e ++ patterned l p e
+
+-- the beginning of a name on its piece
+unfoldable pub label : Piece → List ℕ
+label p = if p.label == 0 then [] else codes "<text class=\"l\" dx=\"8\" dy=\"50\"" ++ (at p.place ++ (codes ">" ++ (begun p.label (chars p.name.now) ++ codes "</text>")))
+
+unfoldable pub spelled_piece : Piece → List ℕ
+spelled_piece p = codes "<g><title>" ++ (escaped p.name.now ++ (codes "</title>" ++ (rectangles p.look p.place p.extent ++ (label p ++ codes "</g>\n"))))
+
+-- the number of its users on a band
+unfoldable pub users_label : Band → List ℕ
+users_label b = if b.is_wide then codes "<text class=\"l\" dx=\"8\" dy=\"50\"" ++ (at b.place ++ (codes ">" ++ (decimal b.users ++ codes "</text>"))) else []
+
+-- its names and numbers, which are shown where one points at it
+unfoldable pub band_title : Band → List ℕ
+band_title b =
+    codes "<g><title>" ++ (escaped b.from.now ++ (codes " &#8594; " ++ (escaped b.to.now ++ (codes ": " ++ (decimal b.points ++ (codes " points, " ++ (decimal b.users ++ codes " users</title>")))))))
+
+unfoldable pub spelled_band : Band → List ℕ
+spelled_band b = band_title b ++ (rectangles b.look b.place b.extent ++ (users_label b ++ codes "</g>\n"))
+
+unfoldable pub spelled_content : Content → List ℕ
+spelled_content (content.Word w) = text_of w
+spelled_content (content.Number n) = decimal n
+spelled_content (content.Counted w n) = text_of w ++ (codes ": " ++ decimal n)
+spelled_content (content.Signed z) = signed_decimal z
+spelled_content (content.Price (Some n)) = decimal n
+spelled_content (content.Price None) = text_of word.NotAllowed
+
+unfoldable pub spelled_text : Style → Place → Content → List ℕ
+spelled_text s p c = codes "<text class=\"" ++ (class_of s ++ (codes "\"" ++ (at p ++ (codes ">" ++ (spelled_content c ++ codes "</text>\n")))))
+
+unfoldable pub spelled_name : Place → ℕ → List ℕ → List ℕ
+spelled_name p size t = codes "<text class=\"r\" style=\"font-size:" ++ (decimal size ++ (codes "px\"" ++ (at p ++ (codes ">" ++ (escaped t ++ codes "</text>\n")))))
+
+unfoldable pub spelled_line : Place → Extent → List ℕ
+spelled_line p e = codes "<rect class=\"s\"" ++ (at p ++ sized e)
+
+abbrev pub spelled : Element → List ℕ
+spelled (element.Text s p c) = spelled_text s p c
+spelled (element.Name p size t) = spelled_name p size t.now
+spelled (element.Piece p) = spelled_piece p
+spelled (element.Band b) = spelled_band b
+spelled (element.Line p e) = spelled_line p e
+
+-- the elements of a picture of this height, below its style sheet
+unfoldable pub page : ℕ → List Element → List ℕ
+page height es = codes "<svg xmlns=\"http://www.w3.org/2000/svg\" role=\"img\" viewBox=\"0 0 1200 " ++ (decimal height ++ (codes "\">\n" ++ (HEAD.now ++ (flat_map spelled es ++ codes "</svg>\n"))))
+
+-- a picture that tells this
+unfoldable pub IsPicture : List Item → List ℕ → Type 0
+IsPicture items bytes = (height : ℕ) × (es : List Element) × (bytes ≡ page height es) × (told es ≡ items)

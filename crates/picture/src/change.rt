@@ -1,0 +1,142 @@
+//! The picture of a rule that replaces another.
+ghost use Rattle.std.specs.Prelude.{◌≡◌, ◌++◌, ◌∷◌, [], IfOk, OnOk, length, string_bytes};
+ghost use Rattle.std.specs.List.{flat_map};
+ghost use Rattle.std.specs.Map.{keys_of};
+ghost use Rattle.bucket_core.specs.Rule.{total_weight};
+ghost use Rattle.price_core.specs.Limits.{limits_view};
+ghost use Rattle.switch_table.specs.Runs.{runs_view};
+ghost use Rattle.transport_instance.specs.Certificate.{certificate_view};
+ghost use Rattle.picture.specs.Spelling.{IsPicture};
+ghost use Rattle.picture.specs.Told.{change_told, number, run_told, told};
+
+use crate::bars::{BAR, LEFT, add_bar, edge, look_of};
+use crate::element::{Band, Content, Element, Extent, Place, add};
+use crate::print::page;
+use crate::switches::add_table;
+use crate::variants::add_variants;
+use crate::words::{Style, Word};
+use bucket_core::Rule;
+use price_core::{Limit, Prices, Totals};
+use std::alloc::{AllocError, Global};
+use switch_table::{Run, SwitchTable};
+use transport_instance::Certificate;
+
+/// What is drawn of a rule that replaces another.
+#[derive(Clone, Copy)]
+pub struct Change<'a> {
+    /// The rule that is replaced, and the one that replaces it.
+    pub old: &'a Rule,
+    pub new: &'a Rule,
+    /// The limits on the totals of the variants, and the prices of changes.
+    pub totals: &'a Totals,
+    pub prices: &'a Prices,
+    /// The runs of the change, and the switches between the variants.
+    pub runs: &'a [Run<'a>],
+    pub table: &'a SwitchTable,
+    /// What shows that no rule costs less.
+    pub certificate: &'a Certificate,
+}
+
+/// The picture of a change. The condition is that the table has a place for each variant that has limits.
+#[tactic(auto, unfolding(crate::specs::Spelling::IsPicture, crate::specs::Told::change_told))]
+pub fn draw_change(alloc: Global, change: &Change<'_>) -> Result<String, AllocError>
+    requires { change.now.table.now.0 ≡ length (keys_of change.now.totals.now) }
+    ensures { IfOk result (λ s. IsPicture
+        (change_told change.now.old.now change.now.new.now change.now.totals.now change.now.prices.now (runs_view change.now.runs.now) change.now.table.now (certificate_view change.now.certificate.now))
+        (string_bytes s)) }
+{
+    let limits = change.totals.entries();
+    let mut elements = Vec::new(alloc);
+    add_head(&mut elements, change)?;
+    add_bars(&mut elements, change, limits)?;
+    let y = add_variants(&mut elements, change, limits, 540)?;
+    let height = add_table(&mut elements, change, limits, y)?;
+    let text = page(alloc, height, elements.as_slice())?;
+    Ok(text)
+}
+
+/// What a change costs, and how many points there are.
+fn add_head<'a>(elements: &mut Vec<Element<'a>>, change: &Change<'a>) -> Result<(), AllocError>
+    ensures { OnOk result (told elements.new.items ≡ told elements.old.items ++ (number change.now.certificate.now.cost ∷ number (total_weight change.now.old.now) ∷ [])) }
+{
+    let cost = Content::Counted(Word::Cost, change.certificate.cost);
+    let points = Content::Counted(Word::Points, u64::from(change.old.total()));
+    add(
+        elements,
+        &[
+            Element::Text(Style::Title, Place { x: LEFT, y: 66 }, cost),
+            Element::Text(
+                Style::Row,
+                Place { x: LEFT, y: 110 },
+                Content::Word(Word::Least),
+            ),
+            Element::Text(
+                Style::Heading,
+                Place { x: LEFT, y: 170 },
+                Content::Word(Word::Before),
+            ),
+            Element::Text(Style::Value, Place { x: 1160, y: 170 }, points),
+            Element::Text(
+                Style::Heading,
+                Place { x: LEFT, y: 466 },
+                Content::Word(Word::After),
+            ),
+        ],
+    )
+}
+
+/// Both rules, and between them the runs that move.
+fn add_bars<'a>(
+    elements: &mut Vec<Element<'a>>,
+    change: &Change<'a>,
+    limits: &[Limit],
+) -> Result<(), AllocError>
+    ensures { OnOk result (told elements.new.items ≡ told elements.old.items ++ flat_map run_told (runs_view change.now.runs.now)) }
+{
+    add_bar(elements, change.old, limits, 184)?;
+    add_bands(elements, change.runs, limits, u64::from(change.old.total()))?;
+    add_bar(elements, change.new, limits, 184 + 2 * BAR)
+}
+
+/// The runs that move, among so many points.
+fn add_bands<'a>(
+    elements: &mut Vec<Element<'a>>,
+    runs: &[Run<'a>],
+    limits: &[Limit],
+    total: u64,
+) -> Result<(), AllocError>
+    ensures { OnOk result (told elements.new.items ≡ told elements.old.items ++ flat_map run_told (runs_view runs.now)) }
+{
+    let mut begin = 0u64;
+    for run in runs {
+        let end = begin.saturating_add(u64::from(run.points));
+        if run.from != run.to {
+            elements.push(Element::Band(band(run, limits, edge(begin, total), edge(end, total))))?;
+        }
+        begin = end;
+    }
+    Ok(())
+}
+
+/// The band of a run between two edges.
+fn band<'a>(run: &Run<'a>, limits: &[Limit], left: u64, right: u64) -> Band<'a>
+    ensures from { result.from.now ≡ run.now.from.now }
+    ensures to { result.to.now ≡ run.now.to.now }
+    ensures points { result.points ≡ run.now.points }
+    ensures users { result.users ≡ run.now.users }
+{
+    let width = right.saturating_sub(left);
+    Band {
+        from: run.from,
+        to: run.to,
+        points: u64::from(run.points),
+        users: run.users,
+        look: look_of(limits, run.to),
+        place: Place {
+            x: left,
+            y: 184 + BAR,
+        },
+        extent: Extent { width, height: BAR },
+        is_wide: width >= 60,
+    }
+}

@@ -1,0 +1,22 @@
+//! Pictures of rollouts, as SVG (Scalable Vector Graphics 2): what a new rule moves, and what it costs.
+//!
+//! [`draw_change`] draws a rule that replaces another: both as bars over the points, between them what moves, then the variants
+//! and the switches between them, with their numbers. [`draw_none`] draws a set of variants which shows that no rule fits.
+//! There is no script in it and nothing from elsewhere; colours follow the reader's scheme, and patterns tell them apart too.
+//!
+//! Proved, over the definitions of `specs/`: a picture is a list of elements, each spelled as `Spelling` says, so that no name
+//! adds markup of its own; and what the elements tell, in their order, is what `Told` says of the rules, the limits, the prices,
+//! the runs, the table and the certificate. Where things stand and how they look is not.
+#![tactic(auto)]
+
+mod bars;
+mod change;
+mod element;
+mod none;
+mod print;
+mod switches;
+mod variants;
+mod words;
+
+pub use change::{Change, draw_change};
+pub use none::{Deficit, draw_none};

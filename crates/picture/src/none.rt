@@ -1,0 +1,201 @@
+//! The picture of a set of variants which shows that no rule fits.
+ghost use Rattle.std.specs.Prelude.{◌≡◌, ◌++◌, ◌∷◌, [], IfOk, OnOk, string_bytes};
+ghost use Rattle.std.specs.List.{flat_map};
+ghost use Rattle.bucket_core.specs.Rule.{names_view, total_weight};
+ghost use Rattle.price_core.specs.Limits.{limit_view, limits_view};
+ghost use Rattle.picture.specs.Spelling.{IsPicture};
+ghost use Rattle.picture.specs.Told.{limit_told, name, none_told, number, set_told, told};
+
+use crate::bars::{BAR, LEFT, add_bar, look_of};
+use crate::element::{Content, Element, Extent, Piece, Place, add};
+use crate::print::page;
+use crate::variants::{NAMES, ROW, number_at, size_for};
+use crate::words::{Style, Word};
+use bucket_core::Rule;
+use price_core::{Limit, Totals};
+use std::alloc::{AllocError, Global};
+use transport_instance::{Cut, CutKind};
+
+/// What is drawn where no rule fits.
+#[derive(Clone, Copy)]
+pub struct Deficit<'a> {
+    /// The rule of the site.
+    pub old: &'a Rule,
+    /// The limits on the totals of the variants.
+    pub totals: &'a Totals,
+    /// The set that shows it.
+    pub cut: &'a Cut,
+}
+
+/// The picture of a set which shows that no rule fits.
+#[tactic(auto, unfolding(crate::specs::Spelling::IsPicture, crate::specs::Told::none_told))]
+pub fn draw_none(alloc: Global, deficit: &Deficit<'_>) -> Result<String, AllocError>
+    ensures { IfOk result (λ s. IsPicture (none_told deficit.now.old.now deficit.now.totals.now (names_view deficit.now.cut.now.names.items)) (string_bytes s)) }
+{
+    let limits = deficit.totals.entries();
+    let mut elements = Vec::new(alloc);
+    add_head(&mut elements, deficit)?;
+    let behind_set = add_set(&mut elements, deficit.cut.names.as_slice(), limits, 170)?;
+    let behind_bar = add_rule(&mut elements, deficit.old, limits, behind_set)?;
+    let height = add_limits(&mut elements, deficit.old, limits, behind_bar)?;
+    let text = page(alloc, height, elements.as_slice())?;
+    Ok(text)
+}
+
+/// That no rule fits, and of which kind the set is.
+fn add_head(elements: &mut Vec<Element<'_>>, deficit: &Deficit<'_>) -> Result<(), AllocError>
+    ensures { OnOk result (told elements.new.items ≡ told elements.old.items ++ (number (total_weight deficit.now.old.now) ∷ [])) }
+{
+    let points = Content::Counted(Word::Points, u64::from(deficit.old.total()));
+    let kind = match deficit.cut.kind {
+        CutKind::Over => Word::Over,
+        CutKind::Under => Word::Under,
+    };
+    add(
+        elements,
+        &[
+            Element::Text(
+                Style::Title,
+                Place { x: LEFT, y: 66 },
+                Content::Word(Word::NoRule),
+            ),
+            Element::Text(Style::Value, Place { x: 1160, y: 66 }, points),
+            Element::Text(Style::Row, Place { x: LEFT, y: 114 }, Content::Word(kind)),
+        ],
+    )
+}
+
+/// Adds the names of the set, from a height on, and gives the height below.
+fn add_set<'a>(
+    elements: &mut Vec<Element<'a>>,
+    names: &'a [String],
+    limits: &[Limit],
+    y: u64,
+) -> Result<u64, AllocError>
+    ensures { OnOk result (told elements.new.items ≡ told elements.old.items ++ set_told (names_view names.entry.now)) }
+{
+    let mut row = y;
+    for name in names {
+        add_named(elements, name.as_str(), limits, row)?;
+        row = row.saturating_add(ROW);
+    }
+    Ok(row)
+}
+
+/// Adds a name with the look of its variant.
+fn add_named<'a>(
+    elements: &mut Vec<Element<'a>>,
+    variant: &'a str,
+    limits: &[Limit],
+    y: u64,
+) -> Result<(), AllocError>
+    ensures { OnOk result (told elements.new.items ≡ told elements.old.items ++ (name variant.now ∷ [])) }
+{
+    let swatch = Piece {
+        name: variant,
+        look: look_of(limits, variant),
+        place: Place {
+            x: LEFT,
+            y: y.saturating_sub(26),
+        },
+        extent: Extent {
+            width: 44,
+            height: 32,
+        },
+        label: 0,
+    };
+    add(
+        elements,
+        &[
+            Element::Piece(swatch),
+            Element::Name(Place { x: NAMES, y }, size_for(variant, 1060), variant),
+        ],
+    )
+}
+
+/// Adds the bar of the rule, from a height on, and gives the height below.
+fn add_rule<'a>(
+    elements: &mut Vec<Element<'a>>,
+    rule: &'a Rule,
+    limits: &[Limit],
+    y: u64,
+) -> Result<u64, AllocError>
+    ensures { OnOk result (told elements.new.items ≡ told elements.old.items) }
+{
+    add_bar(elements, rule, limits, y)?;
+    Ok(y.saturating_add(BAR).saturating_add(ROW))
+}
+
+/// Adds a row for each variant with its points and its limits, and gives the height below.
+fn add_limits<'a>(
+    elements: &mut Vec<Element<'a>>,
+    old: &Rule,
+    limits: &'a [Limit],
+    y: u64,
+) -> Result<u64, AllocError>
+    ensures { OnOk result (told elements.new.items ≡ told elements.old.items ++ flat_map (limit_told old.now) (limits_view limits.entry.now)) }
+{
+    add_headings(elements, y)?;
+    let mut row = y.saturating_add(ROW);
+    for limit in limits {
+        row = add_limit(elements, old, limits, limit, row)?;
+    }
+    Ok(row)
+}
+
+fn add_headings(elements: &mut Vec<Element<'_>>, y: u64) -> Result<(), AllocError>
+    ensures { OnOk result (told elements.new.items ≡ told elements.old.items ++ []) }
+{
+    add(
+        elements,
+        &[
+            Element::Text(
+                Style::Heading,
+                Place { x: NAMES, y },
+                Content::Word(Word::Variant),
+            ),
+            Element::Text(
+                Style::Value,
+                Place { x: 820, y },
+                Content::Word(Word::Points),
+            ),
+            Element::Text(
+                Style::Value,
+                Place { x: 990, y },
+                Content::Word(Word::AtLeast),
+            ),
+            Element::Text(
+                Style::Value,
+                Place { x: 1160, y },
+                Content::Word(Word::AtMost),
+            ),
+        ],
+    )
+}
+
+fn add_limit<'a>(
+    elements: &mut Vec<Element<'a>>,
+    old: &Rule,
+    limits: &[Limit],
+    limit: &'a Limit,
+    y: u64,
+) -> Result<u64, AllocError>
+    ensures { OnOk result (told elements.new.items ≡ told elements.old.items ++ limit_told old.now (limit_view limit.entry.now)) }
+{
+    let name = limit.name.as_str();
+    let below = if name.len() > 34 {
+        y.saturating_add(ROW)
+    } else {
+        y
+    };
+    add_named(elements, name, limits, y)?;
+    add(
+        elements,
+        &[
+            number_at(820, below, old.total_of(name)),
+            number_at(990, below, u64::from(limit.low)),
+            number_at(1160, below, u64::from(limit.high)),
+        ],
+    )?;
+    Ok(below.saturating_add(ROW))
+}

@@ -1,0 +1,136 @@
+//! The table of the switches.
+ghost use Rattle.std.specs.Prelude.{◌≡◌, ◌++◌, ◌<◌, [], OnOk, length};
+ghost use Rattle.std.specs.Map.{keys_of};
+ghost use Rattle.price_core.specs.Limits.{limits_view};
+ghost use Rattle.picture.specs.Told.{row_told, switch_told, table_told, told};
+
+use crate::change::Change;
+use crate::element::{Content, Element, Place, add};
+use crate::variants::{NAMES, ROW, number_at, size_for};
+use crate::words::{Style, Word};
+use price_core::{Limit, Prices};
+use std::alloc::AllocError;
+use switch_table::Switch;
+
+/// Adds the head of the table and its rows, from a height on, and gives the height below.
+pub(crate) fn add_table<'a>(
+    elements: &mut Vec<Element<'a>>,
+    change: &Change<'a>,
+    limits: &'a [Limit],
+    y: u64,
+) -> Result<u64, AllocError>
+    requires { change.now.table.now.0 ≡ length limits.now }
+    ensures { OnOk result (told elements.new.items ≡ told elements.old.items ++ table_told change.now.prices.now (keys_of (limits_view limits.entry.now)) change.now.table.now) }
+{
+    add_headings(elements, y)?;
+    let mut row = y.saturating_add(ROW);
+    for from in 0..limits.len() {
+        row = add_row(elements, change, limits, from, row)?;
+    }
+    Ok(row)
+}
+
+fn add_headings(elements: &mut Vec<Element<'_>>, y: u64) -> Result<(), AllocError>
+    ensures { OnOk result (told elements.new.items ≡ told elements.old.items ++ []) }
+{
+    add(
+        elements,
+        &[
+            Element::Text(
+                Style::Heading,
+                Place { x: NAMES, y },
+                Content::Word(Word::From),
+            ),
+            Element::Text(Style::Heading, Place { x: 410, y }, Content::Word(Word::To)),
+            Element::Text(
+                Style::Value,
+                Place { x: 820, y },
+                Content::Word(Word::Points),
+            ),
+            Element::Text(
+                Style::Value,
+                Place { x: 970, y },
+                Content::Word(Word::Users),
+            ),
+            Element::Text(
+                Style::Value,
+                Place { x: 1160, y },
+                Content::Word(Word::Price),
+            ),
+        ],
+    )
+}
+
+/// Adds the switches from one variant to each, from a height on, and gives the height below.
+fn add_row<'a>(
+    elements: &mut Vec<Element<'a>>,
+    change: &Change<'a>,
+    limits: &'a [Limit],
+    from: usize,
+    y: u64,
+) -> Result<u64, AllocError>
+    requires width { change.now.table.now.0 ≡ length limits.now }
+    requires inside { from < length limits.now }
+    ensures { OnOk result (told elements.new.items ≡ told elements.old.items ++ row_told change.now.prices.now (keys_of (limits_view limits.entry.now)) change.now.table.now from) }
+{
+    let mut row = y;
+    for to in 0..limits.len() {
+        let switch = change.table.get(from, to);
+        let (a, b) = (limits[from].name.as_str(), limits[to].name.as_str());
+        row = add_switch(elements, change.prices, a, b, switch, row)?;
+    }
+    Ok(row)
+}
+
+/// Adds a switch that has points or is not allowed, at a height, and gives the height below. Long names have lines of their
+/// own.
+fn add_switch<'a>(
+    elements: &mut Vec<Element<'a>>,
+    prices: &Prices,
+    from: &'a str,
+    to: &'a str,
+    switch: Switch,
+    y: u64,
+) -> Result<u64, AllocError>
+    ensures { OnOk result (told elements.new.items ≡ told elements.old.items ++ switch_told prices.now from.now to.now switch) }
+{
+    let is_forbidden = prices.forbidden(from, to);
+    if switch.points == 0 && !is_forbidden {
+        return Ok(y);
+    }
+    let is_long = from.len().max(to.len()) > 17;
+    let second = if is_long { y.saturating_add(ROW) } else { y };
+    let below = if is_long {
+        second.saturating_add(ROW)
+    } else {
+        y
+    };
+    let width = if is_long { 1060 } else { 300 };
+    let price = if is_forbidden {
+        None
+    } else {
+        Some(prices.price(from, to))
+    };
+    add(
+        elements,
+        &[
+            Element::Name(Place { x: NAMES, y }, size_for(from, width), from),
+            Element::Name(
+                Place {
+                    x: if is_long { NAMES } else { 410 },
+                    y: second,
+                },
+                size_for(to, width),
+                to,
+            ),
+            number_at(820, below, switch.points),
+            number_at(970, below, switch.users),
+            Element::Text(
+                Style::Value,
+                Place { x: 1160, y: below },
+                Content::Price(price),
+            ),
+        ],
+    )?;
+    Ok(below.saturating_add(ROW))
+}

@@ -1,0 +1,74 @@
+//! The words of a picture.
+ghost use Rattle.std.specs.Prelude.{◌≡◌};
+ghost use Rattle.picture.specs.Words.{class_of, text_of};
+
+/// What a picture says in words of its own.
+#[derive(Clone, Copy, Debug)]
+pub enum Word {
+    Cost,
+    Least,
+    Points,
+    Before,
+    After,
+    Variant,
+    AtLeast,
+    AtMost,
+    DualPrice,
+    From,
+    To,
+    Users,
+    Price,
+    NotAllowed,
+    NoRule,
+    Over,
+    Under,
+}
+
+impl Word {
+    /// Its text, in which nothing needs an entity.
+    pub(crate) fn text(self) -> &'static str
+        ensures { result.now ≡ text_of self }
+    {
+        match self {
+            Word::Cost => "Cost",
+            Word::Least => "No rule that keeps the limits costs less.",
+            Word::Points => "Points",
+            Word::Before => "Before",
+            Word::After => "After",
+            Word::Variant => "Variant",
+            Word::AtLeast => "At least",
+            Word::AtMost => "At most",
+            Word::DualPrice => "Dual price",
+            Word::From => "From",
+            Word::To => "To",
+            Word::Users => "Users",
+            Word::Price => "Price",
+            Word::NotAllowed => "not allowed",
+            Word::NoRule => "No rule keeps the limits.",
+            Word::Over => "Their points are more than all that they may become can take:",
+            Word::Under => "They need more points than have or may take one of them:",
+        }
+    }
+}
+
+/// How a text looks: its class in the style sheet.
+#[derive(Clone, Copy, Debug)]
+pub enum Style {
+    Title,
+    Heading,
+    Row,
+    Value,
+}
+
+impl Style {
+    pub(crate) fn class(self) -> &'static str
+        ensures { result.now ≡ class_of self }
+    {
+        match self {
+            Style::Title => "t",
+            Style::Heading => "h",
+            Style::Row => "r",
+            Style::Value => "v",
+        }
+    }
+}

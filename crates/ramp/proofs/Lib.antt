@@ -1,0 +1,5 @@
+mod Kept
+mod Sites
+mod Steps
+mod Told
+mod Walked

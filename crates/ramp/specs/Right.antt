@@ -1,0 +1,58 @@
+-- Whether the answers to a rollout in steps are right, whoever made them.
+use Rattle.std.specs.Prelude.{◌≡◌, ◌≢◌, ℕ, zero, suc, ◌+◌, List, [], ◌∷◌, Option, Some, Result, Ok, Err}
+use Rattle.book_core.specs.Book.{Contents}
+use Rattle.plan_text.specs.Answer.{Answer}
+use Rattle.rollout_checks.specs.Lawful.{Problem, and_then}
+use Rattle.rollout_checks.specs.Refined.{problem_checked}
+use Rattle.rollout_checks.specs.Verified.{IsOutcome, IsShown, Proves}
+use Rattle.rollout_checks.specs.VerifyFault as verify
+use Rattle.rollout_checks.specs.declared.fault.RolloutFault.{RolloutFault}
+use Rattle.rollout_checks.specs.declared.verify_fault.VerifyFault.{VerifyFault}
+use Rattle.ramp.specs.Ramp.{Standing, left_by, still}
+use Rattle.ramp.specs.declared.fault.RampFault.{RampFault}
+use Rattle.ramp.specs.declared.fault.RampFault.TheVariants.{Step, Lines}
+
+-- what an answer is checked against, of the flags that its step stands on
+abbrev pub checked_on : Standing → Option ℕ → Answer → List ℕ → Contents → Result Problem RolloutFault
+checked_on standing refine answer request book = and_then standing (λ flags. problem_checked refine answer flags request book)
+
+-- An answer that is right for its step: it proves what it says of what the request asks, and so costs the least, or no rule fits.
+pub record IsRight (standing : Standing) (refine : Option ℕ) (request : List ℕ) (book : Contents) (answer : Answer) : Type 0 where
+  pub told : IsOutcome (checked_on standing refine answer request book) answer (Ok tt)
+  pub shown : IsShown (checked_on standing refine answer request book) answer
+
+-- what is told of the answer to a step: that it is right, or the first refusal, unless memory ran out
+abbrev pub TellsStep : Standing → Option ℕ → List ℕ → Contents → Answer → Result (Unit {0}) VerifyFault → Type 0
+TellsStep standing refine request book answer (Ok u) = IsRight standing refine request book answer
+TellsStep standing refine request book answer (Err e) = verify.number_of e ≢ 0 → IsOutcome (checked_on standing refine answer request book) answer (Err e)
+
+-- The answers are right in turn: the first on these flags, by the factor that is given or else as it tells, and each other on what the one before leaves, on the rule itself.
+abbrev pub AreRight : Standing → Option ℕ → List (List ℕ) → Contents → List Answer → Type 0
+AreRight standing refine [] book [] = Unit {0}
+AreRight standing refine [] book (answer ∷ answers) = ⊥
+AreRight standing refine (request ∷ requests) book [] = ⊥
+AreRight standing refine (request ∷ requests) book (answer ∷ answers) =
+    IsRight standing refine request book answer × AreRight (left_by standing request answer) (Some 1) (still answer requests) book answers
+
+-- so many of the answers are right, and the next one is told so
+abbrev pub IsWrongAfter : Standing → Option ℕ → List (List ℕ) → Contents → List Answer → ℕ → VerifyFault → Type 0
+IsWrongAfter standing refine [] book answers n e = ⊥
+IsWrongAfter standing refine (request ∷ requests) book [] n e = ⊥
+IsWrongAfter standing refine (request ∷ requests) book (answer ∷ answers) zero e = IsOutcome (checked_on standing refine answer request book) answer (Err e)
+IsWrongAfter standing refine (request ∷ requests) book (answer ∷ answers) (suc n) e =
+    IsRight standing refine request book answer × IsWrongAfter (left_by standing request answer) (Some 1) (still answer requests) book answers n e
+
+-- all that are there are right, but one is lacking, or there is one too many
+abbrev pub AreMiscounted : Standing → Option ℕ → List (List ℕ) → Contents → List Answer → Type 0
+AreMiscounted standing refine [] book [] = ⊥
+AreMiscounted standing refine [] book (answer ∷ answers) = Unit {0}
+AreMiscounted standing refine (request ∷ requests) book [] = Unit {0}
+AreMiscounted standing refine (request ∷ requests) book (answer ∷ answers) =
+    IsRight standing refine request book answer × AreMiscounted (left_by standing request answer) (Some 1) (still answer requests) book answers
+
+-- what is told of the answers: all are right, the first is not, or their number is not that of the steps
+abbrev pub IsTold : Standing → Option ℕ → List (List ℕ) → Contents → List Answer → Result (Unit {0}) RampFault → Type 0
+IsTold standing refine requests book answers (Ok u) = AreRight standing refine requests book answers
+IsTold standing refine requests book answers (Err Lines) = AreMiscounted standing refine requests book answers
+IsTold standing refine requests book answers (Err (Step n e)) =
+    verify.number_of e ≢ 0 → (before : ℕ) × (n ≡ before + 1) × IsWrongAfter standing refine requests book answers before e

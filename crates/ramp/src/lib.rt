@@ -1,0 +1,29 @@
+//! A rollout in steps: each step is planned on the rule that the step before left, and checked so.
+//!
+//! ```rust
+//! use ramp::{plan_steps, verify_steps};
+//!
+//! let steps = ramp_steps::read_steps(alloc, request)?;
+//! let answers = plan_steps(&rt, alloc, &flags, steps.as_slice(), &book, 1)?;
+//! verify_steps(&rt, alloc, &flags, steps.as_slice(), &book, None, answers.as_slice())?;
+//! ```
+//!
+//! Proved, over the definitions of `specs/`:
+//! - [`plan_steps`] answers each step as `rollout::plan` answers its request on the flags in which `rollout::apply` put the rule
+//!   of the step before, and stops at the first step for which no rule fits; else it gives the first refusal and its step
+//!   (`Ramp`).
+//! - [`verify_steps`] accepts the answers exactly where each is right so, and tells the first that is not (`Right`).
+//! - Where the steps ask for one site and forbid to leave a name, whoever is given the name is given it by each later rule, and
+//!   all rules are of one total ([`nobody_falls_back`]).
+#![tactic(auto)]
+
+mod fault;
+mod laws;
+mod planning;
+mod standing;
+mod verifying;
+
+pub use fault::{RampFault, StepFault};
+pub use laws::nobody_falls_back;
+pub use planning::plan_steps;
+pub use verifying::verify_steps;

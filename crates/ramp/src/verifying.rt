@@ -1,0 +1,89 @@
+//! Whether the answers to a rollout in steps are right.
+ghost use Rattle.std.specs.Prelude.{◌≡◌, ◌<◌, ◌-◌, ◌^◌, ◌==◌, if◌then◌else◌, length, map, Ok, Err, IfSome};
+ghost use Rattle.flag_text.specs.Outcome.{GivesUnless};
+ghost use Rattle.flag_defs.specs.Flags.{flags_view};
+ghost use Rattle.plan_text.specs.Answer.{planned_view};
+ghost use Rattle.ramp.specs.Ramp.{Standing, requests_view};
+ghost use Rattle.ramp.specs.Right.{IsTold, TellsStep};
+
+use crate::fault::RampFault;
+use crate::standing::{behind, first, goes_on};
+use flag_defs::Flags;
+use page_tally::Recorded;
+use plan_text::Planned;
+use rollout::{verify, verify_refined};
+use rollout_checks::{RolloutFault, VerifyFault};
+use std::alloc::Global;
+use std::thread::Threads;
+
+/// Checks the answers to the requests of steps: the first as `rollout::verify` does, or by a factor as
+/// `rollout::verify_refined`, and each other on the flags with the rule of the one before, by the factor 1.
+///
+/// The first step whose answer is not right is told, and then whether there are fewer answers than steps, or more; a step for
+/// which no rule fits is the last. The conditions are a factor from 1, and fewer than 2^32 - 1 steps.
+pub fn verify_steps<R: Threads + Sync, B: Recorded>(
+    rt: &R,
+    alloc: Global,
+    flags: &Flags,
+    steps: &[Vec<u8>],
+    book: &B,
+    refine: Option<u32>,
+    answers: &[Planned],
+) -> Result<(), RampFault>
+    requires factor { IfSome refine (λ m. 0 < m) }
+    requires few { length steps.now < 2 ^ 32 - 1 }
+    ensures { IsTold (Ok (flags_view flags.now)) refine (requests_view steps.now) (B.contents book.now) (map planned_view answers.now) result }
+{
+    let mut standing = first(alloc, flags);
+    let mut factor = refine;
+    for i in 0..steps.len() {
+        if i >= answers.len() {
+            return Err(RampFault::Lines);
+        }
+        let planned = &answers[i];
+        let request = steps[i].as_slice();
+        match verdict(rt, alloc, &standing, request, book, factor, planned) {
+            Ok(()) => {}
+            Err(fault) => return Err(RampFault::Step(i as u32 + 1, fault)),
+        }
+        if !goes_on(planned) {
+            return ended(answers, i + 1);
+        }
+        standing = behind(alloc, standing, request, planned, i + 1 < steps.len());
+        factor = Some(1);
+    }
+    ended(answers, steps.len())
+}
+
+/// Whether there are so many answers.
+fn ended(answers: &[Planned], steps: usize) -> Result<(), RampFault>
+    ensures { result ≡ (if length answers.now == steps then Ok tt else Err RampFault.Lines) }
+{
+    if answers.len() == steps {
+        Ok(())
+    } else {
+        Err(RampFault::Lines)
+    }
+}
+
+/// Whether the answer to a step is right.
+fn verdict<R: Threads + Sync, B: Recorded>(
+    rt: &R,
+    alloc: Global,
+    standing: &Result<Flags, RolloutFault>,
+    request: &[u8],
+    book: &B,
+    refine: Option<u32>,
+    planned: &Planned,
+) -> Result<(), VerifyFault>
+    requires { IfSome refine (λ m. 0 < m) }
+    ensures { (s : Standing) → GivesUnless RolloutFault.WantOfMemory flags_view standing.now s → TellsStep s refine request.now (B.contents book.now) (planned_view planned.now) result }
+{
+    match standing {
+        Ok(flags) => match refine {
+            None => verify(rt, alloc, flags, request, book, planned),
+            Some(m) => verify_refined(rt, alloc, flags, request, book, planned, m),
+        },
+        Err(fault) => Err(VerifyFault::Request(*fault)),
+    }
+}

@@ -1,0 +1,5 @@
+mod Alike
+mod Levels
+mod Parts
+mod Requests
+mod Whole

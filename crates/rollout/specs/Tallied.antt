@@ -1,0 +1,40 @@
+-- What is planned of a rollout request on a tally.
+use Rattle.std.specs.Prelude.{◌≡◌, ◌≢◌, ℕ, List, Result, Ok, Err}
+use Rattle.book_core.specs.Book.{Contents, Inputs, inputs_on}
+use Rattle.flag_documents.specs.Document.{Definitions}
+use Rattle.plan_text.specs.Answer.{Answer, planned_view}
+use Rattle.plan_text.specs.declared.planned.Planned.{Planned}
+use Rattle.rollout_checks.specs.Lawful.{problem_of}
+use Rattle.rollout_checks.specs.Tallied.{AreTallied, TallyProblem, tally_problem_of, with_inputs}
+use Rattle.rollout_checks.specs.declared.fault.RolloutFault.{RolloutFault}
+use Rattle.rollout_checks.specs.declared.fault.RolloutFault.TheVariants.{WantOfMemory}
+use Rattle.rollout_checks.specs.declared.refining.Refining.{Refining}
+use Rattle.tally_core.specs.Law.{IsTallyOf}
+use Rattle.tally_core.specs.Tally.{PageTally}
+use Rattle.rollout.specs.Planned.{IsPlan, IsPlanned}
+
+-- What is planned: the refusal of the request where it is not lawful, and else an answer for all inputs of which so many fall on
+-- each point. Want of memory may come of either.
+abbrev pub IsTallyPlanned : Result TallyProblem RolloutFault → Result Planned RolloutFault → Type 0
+IsTallyPlanned (Err f) (Ok planned) = ⊥
+IsTallyPlanned (Err f) (Err e) = e ≢ WantOfMemory → e ≡ f
+IsTallyPlanned (Ok p) (Ok planned) = (inputs : Inputs) → AreTallied p inputs → IsPlan (with_inputs p inputs) (planned_view planned)
+IsTallyPlanned (Ok p) (Err e) = e ≡ WantOfMemory
+
+-- A plan is one for all inputs of which equally many fall on each point: it knows of them no more than these numbers.
+abbrev pub PlansAreByCounts : Type 0
+PlansAreByCounts = (p : TallyProblem) (some more : Inputs) (answer : Answer) → AreTallied p some → AreTallied p more → IsPlan (with_inputs p some) answer → IsPlan (with_inputs p more) answer
+
+-- A request asks of the tally of a page's inputs what it asks of the book that has them.
+abbrev pub TalliesAskAsBooks : Type 0
+TalliesAskAsBooks =
+    (refining : Refining) (flags : Definitions) (request : List ℕ) (book : Contents) (t : PageTally) (p : TallyProblem)
+    → IsTallyOf (inputs_on book t.page) t → tally_problem_of refining flags request t ≡ Ok p
+    → (problem_of refining flags request book ≡ Ok (with_inputs p (inputs_on book t.page))) × AreTallied p (inputs_on book t.page)
+
+-- So what is planned on the tally is planned on the book.
+abbrev pub TallyPlansAreOfBooks : Type 0
+TallyPlansAreOfBooks =
+    (refining : Refining) (flags : Definitions) (request : List ℕ) (book : Contents) (t : PageTally) (p : TallyProblem) (planned : Planned)
+    → IsTallyOf (inputs_on book t.page) t → tally_problem_of refining flags request t ≡ Ok p
+    → IsTallyPlanned (Ok p) (Ok planned) → IsPlanned (problem_of refining flags request book) (Ok planned)

@@ -1,0 +1,77 @@
+//! The answer of the planner to a request on a tally.
+ghost use Rattle.std.specs.Prelude.{◌≡◌, ◌≤◌, ◌<◌, false, length, IfOk, IsErrOf};
+ghost use Rattle.std.specs.Str.{is_utf8};
+ghost use Rattle.flag_defs.specs.Flags.{flags_view};
+ghost use Rattle.price_core.specs.Request.{max_request};
+ghost use Rattle.price_core.specs.declared.fault.PriceFault.TheVariants.{BadRequest};
+ghost use Rattle.plan_text.specs.Answer.{IsOrdered, planned_view};
+ghost use Rattle.plan_text.specs.PlanFile.{IsWhole};
+ghost use Rattle.rollout_checks.specs.Lawful.{IsRefining};
+ghost use Rattle.rollout_checks.specs.Tallied.{tally_problem_of};
+ghost use Rattle.rollout.specs.Tallied.{IsTallyPlanned};
+ghost use Rattle.rollout_checks.specs.declared.refining.Refining.TheVariants.{Times};
+
+use crate::planner::plan_on;
+use flag_defs::Flags;
+use plan_text::Planned;
+use rollout_checks::{Refining, RolloutFault, problem_of_tally};
+use search_effort::Effort;
+use std::alloc::Global;
+use std::marker::Brand;
+use std::sync::ledger::{Blank, Ledger};
+use tally_core::PageTally;
+
+/// As [`crate::plan_refined`], on a tally of the request's page: up to 67,108,864 inputs on a point and 8,589,934,592 in all. The
+/// rule that is answered costs all inputs of which so many fall on each point the least. The condition is m from 1.
+///
+/// It refuses as [`crate::plan_refined`], and after `NoWeight` with `OtherTally` where the tally is of another page than the
+/// request's, or of another total than that of the site's rule refined by m.
+pub fn plan_tally(
+    alloc: Global,
+    flags: &Flags,
+    request: &[u8],
+    tally: &PageTally,
+    m: u32,
+) -> Result<Planned, RolloutFault>
+    requires { 0 < m }
+    ensures exact { IsTallyPlanned (tally_problem_of (Times m) (flags_view flags.now) request.now tally.now) result }
+    ensures ordered { IfOk result (λ a. IsOrdered (planned_view a)) }
+    ensures whole { IfOk result (λ a. IsWhole (planned_view a)) }
+    ensures large { max_request < length request.now → IsErrOf result (RolloutFault.Request BadRequest) }
+    ensures no_text { length request.now ≤ max_request → is_utf8 request.now ≡ false → IsErrOf result (RolloutFault.Request BadRequest) }
+{
+    plan_tally_over::<Brand>(
+        alloc,
+        Refining::Times(m),
+        flags,
+        request,
+        tally,
+        Blank::new(2),
+    )
+}
+
+/// The same over a counter of its own.
+fn plan_tally_over<L: Ledger>(
+    alloc: Global,
+    refining: Refining,
+    flags: &Flags,
+    request: &[u8],
+    tally: &PageTally,
+    blank: Blank,
+) -> Result<Planned, RolloutFault>
+    requires lawful { IsRefining refining }
+    requires name { blank.name ≡ L.name }
+    requires parts { blank.parts ≡ L.parts }
+    requires two { blank.parts ≡ 2 }
+    ensures exact { IsTallyPlanned (tally_problem_of refining (flags_view flags.now) request.now tally.now) result }
+    ensures ordered { IfOk result (λ a. IsOrdered (planned_view a)) }
+    ensures whole { IfOk result (λ a. IsWhole (planned_view a)) }
+    ensures large { max_request < length request.now → IsErrOf result (RolloutFault.Request BadRequest) }
+    ensures no_text { length request.now ≤ max_request → is_utf8 request.now ≡ false → IsErrOf result (RolloutFault.Request BadRequest) }
+{
+    let mut effort = Effort::<L>::none(blank);
+    // Called for what its contract says: flags have at most 64 variants.
+    let _count = flags.len();
+    let problem = problem_of_tally(alloc, refining, flags, request, tally)?;
+    plan_on(alloc, &problem, &mut effort)
+}
