@@ -6,10 +6,10 @@ use Rattle.flagops_commands.specs.Commands.{LeavesAsked}
 use Rattle.flagops_commands.specs.Ended.{AnswersAsked, AnswersStored, AnswersUnread, TellsUnasked}
 use Rattle.flagops_files.specs.Files.{Holding}
 use Rattle.flagops_network.specs.Ended.{AnswersServe, FollowsAsked, RefusesUnread, ServesAsked, TellsFollow, TellsServe}
-use Rattle.flagops_ramps.specs.Ended.{AnswersRamp, AnswersVerify, TellsRamp, TellsVerify}
+use Rattle.flagops_ramps.specs.Ended.{AnswersRamp, AnswersStep, AnswersVerify, TellsRamp, TellsStep, TellsVerify}
 use Rattle.flagops_words.specs.Words.{asked_by}
 use Rattle.flagops.specs.declared.family.Family.{Family}
-use Rattle.flagops.specs.declared.family.Family.TheVariants.{Files, Serve, Follow, Ramp, VerifyRamp}
+use Rattle.flagops.specs.declared.family.Family.TheVariants.{Files, Serve, Follow, Ramp, VerifyRamp, ApplyStep}
 
 module _ {O E F : Type 0} (bytes : O → Option (List ℕ)) (is_broken : O → Bool) (out out' : O) (told : E → Option (List ℕ)) (is_mute : E → Bool) (err err' : E) (holding : F → Option Holding) (has_failed : F → Bool) (files files' : F) (status : ℕ) where
   -- Of a command over files: its answer over files whose bytes are known; whatever they hold, a read or a write that failed; what is
@@ -53,9 +53,17 @@ module _ {O E F : Type 0} (bytes : O → Option (List ℕ)) (is_broken : O → B
       × TellsVerify bytes is_broken out out' told is_mute err err' status words
       × (holding files' ≡ holding files)
 
+  -- the same of `apply --step`
+  abbrev pub ComesOfApplyStep : List Text → Type 0
+  ComesOfApplyStep words =
+      AnswersStep bytes is_broken out out' told is_mute err err' status holding files words
+      × TellsStep bytes is_broken out out' told is_mute err err' status words
+      × (holding files' ≡ holding files)
+
   abbrev pub Comes : Family → List Text → Type 0
   Comes Files words = ComesOfFiles words
   Comes Serve words = ComesOfServe words
   Comes Follow words = ComesOfFollow words
   Comes Ramp words = ComesOfRamp words
   Comes VerifyRamp words = ComesOfVerifyRamp words
+  Comes ApplyStep words = ComesOfApplyStep words

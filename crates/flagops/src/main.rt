@@ -3,7 +3,7 @@
 //!
 //! What it does is `flagops_commands::run`, whose contract says what is written and which status is given; its clauses stand
 //! again at [`flagops`], over the status of the process. Beside it stand the two commands that use the network, `serve` and
-//! `follow` of `flagops_network`, and those on a rollout in steps, `ramp` and `verify-ramp` of `flagops_ramps`.
+//! `follow` of `flagops_network`, and those on a rollout in steps, `ramp`, `verify-ramp` and `apply --step` of `flagops_ramps`.
 #![tactic(auto)]
 
 ghost use Rattle.std.specs.Prelude.{◌≡◌, false, map, drop, IfErr, IfOk, IsErrOf};
@@ -21,7 +21,7 @@ use flag_text::{Outlet, WriteOutlet};
 use flagops_commands::{complain, run};
 use flagops_files::{Call, FileSet, SystemFiles, want};
 use flagops_network::{follow, open_standard, serve};
-use flagops_ramps::{ramp, verify_ramp};
+use flagops_ramps::{apply_step, ramp, verify_ramp};
 use outputs::Persistent;
 use std::alloc::Global;
 use std::convert::AsStr;
@@ -181,5 +181,6 @@ where
         Family::Follow => follow(rt, words, out, err),
         Family::Ramp => ramp(rt, words, files, out, err),
         Family::VerifyRamp => verify_ramp(rt, words, files, out, err),
+        Family::ApplyStep => apply_step(rt, words, files, out, err),
     }
 }
