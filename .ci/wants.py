@@ -37,6 +37,7 @@ TAKEN = {
     ("crates/flagops_remarks/src/breaches.rt", 'return Err(AllocError);'): (1, "the document was read as flags, so it is a tree, and is read again"),
     ("crates/flagops_commands/src/program.rt", "Err(call) => want(out, err, call),"): (1, "`answer` gives a call there only where that call ran out of memory"),
     ("crates/flagops/src/main.rt", "ExitCode::from(want(&mut out, &mut err, Call::Flagops))"): (1, "there is no memory for the stack that the commands run on"),
+    ("crates/flagops_ramps/src/applying.rt", 'finish(alloc, came, b"refused apply 0 WantOfMemory\\n", out, err)'): (1, "the line that `finish` writes of what came where memory ran out"),
     ("crates/flagops_ramps/src/ramping.rt", 'finish(alloc, came, b"refused ramp 0 WantOfMemory\\n", out, err)'): (1, "the line that `finish` writes of what came where memory ran out"),
     ("crates/flagops_ramps/src/verifying.rt", 'b"refused verify-ramp 0 WantOfMemory\\n",'): (1, "the line that `finish` writes of what came where memory ran out"),
     ("crates/flagops_ramps/src/reports.rt", 'tell(err, "error: out of memory\\n");'): (1, "`want` tells it; its calls are looked for"),
