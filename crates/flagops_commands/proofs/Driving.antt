@@ -12,7 +12,7 @@ use Rattle.flagops_files.specs.Documents.{IsDocumentAt}
 use Rattle.flagops_files.specs.Files.{Holding, KeepsOthers, Stores}
 use Rattle.flagops_files.specs.Loading.{max_text, refused_by, tree_at}
 use Rattle.flagops_files.specs.Refusal.{GivesOne, is_want, unwritable}
-use Rattle.flagops_files.specs.Report.{Report, done, outcome_view}
+use Rattle.flagops_files.specs.Report.{Report, beside, done, outcome_view}
 use Rattle.flagops_files.specs.declared.outcome.Outcome.{Outcome}
 use Rattle.flagops_files.specs.declared.refused.Refused.{Refused}
 use Rattle.flagops_files.specs.declared.refusal.Refusal.{Refusal}
@@ -29,15 +29,15 @@ others_after old mid new path same kept = subst (λ (h : Option Holding). KeepsO
 
 -- ---- the book is written
 
-pub book_stored : (old new : Option Holding) (book : List ℕ) (d : Drove) (r : Result Report Refusal) → r ≡ done d.text → Stores old new book d.book → KeepsOthers old new book
-    → IfSome old (λ at. IsWritten at new book (Ok d) r)
-book_stored None new book d r is stored kept = tt
-book_stored (Some at) new book d r is stored kept = inl (is, stored, kept)
+pub book_stored : (told : Bool) (old new : Option Holding) (book : List ℕ) (d : Drove) (r : Result Report Refusal) → r ≡ beside told (done d.text) → Stores old new book d.book → KeepsOthers old new book
+    → IfSome old (λ at. IsWritten told at new book (Ok d) r)
+book_stored told None new book d r is stored kept = tt
+book_stored told (Some at) new book d r is stored kept = inl (is, stored, kept)
 
-pub book_refused : (old new : Option Holding) (book : List ℕ) (d : Drove) (e : Refused) → (is_want e.refusal ≡ false → e.refusal ≡ unwritable) → new ≡ old
-    → IfSome old (λ at. is_want e.refusal ≡ false → IsWritten at new book (Ok d) (Err e.refusal))
-book_refused None new book d e fault same = tt
-book_refused (Some at) new book d e fault same = λ wanted. inr (rw (fault wanted) refl, same)
+pub book_refused : (told : Bool) (old new : Option Holding) (book : List ℕ) (d : Drove) (e : Refused) → (is_want e.refusal ≡ false → e.refusal ≡ unwritable) → new ≡ old
+    → IfSome old (λ at. is_want e.refusal ≡ false → IsWritten told at new book (Ok d) (Err e.refusal))
+book_refused told None new book d e fault same = tt
+book_refused told (Some at) new book d e fault same = λ wanted. inr (rw (fault wanted) refl, same)
 
 -- ---- the whole
 
@@ -77,7 +77,7 @@ module _ (path asks : List ℕ) (workers : ℕ) (book : List ℕ) (add : Bool) w
 
         pub driven : (old after : Option Holding) (d : Drove) (r : Result Outcome Refused) → IfSome old (λ at. IsDocumentAt at path (Ok flags)) → IfSome old (λ at. tree_at at asks max_text ≡ Ok t)
             → IfSome old (λ at. before_at at book add ≡ Ok before) → IsDroveOf (Ok flags) (Ok t) (Ok before) workers (Ok d)
-            → IfSome old (λ at. GivesOne outcome_view r (IsWritten at after book (Ok d))) → Is old after r
+            → IfSome old (λ at. GivesOne outcome_view r (IsWritten true at after book (Ok d))) → Is old after r
         unfolding IsDriveReport
         driven None after d r document tree had drove written = tt
         driven (Some at) after d (Ok o) document tree had drove written = (Ok flags, document, Ok d, rw (tree, had) drove, written)

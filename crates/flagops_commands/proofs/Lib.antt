@@ -1,13 +1,17 @@
 pub mod AddedUp
+mod Asked
 pub mod Checked
 pub mod Driving
 mod Distinct
+mod Doubting
 mod Gathered
 pub mod Hexadecimal
 mod Keeping
 pub mod Leaving
 mod Noted
+mod Passed
 pub mod Refusing
+mod Tallies
 mod Telling
 pub mod Uniting
 pub mod Valid

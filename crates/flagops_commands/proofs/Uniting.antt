@@ -146,12 +146,12 @@ module _ {X : Type 0} (now : X → List ℕ) (xs : List X) (out : List ℕ) wher
     output : united_output (length (map now xs)) (Ok book) ≡ Ok d
     output = ap (λ (n : ℕ). united_output n (Ok book)) (counted now xs) ∙ is_d
 
-    pub wrote : (h after : Option Holding) (r : Result Outcome Refused) → IfSome h (λ at. IsUnionAt at (map now xs) (Ok book)) → IfSome h (λ at. GivesOne outcome_view r (IsWritten at after out (Ok d)))
+    pub wrote : (h after : Option Holding) (r : Result Outcome Refused) → IfSome h (λ at. IsUnionAt at (map now xs) (Ok book)) → IfSome h (λ at. GivesOne outcome_view r (IsWritten false at after out (Ok d)))
         → IfSome h (λ at. GivesOne outcome_view r (IsUniteReport at after out (map now xs)))
     unfolding IsUniteReport
     wrote None after r is written = tt
-    wrote (Some at) after (Ok o) is written = (Ok book, is, subst (λ (x : Result Drove Refusal). IsWritten at after out x (Ok (outcome_view o))) (sym output) written)
-    wrote (Some at) after (Err e) is written = λ wanted. (Ok book, is, subst (λ (x : Result Drove Refusal). IsWritten at after out x (Err e.refusal)) (sym output) (written wanted))
+    wrote (Some at) after (Ok o) is written = (Ok book, is, subst (λ (x : Result Drove Refusal). IsWritten false at after out x (Ok (outcome_view o))) (sym output) written)
+    wrote (Some at) after (Err e) is written = λ wanted. (Ok book, is, subst (λ (x : Result Drove Refusal). IsWritten false at after out x (Err e.refusal)) (sym output) (written wanted))
 
   pub left : (h after : Option Holding) (book : Contents) → IfSome h (λ at. IsUnionAt at (map now xs) (Ok book)) → KeepsOthers h after out → LeavesUnited h after out (map now xs)
   left h after book is kept = inr (where_known h (λ at. IsUnionAt at (map now xs) (Ok book)) (λ at. (b : Contents) × IsUnionAt at (map now xs) (Ok b)) (λ at union. (book, union)) is, kept)

@@ -5,22 +5,23 @@ use Rattle.flag_documents.specs.Document.{Definitions}
 use Rattle.flag_text.specs.Shape.{Shape}
 use Rattle.flagops_drive.specs.Asks.{asks_of}
 use Rattle.flagops_drive.specs.Driven.{Drove, IsDriveOf, workers_refusal}
+use Rattle.flagops_commands.specs.declared.books.writing.BookOutput.{BookOutput}
 use Rattle.flagops_drive.specs.declared.fault.DriveRefusal.{DriveRefusal}
 use Rattle.flagops_files.specs.Documents.{IsDocumentAt}
 use Rattle.flagops_files.specs.Files.{Holding, KeepsOthers, Stores}
 use Rattle.flagops_files.specs.Loading.{◌>>=◌, max_text, refused_by, tree_at}
-use Rattle.flagops_files.specs.Question.{book_at}
+use Rattle.flagops_files.specs.Question.{book_at, replaceable_at}
 use Rattle.flagops_files.specs.Refusal.{call_of, is_want, unwritable}
-use Rattle.flagops_files.specs.Report.{Outcomes, done, status_number}
+use Rattle.flagops_files.specs.Report.{Outcomes, beside, done, status_number}
 use Rattle.flagops_files.specs.declared.outcome.Outcome.{Outcome}
 use Rattle.flagops_files.specs.declared.refusal.Call.TheVariants as call
 use Rattle.flagops_files.specs.declared.refusal.Refusal.{Refusal}
 use Rattle.flagops_files.specs.declared.refusal.Refusal.TheVariants.{Drive}
 use Rattle.flagops_files.specs.declared.refused.Refused.{Refused}
 
--- the book that was there before: that of the file where it is added to, and else none
+-- the book that was there before: that of the file where it is added to, and else none, where the file may become another book
 unfoldable pub before_at : Holding → List ℕ → Bool → Result (Option Contents) Refusal
-before_at at book false = Ok None
+before_at at book false = replaceable_at at book >>= λ _. Ok None
 before_at at book true = book_at at book >>= λ before. Ok (Some before)
 
 -- what comes of the asks, where the document, the asks and the book before were read, each before the next
@@ -30,14 +31,19 @@ IsDroveOf (Ok flags) (Err e) before workers r = r ≡ Err e
 IsDroveOf (Ok flags) (Ok t) (Err e) workers r = r ≡ Err e
 IsDroveOf (Ok flags) (Ok t) (Ok before) workers r = (d : Result Drove DriveRefusal) × IsDriveOf flags (asks_of t) workers before d × (r ≡ refused_by Drive d)
 
--- The book is written before the output, and no other file changes; none does where there is no book, or where it is refused to be written.
-abbrev pub IsWritten : Holding → Option Holding → List ℕ → Result Drove Refusal → Outcomes
-IsWritten at after book (Err e) r = (r ≡ Err e) × (after ≡ Some at)
-IsWritten at after book (Ok d) r = ((r ≡ done d.text) × Stores (Some at) after book d.book × KeepsOthers (Some at) after book) ⊎ ((r ≡ Err unwritable) × (after ≡ Some at))
+-- what is printed, and the file of the book, without where they lie in memory
+abbrev pub output_view : BookOutput → Drove
+output_view o = record { text = o.text.items; book = o.file.items }
 
+-- The book is written before the output, and no other file changes; none does where there is no book, or where it is refused to be written. A person is told something beside the output, or nothing.
+abbrev pub IsWritten : Bool → Holding → Option Holding → List ℕ → Result Drove Refusal → Outcomes
+IsWritten told at after book (Err e) r = (r ≡ Err e) × (after ≡ Some at)
+IsWritten told at after book (Ok d) r = ((r ≡ beside told (done d.text)) × Stores (Some at) after book d.book × KeepsOthers (Some at) after book) ⊎ ((r ≡ Err unwritable) × (after ≡ Some at))
+
+-- what is told is how many asks ended in what, and how many inputs they reached
 unfoldable pub IsDriveReport : Holding → Option Holding → List ℕ → List ℕ → ℕ → List ℕ → Bool → Outcomes
 IsDriveReport at after path asks workers book add r =
-    (document : Result Definitions Refusal) × IsDocumentAt at path document × (d : Result Drove Refusal) × IsDroveOf document (tree_at at asks max_text) (before_at at book add) workers d × IsWritten at after book d r
+    (document : Result Definitions Refusal) × IsDocumentAt at path document × (d : Result Drove Refusal) × IsDroveOf document (tree_at at asks max_text) (before_at at book add) workers d × IsWritten true at after book d r
 
 -- the document and the asks of these files were read, and the book that is added to
 abbrev pub AreRead : Holding → List ℕ → List ℕ → List ℕ → Bool → Type 0

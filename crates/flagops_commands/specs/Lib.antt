@@ -4,13 +4,16 @@ pub mod Calls
 pub mod Check
 pub mod Commands
 pub mod Completions
+pub mod Doubts
 pub mod Drive
 pub mod Ended
 pub mod Keep
+pub mod Passed
 pub mod Plan
 pub mod Price
 pub mod Resolve
 pub mod Subjects
+pub mod Tallies
 pub mod Telling
 pub mod Totals
 pub mod Unite

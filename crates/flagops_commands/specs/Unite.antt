@@ -1,5 +1,5 @@
 -- What the command `book` answers, and the book that it writes.
-use Rattle.std.specs.Prelude.{◌≡◌, ◌⊎◌, ℕ, List, [], ◌∷◌, ◌++◌, length, codes, decimal, Option, IfSome, Result, Ok, Err}
+use Rattle.std.specs.Prelude.{◌≡◌, false, ◌⊎◌, ℕ, List, [], ◌∷◌, ◌++◌, length, codes, decimal, Option, IfSome, Result, Ok, Err}
 use Rattle.book_core.specs.Book.{Contents, input_count}
 use Rattle.book_core.specs.Printing.{book_text}
 use Rattle.book_core.specs.Union.{HaveNoUnion, IsUnion}
@@ -49,7 +49,7 @@ united_output files (Ok book) = Ok (record { text = unite_text (input_count book
 
 -- the book is written before the output
 unfoldable pub IsUniteReport : Holding → Option Holding → List ℕ → List (List ℕ) → Outcomes
-IsUniteReport at after out paths r = (book : Result Contents Refusal) × IsUnionAt at paths book × IsWritten at after out (united_output (length paths) book) r
+IsUniteReport at after out paths r = (book : Result Contents Refusal) × IsUnionAt at paths book × IsWritten false at after out (united_output (length paths) book) r
 
 -- the files stay as they are, or the books at the paths have a union, and the file that is written alone changes
 abbrev pub LeavesUnited : Option Holding → Option Holding → List ℕ → List (List ℕ) → Type 0

@@ -80,7 +80,7 @@ fn outcome_at_once<R: Threads + Sync, F: FileSet>(
             request,
             keys,
         } => price(rt, alloc, files, old, new, request, keys),
-        Asked::Check { document } => check(alloc, files, document),
+        Asked::Check { document, strict } => check(alloc, files, document, *strict),
         Asked::Resolve {
             document,
             key,
@@ -97,13 +97,20 @@ fn outcome_at_once<R: Threads + Sync, F: FileSet>(
             book,
             plan,
             refine,
-        } => verify(rt, alloc, files, document, request, book, plan, *refine),
+            strict,
+        } => verify(
+            rt, alloc, files, document, request, book, plan, *refine, *strict,
+        ),
         Asked::Plan {
             document,
             request,
             book,
             refine,
-        } => plan(rt, alloc, files, document, request, book, *refine),
+            strict,
+            explain,
+        } => plan(
+            rt, alloc, files, document, request, book, *refine, *strict, *explain,
+        ),
         Asked::Apply {
             document,
             plan,
@@ -117,8 +124,9 @@ fn outcome_at_once<R: Threads + Sync, F: FileSet>(
             book,
             write,
             refine,
+            strict,
         } => keep(
-            rt, alloc, files, document, plan, request, book, *write, *refine,
+            rt, alloc, files, document, plan, request, book, *write, *refine, *strict,
         ),
         Asked::Unite { out, files: paths } => unite(alloc, files, out, paths.as_slice()),
         Asked::Drive { .. } => unreachable!(),

@@ -1,4 +1,6 @@
+pub mod Beginning
 pub mod Documents
+pub mod Evidence
 pub mod Files
 pub mod Keeping
 pub mod Loading
@@ -7,4 +9,5 @@ pub mod PlanFile
 pub mod Question
 pub mod Refusal
 pub mod Report
+pub mod Tallies
 pub mod Told

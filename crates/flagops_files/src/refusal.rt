@@ -1,10 +1,11 @@
 //! Refusals, and the line that each is written as.
 ghost use Rattle.std.specs.Prelude.{◌≡◌, IfOk, string_bytes};
-ghost use Rattle.flagops_files.specs.Refusal.{call_of, call_name, is_want, number_of, name_of, line_of, mismatch_number, mismatch_name};
+ghost use Rattle.flagops_files.specs.Refusal.{call_of, call_name, doubt_name, doubt_number, is_want, number_of, name_of, line_of, mismatch_number, mismatch_name};
 
 use crate::files::{LoadFault, StoreFault};
 use crate::keeping::KeepRefusal;
 use crate::payload::payload;
+use crate::tallies::name_of_tally_fault;
 use book_core::{BookFault, BookFileFault};
 use bucket_core::RuleFault;
 use flag_defs::DefFault;
@@ -14,6 +15,7 @@ use plan_text::PlanFileFault;
 use price_core::PriceFault;
 use rollout_checks::{RolloutFault, VerifyFault};
 use std::alloc::{AllocError, Global};
+use tally_text::TallyFileFault;
 
 /// A call that can refuse, by the name that a refusal's line has.
 #[derive(Clone, Copy, Debug)]
@@ -42,6 +44,8 @@ pub enum Call {
     Resolve,
     /// `book_core::read_book`.
     ReadBook,
+    /// `tally_text::read_tally`.
+    ReadTally,
     /// The command `book` itself.
     Book,
     /// `plan_text::read_planned`.
@@ -78,6 +82,7 @@ impl Call {
             Call::Check => "check",
             Call::Resolve => "resolve",
             Call::ReadBook => "read_book",
+            Call::ReadTally => "read_tally",
             Call::Book => "book",
             Call::ReadPlanned => "read_planned",
             Call::Verify => "verify",
@@ -121,6 +126,37 @@ impl PriceMismatch {
     }
 }
 
+/// What is doubted of an answer to a request: that it is the one that was meant.
+#[derive(Clone, Copy, Debug)]
+pub enum Doubt {
+    /// The book has no input on the page of the request, so no recorded user counts.
+    Unrecorded,
+    /// The request has a member that is not read.
+    Unread,
+}
+
+impl Doubt {
+    /// The number that a refusal is written with: one that no fault of a call has.
+    pub fn number(&self) -> u32
+        ensures { result ≡ doubt_number self.now }
+    {
+        match self {
+            Doubt::Unrecorded => 15,
+            Doubt::Unread => 16,
+        }
+    }
+
+    /// The name that a refusal is written with: the variant's.
+    pub fn name(&self) -> &'static str
+        ensures { result.now ≡ doubt_name self.now }
+    {
+        match self {
+            Doubt::Unrecorded => "Unrecorded",
+            Doubt::Unread => "Unread",
+        }
+    }
+}
+
 /// Why a command was refused: the call that refused, with its fault.
 #[derive(Debug, Drop)]
 pub enum Refusal {
@@ -141,6 +177,8 @@ pub enum Refusal {
     ReadFlags(DefFault),
     /// Bytes are no book.
     ReadBook(BookFileFault),
+    /// Bytes that begin as the file of a tally are none.
+    ReadTally(TallyFileFault),
     /// Books have more than 1000000 inputs of a page together.
     FullBook,
     /// Bytes are no plan file.
@@ -159,6 +197,8 @@ pub enum Refusal {
     Drive(DriveRefusal),
     /// A file was not written.
     Store(StoreFault),
+    /// The answer of this call is doubted, and what is doubted is to be refused.
+    Doubted(Call, Doubt),
 }
 
 impl Refusal {
@@ -167,7 +207,7 @@ impl Refusal {
         ensures { result ≡ call_of self.now }
     {
         match self {
-            Refusal::WantOfMemory(call) => *call,
+            Refusal::WantOfMemory(call) | Refusal::Doubted(call, _) => *call,
             Refusal::Load(_) | Refusal::LongBook => Call::Load,
             Refusal::ReadTree(_) => Call::ReadTree,
             Refusal::ReadRule(_) => Call::ReadRule,
@@ -176,6 +216,7 @@ impl Refusal {
             Refusal::Price(_) => Call::Price,
             Refusal::ReadFlags(_) => Call::ReadFlags,
             Refusal::ReadBook(_) => Call::ReadBook,
+            Refusal::ReadTally(_) => Call::ReadTally,
             Refusal::FullBook => Call::Book,
             Refusal::ReadPlanned(_) => Call::ReadPlanned,
             Refusal::Verify(_) => Call::Verify,
@@ -202,6 +243,7 @@ impl Refusal {
             Refusal::Price(fault) => fault.number(),
             Refusal::ReadFlags(fault) => fault.number(),
             Refusal::ReadBook(fault) => fault.number(),
+            Refusal::ReadTally(fault) => fault.number(),
             Refusal::FullBook => 2,
             Refusal::ReadPlanned(fault) => fault.number(),
             Refusal::Verify(fault) => fault.number(),
@@ -211,6 +253,7 @@ impl Refusal {
             Refusal::PrintPlanned(fault) => fault.number(),
             Refusal::Drive(fault) => fault.number(),
             Refusal::Store(fault) => fault.number(),
+            Refusal::Doubted(_, doubt) => doubt.number(),
         }
     }
 
@@ -229,6 +272,7 @@ impl Refusal {
             Refusal::Price(fault) => fault.name(),
             Refusal::ReadFlags(fault) => fault.name(),
             Refusal::ReadBook(fault) => fault.name(),
+            Refusal::ReadTally(fault) => name_of_tally_fault(*fault),
             Refusal::FullBook => "PageFull",
             Refusal::ReadPlanned(fault) => fault.name(),
             Refusal::Verify(fault) => fault.name(),
@@ -238,6 +282,7 @@ impl Refusal {
             Refusal::PrintPlanned(fault) => fault.name(),
             Refusal::Drive(fault) => fault.name(),
             Refusal::Store(fault) => fault.name(),
+            Refusal::Doubted(_, doubt) => doubt.name(),
         }
     }
 

@@ -41,18 +41,22 @@ _flagops() {
     local word=${COMP_WORDS[COMP_CWORD]}
     COMPREPLY=()
     if [ "$COMP_CWORD" -eq 1 ]; then
-        COMPREPLY=($(compgen -W "bucket price check resolve plan verify apply drive book ramp verify-ramp serve follow completions --help --version" -- "$word"))
+        COMPREPLY=($(compgen -W "bucket price check resolve plan verify apply drive book ramp verify-ramp serve follow completions help --help --version" -- "$word"))
         return
     fi
     case ${COMP_WORDS[1]}:$word in
-        plan:-* | verify:-* | ramp:-* | verify-ramp:-*) COMPREPLY=($(compgen -W "--refine --help" -- "$word")) ;;
-        apply:-*) COMPREPLY=($(compgen -W "--keep --write --refine --help" -- "$word")) ;;
+        check:-*) COMPREPLY=($(compgen -W "--strict --help" -- "$word")) ;;
+        plan:-*) COMPREPLY=($(compgen -W "--refine --strict --explain --help" -- "$word")) ;;
+        verify:-*) COMPREPLY=($(compgen -W "--refine --strict --help" -- "$word")) ;;
+        ramp:-* | verify-ramp:-*) COMPREPLY=($(compgen -W "--refine --help" -- "$word")) ;;
+        apply:-*) COMPREPLY=($(compgen -W "--keep --write --refine --strict --help" -- "$word")) ;;
         drive:-*) COMPREPLY=($(compgen -W "--add --help" -- "$word")) ;;
         *:-*) COMPREPLY=($(compgen -W "--help" -- "$word")) ;;
         completions:*) COMPREPLY=($(compgen -W "bash fish zsh" -- "$word")) ;;
+        help:*) COMPREPLY=($(compgen -W "bucket price check resolve plan verify apply drive book completions" -- "$word")) ;;
         resolve:*)
             if [ "$COMP_CWORD" -eq 4 ]; then
-                COMPREPLY=($(compgen -W "bool text whole object" -- "$word"))
+                COMPREPLY=($(compgen -W "bool text whole object boolean string integer" -- "$word"))
             else
                 COMPREPLY=($(compgen -f -- "$word"))
             fi
@@ -80,6 +84,9 @@ complete -c flagops -n __fish_use_subcommand -f -a verify-ramp -d 'Check the pla
 complete -c flagops -n __fish_use_subcommand -f -a serve -d 'Publish documents to subscribers'
 complete -c flagops -n __fish_use_subcommand -f -a follow -d 'Print the snapshots that come'
 complete -c flagops -n __fish_use_subcommand -f -a completions -d 'Print the completion of a shell'
+complete -c flagops -n __fish_use_subcommand -f -a help -d 'Print the help of a command'
+complete -c flagops -n '__fish_seen_subcommand_from check plan verify apply' -l strict -d 'Refuse what is else only told'
+complete -c flagops -n '__fish_seen_subcommand_from plan' -l explain -d 'Tell the plan in words'
 complete -c flagops -n '__fish_seen_subcommand_from plan verify ramp verify-ramp' -l refine -x -d 'Plan in finer points'
 complete -c flagops -n '__fish_seen_subcommand_from apply' -l keep -d 'Verify the plan and keep the rest of the text'
 complete -c flagops -n '__fish_seen_subcommand_from apply' -l write -d 'With --keep: write over the document'
@@ -107,6 +114,7 @@ _flagops() {
         'serve:publish documents to subscribers'
         'follow:print the snapshots that come'
         'completions:print the completion of a shell'
+        'help:print the help of a command'
     )
     if (( CURRENT == 2 )); then
         _describe command commands
@@ -114,10 +122,16 @@ _flagops() {
         return
     fi
     case $words[2] in
-        plan | verify | ramp | verify-ramp) _arguments '--refine[plan in finer points]:M:' '--help[print help]' '*:file:_files' ;;
+        check) _arguments '--strict[refuse what is else only told]' '--help[print help]' '*:file:_files' ;;
+        plan)
+            _arguments '--refine[plan in finer points]:M:' '--strict[refuse what is else only told]' '--explain[tell the plan in words]' \
+                '--help[print help]' '*:file:_files'
+            ;;
+        verify) _arguments '--refine[plan in finer points]:M:' '--strict[refuse what is else only told]' '--help[print help]' '*:file:_files' ;;
+        ramp | verify-ramp) _arguments '--refine[plan in finer points]:M:' '--help[print help]' '*:file:_files' ;;
         apply)
             _arguments '--keep[verify the plan and keep the rest of the text]' '--write[with --keep\: write over the document]' \
-                '--refine[with --keep\: the factor of the plan]:M:' '--help[print help]' '*:file:_files'
+                '--refine[with --keep\: the factor of the plan]:M:' '--strict[with --keep\: refuse what is else only told]' '--help[print help]' '*:file:_files'
             ;;
         drive) _arguments '--add[keep what the book has]' '--help[print help]' '*:file:_files' ;;
         completions) _values shell bash fish zsh ;;

@@ -30,6 +30,16 @@ const REQUEST: Word = Word::Text("REQUEST", "The file of the rollout request");
 
 const BOOK: Word = Word::Text("BOOK", "The book of the hash inputs that were recorded");
 
+const STRICT: Word = Word::Flag(
+    "strict",
+    "End with status 1 where something is else only told: docs/REFUSALS.md has the table",
+);
+
+const EXPLAIN: Word = Word::Flag(
+    "explain",
+    "Tell in words, beside the plan, what it changes, or what stands in the way of any",
+);
+
 const PLAN_FILE: Word = Word::Text("PLAN", "The plan file");
 
 const REFINE: Word = Word::Option(
@@ -77,7 +87,7 @@ const PRICE: Usage = Usage {
 const CHECK: Usage = Usage {
     name: "check",
     about: "Prints which flags of a document are good and which are broken",
-    words: &[DOCUMENT],
+    words: &[DOCUMENT, STRICT],
 };
 
 const RESOLVE: Usage = Usage {
@@ -100,7 +110,7 @@ const QUESTION: &[Word] = &[
     Word::Text("KEY", "The flag's key"),
     Word::Text(
         "KIND",
-        "bool, text (flagd's string), whole (its integer) or object",
+        "bool, text, whole or object, or flagd's boolean, string or integer",
     ),
     Word::Text(
         "DEFAULT",
@@ -117,13 +127,13 @@ const QUESTION: &[Word] = &[
 const PLAN: Usage = Usage {
     name: "plan",
     about: "Prints the rule that a rollout request asks for and that switches the fewest",
-    words: &[DOCUMENT, REQUEST, BOOK, REFINE],
+    words: &[DOCUMENT, REQUEST, BOOK, REFINE, STRICT, EXPLAIN],
 };
 
 const VERIFY: Usage = Usage {
     name: "verify",
     about: "Checks, apart from the planner, that a plan is right and the cheapest for a rollout request",
-    words: &[DOCUMENT, REQUEST, BOOK, PLAN_FILE, REFINE],
+    words: &[DOCUMENT, REQUEST, BOOK, PLAN_FILE, REFINE, STRICT],
 };
 
 const APPLY: Usage = Usage {
@@ -167,6 +177,10 @@ const RULE_AND_PLACE: &[Word] = &[
         "refine",
         1,
         LARGEST_32,
+    ),
+    Word::Flag(
+        "strict",
+        "With --keep: refuse what is doubted, which is else only told",
     ),
 ];
 

@@ -20,13 +20,13 @@ pub fn flagops<'a>(alloc: Global) -> Result<Command<'a>, AllocError>
     with_commands(alloc, program(alloc)?, COMMANDS)
 }
 
-/// The mistake of a kind of value that is none of the four.
+/// The mistake of a word for no kind of value.
 pub fn unknown_kind(alloc: Global) -> Result<Error, AllocError>
     ensures { IfOk result (λ e. kind_of e ≡ InvalidValue) }
 {
     command(alloc, &RESOLVE_ALONE)?.error(
         ErrorKind::InvalidValue,
-        "invalid value for '<KIND>': it is bool, text, whole or object (flagd's string is text, its integer whole)",
+        "invalid value for '<KIND>': it is bool, text, whole or object, or flagd's boolean, string or integer",
     )
 }
 
@@ -56,7 +56,7 @@ pub fn missing_keep(alloc: Global) -> Result<Error, AllocError>
 {
     command(alloc, &APPLY_ALONE)?.error(
         ErrorKind::MissingRequiredArgument,
-        "'--write' and '--refine <M>' go with '--keep', which was not provided",
+        "'--write', '--refine <M>' and '--strict' go with '--keep', which was not provided",
     )
 }
 
@@ -84,7 +84,6 @@ fn taking_commands<'a>(program: Command<'a>) -> Command<'a>
     program
         .version(VERSION)
         .no_binary_name(true)
-        .disable_help_subcommand(true)
         .arg_required_else_help(true)
         .subcommand_required(true)
 }

@@ -2,14 +2,14 @@
 ghost use Rattle.std.specs.Prelude.{◌≡◌, ◌<◌, Some, IfOk, IfErr, IfSome, length, map, option_map};
 ghost use Rattle.clap.specs.Words.{found_of, kind_of, rows_of, subcommand_rows_of};
 ghost use Rattle.flagops_words.specs.Asked.{asked_view};
-ghost use Rattle.flagops_words.specs.Words.{IsToldBy, applied_in, apply_in, asked_by, asked_of, bucket_in, check_in, command_in, completions_in, drive_in, flag_in, is_stray, keep_in, mistake_of, plan_in, price_in, refine_in, resolve_in, rollout_in, texts_at, unite_in, verify_in};
+ghost use Rattle.flagops_words.specs.Words.{IsToldBy, applied_in, apply_in, asked_by, asked_of, bucket_in, check_in, command_in, completions_in, drive_in, flag_in, is_stray, is_strict, keep_in, mistake_of, plan_in, price_in, refine_in, resolve_in, rollout_in, texts_at, unite_in, verify_in};
 
 use crate::asked::Asked;
+use crate::kinds::kind_spelled;
 use crate::numbers::{Factor, Moment, spelled_16, spelled_32};
 use crate::shell::Shell;
 use crate::usage::{flagops, missing_keep, unknown_kind, unknown_shell, unknown_site};
 use clap::{ArgMatches, Error};
-use flag_resolve::Kind;
 use std::alloc::{AllocError, Global};
 use std::convert::AsStr;
 
@@ -104,20 +104,12 @@ fn price_in<'a>(words: &ArgMatches<'a>) -> Option<Asked<'a>>
 }
 
 #[tactic(auto, using(crate::proofs::Matched::rows))]
-fn check_in<'a>(words: &ArgMatches<'a>) -> Option<Asked<'a>>
-    ensures { option_map asked_view result ≡ check_in (rows_of (found_of words.now)) }
-{
-    let document = words.get_str("DOC")?;
-    Some(Asked::Check { document })
-}
-
-#[tactic(auto, using(crate::proofs::Matched::rows))]
 fn resolve_in<'a>(words: &ArgMatches<'a>) -> Option<Asked<'a>>
     ensures { option_map asked_view result ≡ resolve_in (rows_of (found_of words.now)) }
 {
     let document = words.get_str("DOC")?;
     let key = words.get_str("KEY")?;
-    let kind = Kind::named(words.get_str("KIND")?)?;
+    let kind = kind_spelled(words.get_str("KIND")?)?;
     let default = words.get_str("DEFAULT")?;
     let context = words.get_str("CONTEXT")?;
     let moment = Moment::spelled(words.get_str("MOMENT")?)?;
@@ -146,6 +138,7 @@ fn verify_in<'a>(words: &ArgMatches<'a>) -> Option<Asked<'a>>
         book,
         plan,
         refine,
+        strict: is_strict(words),
     })
 }
 
@@ -162,6 +155,8 @@ fn plan_in<'a>(words: &ArgMatches<'a>) -> Option<Asked<'a>>
         request,
         book,
         refine,
+        strict: is_strict(words),
+        explain: flag_in(words, "explain"),
     })
 }
 
@@ -178,12 +173,19 @@ fn apply_in<'a>(words: &ArgMatches<'a>) -> Option<Asked<'a>>
     }
 }
 
-/// Whether a word of `--keep` is given: `--write` or `--refine`.
+/// Whether a word of `--keep` is given: `--write`, `--strict` or `--refine`.
 #[tactic(auto, using(crate::proofs::Matched::rows))]
 fn is_stray(words: &ArgMatches<'_>) -> bool
     ensures { result ≡ is_stray (rows_of (found_of words.now)) }
 {
-    flag_in(words, "write") || words.get_str("M").is_some()
+    flag_in(words, "write") || is_strict(words) || words.get_str("M").is_some()
+}
+
+/// Whether what is doubted is to be refused.
+fn is_strict(words: &ArgMatches<'_>) -> bool
+    ensures { result ≡ is_strict (rows_of (found_of words.now)) }
+{
+    flag_in(words, "strict")
 }
 
 /// Whether an option without a value is given.
@@ -229,6 +231,7 @@ fn keep_in<'a>(words: &ArgMatches<'a>) -> Option<Asked<'a>>
         book,
         write: flag_in(words, "write"),
         refine,
+        strict: is_strict(words),
     })
 }
 
@@ -263,6 +266,17 @@ fn unite_in<'a>(alloc: Global, words: &ArgMatches<'a>) -> Result<Option<Asked<'a
         out,
         files: files.to_vec(alloc)?,
     }))
+}
+
+#[tactic(auto, using(crate::proofs::Matched::rows))]
+fn check_in<'a>(words: &ArgMatches<'a>) -> Option<Asked<'a>>
+    ensures { option_map asked_view result ≡ check_in (rows_of (found_of words.now)) }
+{
+    let document = words.get_str("DOC")?;
+    Some(Asked::Check {
+        document,
+        strict: is_strict(words),
+    })
 }
 
 /// The texts that are given for an argument, where there are any.

@@ -1,19 +1,17 @@
 //! The command `book`: the book of all that is in several books.
 ghost use Rattle.std.specs.Prelude.{◌≡◌, ◌||◌, IfOk, IfSome, Ok, false, map, true};
 ghost use Rattle.flagops_commands.specs.Calls.{unite_calls, unite_itself, unites_books};
-ghost use Rattle.flagops_commands.specs.Drive.{KeepsUnlessDone};
+ghost use Rattle.flagops_commands.specs.Drive.{KeepsUnlessDone, output_view};
 ghost use Rattle.flagops_commands.specs.Subjects.{unite_subjects, united_subjects};
 ghost use Rattle.flagops_commands.specs.Unite.{IsUnionAt, IsUniteReport, IsUnitedWith, IsWithNext, LeavesUnited, unite_refusal, united_output};
-ghost use Rattle.flagops_drive.specs.Driven.{drove_view};
 ghost use Rattle.flagops_files.specs.Question.{book_at};
 ghost use Rattle.flagops_files.specs.Refusal.{ComesFrom, GivesOne, GivesUnlessWant, call_of, is_file_fault, is_unread, is_want};
 ghost use Rattle.flagops_files.specs.Report.{outcome_view};
 ghost use Rattle.flagops_files.specs.Told.{Says, TellsOf, TellsOfOne, file};
 ghost use Rattle.flagops_remarks.specs.Named.{Names};
 
-use crate::books::drive::written;
+use crate::books::writing::{BookOutput, written};
 use book_core::{Book, BookFault, print_book};
-use flagops_drive::Drove;
 use flagops_files::{Call, FileSet, Outcome, Refusal, Refused, Remark, load_book};
 use flagops_remarks::of_full_book;
 use std::alloc::{AllocError, Global};
@@ -34,7 +32,7 @@ pub fn unite<F: FileSet>(
 {
     let book = united(alloc, files, paths)?;
     let output = output_of(alloc, &book, paths.len())?;
-    written(alloc, files, out, output)
+    written(alloc, files, out, output, None)
 }
 
 /// The book of all that is in the books at these paths.
@@ -114,8 +112,8 @@ fn refused(alloc: Global, path: &str, fault: BookFault) -> Refused
 }
 
 /// What is printed of a book of so many files, and the file that it is written as.
-fn output_of(alloc: Global, book: &Book, files: usize) -> Result<Drove, Refused>
-    ensures exact { GivesUnlessWant drove_view result (united_output files (Ok book.now)) }
+fn output_of(alloc: Global, book: &Book, files: usize) -> Result<BookOutput, Refused>
+    ensures exact { GivesUnlessWant output_view result (united_output files (Ok book.now)) }
     ensures calls { ComesFrom unite_itself result }
     ensures read { is_file_fault result ≡ false }
 {
@@ -129,14 +127,14 @@ fn output_of(alloc: Global, book: &Book, files: usize) -> Result<Drove, Refused>
 }
 
 #[tactic(auto, unfolding(crate::specs::Unite::unite_text))]
-fn printed(alloc: Global, book: &Book, files: usize) -> Result<Drove, AllocError>
-    ensures { IfOk result (λ d. united_output files (Ok book.now) ≡ Ok (drove_view d)) }
+fn printed(alloc: Global, book: &Book, files: usize) -> Result<BookOutput, AllocError>
+    ensures { IfOk result (λ d. united_output files (Ok book.now) ≡ Ok (output_view d)) }
 {
     let inputs = book.inputs();
     let text = format!(in alloc; "inputs {inputs}\nfiles {files}\n")?;
-    let book = print_book(alloc, book)?;
-    Ok(Drove {
+    let file = print_book(alloc, book)?;
+    Ok(BookOutput {
         text: text.into_bytes(),
-        book,
+        file,
     })
 }

@@ -1,8 +1,9 @@
 //! The command `plan`: the answer of the planner to a rollout request.
-ghost use Rattle.std.specs.Prelude.{◌≡◌, ◌<◌, ◌||◌, [], ◌∷◌, false, true, is_some, Ok, IfOk, IfSome, option_map};
+ghost use Rattle.std.specs.Prelude.{◌≡◌, ◌<◌, ◌||◌, [], ◌∷◌, false, true, is_some, Ok, IfOk, IfSome, option_map, string_bytes, unwrap_or};
 ghost use Rattle.plan_text.specs.Answer.{IsOrdered, planned_view};
 ghost use Rattle.plan_text.specs.PlanFile.{IsWhole};
-ghost use Rattle.flagops_commands.specs.Plan.{Holds, IsPlanOf, IsPlanReport, MayBePlanned, plan_report, plan_status};
+ghost use Rattle.flagops_commands.specs.Plan.{Holds, IsPlanOf, IsPlanReport, IsPlannedOn, MayBePlanned, plan_report, plan_status};
+ghost use Rattle.flag_defs.specs.Flags.{flags_view};
 ghost use Rattle.flagops_files.specs.Question.{question_view};
 ghost use Rattle.flagops_commands.specs.Calls.{plan_calls, prints_plan};
 ghost use Rattle.flagops_files.specs.Refusal.{ComesFrom, GivesOne, GivesUnlessWant, is_file_fault};
@@ -10,20 +11,24 @@ ghost use Rattle.flagops_files.specs.Report.{beside, outcome_view, status_number
 ghost use Rattle.flagops_remarks.specs.Named.{Names};
 ghost use Rattle.flagops_files.specs.Told.{Says, TellsOfOne, file, word};
 ghost use Rattle.flagops_commands.specs.Subjects.{is_of_request, is_of_size, plan_subjects, the_plan};
+ghost use Rattle.flagops_commands.specs.Doubts.{NamesDoubted, doubt_subjects};
 
-use crate::rollouts::unrecorded::unrecorded;
+use crate::rollouts::doubts::settled;
+use crate::rollouts::explained::told;
+use flag_defs::Flags;
 use flagops_files::{
-    Call, FileSet, Outcome, Question, Refusal, Refused, Remark, Status, load_question,
+    Call, Evidence, FileSet, Outcome, Question, Refusal, Refused, Remark, Status, load_question,
 };
-use flagops_remarks::{of_large_plan, of_rollout};
+use flagops_remarks::{of_large_plan, of_other_tally, of_rollout};
 use flagops_words::Factor;
 use plan_text::{Planned, print_planned_line};
-use rollout::{RolloutFault, plan_refined};
+use rollout::{RolloutFault, plan_refined, plan_tally};
 use std::alloc::{AllocError, Global};
 use std::thread::Threads;
 
 /// The plan file of the rule that meets a request and costs the recorded inputs the least, or of a set of names which
-/// shows that no rule meets it, as a line. The status tells which of the two.
+/// shows that no rule meets it, as a line. The status tells which of the two. What is doubted of it is told, or refused
+/// where that is asked for; and with `explain` what the rule changes, or what stands in the way of any.
 #[tactic(auto, unfolding(crate::specs::Plan::IsPlanReport))]
 pub fn plan<R: Threads + Sync, F: FileSet>(
     rt: &R,
@@ -33,20 +38,22 @@ pub fn plan<R: Threads + Sync, F: FileSet>(
     request: &str,
     book: &str,
     refine: Option<Factor>,
+    strict: bool,
+    explain: bool,
 ) -> Result<Outcome, Refused>
-    ensures exact { IfSome (F.holding files.old) (λ at. GivesOne outcome_view result (IsPlanReport at document.now request.now book.now (option_map (λ m. m.number) refine))) }
+    ensures exact { IfSome (F.holding files.old) (λ at. GivesOne outcome_view result (IsPlanReport at document.now request.now book.now (option_map (λ m. m.number) refine) strict explain)) }
     ensures calls { ComesFrom plan_calls result }
     ensures failed { F.has_failed files.new ≡ (F.has_failed files.old || is_file_fault result) }
     ensures kept { F.holding files.new ≡ F.holding files.old }
     ensures names { TellsOfOne (plan_subjects document.now request.now book.now) result }
-    ensures notes { IfOk result (λ o. IfSome o.remark (Says (Names book.now))) }
+    ensures notes { IfOk result (λ o. IfSome o.remark (Says (NamesDoubted request.now book.now))) }
 {
     let question = load_question(rt, alloc, files, document, request, book, factor_of(refine))?;
-    answer(rt, alloc, request, book, &question, refine)
+    answer(rt, alloc, request, book, &question, refine, strict, explain)
 }
 
 /// The report on a question, which was loaded from these paths.
-#[tactic(auto, using(flagops_files::proofs::Told::says))]
+#[tactic(auto, using(flagops_files::proofs::Told::says, crate::proofs::Doubting::plan_doubted, crate::proofs::Doubting::plan_told))]
 fn answer(
     rt: &(impl Threads + Sync),
     alloc: Global,
@@ -54,31 +61,30 @@ fn answer(
     book: &str,
     question: &Question,
     refine: Option<Factor>,
+    strict: bool,
+    explain: bool,
 ) -> Result<Outcome, Refused>
-    ensures exact { GivesOne outcome_view result (IsPlanOf (option_map (λ m. m.number) refine) (Ok (question_view question.now))) }
+    ensures exact { GivesOne outcome_view result (IsPlanOf strict explain (option_map (λ m. m.number) refine) (Ok (question_view question.now))) }
     ensures calls { ComesFrom prints_plan result }
     ensures read { is_file_fault result ≡ false }
-    ensures names { TellsOfOne ((file request.now, is_of_request) ∷ (word the_plan, is_of_size) ∷ []) result }
-    ensures notes { IfOk result (λ o. IfSome o.remark (Says (Names book.now))) }
+    ensures names { TellsOfOne ((file request.now, is_of_request) ∷ (word the_plan, is_of_size) ∷ doubt_subjects request.now book.now) result }
+    ensures notes { IfOk result (λ o. IfSome o.remark (Says (NamesDoubted request.now book.now))) }
 {
     let planned = match planned(rt, alloc, question, refine) {
         Ok(planned) => planned,
         Err(fault) => {
-            let (flags, bytes) = (&question.flags, question.request.as_slice());
-            let lines = of_rollout(alloc, request, flags, bytes, factor_of(refine), fault);
+            let lines = lines_on_request(alloc, request, book, question, refine, fault);
             return Err(Refused {
                 refusal: Refusal::Plan(fault),
                 remark: Remark::of(lines),
             });
         }
     };
-    match unrecorded(rt, alloc, book, question) {
-        Ok(remark) => printed(alloc, &planned, remark),
-        Err(AllocError) => Err(Refused {
-            refusal: Refusal::WantOfMemory(Call::Plan),
-            remark: Remark::Short,
-        }),
-    }
+    let noted = settled(rt, alloc, Call::Plan, request, book, question, strict)?;
+    let remark = told(
+        rt, alloc, request, book, question, &planned, refine, explain, noted,
+    );
+    printed(alloc, &planned, remark)
 }
 
 /// What is planned, on the site's rule refined by the factor where one is given.
@@ -92,10 +98,53 @@ fn planned(
 {
     let flags = &question.flags;
     let request = question.request.as_slice();
-    let book = &question.book;
-    match refine {
-        None => rollout::plan(rt, alloc, flags, request, book),
-        Some(m) => plan_refined(rt, alloc, flags, request, book, m.number),
+    planned_on(
+        rt,
+        alloc,
+        flags,
+        request,
+        &question.evidence,
+        factor_of(refine),
+    )
+}
+
+/// The same over what was recorded, by a factor from 1.
+fn planned_on(
+    rt: &(impl Threads + Sync),
+    alloc: Global,
+    flags: &Flags,
+    request: &[u8],
+    evidence: &Evidence,
+    factor: u32,
+) -> Result<Planned, RolloutFault>
+    requires { 0 < factor }
+    ensures answers { IsPlannedOn factor (flags_view flags.now) request.now evidence.now result }
+    ensures ordered { IfOk result (λ p. IsOrdered (planned_view p)) }
+    ensures whole { IfOk result (λ p. IsWhole (planned_view p)) }
+{
+    match evidence {
+        Evidence::Book(book) => plan_refined(rt, alloc, flags, request, book, factor),
+        Evidence::Tally(tally) => plan_tally(alloc, flags, request, tally, factor),
+    }
+}
+
+/// What a person is told of a request that is refused over what was recorded in the file at a path.
+pub(crate) fn lines_on_request(
+    alloc: Global,
+    path: &str,
+    recorded: &str,
+    question: &Question,
+    refine: Option<Factor>,
+    fault: RolloutFault,
+) -> Result<String, AllocError>
+    ensures { IfOk result (λ s. Names path.now (string_bytes s)) }
+{
+    let (flags, bytes) = (&question.flags, question.request.as_slice());
+    match &question.evidence {
+        Evidence::Tally(tally) if fault == RolloutFault::OtherTally => {
+            of_other_tally(alloc, path, flags, bytes, recorded, tally)
+        }
+        _ => of_rollout(alloc, path, flags, bytes, factor_of(refine), fault),
     }
 }
 
@@ -134,7 +183,8 @@ fn status_of(planned: &Planned) -> Status
 
 /// What the weights of the site are multiplied by.
 pub(crate) fn factor_of(refine: Option<Factor>) -> u32
-    ensures { 0 < result }
+    ensures some { 0 < result }
+    ensures value { result ≡ unwrap_or (option_map (λ m. m.number) refine) 1 }
 {
     match refine {
         Some(m) => m.number,

@@ -1,24 +1,30 @@
 //! The command `verify`: whether the answer of a plan file is right.
-ghost use Rattle.std.specs.Prelude.{◌≡◌, ◌||◌, [], ◌∷◌, false, is_some, Ok, IfOk, IfSome, option_map, string_bytes};
+ghost use Rattle.std.specs.Prelude.{◌≡◌, ◌||◌, [], ◌∷◌, false, is_some, Ok, IfOk, IfSome, OnOk, option_map, string_bytes};
+ghost use Rattle.flag_defs.specs.Flags.{flags_view};
 ghost use Rattle.plan_text.specs.Answer.{planned_view};
 ghost use Rattle.flagops_files.specs.Question.{question_view};
 ghost use Rattle.flagops_commands.specs.Calls.{verify_calls, verify_itself};
 ghost use Rattle.flagops_files.specs.Refusal.{ComesFrom, GivesOne, GivesUnlessWant, is_file_fault};
 ghost use Rattle.flagops_files.specs.Report.{beside, done, outcome_view};
-ghost use Rattle.flagops_commands.specs.Verify.{IsVerdict, IsVerifyReport, MayBeTold, valid_text};
+ghost use Rattle.flagops_commands.specs.Verify.{IsShownOn, IsToldOn, IsVerdict, IsVerifyReport, MayBeTold, valid_text};
+ghost use Rattle.flagops_files.specs.declared.evidence.Evidence.TheVariants.{Book, Tally};
 ghost use Rattle.flagops_remarks.specs.Named.{Names};
 ghost use Rattle.flagops_files.specs.Told.{Says, TellsOfOne, file};
 ghost use Rattle.flagops_commands.specs.Subjects.{NamesVerified, is_of_answer, is_of_request, verify_subjects};
+ghost use Rattle.flagops_commands.specs.Doubts.{NamesDoubted, doubt_subjects};
 
-use crate::rollouts::plan::factor_of;
-use crate::rollouts::unrecorded::unrecorded;
+use crate::rollouts::doubts::settled;
+use crate::rollouts::plan::{factor_of, lines_on_request};
+use flag_defs::Flags;
 use flagops_files::{
-    Call, FileSet, Outcome, Question, Refusal, Refused, Remark, Status, load_planned, load_question,
+    Call, Evidence, FileSet, Outcome, Question, Refusal, Refused, Remark, Status, load_planned,
+    load_question,
 };
-use flagops_remarks::{of_check, of_rollout};
+use flagops_remarks::of_check;
 use flagops_words::Factor;
+use page_tally::BookFile;
 use plan_text::Planned;
-use rollout::{VerifyFault, verify_refined};
+use rollout::{PageTally, VerifyFault, verify_refined, verify_tally, verify_tally_refined};
 use std::alloc::{AllocError, Global};
 use std::thread::Threads;
 
@@ -33,13 +39,14 @@ pub fn verify<R: Threads + Sync, F: FileSet>(
     book: &str,
     plan: &str,
     refine: Option<Factor>,
+    strict: bool,
 ) -> Result<Outcome, Refused>
-    ensures exact { IfSome (F.holding files.old) (λ at. GivesOne outcome_view result (IsVerifyReport at document.now request.now book.now plan.now (option_map (λ m. m.number) refine))) }
+    ensures exact { IfSome (F.holding files.old) (λ at. GivesOne outcome_view result (IsVerifyReport at document.now request.now book.now plan.now (option_map (λ m. m.number) refine) strict)) }
     ensures calls { ComesFrom verify_calls result }
     ensures failed { F.has_failed files.new ≡ (F.has_failed files.old || is_file_fault result) }
     ensures kept { F.holding files.new ≡ F.holding files.old }
     ensures names { TellsOfOne (verify_subjects document.now request.now book.now plan.now) result }
-    ensures notes { IfOk result (λ o. IfSome o.remark (Says (Names book.now))) }
+    ensures notes { IfOk result (λ o. IfSome o.remark (Says (NamesDoubted request.now book.now))) }
 {
     let question = load_question(rt, alloc, files, document, request, book, factor_of(refine))?;
     let planned = load_planned(alloc, files, plan)?;
@@ -48,7 +55,7 @@ pub fn verify<R: Threads + Sync, F: FileSet>(
         book,
         plan,
     };
-    verdict(rt, alloc, paths, &question, &planned, refine)
+    verdict(rt, alloc, paths, &question, &planned, refine, strict)
 }
 
 /// Where what is verified was loaded from.
@@ -60,7 +67,7 @@ pub struct Paths<'a> {
 }
 
 /// The line of an answer that is right.
-#[tactic(auto, using(flagops_files::proofs::Told::says))]
+#[tactic(auto, using(flagops_files::proofs::Told::says, crate::proofs::Doubting::verdict_doubted, crate::proofs::Doubting::verdict_told))]
 fn verdict(
     rt: &(impl Threads + Sync),
     alloc: Global,
@@ -68,12 +75,13 @@ fn verdict(
     question: &Question,
     planned: &Planned,
     refine: Option<Factor>,
+    strict: bool,
 ) -> Result<Outcome, Refused>
-    ensures exact { GivesOne outcome_view result (IsVerdict (option_map (λ m. m.number) refine) (Ok (question_view question.now)) (Ok (planned_view planned.now))) }
+    ensures exact { GivesOne outcome_view result (IsVerdict strict (option_map (λ m. m.number) refine) (Ok (question_view question.now)) (Ok (planned_view planned.now))) }
     ensures calls { ComesFrom verify_itself result }
     ensures read { is_file_fault result ≡ false }
-    ensures names { TellsOfOne ((file paths.entry.request.now, is_of_request) ∷ (file paths.entry.plan.now, is_of_answer) ∷ []) result }
-    ensures notes { IfOk result (λ o. IfSome o.remark (Says (Names paths.entry.book.now))) }
+    ensures names { TellsOfOne ((file paths.entry.request.now, is_of_request) ∷ (file paths.entry.plan.now, is_of_answer) ∷ doubt_subjects paths.entry.request.now paths.entry.book.now) result }
+    ensures notes { IfOk result (λ o. IfSome o.remark (Says (NamesDoubted paths.entry.request.now paths.entry.book.now))) }
 {
     if let Err(fault) = verified(rt, alloc, question, planned, refine) {
         let lines = lines_on(alloc, paths, question, planned, refine, &fault);
@@ -82,13 +90,9 @@ fn verdict(
             remark: Remark::of(lines),
         });
     }
-    match unrecorded(rt, alloc, paths.book, question) {
-        Ok(remark) => valid(alloc, planned, remark),
-        Err(AllocError) => Err(Refused {
-            refusal: Refusal::WantOfMemory(Call::Verify),
-            remark: Remark::Short,
-        }),
-    }
+    let (request, book) = (paths.request, paths.book);
+    let remark = settled(rt, alloc, Call::Verify, request, book, question, strict)?;
+    valid(alloc, planned, remark)
 }
 
 /// The report of an answer that is right.
@@ -122,19 +126,14 @@ pub fn lines_on(
 ) -> Result<String, AllocError>
     ensures { IfOk result (λ s. NamesVerified paths.entry.request.now paths.entry.plan.now fault.now (string_bytes s)) }
 {
-    let (flags, bytes) = (&question.flags, question.request.as_slice());
     match fault {
         VerifyFault::Request(fault) => {
-            of_rollout(
-                alloc,
-                paths.request,
-                flags,
-                bytes,
-                factor_of(refine),
-                *fault,
-            )
+            lines_on_request(alloc, paths.request, paths.book, question, refine, *fault)
         }
-        VerifyFault::Check(fault) => of_check(alloc, paths.plan, flags, bytes, planned, fault),
+        VerifyFault::Check(fault) => {
+            let (flags, bytes) = (&question.flags, question.request.as_slice());
+            of_check(alloc, paths.plan, flags, bytes, planned, fault)
+        }
     }
 }
 
@@ -150,10 +149,70 @@ pub fn verified(
 {
     let flags = &question.flags;
     let request = question.request.as_slice();
-    let book = &question.book;
+    verified_on(
+        rt,
+        alloc,
+        flags,
+        request,
+        &question.evidence,
+        planned,
+        refine,
+    )
+}
+
+/// The same over what was recorded.
+fn verified_on(
+    rt: &(impl Threads + Sync),
+    alloc: Global,
+    flags: &Flags,
+    request: &[u8],
+    evidence: &Evidence,
+    planned: &Planned,
+    refine: Option<Factor>,
+) -> Result<(), VerifyFault>
+    ensures told { IsToldOn (option_map (λ m. m.number) refine) (planned_view planned.now) (flags_view flags.now) request.now evidence.now result }
+    ensures shown { OnOk result (IsShownOn (option_map (λ m. m.number) refine) (planned_view planned.now) (flags_view flags.now) request.now evidence.now) }
+{
+    match evidence {
+        Evidence::Book(book) => by_book(rt, alloc, flags, request, book, planned, refine),
+        Evidence::Tally(tally) => by_tally(alloc, flags, request, tally, planned, refine),
+    }
+}
+
+/// The same over the inputs of a book.
+fn by_book(
+    rt: &(impl Threads + Sync),
+    alloc: Global,
+    flags: &Flags,
+    request: &[u8],
+    book: &BookFile,
+    planned: &Planned,
+    refine: Option<Factor>,
+) -> Result<(), VerifyFault>
+    ensures told { IsToldOn (option_map (λ m. m.number) refine) (planned_view planned.now) (flags_view flags.now) request.now (Book book.now) result }
+    ensures shown { OnOk result (IsShownOn (option_map (λ m. m.number) refine) (planned_view planned.now) (flags_view flags.now) request.now (Book book.now)) }
+{
     match refine {
         None => rollout::verify(rt, alloc, flags, request, book, planned),
         Some(m) => verify_refined(rt, alloc, flags, request, book, planned, m.number),
+    }
+}
+
+/// The same over all inputs of which so many fall on each point as a tally says.
+fn by_tally(
+    alloc: Global,
+    flags: &Flags,
+    request: &[u8],
+    tally: &PageTally,
+    planned: &Planned,
+    refine: Option<Factor>,
+) -> Result<(), VerifyFault>
+    ensures told { IsToldOn (option_map (λ m. m.number) refine) (planned_view planned.now) (flags_view flags.now) request.now (Tally tally.now) result }
+    ensures shown { OnOk result (IsShownOn (option_map (λ m. m.number) refine) (planned_view planned.now) (flags_view flags.now) request.now (Tally tally.now)) }
+{
+    match refine {
+        None => verify_tally(alloc, flags, request, tally, planned),
+        Some(m) => verify_tally_refined(alloc, flags, request, tally, planned, m.number),
     }
 }
 

@@ -1,5 +1,5 @@
 use Rattle.std.proofs.Common.{rules, inl}
-use Rattle.flagops_drive.specs.Driven.{drove_view}
+use Rattle.flagops_commands.specs.Drive.{output_view}
 use Rattle.flagops_commands.proofs.Driving.{at_first, others_after}
 use Rattle.flagops_commands.proofs.Uniting.{left, no_output, no_union, wrote}
 use Rattle.flagops_commands.proofs.books.unite.unite.Goals as goal
@@ -26,7 +26,7 @@ returns-in_err-output-clause-kept g c = inl c.united.ensures.kept
 
 pub returns-clause-exact : goal.returns-clause-exact
 returns-clause-exact g c =
-    wrote (λ p. p.now) c.args.paths.now c.args.out.now c.in_ok-book.book (drove_view c.in_ok-output.output) c.in_ok-output.ensures.exact _ _ _ c.in_ok-book.ensures.exact
+    wrote (λ p. p.now) c.args.paths.now c.args.out.now c.in_ok-book.book (output_view c.in_ok-output.output) c.in_ok-output.ensures.exact _ _ _ c.in_ok-book.ensures.exact
     (at_first _ _ _ c.united.ensures.kept c.written.ensures.exact)
 
 pub returns-clause-left : goal.returns-clause-left
