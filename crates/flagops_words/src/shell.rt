@@ -41,13 +41,16 @@ _flagops() {
     local word=${COMP_WORDS[COMP_CWORD]}
     COMPREPLY=()
     if [ "$COMP_CWORD" -eq 1 ]; then
-        COMPREPLY=($(compgen -W "bucket price check resolve plan verify apply drive book ramp verify-ramp serve follow completions --help --version" -- "$word"))
+        COMPREPLY=($(compgen -W "bucket price check resolve plan verify apply drive book ramp verify-ramp picture serve follow completions --help --version" -- "$word"))
         return
     fi
     case ${COMP_WORDS[1]}:$word in
-        plan:-* | verify:-* | ramp:-* | verify-ramp:-*) COMPREPLY=($(compgen -W "--refine --help" -- "$word")) ;;
-        apply:-*) COMPREPLY=($(compgen -W "--keep --write --refine --help" -- "$word")) ;;
+        plan:-*) COMPREPLY=($(compgen -W "--refine --picture --help" -- "$word")) ;;
+        picture:-*) COMPREPLY=($(compgen -W "--refine --ramp --help" -- "$word")) ;;
+        verify:-* | ramp:-* | verify-ramp:-*) COMPREPLY=($(compgen -W "--refine --help" -- "$word")) ;;
+        apply:-*) COMPREPLY=($(compgen -W "--keep --write --refine --step --help" -- "$word")) ;;
         drive:-*) COMPREPLY=($(compgen -W "--add --help" -- "$word")) ;;
+        serve:-* | follow:-*) COMPREPLY=($(compgen -W "--wait --help" -- "$word")) ;;
         *:-*) COMPREPLY=($(compgen -W "--help" -- "$word")) ;;
         completions:*) COMPREPLY=($(compgen -W "bash fish zsh" -- "$word")) ;;
         resolve:*)
@@ -77,14 +80,19 @@ complete -c flagops -n __fish_use_subcommand -f -a drive -d 'Answer asks and wri
 complete -c flagops -n __fish_use_subcommand -f -a book -d 'Write the book of several books'
 complete -c flagops -n __fish_use_subcommand -f -a ramp -d 'Plan a rollout in steps'
 complete -c flagops -n __fish_use_subcommand -f -a verify-ramp -d 'Check the plans of a rollout in steps'
+complete -c flagops -n __fish_use_subcommand -f -a picture -d 'Draw a plan as SVG'
 complete -c flagops -n __fish_use_subcommand -f -a serve -d 'Publish documents to subscribers'
 complete -c flagops -n __fish_use_subcommand -f -a follow -d 'Print the snapshots that come'
 complete -c flagops -n __fish_use_subcommand -f -a completions -d 'Print the completion of a shell'
-complete -c flagops -n '__fish_seen_subcommand_from plan verify ramp verify-ramp' -l refine -x -d 'Plan in finer points'
+complete -c flagops -n '__fish_seen_subcommand_from plan verify ramp verify-ramp picture' -l refine -x -d 'Plan in finer points'
+complete -c flagops -n '__fish_seen_subcommand_from plan' -l picture -r -d 'Write the picture of the plan'
+complete -c flagops -n '__fish_seen_subcommand_from picture' -l ramp -d 'Draw the steps of a rollout'
+complete -c flagops -n '__fish_seen_subcommand_from apply' -l step -x -d 'The step whose rule is put'
 complete -c flagops -n '__fish_seen_subcommand_from apply' -l keep -d 'Verify the plan and keep the rest of the text'
 complete -c flagops -n '__fish_seen_subcommand_from apply' -l write -d 'With --keep: write over the document'
 complete -c flagops -n '__fish_seen_subcommand_from apply' -l refine -x -d 'With --keep: the factor of the plan'
 complete -c flagops -n '__fish_seen_subcommand_from drive' -l add -d 'Keep what the book has'
+complete -c flagops -n '__fish_seen_subcommand_from serve follow' -l wait -x -d 'The most seconds to wait'
 complete -c flagops -n '__fish_seen_subcommand_from completions' -f -a 'bash fish zsh'
 "#;
 
@@ -104,6 +112,7 @@ _flagops() {
         'book:write the book of several books'
         'ramp:plan a rollout in steps'
         'verify-ramp:check the plans of a rollout in steps'
+        'picture:draw a plan as SVG'
         'serve:publish documents to subscribers'
         'follow:print the snapshots that come'
         'completions:print the completion of a shell'
@@ -114,12 +123,17 @@ _flagops() {
         return
     fi
     case $words[2] in
-        plan | verify | ramp | verify-ramp) _arguments '--refine[plan in finer points]:M:' '--help[print help]' '*:file:_files' ;;
+        plan)
+            _arguments '--refine[plan in finer points]:M:' '--picture[write the picture of the plan]:file:_files' '--help[print help]' '*:file:_files'
+            ;;
+        picture) _arguments '--refine[plan in finer points]:M:' '--ramp[draw the steps of a rollout]' '--help[print help]' '*:file:_files' ;;
+        verify | ramp | verify-ramp) _arguments '--refine[plan in finer points]:M:' '--help[print help]' '*:file:_files' ;;
         apply)
             _arguments '--keep[verify the plan and keep the rest of the text]' '--write[with --keep\: write over the document]' \
-                '--refine[with --keep\: the factor of the plan]:M:' '--help[print help]' '*:file:_files'
+                '--refine[with --keep\: the factor of the plan]:M:' '--step[the step whose rule is put]:N:' '--help[print help]' '*:file:_files'
             ;;
         drive) _arguments '--add[keep what the book has]' '--help[print help]' '*:file:_files' ;;
+        serve | follow) _arguments '--wait[the most seconds to wait]:S:' '--help[print help]' '*:file:_files' ;;
         completions) _values shell bash fish zsh ;;
         *) _arguments '--help[print help]' '*:file:_files' ;;
     esac

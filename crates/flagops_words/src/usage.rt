@@ -62,7 +62,7 @@ pub fn missing_keep(alloc: Global) -> Result<Error, AllocError>
 
 /// What the help of the program ends with: the commands that read their words by themselves, and the statuses.
 const STATUSES: &str =
-    "In steps: 'flagops ramp' plans a rollout of several steps, 'flagops verify-ramp' checks its plans.\nOn the network: 'flagops serve' publishes flag documents to subscribers, 'flagops follow' prints what comes.\nEach tells its words with --help, as 'flagops ramp --help'.\n\nStatus: 0 done, 1 refused or the output failed, 2 words that are no command, 3 no rule fits.\nWhat was refused, where, and what to change is told on the error outlet; docs/REFUSALS.md has each line\nthat begins with 'refused', docs/FORMATS.md the files with examples, demo/README.md a first rollout.";
+    "In steps: 'flagops ramp' plans a rollout of several steps, 'flagops verify-ramp' checks its plans,\n'flagops apply --step N' gives the document after a step.\nDrawn: 'flagops picture' prints a plan as SVG, with --ramp those of several steps;\n'flagops plan --picture FILE' writes the picture of what it plans.\nOn the network: 'flagops serve' publishes flag documents to subscribers, 'flagops follow' prints what comes.\nEach tells its words with --help, as 'flagops ramp --help'.\n\nStatus: 0 done, 1 refused or the output failed, 2 words that are no command, 3 no rule fits.\nWhat was refused, where, and what to change is told on the error outlet; docs/REFUSALS.md has each line\nthat begins with 'refused', docs/FORMATS.md the files with examples, demo/README.md a first rollout.";
 
 /// The version of the program, and the kit that it is proved with (`rt version`), a line each.
 const VERSION: &str = "0.1.0\nproved with rattle-kit-13b logic dac8208d650f15bf";

@@ -1,0 +1,6 @@
+pub mod Drawings
+pub mod Matched
+pub mod Pictures
+pub mod Planning
+pub mod Ramps
+pub mod Steps
