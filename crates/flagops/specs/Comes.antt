@@ -1,17 +1,18 @@
 -- What the program comes to for words, by the family of their command: what the two outlets show before and after, what the files
--- show, and the status.
+-- show, the status, and what the standard input gives, of which a read may have failed.
 use Rattle.std.specs.Prelude.{◌≡◌, ℕ, Bool, List, Option}
 use Rattle.clap.specs.Walk.{Text}
 use Rattle.flagops_commands.specs.Commands.{LeavesAsked}
 use Rattle.flagops_commands.specs.Ended.{AnswersAsked, AnswersStored, AnswersUnread, TellsUnasked}
 use Rattle.flagops_files.specs.Files.{Holding}
+use Rattle.flagops_filters.specs.Ended.{AnswersJoin, AnswersRecord, AnswersTally, TellsJoin, TellsRecord, TellsTally}
 use Rattle.flagops_network.specs.Ended.{AnswersServe, FollowsAsked, RefusesUnread, ServesAsked, TellsFollow, TellsServe}
 use Rattle.flagops_ramps.specs.Ended.{AnswersRamp, AnswersVerify, TellsRamp, TellsVerify}
 use Rattle.flagops_words.specs.Words.{asked_by}
 use Rattle.flagops.specs.declared.family.Family.{Family}
-use Rattle.flagops.specs.declared.family.Family.TheVariants.{Files, Serve, Follow, Ramp, VerifyRamp}
+use Rattle.flagops.specs.declared.family.Family.TheVariants.{Files, Serve, Follow, Ramp, VerifyRamp, Record, Tally, Join}
 
-module _ {O E F : Type 0} (bytes : O → Option (List ℕ)) (is_broken : O → Bool) (out out' : O) (told : E → Option (List ℕ)) (is_mute : E → Bool) (err err' : E) (holding : F → Option Holding) (has_failed : F → Bool) (files files' : F) (status : ℕ) where
+module _ {O E F : Type 0} (bytes : O → Option (List ℕ)) (is_broken : O → Bool) (out out' : O) (told : E → Option (List ℕ)) (is_mute : E → Bool) (err err' : E) (holding : F → Option Holding) (has_failed : F → Bool) (files files' : F) (status : ℕ) (given : Option (List ℕ)) (is_cut : Bool) where
   -- Of a command over files: its answer over files whose bytes are known; whatever they hold, a read or a write that failed; what is
   -- told of words with a mistake; which files it leaves; and that it did what it was asked where a file has changed.
   abbrev pub ComesOfFiles : List Text → Type 0
@@ -53,9 +54,34 @@ module _ {O E F : Type 0} (bytes : O → Option (List ℕ)) (is_broken : O → B
       × TellsVerify bytes is_broken out out' told is_mute err err' status words
       × (holding files' ≡ holding files)
 
+  -- of `record`: its answer over files and a standard input whose bytes are known; what is told of words with a mistake; and the
+  -- files as they were
+  abbrev pub ComesOfRecord : List Text → Type 0
+  ComesOfRecord words =
+      AnswersRecord bytes is_broken out out' told is_mute err err' status holding files given is_cut words
+      × TellsRecord bytes is_broken out out' told is_mute err err' status words
+      × (holding files' ≡ holding files)
+
+  -- the same of `tally`
+  abbrev pub ComesOfTally : List Text → Type 0
+  ComesOfTally words =
+      AnswersTally bytes is_broken out out' told is_mute err err' status holding files given is_cut words
+      × TellsTally bytes is_broken out out' told is_mute err err' status words
+      × (holding files' ≡ holding files)
+
+  -- of `join`: its answer over files whose bytes are known; what is told of words with a mistake; and the files as they were
+  abbrev pub ComesOfJoin : List Text → Type 0
+  ComesOfJoin words =
+      AnswersJoin bytes is_broken out out' told is_mute err err' status holding files words
+      × TellsJoin bytes is_broken out out' told is_mute err err' status words
+      × (holding files' ≡ holding files)
+
   abbrev pub Comes : Family → List Text → Type 0
   Comes Files words = ComesOfFiles words
   Comes Serve words = ComesOfServe words
   Comes Follow words = ComesOfFollow words
   Comes Ramp words = ComesOfRamp words
   Comes VerifyRamp words = ComesOfVerifyRamp words
+  Comes Record words = ComesOfRecord words
+  Comes Tally words = ComesOfTally words
+  Comes Join words = ComesOfJoin words

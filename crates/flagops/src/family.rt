@@ -17,6 +17,12 @@ pub enum Family {
     Ramp,
     /// `verify-ramp`.
     VerifyRamp,
+    /// `record`.
+    Record,
+    /// `tally`.
+    Tally,
+    /// `join`.
+    Join,
 }
 
 /// The family of the command that the first of the words names.
@@ -37,6 +43,9 @@ fn family_named(word: &str) -> Family
         "follow" => Family::Follow,
         "ramp" => Family::Ramp,
         "verify-ramp" => Family::VerifyRamp,
+        "record" => Family::Record,
+        "tally" => Family::Tally,
+        "join" => Family::Join,
         _ => Family::Files,
     }
 }

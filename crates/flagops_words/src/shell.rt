@@ -41,11 +41,12 @@ _flagops() {
     local word=${COMP_WORDS[COMP_CWORD]}
     COMPREPLY=()
     if [ "$COMP_CWORD" -eq 1 ]; then
-        COMPREPLY=($(compgen -W "bucket price check resolve plan verify apply drive book ramp verify-ramp serve follow completions --help --version" -- "$word"))
+        COMPREPLY=($(compgen -W "bucket price check resolve plan verify apply drive book ramp verify-ramp record tally join serve follow completions --help --version" -- "$word"))
         return
     fi
     case ${COMP_WORDS[1]}:$word in
-        plan:-* | verify:-* | ramp:-* | verify-ramp:-*) COMPREPLY=($(compgen -W "--refine --help" -- "$word")) ;;
+        plan:-* | verify:-* | ramp:-* | verify-ramp:-* | tally:-*) COMPREPLY=($(compgen -W "--refine --help" -- "$word")) ;;
+        record:-*) COMPREPLY=($(compgen -W "--moment --workers --help" -- "$word")) ;;
         apply:-*) COMPREPLY=($(compgen -W "--keep --write --refine --help" -- "$word")) ;;
         drive:-*) COMPREPLY=($(compgen -W "--add --help" -- "$word")) ;;
         *:-*) COMPREPLY=($(compgen -W "--help" -- "$word")) ;;
@@ -77,10 +78,15 @@ complete -c flagops -n __fish_use_subcommand -f -a drive -d 'Answer asks and wri
 complete -c flagops -n __fish_use_subcommand -f -a book -d 'Write the book of several books'
 complete -c flagops -n __fish_use_subcommand -f -a ramp -d 'Plan a rollout in steps'
 complete -c flagops -n __fish_use_subcommand -f -a verify-ramp -d 'Check the plans of a rollout in steps'
+complete -c flagops -n __fish_use_subcommand -f -a record -d 'Print the hash inputs that contexts reach'
+complete -c flagops -n __fish_use_subcommand -f -a tally -d 'Count sorted hash inputs by their points'
+complete -c flagops -n __fish_use_subcommand -f -a join -d 'Make one tally of several'
 complete -c flagops -n __fish_use_subcommand -f -a serve -d 'Publish documents to subscribers'
 complete -c flagops -n __fish_use_subcommand -f -a follow -d 'Print the snapshots that come'
 complete -c flagops -n __fish_use_subcommand -f -a completions -d 'Print the completion of a shell'
-complete -c flagops -n '__fish_seen_subcommand_from plan verify ramp verify-ramp' -l refine -x -d 'Plan in finer points'
+complete -c flagops -n '__fish_seen_subcommand_from plan verify ramp verify-ramp tally' -l refine -x -d 'Plan in finer points'
+complete -c flagops -n '__fish_seen_subcommand_from record' -l moment -x -d 'The time of the evaluations'
+complete -c flagops -n '__fish_seen_subcommand_from record' -l workers -x -d 'The most threads that evaluate'
 complete -c flagops -n '__fish_seen_subcommand_from apply' -l keep -d 'Verify the plan and keep the rest of the text'
 complete -c flagops -n '__fish_seen_subcommand_from apply' -l write -d 'With --keep: write over the document'
 complete -c flagops -n '__fish_seen_subcommand_from apply' -l refine -x -d 'With --keep: the factor of the plan'
@@ -104,6 +110,9 @@ _flagops() {
         'book:write the book of several books'
         'ramp:plan a rollout in steps'
         'verify-ramp:check the plans of a rollout in steps'
+        'record:print the hash inputs that contexts reach'
+        'tally:count sorted hash inputs by their points'
+        'join:make one tally of several'
         'serve:publish documents to subscribers'
         'follow:print the snapshots that come'
         'completions:print the completion of a shell'
@@ -114,7 +123,11 @@ _flagops() {
         return
     fi
     case $words[2] in
-        plan | verify | ramp | verify-ramp) _arguments '--refine[plan in finer points]:M:' '--help[print help]' '*:file:_files' ;;
+        plan | verify | ramp | verify-ramp | tally) _arguments '--refine[plan in finer points]:M:' '--help[print help]' '*:file:_files' ;;
+        record)
+            _arguments '--moment[the time of the evaluations]:MOMENT:' '--workers[the most threads that evaluate]:WORKERS:' \
+                '--help[print help]' '*:file:_files'
+            ;;
         apply)
             _arguments '--keep[verify the plan and keep the rest of the text]' '--write[with --keep\: write over the document]' \
                 '--refine[with --keep\: the factor of the plan]:M:' '--help[print help]' '*:file:_files'

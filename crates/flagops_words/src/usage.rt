@@ -62,7 +62,7 @@ pub fn missing_keep(alloc: Global) -> Result<Error, AllocError>
 
 /// What the help of the program ends with: the commands that read their words by themselves, and the statuses.
 const STATUSES: &str =
-    "In steps: 'flagops ramp' plans a rollout of several steps, 'flagops verify-ramp' checks its plans.\nOn the network: 'flagops serve' publishes flag documents to subscribers, 'flagops follow' prints what comes.\nEach tells its words with --help, as 'flagops ramp --help'.\n\nStatus: 0 done, 1 refused or the output failed, 2 words that are no command, 3 no rule fits.\nWhat was refused, where, and what to change is told on the error outlet; docs/REFUSALS.md has each line\nthat begins with 'refused', docs/FORMATS.md the files with examples, demo/README.md a first rollout.";
+    "In steps: 'flagops ramp' plans a rollout of several steps, 'flagops verify-ramp' checks its plans.\nOf many records: 'flagops record' prints the hash inputs that contexts reach, 'flagops tally' counts them by\ntheir points, 'flagops join' makes one tally of several.\nOn the network: 'flagops serve' publishes flag documents to subscribers, 'flagops follow' prints what comes.\nEach tells its words with --help, as 'flagops ramp --help'.\n\nStatus: 0 done, 1 refused or the output failed, 2 words that are no command, 3 no rule fits.\nWhat was refused, where, and what to change is told on the error outlet; docs/REFUSALS.md has each line\nthat begins with 'refused', docs/FORMATS.md the files with examples, demo/README.md a first rollout.";
 
 /// The version of the program, and the kit that it is proved with (`rt version`), a line each.
 const VERSION: &str = "0.1.0\nproved with rattle-kit-13b logic dac8208d650f15bf";

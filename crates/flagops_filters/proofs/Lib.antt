@@ -1,0 +1,5 @@
+mod Ending
+mod Joins
+mod Loaded
+pub mod Matched
+mod Recorded
