@@ -17,6 +17,8 @@ pub enum Family {
     Ramp,
     /// `verify-ramp`.
     VerifyRamp,
+    /// `ofrep`.
+    Ofrep,
 }
 
 /// The family of the command that the first of the words names.
@@ -37,6 +39,7 @@ fn family_named(word: &str) -> Family
         "follow" => Family::Follow,
         "ramp" => Family::Ramp,
         "verify-ramp" => Family::VerifyRamp,
+        "ofrep" => Family::Ofrep,
         _ => Family::Files,
     }
 }
