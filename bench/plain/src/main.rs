@@ -1,9 +1,11 @@
-//! The commands `bucket`, `price`, `check`, `plan` and `verify` of `flagops` in plain Rust, unproved: what the proved
-//! program is timed beside. It knows the files that `bench/plain.sh` makes, and stops with a message at any other.
+//! The commands `bucket`, `price`, `check`, `plan`, `verify`, `record` and `tally` of `flagops` in plain Rust, unproved: what the
+//! proved program is timed beside. It knows the files that `bench/plain.sh` and `bench/records.py` make, and stops with a message
+//! at any other.
 mod book;
 mod check;
 mod flow;
 mod plan;
+mod records;
 mod request;
 mod rule;
 
@@ -66,6 +68,8 @@ fn run(words: &[&str]) -> Result<String, Fault> {
         ["verify", document, request, book, plan] => {
             plan::verify(&load(document)?, &load(request)?, book, &load(plan)?)
         }
+        ["record", document, flag] => records::record(&load(document)?, flag).map(|()| String::new()),
+        ["tally", document, flag, "0"] => records::tally(&load(document)?, flag).map(|()| String::new()),
         _ => Err("no such command".into()),
     }
 }
