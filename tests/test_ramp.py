@@ -1,4 +1,4 @@
-"""The commands `ramp` and `verify-ramp`. They run the released program: they wait for the release that has both."""
+"""The commands `ramp` and `verify-ramp`."""
 import functools
 import itertools
 import json
@@ -184,13 +184,12 @@ class RampTest(ProgramTest):
         self.verified(THREE, ramp + more, 1, "refused verify-ramp 14 Lines\n")
         dear = dict(again, cost=again["cost"] + 1)
         wrong = json.dumps({"plan": dear, "step": 1}) + "\n"
-        self.verified(THREE, wrong + "".join(lines[1:]), 1, "refused verify-ramp 6 Cost\n")
-        # The second step answered on the first rule, and not on what the first step left.
-        first = run(["ramp", "doc", "steps", "book"], self.files(steps('"red":2,"blue":8'))).out
-        swapped = lines[0] + first.replace('"step":1', '"step":2') + lines[2]
-        ran = run(["verify-ramp", "doc", "steps", "book", "ramp"], self.files(THREE, swapped))
-        self.assertEqual(ran.status, 1)
-        self.assertTrue(ran.out.startswith("refused verify-ramp "))
+        self.verified(THREE, wrong + "".join(lines[1:]), 1, "refused verify-ramp 5 Sum\n")
+        # The second step answered on the first rule, and not on what the first step left, where all points are blue.
+        back = steps('"red":0,"blue":10', '"red":5,"blue":5')
+        first = run(["ramp", "doc", "steps", "book"], self.files(steps('"red":5,"blue":5'))).out
+        swapped = self.planned(back).splitlines(keepends=True)[0] + first.replace('"step":1', '"step":2')
+        ran = self.assert_ends(["verify-ramp", "doc", "steps", "book", "ramp"], self.files(back, swapped), 1, "refused verify-ramp 8 Groups\n")
         self.assertIn("step 2", ran.err)
 
     def test_files_that_are_no_answers(self):

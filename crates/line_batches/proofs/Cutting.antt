@@ -5,8 +5,9 @@ use Rattle.std.specs.List.{AllByRecursion, position, position_or_len, prefix_len
 use Rattle.std.proofs.lemmas.Bool.{eqb-true}
 use Rattle.std.proofs.lemmas.List.Elements.{All-from_recursion}
 use Rattle.std.proofs.lemmas.List.Quantifiers.{position-Some}
-use Rattle.std.proofs.lemmas.List.Splits.{slice_split_at}
-use Rattle.line_batches.specs.Lines.{HasNoFeed, IsCut, ended_lines, is_feed, without_last}
+use Rattle.std.proofs.Math.Seq.{take-suc}
+use Rattle.std.proofs.lemmas.List.Splits.{slice_split_at, slice_split_none, slice_split-cons_no}
+use Rattle.line_batches.specs.Lines.{HasNoFeed, IsCut, is_feed, parts_of}
 
 none_before : (xs : List ℕ) (at : ℕ) → at < length xs → ((k : ℕ) → k < at → is_feed (get_or xs k 0) ≡ false) → HasNoFeed (take at xs)
 none_before [] zero within none = tt
@@ -19,25 +20,39 @@ some_joined true b parts e = cc
 some_joined false b [] e = cc
 some_joined false b (part ∷ parts) e = cc
 
-some_part : (bytes : List ℕ) → slice_split is_feed bytes ≢ []
+pub some_part : (bytes : List ℕ) → parts_of bytes ≢ []
+unfolding parts_of
 some_part [] e = cc
 some_part (b ∷ bs) e = some_joined (is_feed b) b (slice_split is_feed bs) e
 
-before_some : (part : List ℕ) (parts : List (List ℕ)) → parts ≢ [] → without_last (part ∷ parts) ≡ part ∷ without_last parts
-before_some part [] some = absurd (some refl)
-before_some part (next ∷ parts) some = refl
+pub line_first : (line rest : List ℕ) → HasNoFeed line → parts_of (line ++ 10 ∷ rest) ≡ line ∷ parts_of rest
+unfolding parts_of
+line_first line rest none = slice_split_at is_feed line 10 rest (All-from_recursion (λ (b : ℕ). is_feed b ≡ false) line none) refl
 
-line_first : (line rest : List ℕ) → HasNoFeed line → ended_lines (line ++ 10 ∷ rest) ≡ line ∷ ended_lines rest
-unfolding ended_lines
-line_first line rest none =
-    ap without_last (slice_split_at is_feed line 10 rest (All-from_recursion (λ (b : ℕ). is_feed b ≡ false) line none) refl)
-    ∙ before_some line (slice_split is_feed rest) (some_part rest)
+-- what has no line feed is no line
+pub no_line : (rest : List ℕ) → HasNoFeed rest → parts_of rest ≡ rest ∷ []
+unfolding parts_of
+no_line rest none = slice_split_none is_feed rest (All-from_recursion (λ (b : ℕ). is_feed b ≡ false) rest none)
+
+first_of : (parts : List (List ℕ)) → parts ≢ [] → (part : List ℕ) × (others : List (List ℕ)) × (parts ≡ part ∷ others)
+first_of [] some = absurd (some refl)
+first_of (part ∷ others) some = (part, others, refl)
+
+-- whatever follows it, the first part begins with it
+pub begins : (rest more : List ℕ) → HasNoFeed rest → (part : List ℕ) × (others : List (List ℕ)) × (parts_of (rest ++ more) ≡ part ∷ others) × (length rest ≤ length part)
+unfolding parts_of
+begins [] more none =
+    let first = first_of (slice_split is_feed more) (some_part more) in
+    (first.0, first.1, first.2, omega arith)
+begins (b ∷ bs) more none =
+    let later = begins bs more none.1 in
+    (b ∷ later.0, later.1, slice_split-cons_no is_feed b (bs ++ more) none.0 ∙ ap (onto_first b) later.2, omega (arith, later.3))
 
 pub cut_next : (bytes rest line behind : List ℕ) (lines : List (List ℕ)) → IsCut bytes lines rest → HasNoFeed line → rest ≡ line ++ 10 ∷ behind → IsCut bytes (lines ++ line ∷ []) behind
 cut_next bytes rest line behind lines cut none parts = λ more.
     let all : rest ++ more ≡ line ++ 10 ∷ (behind ++ more) = ap (λ (t : List ℕ). t ++ more) parts ∙ append_assoc line (10 ∷ behind) more in
-    cut more ∙ ap (λ (ls : List (List ℕ)). lines ++ ls) (ap ended_lines all ∙ line_first line (behind ++ more) none)
-    ∙ sym (append_assoc lines (line ∷ []) (ended_lines (behind ++ more)))
+    cut more ∙ ap (λ (ls : List (List ℕ)). lines ++ ls) (ap parts_of all ∙ line_first line (behind ++ more) none)
+    ∙ sym (append_assoc lines (line ∷ []) (parts_of (behind ++ more)))
 
 pub line_before : (bytes : List ℕ) (at : ℕ) → Some at ≡ position is_feed bytes → HasNoFeed (take at bytes)
 line_before bytes at first =
@@ -71,3 +86,11 @@ no_feed_there xs e = no_feed xs (ltb-false _ _ (choice_none (nat_lt (position_or
 pub place_within : (r : Option ℕ) (xs : List ℕ) → r ≡ position is_feed xs → IfSome r (λ at. at < length xs)
 place_within None xs e = tt
 place_within (Some at) xs e = (position-Some is_feed xs at 0 (sym e)).0
+
+-- the line with its line feed
+pub line_whole : (bytes : List ℕ) (at : ℕ) → Some at ≡ position is_feed bytes → take (at + 1) bytes ≡ take at bytes ++ 10 ∷ []
+line_whole bytes at first =
+    let here = position-Some is_feed bytes at 0 (sym first) in
+    let feed : get_or bytes at 0 ≡ 10 = eqb-true (get_or bytes at 0) 10 here.1 in
+    let one : take (at + 1) bytes ≡ take at bytes ++ get_or bytes at 0 ∷ [] = rw (add-one, take-suc bytes at 0 here.0) refl in
+    one ∙ ap (λ (b : ℕ). take at bytes ++ b ∷ []) feed

@@ -10,19 +10,20 @@ is_feed b = b == 10
 abbrev pub HasNoFeed : List ℕ → Type 0
 HasNoFeed bytes = AllByRecursion (λ (b : ℕ). is_feed b ≡ false) bytes
 
--- all but the last
-abbrev pub without_last : List (List ℕ) → List (List ℕ)
-without_last [] = []
-without_last (part ∷ []) = []
-without_last (part ∷ next ∷ parts) = part ∷ without_last (next ∷ parts)
-
--- the lines that ended, without their line feeds; what stands behind the last of these is none
-unfoldable pub ended_lines : List ℕ → List (List ℕ)
-ended_lines bytes = without_last (slice_split is_feed bytes)
+-- the lines that ended, without their line feeds, and what stands behind the last of these, which is no line
+unfoldable pub parts_of : List ℕ → List (List ℕ)
+parts_of bytes = slice_split is_feed bytes
 
 -- whatever follows the bytes, these are the lines that ended in them, and the rest stands behind
 abbrev pub IsCut : List ℕ → List (List ℕ) → List ℕ → Type 0
-IsCut bytes lines rest = (more : List ℕ) → ended_lines (bytes ++ more) ≡ lines ++ ended_lines (rest ++ more)
+IsCut bytes lines rest = (more : List ℕ) → parts_of (bytes ++ more) ≡ lines ++ parts_of (rest ++ more)
+
+-- the line is the first one with its line feed, and the rest stands behind it
+pub record IsFirst (bytes line rest : List ℕ) : Type 0 where
+  pub text : List ℕ
+  pub none : HasNoFeed text
+  pub ended : line ≡ text ++ 10 ∷ []
+  pub whole : bytes ≡ text ++ 10 ∷ rest
 
 -- the lines of the program, without where they lie in memory
 abbrev pub lines_view : List (Bor (List ℕ)) → List (List ℕ)

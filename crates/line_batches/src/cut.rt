@@ -1,7 +1,7 @@
 //! From the bytes of a batch to its lines.
-ghost use Rattle.std.specs.Prelude.{◌≡◌, ◌++◌, ◌∷◌, ◌<◌, length, IfOk, IfSome, MatchOption};
+ghost use Rattle.std.specs.Prelude.{◌≡◌, ◌++◌, ◌∷◌, ◌<◌, ◌≤◌, ◌+◌, length, IfOk, IfSome, MatchOption};
 ghost use Rattle.std.specs.List.{position};
-ghost use Rattle.line_batches.specs.Lines.{HasNoFeed, IsCut, is_feed, lines_view};
+ghost use Rattle.line_batches.specs.Lines.{HasNoFeed, IsCut, IsFirst, is_feed, lines_view};
 
 use std::alloc::{AllocError, Global};
 
@@ -9,6 +9,7 @@ use std::alloc::{AllocError, Global};
 pub fn cut_lines(alloc: Global, bytes: &[u8]) -> Result<(Vec<&[u8]>, &[u8]), AllocError>
     ensures cut { IfOk result (λ r. IsCut bytes.now (lines_view r.0.items) r.1.now) }
     ensures rest { IfOk result (λ r. HasNoFeed r.1.now) }
+    ensures fewer { IfOk result (λ r. length r.0.items + length r.1.now ≤ length bytes.now) }
 {
     let mut lines = Vec::new(alloc);
     let mut rest = bytes;
@@ -17,6 +18,17 @@ pub fn cut_lines(alloc: Global, bytes: &[u8]) -> Result<(Vec<&[u8]>, &[u8]), All
         rest = behind;
     }
     Ok((lines, rest))
+}
+
+/// The first line that ended, with its line feed, and the bytes behind it. It takes no memory.
+pub fn cut_line(bytes: &[u8]) -> Option<(&[u8], &[u8])>
+    ensures parts { MatchOption result (HasNoFeed bytes.now) (λ r. IsFirst bytes.now r.0.now r.1.now) }
+    ensures fewer { IfSome result (λ r. length r.1.now < length bytes.now) }
+{
+    match feed_at(bytes) {
+        None => None,
+        Some(at) => Some((&bytes[..at + 1], &bytes[at + 1..])),
+    }
 }
 
 /// The bytes before the first line feed, and those after it.

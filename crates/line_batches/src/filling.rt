@@ -1,11 +1,11 @@
 //! From a stream to a batch of its bytes.
-ghost use Rattle.std.specs.Prelude.{◌≡◌, ◌≤◌, ◌<◌, length, take, true, false, IfOk, OnOk};
+ghost use Rattle.std.specs.Prelude.{◌≡◌, ◌≤◌, ◌<◌, ◌+◌, length, take, true, false, IfOk, IfErr, OnOk};
 ghost use Rattle.std.specs.Io.KnownBytes.{Consumes, IsAtEnd};
 ghost use Rattle.line_batches.specs.Fill.{Grows};
 ghost use Rattle.line_batches.specs.declared.filling.FillFault.TheVariants.{WantOfMemory};
 
+use crate::inlet::Inlet;
 use std::alloc::AllocError;
-use std::io::Read;
 use thiserror::Error;
 
 /// Why a stream is not read on.
@@ -29,16 +29,21 @@ impl From<AllocError> for FillFault {
 
 /// Reads on, into this piece of memory, until the batch has at least so many bytes, or the stream ends. Gives whether it
 /// ended. The batch gets fewer bytes than the piece has more than it is to have. The condition is a piece of some bytes.
-pub fn fill<I: Read>(
+pub fn fill<I: Inlet>(
     batch: &mut Vec<u8>,
     input: &mut I,
     piece: &mut [u8],
     size: usize,
 ) -> Result<bool, FillFault>
-    requires { 0 < length piece.old }
-    ensures grows { OnOk result (Grows (I.remaining input.old) (I.remaining input.new) batch.old.items batch.new.items) }
-    ensures ended { IfOk result (λ ended. ended ≡ true → IsAtEnd (I.remaining input.new)) }
+    requires some { 0 < length piece.old }
+    requires whole { I.is_broken input.old ≡ false }
+    ensures room { length piece.new ≡ length piece.old }
+    ensures grows { OnOk result (Grows (I.bytes input.old) (I.bytes input.new) batch.old.items batch.new.items) }
+    ensures ended { IfOk result (λ ended. ended ≡ true → IsAtEnd (I.bytes input.new)) }
     ensures full { IfOk result (λ ended. ended ≡ false → size ≤ length batch.new.items) }
+    ensures few { OnOk result (length batch.old.items ≤ size → length batch.new.items ≤ size + length piece.old) }
+    ensures unbroken { OnOk result (I.is_broken input.new ≡ false) }
+    ensures broken { IfErr result (λ e. e ≡ FillFault.Read → I.is_broken input.new ≡ true) }
 {
     'reads: while batch.len() < size {
         let n = read_piece(input, piece)?;
@@ -51,10 +56,14 @@ pub fn fill<I: Read>(
 }
 
 /// Reads once.
-fn read_piece<I: Read>(input: &mut I, piece: &mut [u8]) -> Result<usize, FillFault>
+fn read_piece<I: Inlet>(input: &mut I, piece: &mut [u8]) -> Result<usize, FillFault>
+    requires { I.is_broken input.old ≡ false }
+    ensures room { length piece.new ≡ length piece.old }
     ensures bound { IfOk result (λ n. n ≤ length piece.new) }
-    ensures bytes { IfOk result (λ n. Consumes (I.remaining input.old) (I.remaining input.new) (take n piece.new)) }
-    ensures end { IfOk result (λ n. n ≡ 0 → 0 < length piece.new → IsAtEnd (I.remaining input.new)) }
+    ensures bytes { IfOk result (λ n. Consumes (I.bytes input.old) (I.bytes input.new) (take n piece.new)) }
+    ensures end { IfOk result (λ n. n ≡ 0 → 0 < length piece.new → IsAtEnd (I.bytes input.new)) }
+    ensures unbroken { OnOk result (I.is_broken input.new ≡ false) }
+    ensures broken { IfErr result (λ e. (e ≡ FillFault.Read) × (I.is_broken input.new ≡ true)) }
 {
     match input.read(piece) {
         Ok(n) => Ok(n),

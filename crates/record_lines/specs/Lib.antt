@@ -4,5 +4,6 @@ pub use Rattle.note_lines.specs.Note
 pub use Rattle.site_pages.specs.Pages
 pub mod Lines
 pub mod Record
+pub mod Refusal
 pub mod Scene
 pub mod View

@@ -8,7 +8,8 @@ ghost use Rattle.flag_documents.specs.Flag.{flag_view, is_broken, targeting_in};
 ghost use Rattle.flag_defs.specs.Flags.{flags_view};
 ghost use Rattle.logic_evaluator.specs.Views.{reach_view};
 ghost use Rattle.record_lines.specs.Scene.{scene_of};
-ghost use Rattle.record_lines.specs.Record.{IsSceneOf, PagesIn, is_good, reached_in, note_of};
+ghost use Rattle.record_lines.specs.Record.{IsSceneOf, PagesIn, reached_in, note_of};
+ghost use Rattle.record_lines.specs.Refusal.{refusal_for};
 ghost use Rattle.record_lines.specs.declared.recorder.RecordFault.TheVariants.{WantOfMemory};
 
 use crate::recorded::Recorded;
@@ -32,9 +33,12 @@ pub enum RecordFault {
     /// Memory ran out.
     #[error("out of memory")]
     WantOfMemory,
-    /// No flag has the key, or it is broken.
-    #[error("no good flag has the key")]
+    /// No flag has the key.
+    #[error("no flag has the key")]
     UnknownFlag,
+    /// The flag is broken.
+    #[error("the flag is broken")]
+    Broken,
 }
 
 impl From<AllocError> for RecordFault {
@@ -49,7 +53,7 @@ impl From<AllocError> for RecordFault {
 fn good_flag<'a>(flags: &'a Flags, key: &str) -> Result<&'a Flag, RecordFault>
     ensures flag { IfOk result (λ f. lookup (bytes_eq key.now) (flags_view flags.entry.now) ≡ Some (flag_view f.now)) }
     ensures good { IfOk result (λ f. is_broken (flag_view f.now) ≡ false) }
-    ensures refused { IfErr result (λ e. (e ≡ RecordFault.UnknownFlag) × (is_good (lookup (bytes_eq key.now) (flags_view flags.entry.now)) ≡ false)) }
+    ensures refused { IfErr result (λ e. refusal_for (lookup (bytes_eq key.now) (flags_view flags.entry.now)) ≡ Some e) }
 {
     match flags.get(key) {
         None => Err(RecordFault::UnknownFlag),
@@ -61,10 +65,10 @@ fn good_flag<'a>(flags: &'a Flags, key: &str) -> Result<&'a Flag, RecordFault>
 fn if_good(flag: &Flag) -> Result<&Flag, RecordFault>
     ensures flag { IfOk result (λ f. flag_view f.now ≡ flag_view flag.entry.now) }
     ensures good { IfOk result (λ f. is_broken (flag_view f.now) ≡ false) }
-    ensures refused { IfErr result (λ e. (e ≡ RecordFault.UnknownFlag) × (is_broken (flag_view flag.entry.now) ≡ true)) }
+    ensures refused { IfErr result (λ e. refusal_for (Some (flag_view flag.entry.now)) ≡ Some e) }
 {
     if flag.is_broken() {
-        Err(RecordFault::UnknownFlag)
+        Err(RecordFault::Broken)
     } else {
         Ok(flag)
     }
@@ -90,7 +94,7 @@ impl<'a> Recorder<'a> {
     ) -> Result<Recorder<'a>, RecordFault>
         requires { moment < 2 ^ 53 }
         ensures scene { IfOk result (λ r. IsSceneOf (flags_view flags.entry.now) key.entry.now moment (scene_of r)) }
-        ensures refused { IfErr result (λ e. e ≢ RecordFault.WantOfMemory → (e ≡ RecordFault.UnknownFlag) × (is_good (lookup (bytes_eq key.entry.now) (flags_view flags.entry.now)) ≡ false)) }
+        ensures refused { IfErr result (λ e. e ≢ RecordFault.WantOfMemory → refusal_for (lookup (bytes_eq key.entry.now) (flags_view flags.entry.now)) ≡ Some e) }
     {
         let flag = good_flag(flags, key)?;
         let pages = site_pages(alloc, key, flag)?;

@@ -53,6 +53,13 @@ impl TallyFilter {
         numbered(self.tally.take(alloc, line), self.lines)
     }
 
+    /// The number of lines so far.
+    pub fn lines(&self) -> u64
+        ensures { result ≡ self.now.lines }
+    {
+        self.lines
+    }
+
     /// The tally of the lines so far.
     pub fn finish(self) -> PageTally
         ensures { result ≡ finished self.tally }

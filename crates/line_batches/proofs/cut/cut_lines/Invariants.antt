@@ -1,9 +1,12 @@
-use Rattle.std.proofs.Common.{length}
+use Rattle.std.proofs.Common.{◌≤◌, ◌+◌, length}
 use Rattle.line_batches.specs.Lines.{IsCut, lines_view}
 use Rattle.line_batches.proofs.cut.cut_lines.Given as goal
 
 abbrev pub invariant-lines : goal.invariant-lines
-invariant-lines l = IsCut l.bytes (lines_view l.lines.items) l.rest
+invariant-lines l = record {
+  cut : IsCut l.bytes (lines_view l.lines.items) l.rest;
+  fewer : length l.lines.items + length l.rest ≤ length l.bytes;
+}
 
 abbrev pub decreases-lines : goal.decreases-lines
 decreases-lines l = length l.rest

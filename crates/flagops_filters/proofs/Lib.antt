@@ -1,0 +1,6 @@
+mod Ending
+mod Joins
+mod Loaded
+pub mod Matched
+mod Recorded
+mod Tallied

@@ -1,0 +1,10 @@
+pub mod Ended
+pub mod Join
+pub mod Joined
+pub mod Place
+pub mod Record
+pub mod Refusal
+pub mod Remarks
+pub mod Report
+pub mod Tally
+pub mod Words

@@ -1,0 +1,28 @@
+//! The filters with their words.
+ghost use Rattle.std.specs.Prelude.{◌<◌, length};
+
+use flagops_words::{Factor, Moment};
+
+/// What `record` is asked for: the note lines of what a flag's evaluation reaches in each context of the standard input.
+#[derive(Clone, Copy, Debug)]
+pub struct Recording<'a> {
+    pub document: &'a str,
+    pub key: &'a str,
+    pub moment: Option<Moment>,
+}
+
+/// What `tally` is asked for: the tally of the note lines of the standard input, at a site of a flag.
+#[derive(Clone, Copy, Debug)]
+pub struct Tallying<'a> {
+    pub document: &'a str,
+    pub key: &'a str,
+    pub site: u32,
+    pub refine: Option<Factor>,
+}
+
+/// What `join` is asked for: the tally of the lines of several, of which there is one at least.
+#[derive(Debug, Drop)]
+pub struct Joining<'a> {
+    pub tallies: Vec<&'a str>,
+    ghost some: { 0 < length tallies.items },
+}
