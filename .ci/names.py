@@ -12,6 +12,7 @@ FAULTS = {
     "DefFault": set(),
     "BookFault": {"LastCall", "Stranger"},
     "BookFileFault": set(),
+    "TallyFileFault": set(),
     "RolloutFault": {"Request"},
     "CheckFault": set(),
     "PlanFileFault": set(),

@@ -1,4 +1,4 @@
-"""The commands `ramp` and `verify-ramp`. They run the released program: they wait for the release that has both."""
+"""The commands `ramp`, `verify-ramp` and `apply --step`."""
 import functools
 import itertools
 import json
@@ -184,13 +184,12 @@ class RampTest(ProgramTest):
         self.verified(THREE, ramp + more, 1, "refused verify-ramp 14 Lines\n")
         dear = dict(again, cost=again["cost"] + 1)
         wrong = json.dumps({"plan": dear, "step": 1}) + "\n"
-        self.verified(THREE, wrong + "".join(lines[1:]), 1, "refused verify-ramp 6 Cost\n")
-        # The second step answered on the first rule, and not on what the first step left.
-        first = run(["ramp", "doc", "steps", "book"], self.files(steps('"red":2,"blue":8'))).out
-        swapped = lines[0] + first.replace('"step":1', '"step":2') + lines[2]
-        ran = run(["verify-ramp", "doc", "steps", "book", "ramp"], self.files(THREE, swapped))
-        self.assertEqual(ran.status, 1)
-        self.assertTrue(ran.out.startswith("refused verify-ramp "))
+        self.verified(THREE, wrong + "".join(lines[1:]), 1, "refused verify-ramp 5 Sum\n")
+        # The second step answered on the first rule, and not on what the first step left, where all points are blue.
+        back = steps('"red":0,"blue":10', '"red":5,"blue":5')
+        first = run(["ramp", "doc", "steps", "book"], self.files(steps('"red":5,"blue":5'))).out
+        swapped = self.planned(back).splitlines(keepends=True)[0] + first.replace('"step":1', '"step":2')
+        ran = self.assert_ends(["verify-ramp", "doc", "steps", "book", "ramp"], self.files(back, swapped), 1, "refused verify-ramp 8 Groups\n")
         self.assertIn("step 2", ran.err)
 
     def test_files_that_are_no_answers(self):
@@ -218,6 +217,31 @@ class RampTest(ProgramTest):
             self.assertEqual(checked.status, 0, checked.out)
         other = run(["verify-ramp", "--refine", "5", "doc", "steps", "book", "ramp"], self.files(asked, ran.out))
         self.assertEqual(other.status, 1)
+
+    def test_the_document_after_a_step(self):
+        ramp = self.planned(THREE)
+        given = self.files(THREE, ramp)
+        before = given["doc"]
+        for n, line in enumerate(ramp.splitlines(), 1):
+            plan = json.dumps(json.loads(line)["plan"])
+            wanted = run(["apply", "doc", "plan", "color", "0"], {"doc": before, "plan": plan})
+            ran = run(["apply", "--step", str(n), "doc", "ramp", "color", "0"], given)
+            self.assertEqual((ran.status, ran.out), (0, wanted.out))
+            before = wanted.out
+        words = ["apply", "--step", "4", "doc", "ramp", "color", "0"]
+        ran = self.assert_ends(words, given, 1, "refused apply 14 NoStep\n")
+        self.assertIn("step 4", ran.err)
+        self.assert_ends([*words[:2], "1", "doc", "ramp", "none", "0"], given, 1, "refused apply 2 UnknownFlag\n")
+        self.assert_ends([*words[:2], "1", "doc", "ramp", "color", "1"], given, 1, "refused apply 3 NoSite\n")
+        self.assert_ends([*words[:2], "1", "doc", "doc", "color", "0"], given, 1, "refused read_ramp 1 Line 1\n")
+        self.assert_mistake(["apply", "--step", "0", "doc", "ramp", "color", "0"], given, "--step")
+        self.assert_mistake(["apply", "--step", "1", "doc", "ramp", "color"], given, "SITE")
+
+    def test_a_step_without_a_rule_leaves_no_document(self):
+        asked = steps('"red":4,"blue":6', '"red":6,"blue":4', more=BACK)
+        given = self.files(asked, self.planned(asked, status=3))
+        ran = run(["apply", "--step", "2", "doc", "ramp", "color", "0"], given)
+        self.assertEqual((ran.status, ran.out), (3, "none\n"))
 
     def test_words(self):
         self.assert_mistake(["ramp", "doc", "steps"], {}, "BOOK")

@@ -70,8 +70,6 @@ class Words(ProgramTest):
         words = words_of_help()
         self.assertIn("plan", words)
         self.assertIn("--refine", words)
-        # The scripts lack this option of `serve` and `follow` (docs/PROMISES.md says so).
-        words = [word for word in words if word != "--wait"]
         for shell in ["bash", "fish", "zsh"]:
             ran = run(["completions", shell], {})
             self.assertEqual((ran.status, ran.err), (0, ""))

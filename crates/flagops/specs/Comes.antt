@@ -6,10 +6,15 @@ use Rattle.flagops_commands.specs.Commands.{LeavesAsked}
 use Rattle.flagops_commands.specs.Ended.{AnswersAsked, AnswersStored, AnswersUnread, TellsUnasked}
 use Rattle.flagops_files.specs.Files.{Holding}
 use Rattle.flagops_network.specs.Ended.{AnswersServe, FollowsAsked, RefusesUnread, ServesAsked, TellsFollow, TellsServe}
-use Rattle.flagops_ramps.specs.Ended.{AnswersRamp, AnswersVerify, TellsRamp, TellsVerify}
+use Rattle.flagops_pictures.specs.Ended as pictures
+use Rattle.flagops_pictures.specs.Ended.{AnswersPicture, AnswersPlan, TellsPicture, TellsPlan}
+use Rattle.flagops_pictures.specs.Planning.{LeavesPicture}
+use Rattle.flagops_pictures.specs.Words.{plan_by}
+use Rattle.flagops_ramps.specs.Ended.{AnswersRamp, AnswersStep, AnswersVerify, TellsRamp, TellsStep, TellsVerify}
 use Rattle.flagops_words.specs.Words.{asked_by}
 use Rattle.flagops.specs.declared.family.Family.{Family}
-use Rattle.flagops.specs.declared.family.Family.TheVariants.{Files, Serve, Follow, Ramp, VerifyRamp}
+use Rattle.flagops.specs.declared.family.Family.TheVariants.{Files, Serve, Follow, Ramp, VerifyRamp, Picture, PictureRamp, PlanPicture, ApplyStep, Ofrep}
+use Rattle.flagops_service.specs.Ended.{AnswersOfrep, ServesOfrep, TellsOfrep}
 
 module _ {O E F : Type 0} (bytes : O → Option (List ℕ)) (is_broken : O → Bool) (out out' : O) (told : E → Option (List ℕ)) (is_mute : E → Bool) (err err' : E) (holding : F → Option Holding) (has_failed : F → Bool) (files files' : F) (status : ℕ) where
   -- Of a command over files: its answer over files whose bytes are known; whatever they hold, a read or a write that failed; what is
@@ -53,9 +58,47 @@ module _ {O E F : Type 0} (bytes : O → Option (List ℕ)) (is_broken : O → B
       × TellsVerify bytes is_broken out out' told is_mute err err' status words
       × (holding files' ≡ holding files)
 
+  -- of `apply --step`, of `picture` and of `picture --ramp`
+  abbrev pub ComesOfApplyStep : List Text → Type 0
+  ComesOfApplyStep words =
+      AnswersStep bytes is_broken out out' told is_mute err err' status holding files words
+      × TellsStep bytes is_broken out out' told is_mute err err' status words
+      × (holding files' ≡ holding files)
+
+  abbrev pub ComesOfPicture : List Text → Type 0
+  ComesOfPicture words =
+      AnswersPicture bytes is_broken out out' told is_mute err err' status holding files words
+      × TellsPicture bytes is_broken out out' told is_mute err err' status words
+      × (holding files' ≡ holding files)
+
+  abbrev pub ComesOfPictureRamp : List Text → Type 0
+  ComesOfPictureRamp words =
+      pictures.AnswersRamp bytes is_broken out out' told is_mute err err' status holding files words
+      × pictures.TellsRamp bytes is_broken out out' told is_mute err err' status words
+      × (holding files' ≡ holding files)
+
+  -- of `plan --picture`: its answer over files whose bytes are known, and those that it leaves; what is told of words with a mistake; and that the file of the picture alone may have changed
+  abbrev pub ComesOfPlanPicture : List Text → Type 0
+  ComesOfPlanPicture words =
+      AnswersPlan bytes is_broken out out' told is_mute err err' status holding files files' words
+      × TellsPlan bytes is_broken out out' told is_mute err err' status words
+      × LeavesPicture (plan_by words) (holding files) (holding files')
+
+  -- of `ofrep`: its answer over files whose bytes are known; that it serves or is refused; and what is told of words with a mistake
+  abbrev pub ComesOfOfrep : List Text → Type 0
+  ComesOfOfrep words =
+      AnswersOfrep bytes is_broken out out' told is_mute err err' status holding files words
+      × ServesOfrep bytes is_broken out out' told is_mute err err' status words
+      × TellsOfrep bytes is_broken out out' told is_mute err err' status words
+
   abbrev pub Comes : Family → List Text → Type 0
   Comes Files words = ComesOfFiles words
   Comes Serve words = ComesOfServe words
   Comes Follow words = ComesOfFollow words
   Comes Ramp words = ComesOfRamp words
   Comes VerifyRamp words = ComesOfVerifyRamp words
+  Comes Picture words = ComesOfPicture words
+  Comes PictureRamp words = ComesOfPictureRamp words
+  Comes PlanPicture words = ComesOfPlanPicture words
+  Comes ApplyStep words = ComesOfApplyStep words
+  Comes Ofrep words = ComesOfOfrep words

@@ -1,6 +1,6 @@
 //! The families of commands: each has a contract of its own.
 ghost use Rattle.std.specs.Prelude.{◌≡◌, map};
-ghost use Rattle.flagops.specs.First.{family_named, family_of};
+ghost use Rattle.flagops.specs.First.{family_named, family_of, family_with, has_option};
 
 use std::convert::AsStr;
 
@@ -17,16 +17,53 @@ pub enum Family {
     Ramp,
     /// `verify-ramp`.
     VerifyRamp,
+    /// `picture` of a plan.
+    Picture,
+    /// `picture --ramp`.
+    PictureRamp,
+    /// `plan --picture`.
+    PlanPicture,
+    /// `apply --step`.
+    ApplyStep,
+    /// `ofrep`.
+    Ofrep,
 }
 
-/// The family of the command that the first of the words names.
+/// The family of the command that the first of the words names, and for some an option among the others.
 pub fn family_of<S: AsStr>(words: &[S]) -> Family
     ensures { result ≡ family_of (map S.text words.now) }
 {
     match words.first() {
-        Some(first) => family_named(first.as_str()),
+        Some(first) => family_with(first.as_str(), words),
         None => Family::Files,
     }
+}
+
+fn family_with<S: AsStr>(first: &str, words: &[S]) -> Family
+    ensures { result ≡ family_with first.now (map S.text words.now) }
+{
+    if first == "plan" && has_option(words, b"--picture") {
+        return Family::PlanPicture;
+    }
+    if first == "picture" && has_option(words, b"--ramp") {
+        return Family::PictureRamp;
+    }
+    if first == "apply" && has_option(words, b"--step") {
+        return Family::ApplyStep;
+    }
+    family_named(first)
+}
+
+/// Whether one of the words begins with the name of an option.
+fn has_option<S: AsStr>(words: &[S], option: &[u8]) -> bool
+    ensures { result ≡ has_option option.now (map S.text words.now) }
+{
+    for word in words {
+        if word.as_str().as_bytes().starts_with(option) {
+            return true;
+        }
+    }
+    false
 }
 
 fn family_named(word: &str) -> Family
@@ -37,6 +74,8 @@ fn family_named(word: &str) -> Family
         "follow" => Family::Follow,
         "ramp" => Family::Ramp,
         "verify-ramp" => Family::VerifyRamp,
+        "picture" => Family::Picture,
+        "ofrep" => Family::Ofrep,
         _ => Family::Files,
     }
 }

@@ -1,10 +1,11 @@
 -- What was loaded in turn, put into a document and then printed or stored, as the report of `apply --keep`.
-use Rattle.std.proofs.Common.{◌≡◌, ◌∙◌, ℕ, Bool, true, false, List, Option, Some, None, IfSome, inl, inr, refl, sym, subst, Vec, Global}
+use Rattle.std.proofs.Common.{◌≡◌, ◌∙◌, ◌||◌, ap, ℕ, Bool, true, false, List, Option, Some, None, IfSome, inl, inr, refl, sym, subst, Vec, Global}
 use Rattle.std.specs.Prelude.{Result, Ok, Err, is_ok, length, nat_lt, option_and_then}
 use Rattle.std.specs.Map.{lookup}
 use Rattle.std.specs.Str.{IsUtf8, bytes_eq}
 use Rattle.std.proofs.lemmas.Bool.{ltb-false}
 use Rattle.bucket_core.specs.Rule.{Entries}
+use Rattle.book_core.specs.Book.{Contents}
 use Rattle.flag_documents.specs.Document.{Definitions, max_bytes}
 use Rattle.flag_documents.specs.Flag.{targeting_in}
 use Rattle.flag_text.specs.Reading.{doc_of}
@@ -18,12 +19,13 @@ use Rattle.plan_text.specs.Answer.{Answer, emit, none_exists}
 use Rattle.price_core.specs.Request.{Asked, asked_of}
 use Rattle.price_core.specs.declared.fault.PriceFault.{PriceFault}
 use Rattle.rollout_checks.specs.Lawful.{and_then, by_price, place_of, problem_at, problem_of}
-use Rattle.rollout_checks.specs.Refined.{problem_checked}
+use Rattle.rollout_checks.specs.Tallied.{IsTallyOutcome, tally_problem_at}
 use Rattle.rollout_checks.specs.Verified.{IsOutcome, refining_for}
 use Rattle.rollout_checks.specs.declared.fault.RolloutFault.{RolloutFault}
 use Rattle.rollout_checks.specs.declared.refining.Refining.{Refining}
 use Rattle.rollout_checks.specs.declared.refining.Refining.TheVariants.{Times}
 use Rattle.site_places.specs.Place.{SitePlace}
+use Rattle.tally_core.specs.Tally.{PageTally}
 use Rattle.transport_instance.specs.Certificate.{DualPrices}
 use Rattle.transport_instance.specs.declared.certificate.CutKind.{CutKind}
 use Rattle.flagops_files.specs.Files.{Holding, load_of}
@@ -32,28 +34,37 @@ use Rattle.flagops_files.specs.PlanFile.{plan_at}
 use Rattle.flagops_files.specs.Question.{Question, IsQuestionAt}
 use Rattle.flagops_files.specs.Refusal.{GivesOne, is_want}
 use Rattle.flagops_files.specs.Report.{outcome_view}
+use Rattle.flagops_files.specs.declared.evidence.Evidence.{Evidence}
+use Rattle.flagops_files.specs.declared.evidence.Evidence.TheVariants.{Book, Tally}
 use Rattle.flagops_files.specs.declared.outcome.Outcome.{Outcome}
 use Rattle.flagops_files.specs.declared.refused.Refused.{Refused}
 use Rattle.flagops_files.specs.declared.refusal.Refusal.{Refusal}
 use Rattle.flagops_commands.specs.Keep.{IsEdited, IsEditedTo, IsKeepReport, IsKeepWith, IsKeptAt, IsKeptFor, IsKeptWith, IsPut, Kept, LeavesDocument, MayBeKept, some_view}
 use Rattle.flagops_commands.specs.Unrecorded.{is_unrecorded}
-use Rattle.flagops_commands.specs.Verify.{MayBeTold}
+use Rattle.flagops_commands.specs.Verify.{IsToldOn, MayBeTold}
 use Rattle.flagops_commands.proofs.Driving.{others_after}
 
 -- ---- a right answer is to a request that is read
 
-module _ (q : Question) (answer : Answer) where
-  read_by : (refining : Refining) (a : Result Asked PriceFault)
-      → IsOutcome (and_then (by_price a) (λ asked. and_then (place_of q.flags asked.flag asked.site) (λ place. problem_at refining q.book asked place))) answer (Ok tt) → is_ok a ≡ true
-  read_by refining (Ok asked) right = refl
-  read_by refining (Err e) right = absurd right
+module _ (flags : Definitions) (request : List ℕ) (answer : Answer) where
+  read_by : (refining : Refining) (book : Contents) (a : Result Asked PriceFault)
+      → IsOutcome (and_then (by_price a) (λ asked. and_then (place_of flags asked.flag asked.site) (λ place. problem_at refining book asked place))) answer (Ok tt) → is_ok a ≡ true
+  read_by refining book (Ok asked) right = refl
+  read_by refining book (Err e) right = absurd right
 
-  read_checked : (refine : Option ℕ) → IsOutcome (problem_checked refine answer q.flags q.request q.book) answer (Ok tt) → is_ok (asked_of q.request) ≡ true
-  read_checked None right = read_by (refining_for answer) (asked_of q.request) right
-  read_checked (Some m) right = read_by (Times m) (asked_of q.request) right
+  tally_by : (refining : Refining) (tally : PageTally) (a : Result Asked PriceFault)
+      → IsTallyOutcome (and_then (by_price a) (λ asked. and_then (place_of flags asked.flag asked.site) (λ place. tally_problem_at refining tally asked place))) answer (Ok tt) → is_ok a ≡ true
+  tally_by refining tally (Ok asked) right = refl
+  tally_by refining tally (Err e) right = absurd right
+
+  read_checked : (refine : Option ℕ) (evidence : Evidence) → IsToldOn refine answer flags request evidence (Ok tt) → is_ok (asked_of request) ≡ true
+  read_checked None (Book book) right = read_by (refining_for answer) book (asked_of request) right
+  read_checked (Some m) (Book book) right = read_by (Times m) book (asked_of request) right
+  read_checked None (Tally tally) right = tally_by (refining_for answer) tally (asked_of request) right
+  read_checked (Some m) (Tally tally) right = tally_by (Times m) tally (asked_of request) right
 
 pub asked_there : (refine : Option ℕ) (q : Question) (answer : Answer) → MayBeTold refine q answer (Ok tt) → is_ok (asked_of q.request) ≡ true
-asked_there refine q answer may = read_checked q answer refine may.told
+asked_there refine q answer may = read_checked q.flags q.request answer refine q.evidence may.told
 
 -- ---- the document
 
@@ -91,10 +102,14 @@ module _ (refine : Option ℕ) (document : List ℕ) (q : Question) (answer : An
 -- ---- the report
 
 module _ (path : List ℕ) (write : Bool) (refine : Option ℕ) (document : List ℕ) (q : Question) (answer : Answer) where
-  pub not_kept : (old after : Option Holding) (e : Refused) → after ≡ old → (is_want e.refusal ≡ false → MayBeKept refine document q answer (Err e.refusal))
-      → IfSome old (λ at. GivesOne outcome_view (Err e) (IsKeepWith at after path write refine document q answer))
-  not_kept None after e same kept = tt
-  not_kept (Some at) after e same kept = λ wanted. (Err e.refusal, kept wanted, (refl, same))
+  none_kept : (old : Option Holding) (e : Refused) → (is_want e.refusal ≡ false → MayBeKept refine document q answer (Err e.refusal))
+      → IfSome old (λ at. GivesOne outcome_view (Err e) (IsKeepWith at old path write refine document q answer))
+  none_kept None e kept = tt
+  none_kept (Some at) e kept = λ wanted. (Err e.refusal, kept wanted, (refl, refl))
+
+  pub not_kept : (old : Option Holding) (e : Refused) (r : Result Outcome Refused) → r ≡ Err e → (is_want e.refusal ≡ false → MayBeKept refine document q answer (Err e.refusal))
+      → IfSome old (λ at. GivesOne outcome_view r (IsKeepWith at old path write refine document q answer))
+  not_kept old e r is kept = subst (λ (x : Result Outcome Refused). IfSome old (λ at. GivesOne outcome_view x (IsKeepWith at old path write refine document q answer))) (sym is) (none_kept old e kept)
 
   pub kept_put : (old after : Option Holding) (kept : Kept) (told : Bool) (r : Result Outcome Refused) → told ≡ is_unrecorded q → MayBeKept refine document q answer (Ok kept)
       → IfSome old (λ at. GivesOne outcome_view r (IsPut at after path write told (Ok kept))) → IfSome old (λ at. GivesOne outcome_view r (IsKeepWith at after path write refine document q answer))
@@ -144,6 +159,16 @@ module _ (path plan request book : List ℕ) (write : Bool) (refine : Option ℕ
               → IfSome h (λ at. GivesOne outcome_view r (IsKeepWith at after path write refine document q answer)) → Is h after r
           go None asked loaded planned put = tt
           go (Some at) asked loaded planned put = ends at r asked loaded planned put
+
+-- ---- what failed
+
+or_false : (b : Bool) → (b || false) ≡ b
+or_false true = refl
+or_false false = refl
+
+-- no file failed until the last of three steps
+pub failed_after : (start first second last fault : Bool) → first ≡ (start || false) → second ≡ (first || false) → last ≡ (second || fault) → last ≡ (start || fault)
+failed_after start first second last fault a b c = c ∙ ap (λ (x : Bool). x || fault) (b ∙ (or_false first ∙ (a ∙ or_false start)))
 
 -- ---- what is left
 

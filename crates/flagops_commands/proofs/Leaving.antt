@@ -54,6 +54,7 @@ file_refusal (refusal.Note f) e = cc
 file_refusal (refusal.Price f) e = cc
 file_refusal (refusal.ReadFlags f) e = cc
 file_refusal (refusal.ReadBook f) e = cc
+file_refusal (refusal.ReadTally f) e = cc
 file_refusal refusal.FullBook e = cc
 file_refusal (refusal.ReadPlanned f) e = cc
 file_refusal (refusal.Verify f) e = cc

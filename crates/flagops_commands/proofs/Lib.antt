@@ -1,4 +1,5 @@
 pub mod AddedUp
+mod Asked
 pub mod Checked
 pub mod Driving
 mod Distinct
@@ -8,6 +9,7 @@ mod Keeping
 pub mod Leaving
 mod Noted
 pub mod Refusing
+mod Tallies
 mod Telling
 pub mod Uniting
 pub mod Valid

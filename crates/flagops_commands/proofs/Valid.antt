@@ -12,7 +12,8 @@ use Rattle.flagops_files.specs.declared.files.LoadFault.{LoadFault}
 use Rattle.std.proofs.Math.Nat.{mul-div_cancel_left, mul-mod_right}
 use Rattle.bucket_core.proofs.Refined.{total_weight-refinement}
 use Rattle.bucket_core.specs.Rule.{Entries, refinement, total_weight}
-use Rattle.book_core.specs.Book.{Contents, inputs_on}
+use Rattle.book_core.specs.Book.{Contents, Inputs, inputs_on}
+use Rattle.book_core.specs.Counts.{counts_of}
 use Rattle.flag_documents.specs.Document.{Definitions}
 use Rattle.price_core.specs.Limits.{Limits}
 use Rattle.price_core.specs.Request.{Asked, asked_of}
@@ -21,19 +22,26 @@ use Rattle.transport_instance.specs.Certificate.{DualPrices}
 use Rattle.plan_text.specs.declared.planned.Planned.{Planned}
 use Rattle.rollout_checks.specs.Lawful.{Place, Problem, and_then, by_price, factor, limits_for, place_of, problem_at, sized, weighed}
 use Rattle.rollout.specs.Planned.{IsPlanned}
+use Rattle.rollout.specs.Tallied.{IsTallyPlanned}
 use Rattle.rollout_checks.specs.Refined.{problem_checked, problem_refined}
+use Rattle.rollout_checks.specs.Tallied.{AreTallied, IsTallyOutcome, TallyProblem, tally_problem_of, with_inputs}
 use Rattle.rollout_checks.specs.Verified.{IsOutcome, Proves, refining_for}
+use Rattle.rollout_checks.specs.declared.refining.Refining.TheVariants.{Times}
+use Rattle.tally_core.specs.Tally.{PageTally}
+use Rattle.flagops_commands.proofs.Asked.{IsPlaced, are_tallied, asked_by_again, asked_is, placed}
 use Rattle.rollout_checks.specs.declared.fault.RolloutFault.{RolloutFault}
 use Rattle.rollout_checks.specs.declared.fault.RolloutFault.TheVariants.{NoWeight}
 use Rattle.rollout_checks.specs.declared.verify_fault.VerifyFault.{VerifyFault}
 use Rattle.rollout_checks.specs.declared.verify_fault.VerifyFault.TheVariants.{Request, Check}
 use Rattle.transport_instance.specs.declared.fault.CheckFault.TheVariants as check
-use Rattle.flagops_commands.specs.Plan.{Holds, IsPlanOf, MayBePlanned, ReadsBack, report_planned}
-use Rattle.flagops_commands.specs.Valid.{IsValid, IsValidPlan}
-use Rattle.flagops_commands.specs.Verify.{IsVerdict, told}
+use Rattle.flagops_commands.specs.Plan.{Holds, IsPlanOf, IsPlannedOn, MayBePlanned, ReadsBack, report_planned}
+use Rattle.flagops_commands.specs.Valid.{IsOfInputs, IsValid, IsValidPlan}
+use Rattle.flagops_commands.specs.Verify.{IsToldOn, IsVerdict, tally_problem_checked, told}
 use Rattle.flagops_files.specs.Files.{Holding, front_of}
 use Rattle.flagops_files.specs.Loading.{◌>>=◌, max_rule, refused_by}
 use Rattle.flagops_files.specs.PlanFile.{plan_at}
+use Rattle.flagops_files.specs.declared.evidence.Evidence.{Evidence}
+use Rattle.flagops_files.specs.declared.evidence.Evidence.TheVariants.{Book, Tally}
 use Rattle.flagops_files.specs.declared.refusal.Refusal.{Refusal}
 use Rattle.flagops_files.specs.declared.refusal.Refusal.TheVariants.{Load, ReadPlanned}
 use Rattle.flagops_files.specs.Question.{Question}
@@ -94,11 +102,27 @@ module _ (flags : Definitions) (book : Contents) (rule : Entries) (c : DualPrice
   at_request (Ok asked) h = at_place asked (place_of flags asked.flag asked.site) h
 
 -- what is checked of an answer is what it was planned for
-same_problem : (refine : Option ℕ) (answer : Answer) (q : Question) (p : Problem) → problem_refined (unwrap_or refine 1) q.flags q.request q.book ≡ Ok p → Proves p answer
-    → problem_checked refine answer q.flags q.request q.book ≡ Ok p
-same_problem (Some m) answer q p h proves = h
-same_problem None (none_exists kind names) q p h proves = h
-same_problem None (emit rule c) q p h proves = at_request q.flags q.book rule c p proves.fits.weight (by_price (asked_of q.request)) h
+module _ (flags : Definitions) (request : List ℕ) where
+  same_problem : (refine : Option ℕ) (answer : Answer) (book : Contents) (p : Problem) → problem_refined (unwrap_or refine 1) flags request book ≡ Ok p → Proves p answer
+      → problem_checked refine answer flags request book ≡ Ok p
+  same_problem (Some m) answer book p h proves = h
+  same_problem None (none_exists kind names) book p h proves = h
+  same_problem None (emit rule c) book p h proves = at_request flags book rule c p proves.fits.weight (by_price (asked_of request)) h
+
+  -- the same on a tally
+  factor_by : (rule : Entries) (c : DualPrices) (tally : PageTally) (p : TallyProblem) (is : IsPlaced (Times 1) flags request tally p) → total_weight rule ≡ total_weight p.old
+      → factor (refining_for (emit rule c)) (total_weight is.place.entries) ≡ 1
+  factor_by rule c tally p is same =
+      let asks = asked_is tally is.asked is.place (Times 1) p is.asks in
+      factor_again rule c 1 (total_weight is.place.entries) asks.some (same ∙ (ap total_weight asks.old ∙ total_weight-refinement 1 is.place.entries))
+
+  same_tally_problem : (refine : Option ℕ) (answer : Answer) (tally : PageTally) (p : TallyProblem) (inputs : Inputs) → tally_problem_of (Times (unwrap_or refine 1)) flags request tally ≡ Ok p
+      → Proves (with_inputs p inputs) answer → tally_problem_checked refine answer flags request tally ≡ Ok p
+  same_tally_problem (Some m) answer tally p inputs h proves = h
+  same_tally_problem None (none_exists kind names) tally p inputs h proves = h
+  same_tally_problem None (emit rule c) tally p inputs h proves =
+      let is = placed (Times 1) flags request tally p h in
+      asked_by_again (Times 1) (refining_for (emit rule c)) flags request tally p is (factor_by rule c tally p is proves.fits.weight)
 
 -- ---- what proves a problem is told as valid
 
@@ -114,6 +138,35 @@ told_valid b p answer (Err (Check check.Sum)) proves h = absurd (h.wrong (λ sam
 told_valid b p answer (Err (Check check.Cost)) proves h = absurd (h.wrong (λ same. cc) proves)
 told_valid b p answer (Err (Check check.NotDeficient)) proves h = absurd (h.wrong (λ same. cc) proves)
 told_valid b p answer (Err (Check check.Groups)) proves h = absurd (h.wrong (λ same. cc) proves)
+
+-- what is told of all inputs with these counts is told of some of them
+pub outcome_over : (p : TallyProblem) (inputs : Inputs) (answer : Answer) (verdict : Result (Unit {0}) VerifyFault) → AreTallied p inputs → IsTallyOutcome (Ok p) answer verdict → IsOutcome (Ok (with_inputs p inputs)) answer verdict
+outcome_over p inputs answer (Ok u) tallied h = h inputs tallied
+outcome_over p inputs answer (Err (Request e)) tallied h = h
+outcome_over p inputs answer (Err (Check e)) tallied h = h inputs tallied
+
+module _ (refine : Option ℕ) (flags : Definitions) (request : List ℕ) (answer : Planned) (b : Bool) (verdict : Result (Unit {0}) VerifyFault) where
+  book_right : (book : Contents) (r : Result Problem RolloutFault) → problem_refined (unwrap_or refine 1) flags request book ≡ r → IsPlanned r (Ok answer) → IsToldOn refine (planned_view answer) flags request (Book book) verdict
+      → IsValid (planned_view answer) (beside b (told (planned_view answer) verdict))
+  book_right book (Err f) e plan outcome = absurd plan
+  book_right book (Ok p) e plan outcome =
+      told_valid b p (planned_view answer) verdict plan.proves
+      (subst (λ (it : Result Problem RolloutFault). IsOutcome it (planned_view answer) verdict) (same_problem flags request refine (planned_view answer) book p e plan.proves) outcome)
+
+  tally_right : (tally : PageTally) (inputs : Inputs) → tally.counts ≡ counts_of inputs tally.total → (r : Result TallyProblem RolloutFault) → tally_problem_of (Times (unwrap_or refine 1)) flags request tally ≡ r
+      → IsTallyPlanned r (Ok answer) → IsToldOn refine (planned_view answer) flags request (Tally tally) verdict → IsValid (planned_view answer) (beside b (told (planned_view answer) verdict))
+  tally_right tally inputs of (Err f) e plan outcome = absurd plan
+  tally_right tally inputs of (Ok p) e plan outcome =
+      let tallied = are_tallied (Times (unwrap_or refine 1)) flags request tally p inputs e of in
+      let proves = (plan inputs tallied).proves in
+      told_valid b (with_inputs p inputs) (planned_view answer) verdict proves
+      (outcome_over p inputs (planned_view answer) verdict tallied
+      (subst (λ (it : Result TallyProblem RolloutFault). IsTallyOutcome it (planned_view answer) verdict) (same_tally_problem flags request refine (planned_view answer) tally p inputs e proves) outcome))
+
+  right_on : (evidence : Evidence) → IsOfInputs evidence → IsPlannedOn (unwrap_or refine 1) flags request evidence (Ok answer) → IsToldOn refine (planned_view answer) flags request evidence verdict
+      → IsValid (planned_view answer) (beside b (told (planned_view answer) verdict))
+  right_on (Book book) of plan outcome = book_right book (problem_refined (unwrap_or refine 1) flags request book) refl plan outcome
+  right_on (Tally tally) (inputs, of) plan outcome = tally_right tally inputs of (tally_problem_of (Times (unwrap_or refine 1)) flags request tally) refl plan outcome
 
 -- ---- a file of a text that reads as an answer
 
@@ -131,23 +184,18 @@ saved_plan at path text answer is holds =
     ap (λ (it : Result (List ℕ) LoadFault). refused_by Load it >>= λ bytes. refused_by ReadPlanned (answer_of bytes)) (loaded at path text is fits) ∙ ap (refused_by ReadPlanned) holds
 
 module _ (refine : Option ℕ) (q : Question) (report : Report) (p : Planned) where
-  valid_at : (problem : Result Problem RolloutFault) → problem_refined (unwrap_or refine 1) q.flags q.request q.book ≡ problem → IsPlanned problem (Ok p) → Holds (planned_view p) report.text → IsValidPlan refine q report.text
-  valid_at (Err f) e h holds = absurd h
-  valid_at (Ok problem) e h holds = record {
+  planned_valid : IsOfInputs q.evidence → MayBePlanned refine q (Ok p) → Holds (planned_view p) report.text → IsValidPlan refine q report.text
+  planned_valid of may holds = record {
     answer = planned_view p;
     holds = holds;
     valid = λ at path r is told_of.
         let verdict : IsVerdict refine (Ok q) (Ok (planned_view p)) r = subst (λ (it : Result Answer Refusal). IsVerdict refine (Ok q) it r) (saved_plan at path report.text (planned_view p) is holds) told_of in
-        let outcome = subst (λ (it : Result Problem RolloutFault). IsOutcome it (planned_view p) verdict.0) (same_problem refine (planned_view p) q problem e h.proves) verdict.1.told in
-        subst (IsValid (planned_view p)) (sym verdict.2) (told_valid (is_unrecorded q) problem (planned_view p) verdict.0 h.proves outcome);
+        subst (IsValid (planned_view p)) (sym verdict.2) (right_on refine q.flags q.request p (is_unrecorded q) verdict.0 q.evidence of may.answers verdict.1.told);
   }
 
-  planned_valid : MayBePlanned refine q (Ok p) → Holds (planned_view p) report.text → IsValidPlan refine q report.text
-  planned_valid may holds = valid_at (problem_refined (unwrap_or refine 1) q.flags q.request q.book) refl may.answers holds
-
-pub plans_are_valid : (refine : Option ℕ) (q : Question) (report : Report) → IsPlanOf refine (Ok q) (Ok report) → IsValidPlan refine q report.text
-plans_are_valid refine q report (planned, may, is, back) = go planned may is back
+pub plans_are_valid : (refine : Option ℕ) (q : Question) (report : Report) → IsOfInputs q.evidence → IsPlanOf refine (Ok q) (Ok report) → IsValidPlan refine q report.text
+plans_are_valid refine q report of (planned, may, is, back) = go planned may is back
   where
     go : (planned : Result Planned RolloutFault) → MayBePlanned refine q planned → Ok report ≡ beside (is_unrecorded q) (report_planned planned) → ReadsBack planned (Ok report) → IsValidPlan refine q report.text
     go (Err e) may is back = absurd (refused (sym is))
-    go (Ok p) may is back = planned_valid refine q report p may back
+    go (Ok p) may is back = planned_valid refine q report p of may back

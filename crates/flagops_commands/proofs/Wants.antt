@@ -27,6 +27,7 @@ may_want asked call.ReadFlags e = e
 may_want asked call.Check e = e
 may_want asked call.Resolve e = e
 may_want asked call.ReadBook e = e
+may_want asked call.ReadTally e = e
 may_want asked call.Book e = e
 may_want asked call.ReadPlanned e = e
 may_want asked call.Verify e = e

@@ -11,6 +11,7 @@ pub mod Plan
 pub mod Price
 pub mod Resolve
 pub mod Subjects
+pub mod Tallies
 pub mod Telling
 pub mod Totals
 pub mod Unite

@@ -2,15 +2,21 @@
 use Rattle.std.specs.Prelude.{◌≡◌, ℕ, false, List, unwrap_or, IfOk, Option, Result, Ok, Err}
 use Rattle.plan_text.specs.Answer.{Answer, emit, none_exists, IsOrdered, planned_view}
 use Rattle.plan_text.specs.PlanFile.{IsWhole, answer_of, plan_line}
+use Rattle.flag_documents.specs.Document.{Definitions}
 use Rattle.rollout.specs.Planned.{IsPlanned}
+use Rattle.rollout.specs.Tallied.{IsTallyPlanned}
 use Rattle.rollout_checks.specs.Refined.{problem_refined}
+use Rattle.rollout_checks.specs.Tallied.{tally_problem_of}
 use Rattle.rollout_checks.specs.declared.fault.RolloutFault.{RolloutFault}
+use Rattle.rollout_checks.specs.declared.refining.Refining.TheVariants.{Times}
 use Rattle.plan_text.specs.declared.planned.Planned.{Planned}
 use Rattle.flagops_files.specs.Files.{Holding}
 use Rattle.flagops_files.specs.Loading.{◌>>=◌, refused_by}
 use Rattle.flagops_files.specs.Question.{Question, IsQuestionAt}
 use Rattle.flagops_files.specs.Report.{Outcomes, Report, beside}
 use Rattle.flagops_commands.specs.Unrecorded.{is_unrecorded}
+use Rattle.flagops_files.specs.declared.evidence.Evidence.{Evidence}
+use Rattle.flagops_files.specs.declared.evidence.Evidence.TheVariants.{Book, Tally}
 use Rattle.flagops_files.specs.declared.refusal.Refusal.{Refusal}
 use Rattle.flagops_files.specs.declared.refusal.Refusal.TheVariants.{Plan, PrintPlanned}
 
@@ -27,10 +33,16 @@ plan_report answer = refused_by PrintPlanned (plan_line answer) >>= λ text. Ok 
 abbrev pub report_planned : Result Planned RolloutFault → Result Report Refusal
 report_planned planned = refused_by Plan planned >>= λ p. plan_report (planned_view p)
 
+-- What is planned on the rule refined by a factor, least over the recorded inputs: over those of a book, or over all inputs of
+-- which so many fall on each point as a tally says.
+abbrev pub IsPlannedOn : ℕ → Definitions → List ℕ → Evidence → Result Planned RolloutFault → Type 0
+IsPlannedOn m flags request (Book book) planned = IsPlanned (problem_refined m flags request book) planned
+IsPlannedOn m flags request (Tally tally) planned = IsTallyPlanned (tally_problem_of (Times m) flags request tally) planned
+
 -- what may be planned of a question, on the rule itself where no factor is given
 pub record MayBePlanned (refine : Option ℕ) (q : Question) (planned : Result Planned RolloutFault) : Type 0 where
   -- an answer to the request, or its first refusal
-  pub answers : IsPlanned (problem_refined (unwrap_or refine 1) q.flags q.request q.book) planned
+  pub answers : IsPlannedOn (unwrap_or refine 1) q.flags q.request q.evidence planned
   -- the rule is canonical, and groups and names rise strictly
   pub ordered : IfOk planned (λ p. IsOrdered (planned_view p))
   -- each number fits a plan file

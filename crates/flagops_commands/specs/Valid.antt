@@ -1,11 +1,15 @@
 -- What `verify` tells of what `plan` printed.
 use Rattle.std.specs.Prelude.{◌≡◌, ℕ, List, true, Option, Some, Result, Ok, Err}
+use Rattle.book_core.specs.Book.{Inputs}
+use Rattle.book_core.specs.Counts.{counts_of}
 use Rattle.plan_text.specs.Answer.{Answer}
 use Rattle.flagops_commands.specs.Plan.{Holds, IsPlanOf}
 use Rattle.flagops_commands.specs.Verify.{IsVerdict, valid_text}
 use Rattle.flagops_files.specs.Files.{Holding}
 use Rattle.flagops_files.specs.PlanFile.{plan_at}
 use Rattle.flagops_files.specs.Question.{Question}
+use Rattle.flagops_files.specs.declared.evidence.Evidence.{Evidence}
+use Rattle.flagops_files.specs.declared.evidence.Evidence.TheVariants.{Book, Tally}
 use Rattle.flagops_files.specs.Refusal.{is_want}
 use Rattle.flagops_files.specs.Report.{Outcomes, Report}
 use Rattle.flagops_files.specs.declared.refusal.Refusal.{Refusal}
@@ -21,6 +25,11 @@ pub record IsValidPlan (refine : Option ℕ) (q : Question) (text : List ℕ) : 
   pub holds : Holds answer text
   pub valid : (at : Holding) (path : List ℕ) (told : Result Report Refusal) → at path ≡ Some text → IsVerdict refine (Ok q) (plan_at at path) told → IsValid answer told
 
+-- it is the evidence of some inputs: a book is that of its own, and of a tally there are inputs of which so many fall on each point
+abbrev pub IsOfInputs : Evidence → Type 0
+IsOfInputs (Book book) = Unit {0}
+IsOfInputs (Tally tally) = (inputs : Inputs) × (tally.counts ≡ counts_of inputs tally.total)
+
 -- so it is with each report of `plan`, by the same factor
 abbrev pub PlansAreValid : Type 0
-PlansAreValid = (refine : Option ℕ) (q : Question) (report : Report) → IsPlanOf refine (Ok q) (Ok report) → IsValidPlan refine q report.text
+PlansAreValid = (refine : Option ℕ) (q : Question) (report : Report) → IsOfInputs q.evidence → IsPlanOf refine (Ok q) (Ok report) → IsValidPlan refine q report.text

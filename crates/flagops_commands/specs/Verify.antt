@@ -1,15 +1,22 @@
 -- What the command `verify` answers.
-use Rattle.std.specs.Prelude.{◌≡◌, ℕ, List, ◌++◌, codes, decimal, OnOk, Option, Result, Ok, Err}
+use Rattle.std.specs.Prelude.{◌≡◌, ℕ, List, ◌++◌, codes, decimal, OnOk, Option, Some, None, Result, Ok, Err}
+use Rattle.flag_documents.specs.Document.{Definitions}
 use Rattle.plan_text.specs.Answer.{Answer, emit, none_exists}
 use Rattle.rollout_checks.specs.Refined.{problem_checked}
-use Rattle.rollout_checks.specs.Verified.{IsOutcome, IsShown}
+use Rattle.rollout_checks.specs.Tallied.{IsTallyOutcome, IsTallyShown, TallyProblem, tally_problem_of}
+use Rattle.rollout_checks.specs.Verified.{IsOutcome, IsShown, refining_for}
+use Rattle.rollout_checks.specs.declared.fault.RolloutFault.{RolloutFault}
+use Rattle.rollout_checks.specs.declared.refining.Refining.TheVariants.{Times}
 use Rattle.rollout_checks.specs.declared.verify_fault.VerifyFault.{VerifyFault}
+use Rattle.tally_core.specs.Tally.{PageTally}
 use Rattle.flagops_files.specs.Files.{Holding}
 use Rattle.flagops_files.specs.Loading.{◌>>=◌, refused_by}
 use Rattle.flagops_files.specs.PlanFile.{plan_at}
 use Rattle.flagops_files.specs.Question.{Question, IsQuestionAt}
 use Rattle.flagops_files.specs.Report.{Outcomes, Report, beside, done}
 use Rattle.flagops_commands.specs.Unrecorded.{is_unrecorded}
+use Rattle.flagops_files.specs.declared.evidence.Evidence.{Evidence}
+use Rattle.flagops_files.specs.declared.evidence.Evidence.TheVariants.{Book, Tally}
 use Rattle.flagops_files.specs.declared.refusal.Refusal.{Refusal}
 use Rattle.flagops_files.specs.declared.refusal.Refusal.TheVariants.{Verify}
 
@@ -22,12 +29,27 @@ valid_text (none_exists kind names) = codes "valid none\n"
 abbrev pub told : Answer → Result (Unit {0}) VerifyFault → Result Report Refusal
 told answer verdict = refused_by Verify verdict >>= λ _. done (valid_text answer)
 
+-- what an answer is checked against on a tally: the rule refined as on a book
+abbrev pub tally_problem_checked : Option ℕ → Answer → Definitions → List ℕ → PageTally → Result TallyProblem RolloutFault
+tally_problem_checked None answer = tally_problem_of (refining_for answer)
+tally_problem_checked (Some m) answer = tally_problem_of (Times m)
+
+-- what is told of an answer, over the inputs of a book, or over all inputs of which so many fall on each point as a tally says
+abbrev pub IsToldOn : Option ℕ → Answer → Definitions → List ℕ → Evidence → Result (Unit {0}) VerifyFault → Type 0
+IsToldOn refine answer flags request (Book book) verdict = IsOutcome (problem_checked refine answer flags request book) answer verdict
+IsToldOn refine answer flags request (Tally tally) verdict = IsTallyOutcome (tally_problem_checked refine answer flags request tally) answer verdict
+
+-- what then holds of an answer that is right, over the same inputs
+abbrev pub IsShownOn : Option ℕ → Answer → Definitions → List ℕ → Evidence → Type 0
+IsShownOn refine answer flags request (Book book) = IsShown (problem_checked refine answer flags request book) answer
+IsShownOn refine answer flags request (Tally tally) = IsTallyShown (tally_problem_checked refine answer flags request tally) answer
+
 -- what may be told of an answer to a question
 pub record MayBeTold (refine : Option ℕ) (q : Question) (answer : Answer) (verdict : Result (Unit {0}) VerifyFault) : Type 0 where
   -- that it is right, or the first refusal of the request or of the check
-  pub told : IsOutcome (problem_checked refine answer q.flags q.request q.book) answer verdict
+  pub told : IsToldOn refine answer q.flags q.request q.evidence verdict
   -- and where it is right, its rule costs the recorded inputs the least of all that fit, or no rule fits
-  pub shown : OnOk verdict (IsShown (problem_checked refine answer q.flags q.request q.book) answer)
+  pub shown : OnOk verdict (IsShownOn refine answer q.flags q.request q.evidence)
 
 -- its report; the answer is asked for where there is a question
 abbrev pub IsVerdict : Option ℕ → Result Question Refusal → Result Answer Refusal → Outcomes

@@ -1,8 +1,20 @@
 //! What the definitions of the commands amount to.
+ghost use Rattle.flagops_commands.specs.Tallies.{TalliesPlanAsBooks, TalliesTellAsBooks};
 ghost use Rattle.flagops_commands.specs.Valid.{PlansAreValid};
 
+use rollout::tallies_plan_as_books;
+
 /// What `plan` prints is a plan file, its line end included, and of each file of these bytes `verify` tells that its answer is
-/// valid, by the same factor. A law: it computes nothing.
+/// valid, by the same factor: on a book, and on a tally that some inputs have. A law: it computes nothing.
 pub fn printed_plans_are_valid()
     ensures { PlansAreValid }
 {}
+
+/// On a book and on the tally of a page of it `plan` may report the same, and what `verify` tells on the tally it may tell on
+/// the book, unless the tally is refused as that of another page or total than the request's. A law: it computes nothing.
+pub fn tallies_answer_as_books()
+    ensures plans { TalliesPlanAsBooks }
+    ensures verdicts { TalliesTellAsBooks }
+{
+    tallies_plan_as_books();
+}

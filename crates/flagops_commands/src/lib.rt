@@ -16,7 +16,8 @@
 //!
 //! Proved of [`run`]: where the words ask for a command, the bytes on the output are the report of that command's definition
 //! (`specs/Commands.antt`) over the files, or a front of it with status 1 where the output failed, or the line for want of
-//! memory. A command has a definition of its own in `specs/`. What a person is told of a refusal begins with the path or the
+//! memory. A command has a definition of its own in `specs/`; `plan` and `verify` answer on a tally as on the book whose inputs
+//! it counts ([`tallies_answer_as_books`]). What a person is told of a refusal begins with the path or the
 //! word that was refused (`specs/Subjects.antt`).
 #![tactic(auto)]
 
@@ -29,5 +30,6 @@ mod program;
 mod rollouts;
 mod rules;
 
-pub use laws::printed_plans_are_valid;
+pub use laws::{printed_plans_are_valid, tallies_answer_as_books};
 pub use program::{complain, explain, run};
+pub use rollouts::plan::answer as plan_answer;

@@ -3,6 +3,9 @@ use Rattle.std.specs.Prelude.{ℕ, List, codes}
 use Rattle.kept_document.specs.declared.fault.KeepFault.{KeepFault}
 use Rattle.kept_document.specs.declared.fault.KeepFault.TheVariants.{WantOfMemory, Shared, TooLong, Differs}
 use Rattle.rollout_checks.specs.VerifyFault as verdicts
+use Rattle.rollout_checks.specs.declared.fault.RolloutFault.TheVariants.{OtherTally}
+use Rattle.rollout_checks.specs.declared.verify_fault.VerifyFault.{VerifyFault}
+use Rattle.rollout_checks.specs.declared.verify_fault.VerifyFault.TheVariants.{Request}
 use Rattle.flagops_files.specs.declared.keeping.KeepRefusal.{KeepRefusal}
 use Rattle.flagops_files.specs.declared.keeping.KeepRefusal.TheVariants.{Verify, Document}
 
@@ -19,9 +22,14 @@ fault_name Shared = codes "Shared"
 fault_name TooLong = codes "TooLong"
 fault_name Differs = codes "Differs"
 
+-- that of another tally stands behind them, since `Shared` has the one that `verify` gives it
+abbrev pub verdict_number : VerifyFault → ℕ
+verdict_number (Request OtherTally) = 14
+verdict_number e = verdicts.number_of e
+
 -- an answer that is not right has those of `verify`
 abbrev pub number_of : KeepRefusal → ℕ
-number_of (Verify e) = verdicts.number_of e
+number_of (Verify e) = verdict_number e
 number_of (Document e) = fault_number e
 
 abbrev pub name_of : KeepRefusal → List ℕ

@@ -1,4 +1,5 @@
 pub mod Documents
+pub mod Evidence
 pub mod Files
 pub mod Keeping
 pub mod Loading
@@ -7,4 +8,5 @@ pub mod PlanFile
 pub mod Question
 pub mod Refusal
 pub mod Report
+pub mod Tallies
 pub mod Told

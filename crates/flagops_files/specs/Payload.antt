@@ -11,6 +11,8 @@ use Rattle.rollout_checks.specs.declared.verify_fault.VerifyFault.{VerifyFault}
 use Rattle.rollout_checks.specs.declared.verify_fault.VerifyFault.TheVariants.{Request, Check}
 use Rattle.flagops_files.specs.declared.keeping.KeepRefusal.{KeepRefusal}
 use Rattle.flagops_files.specs.declared.keeping.KeepRefusal.TheVariants as keeping
+use Rattle.tally_text.specs.declared.fault.TallyFileFault.{TallyFileFault}
+use Rattle.tally_text.specs.declared.fault.TallyFileFault.TheVariants as tally
 use Rattle.transport_instance.specs.declared.fault.CheckFault.{CheckFault}
 use Rattle.transport_instance.specs.declared.fault.CheckFault.TheVariants as check
 
@@ -33,6 +35,12 @@ file_items (book.Order n) = number_item n
 file_items (book.InputTooLong n) = number_item n
 file_items (book.PageFull n) = number_item n
 file_items e = []
+
+-- the line of a tally at fault
+abbrev pub tally_items : TallyFileFault → List ℕ
+tally_items (tally.Line n) = number_item n
+tally_items (tally.Order n) = number_item n
+tally_items e = []
 
 -- the fault of the request
 abbrev pub rollout_items : RolloutFault → List ℕ

@@ -5,23 +5,35 @@ use Rattle.book_core.specs.Reading.{book_of}
 use Rattle.flag_documents.specs.Document.{Definitions}
 use Rattle.flag_defs.specs.Flags.{flags_view}
 use Rattle.flagops_files.specs.Documents.{IsDocumentAt}
+use Rattle.flagops_files.specs.Evidence.{IsEvidenceOf}
 use Rattle.flagops_files.specs.Files.{Holding, load_of}
 use Rattle.flagops_files.specs.Loading.{◌>>=◌, max_text, refused_by}
-use Rattle.flagops_files.specs.Refusal.{loads_book, loads_file, loads_flags}
+use Rattle.flagops_files.specs.Refusal.{loads_book, loads_evidence, loads_file, loads_flags}
 use Rattle.flagops_files.specs.Told.{Subjects, by, file}
+use Rattle.flagops_files.specs.declared.book_question.BookQuestion as program_book
+use Rattle.flagops_files.specs.declared.evidence.Evidence.{Evidence}
 use Rattle.flagops_files.specs.declared.question.Question as program
 use Rattle.flagops_files.specs.declared.refusal.Refusal.{Refusal}
 use Rattle.flagops_files.specs.declared.refusal.Refusal.TheVariants.{Load, LongBook, ReadBook}
 
--- the flags, the bytes of the request, and the contents of the book
+-- the flags, the bytes of the request, and the book or the tally of what was recorded
 pub record Question : Type 0 where
+  pub flags : Definitions
+  pub request : List ℕ
+  pub evidence : Evidence
+
+-- the same, without where it lies in memory
+abbrev pub question_view : program.Question → Question
+question_view q = record { flags = flags_view q.flags; request = q.request.items; evidence = q.evidence }
+
+-- the same over a book
+pub record BookQuestion : Type 0 where
   pub flags : Definitions
   pub request : List ℕ
   pub book : Contents
 
--- the same, without where it lies in memory
-abbrev pub question_view : program.Question → Question
-question_view q = record { flags = flags_view q.flags; request = q.request.items; book = q.book }
+abbrev pub book_question_view : program_book.BookQuestion → BookQuestion
+book_question_view q = record { flags = flags_view q.flags; request = q.request.items; book = q.book }
 
 -- the largest book file, in bytes
 abbrev pub max_book : ℕ
@@ -43,9 +55,27 @@ book_at at path = do
   whole ← book_bytes_at at path
   refused_by ReadBook (book_of whole)
 
+-- what the file at a path records, or why it is neither a book nor a tally
+unfoldable pub IsEvidenceAt : Holding → List ℕ → Result Evidence Refusal → Type 0
+IsEvidenceAt at path r = IsEvidenceOf (book_bytes_at at path) r
+
+-- with what was recorded, or its refusal
+abbrev pub question_of : Definitions → List ℕ → Result Evidence Refusal → Result Question Refusal
+question_of flags request evidence = evidence >>= λ e. Ok (record { flags = flags; request = request; evidence = e })
+
+-- the question over these flags and a request, where it was loaded: then what was recorded is
+abbrev pub IsQuestionWith : Holding → Definitions → Result (List ℕ) Refusal → List ℕ → Result Question Refusal → Type 0
+IsQuestionWith at flags (Err e) evidence r = r ≡ Err e
+IsQuestionWith at flags (Ok request) evidence r = (recorded : Result Evidence Refusal) × IsEvidenceAt at evidence recorded × (r ≡ question_of flags request recorded)
+
+-- the question over these flags, where there are any: then the request is loaded
+abbrev pub IsQuestionOver : Holding → Result Definitions Refusal → List ℕ → List ℕ → Result Question Refusal → Type 0
+IsQuestionOver at (Err e) request evidence r = r ≡ Err e
+IsQuestionOver at (Ok flags) request evidence r = IsQuestionWith at flags (refused_by Load (load_of at request max_text)) evidence r
+
 -- the question over these flags: the request is loaded and then the book loaded and read
-abbrev pub question_over : Holding → Result Definitions Refusal → List ℕ → List ℕ → Result Question Refusal
-question_over at document request book = do
+abbrev pub book_question_over : Holding → Result Definitions Refusal → List ℕ → List ℕ → Result BookQuestion Refusal
+book_question_over at document request book = do
   flags ← document
   bytes ← refused_by Load (load_of at request max_text)
   contents ← book_at at book
@@ -53,8 +83,16 @@ question_over at document request book = do
 
 -- the files of a question, each with the refusals that are of it
 abbrev pub question_subjects : List ℕ → List ℕ → List ℕ → Subjects
-question_subjects document request book = (file document, by loads_flags) ∷ (file request, by loads_file) ∷ (file book, by loads_book) ∷ []
+question_subjects document request evidence = (file document, by loads_flags) ∷ (file request, by loads_file) ∷ (file evidence, by loads_evidence) ∷ []
+
+-- the same over a book
+abbrev pub book_question_subjects : List ℕ → List ℕ → List ℕ → Subjects
+book_question_subjects document request book = (file document, by loads_flags) ∷ (file request, by loads_file) ∷ (file book, by loads_book) ∷ []
 
 -- the question of the files at these paths, or why there is none
 unfoldable pub IsQuestionAt : Holding → List ℕ → List ℕ → List ℕ → Result Question Refusal → Type 0
-IsQuestionAt at path request book r = (document : Result Definitions Refusal) × IsDocumentAt at path document × (r ≡ question_over at document request book)
+IsQuestionAt at path request evidence r = (document : Result Definitions Refusal) × IsDocumentAt at path document × IsQuestionOver at document request evidence r
+
+-- the same over a book
+unfoldable pub IsBookQuestionAt : Holding → List ℕ → List ℕ → List ℕ → Result BookQuestion Refusal → Type 0
+IsBookQuestionAt at path request book r = (document : Result Definitions Refusal) × IsDocumentAt at path document × (r ≡ book_question_over at document request book)

@@ -11,14 +11,15 @@ use Rattle.rollout_checks.specs.VerifyFault as verdicts
 use Rattle.flagops_drive.specs.Fault as drives
 use Rattle.flagops_files.specs.Files.{load_number, load_name, store_number, store_name}
 use Rattle.flagops_files.specs.Keeping as keeping
-use Rattle.flagops_files.specs.Payload.{file_items, keep_items, rollout_items, verify_items}
+use Rattle.flagops_files.specs.Payload.{file_items, keep_items, rollout_items, tally_items, verify_items}
+use Rattle.flagops_files.specs.Tallies as tallies
 use Rattle.flagops_files.specs.declared.files.LoadFault.TheVariants.{Unreadable}
 use Rattle.flagops_files.specs.declared.files.StoreFault.TheVariants.{Unwritable}
 use Rattle.flagops_files.specs.declared.refusal.Call.{Call}
 use Rattle.flagops_files.specs.declared.refusal.Call.TheVariants as call
 use Rattle.flagops_files.specs.declared.refusal.Refusal.{Refusal}
 use Rattle.flagops_files.specs.declared.refused.Refused.{Refused}
-use Rattle.flagops_files.specs.declared.refusal.Refusal.TheVariants.{WantOfMemory, Load, LongBook, ReadTree, ReadRule, ReadRequest, Note, Price, ReadFlags, ReadBook, FullBook, ReadPlanned, Verify, Apply, Keep, Plan, PrintPlanned, Drive, Store}
+use Rattle.flagops_files.specs.declared.refusal.Refusal.TheVariants.{WantOfMemory, Load, LongBook, ReadTree, ReadRule, ReadRequest, Note, Price, ReadFlags, ReadBook, ReadTally, FullBook, ReadPlanned, Verify, Apply, Keep, Plan, PrintPlanned, Drive, Store}
 use Rattle.flagops_files.specs.declared.refusal.PriceMismatch.{PriceMismatch}
 use Rattle.flagops_files.specs.declared.refusal.PriceMismatch.TheVariants.{Weight, BadKeys}
 
@@ -35,6 +36,7 @@ call_name call.ReadFlags = codes "read_flags"
 call_name call.Check = codes "check"
 call_name call.Resolve = codes "resolve"
 call_name call.ReadBook = codes "read_book"
+call_name call.ReadTally = codes "read_tally"
 call_name call.Book = codes "book"
 call_name call.ReadPlanned = codes "read_planned"
 call_name call.Verify = codes "verify"
@@ -77,10 +79,20 @@ loads_book call.Load = true
 loads_book call.ReadBook = true
 loads_book c = false
 
--- the calls that loading what a rollout is asked over makes
+-- the calls that loading what was recorded makes
+abbrev pub loads_evidence : Call → Bool
+loads_evidence call.ReadTally = true
+loads_evidence c = loads_book c
+
+-- the calls that loading what a rollout is asked over makes, where it is a book
+abbrev pub loads_book_question : Call → Bool
+loads_book_question call.ReadBook = true
+loads_book_question c = loads_flags c
+
+-- the same, where it may be a tally
 abbrev pub loads_question : Call → Bool
-loads_question call.ReadBook = true
-loads_question c = loads_flags c
+loads_question call.ReadTally = true
+loads_question c = loads_book_question c
 
 -- the calls that loading a plan file makes
 abbrev pub loads_plan : Call → Bool
@@ -100,6 +112,7 @@ call_of (Note e) = call.Note
 call_of (Price e) = call.Price
 call_of (ReadFlags e) = call.ReadFlags
 call_of (ReadBook e) = call.ReadBook
+call_of (ReadTally e) = call.ReadTally
 call_of FullBook = call.Book
 call_of (ReadPlanned e) = call.ReadPlanned
 call_of (Verify e) = call.Verify
@@ -131,6 +144,7 @@ number_of (Note e) = books.number_of e
 number_of (Price e) = mismatch_number e
 number_of (ReadFlags e) = documents.number_of e
 number_of (ReadBook e) = books.file_number_of e
+number_of (ReadTally e) = tallies.number_of e
 number_of FullBook = 2
 number_of (ReadPlanned e) = plan_files.number_of e
 number_of (Verify e) = verdicts.number_of e
@@ -152,6 +166,7 @@ name_of (Note e) = books.name_of e
 name_of (Price e) = mismatch_name e
 name_of (ReadFlags e) = documents.name_of e
 name_of (ReadBook e) = books.file_name_of e
+name_of (ReadTally e) = tallies.name_of e
 name_of FullBook = codes "PageFull"
 name_of (ReadPlanned e) = plan_files.name_of e
 name_of (Verify e) = verdicts.name_of e
@@ -165,6 +180,7 @@ name_of (Store e) = store_name e
 -- what a fault says beyond its name, each item behind a blank
 abbrev pub payload_of : Refusal → List ℕ
 payload_of (ReadBook e) = file_items e
+payload_of (ReadTally e) = tally_items e
 payload_of (Verify e) = verify_items e
 payload_of (Apply e) = rollout_items e
 payload_of (Keep e) = keep_items e

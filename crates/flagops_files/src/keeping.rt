@@ -1,9 +1,9 @@
 //! Why the command `apply --keep` refuses what it read.
 ghost use Rattle.std.specs.Prelude.{◌≡◌};
-ghost use Rattle.flagops_files.specs.Keeping.{fault_name, fault_number, name_of, number_of};
+ghost use Rattle.flagops_files.specs.Keeping.{fault_name, fault_number, name_of, number_of, verdict_number};
 
 use kept_document::KeepFault;
-use rollout_checks::VerifyFault;
+use rollout_checks::{RolloutFault, VerifyFault};
 
 /// Why the rule of a plan file is not put into a document.
 #[derive(Debug, Drop)]
@@ -20,7 +20,7 @@ impl KeepRefusal {
         ensures { result ≡ number_of self.now }
     {
         match self {
-            KeepRefusal::Verify(fault) => fault.number(),
+            KeepRefusal::Verify(fault) => verdict_number(fault),
             KeepRefusal::Document(fault) => fault_number(*fault),
         }
     }
@@ -33,6 +33,16 @@ impl KeepRefusal {
             KeepRefusal::Verify(fault) => fault.name(),
             KeepRefusal::Document(fault) => fault_name(*fault),
         }
+    }
+}
+
+/// That of another tally stands behind those of a document, of which `Shared` has its own number 11.
+fn verdict_number(fault: &VerifyFault) -> u32
+    ensures { result ≡ verdict_number fault.now }
+{
+    match fault {
+        VerifyFault::Request(RolloutFault::OtherTally) => 14,
+        _ => fault.number(),
     }
 }
 

@@ -1,7 +1,8 @@
 //! The files that the program reads, and the bytes that it writes.
 //!
 //! - [`FileSet`] is what a command sees of files; [`SystemFiles`] are those of the system. The functions `load_..` go from a
-//!   path to what the file stands for: a tree, a rule, a flag document, a plan file, or the [`Question`] of a rollout.
+//!   path to what the file stands for: a tree, a rule, a flag document, a plan file, or the [`Question`] of a rollout, whose
+//!   [`Evidence`] is a book or a tally by the file's first line.
 //!   [`store`] replaces a file whole: where it is refused, the files are as they were.
 //! - A [`Refusal`] is the fault of one of the calls that a command makes. [`Refusal::line`] is the line that it is written as;
 //!   a [`Refused`] has it with the [`Remark`] that a person is told.
@@ -25,8 +26,10 @@
 //! told where there is one, whatever becomes of the output, and changes neither text nor status.
 #![tactic(auto)]
 
+mod book_question;
 mod books;
 mod documents;
+mod evidence;
 mod files;
 mod keeping;
 mod loading;
@@ -41,9 +44,12 @@ mod replacing;
 mod reports;
 mod storing;
 mod system_files;
+mod tallies;
 
+pub use book_question::{BookQuestion, load_book_question};
 pub use books::load_book;
 pub use documents::{Document, load_document, load_flags};
+pub use evidence::Evidence;
 pub use files::{FileSet, LoadFault, StoreFault};
 pub use keeping::KeepRefusal;
 pub use loading::{TEXT_LIMIT, load, load_rule, load_tree};

@@ -1,6 +1,6 @@
 //! What the line of a refusal says beyond the name of its fault.
 ghost use Rattle.std.specs.Prelude.{◌≡◌, IfOk, string_bytes};
-ghost use Rattle.flagops_files.specs.Payload.{check_items, fault_items, file_items, number_item, pair_items, rollout_items};
+ghost use Rattle.flagops_files.specs.Payload.{check_items, fault_items, file_items, number_item, pair_items, rollout_items, tally_items};
 ghost use Rattle.flagops_files.specs.Refusal.{payload_of};
 
 use crate::keeping::KeepRefusal;
@@ -9,6 +9,7 @@ use crate::refusal::Refusal;
 use book_core::BookFileFault;
 use rollout_checks::{RolloutFault, VerifyFault};
 use std::alloc::{AllocError, Global};
+use tally_text::TallyFileFault;
 use transport_instance::CheckFault;
 
 /// The items of a refusal's payload, a blank before each: numbers in decimal, names as JSON texts.
@@ -17,6 +18,7 @@ pub fn payload(alloc: Global, refusal: &Refusal) -> Result<String, AllocError>
 {
     match refusal {
         Refusal::ReadBook(fault) => file_items(alloc, fault),
+        Refusal::ReadTally(fault) => tally_items(alloc, fault),
         Refusal::Verify(VerifyFault::Request(fault))
         | Refusal::Keep(KeepRefusal::Verify(VerifyFault::Request(fault)))
         | Refusal::Apply(fault)
@@ -38,6 +40,16 @@ fn file_items(alloc: Global, fault: &BookFileFault) -> Result<String, AllocError
         | BookFileFault::Order(n)
         | BookFileFault::InputTooLong(n)
         | BookFileFault::PageFull(n) => number_item(alloc, *n),
+        _ => Ok(String::new(alloc)),
+    }
+}
+
+/// The line of a tally at fault.
+fn tally_items(alloc: Global, fault: &TallyFileFault) -> Result<String, AllocError>
+    ensures { IfOk result (λ s. string_bytes s ≡ tally_items fault.now) }
+{
+    match fault {
+        TallyFileFault::Line(n) | TallyFileFault::Order(n) => number_item(alloc, u64::from(*n)),
         _ => Ok(String::new(alloc)),
     }
 }

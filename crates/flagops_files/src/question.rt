@@ -1,36 +1,32 @@
-//! What a rollout is asked over: the flags, a request, and the inputs that were recorded.
+//! What a rollout is asked over: the flags, a request, and what was recorded.
 ghost use Rattle.std.specs.Prelude.{◌≡◌, ◌<◌, ◌||◌, IfOk, IfSome, Ok};
 ghost use Rattle.flagops_files.specs.Files.{load_of};
 ghost use Rattle.flagops_files.specs.Loading.{max_text};
-ghost use Rattle.flagops_files.specs.Question.{IsQuestionAt, book_at, question_subjects, question_view};
-ghost use Rattle.flagops_files.specs.Refusal.{ComesFrom, GivesOne, GivesUnlessWant, is_file_fault, loads_book, loads_question};
-ghost use Rattle.flagops_files.specs.Told.{TellsOf, TellsOfOne, file};
+ghost use Rattle.flagops_files.specs.Question.{IsQuestionAt, question_subjects, question_view};
+ghost use Rattle.flagops_files.specs.Refusal.{ComesFrom, GivesOne, is_file_fault, loads_question};
+ghost use Rattle.flagops_files.specs.Told.{TellsOfOne};
 
-use crate::books::load_book_bytes;
 use crate::documents::{Document, load_document};
+use crate::evidence::{Evidence, load_evidence};
 use crate::files::FileSet;
 use crate::loading::{TEXT_LIMIT, load};
-use crate::refusal::Refusal;
-use crate::refused::{Refused, Remark};
+use crate::refused::Refused;
 use flag_defs::Flags;
-use flagops_remarks::of_book;
-use page_tally::BookFile;
-use rollout_checks::{Refining, read_book_for};
 use std::alloc::Global;
 use std::thread::Threads;
 
 /// The bytes of a document and its flags, the bytes of a request, which are read only by the call that takes them, and the
-/// book.
+/// book or the tally of what was recorded.
 #[derive(Drop)]
 pub struct Question {
     pub document: Vec<u8>,
     pub flags: Flags,
     pub request: Vec<u8>,
-    pub book: BookFile,
+    pub evidence: Evidence,
 }
 
 /// The question of the files at these paths, each loaded and read before the next. The inputs that the request is about are
-/// counted while the book is read, for the site's rule with each weight multiplied by the factor. The condition is a factor
+/// counted while a book is read, for the site's rule with each weight multiplied by the factor. The condition is a factor
 /// from 1.
 #[tactic(auto, unfolding(crate::specs::Question::IsQuestionAt))]
 pub fn load_question<R: Threads, F: FileSet>(
@@ -39,52 +35,32 @@ pub fn load_question<R: Threads, F: FileSet>(
     files: &mut F,
     document: &str,
     request: &str,
-    book: &str,
+    evidence: &str,
     factor: u32,
 ) -> Result<Question, Refused>
     requires { 0 < factor }
-    ensures exact { IfSome (F.holding files.old) (λ at. GivesOne question_view result (IsQuestionAt at document.now request.now book.now)) }
+    ensures exact { IfSome (F.holding files.old) (λ at. GivesOne question_view result (IsQuestionAt at document.now request.now evidence.now)) }
     ensures bytes { IfSome (F.holding files.old) (λ at. IfOk result (λ q. load_of at document.now max_text ≡ Ok q.document.items)) }
     ensures calls { ComesFrom loads_question result }
     ensures failed { F.has_failed files.new ≡ (F.has_failed files.old || is_file_fault result) }
     ensures kept { F.holding files.new ≡ F.holding files.old }
-    ensures names { TellsOfOne (question_subjects document.now request.now book.now) result }
+    ensures names { TellsOfOne (question_subjects document.now request.now evidence.now) result }
 {
     let Document { bytes, flags } = load_document(alloc, files, document)?;
     let request = load(alloc, files, request, u64::from(TEXT_LIMIT))?;
-    let book = load_book_for(rt, alloc, files, &flags, request.as_slice(), factor, book)?;
+    let evidence = load_evidence(
+        rt,
+        alloc,
+        files,
+        &flags,
+        request.as_slice(),
+        factor,
+        evidence,
+    )?;
     Ok(Question {
         document: bytes,
         flags,
         request,
-        book,
+        evidence,
     })
-}
-
-/// The book of the file at a path, read for a request.
-#[tactic(auto, using(crate::proofs::Told::says), unfolding(crate::specs::Question::book_at))]
-fn load_book_for<R: Threads, F: FileSet>(
-    rt: &R,
-    alloc: Global,
-    files: &mut F,
-    flags: &Flags,
-    request: &[u8],
-    factor: u32,
-    path: &str,
-) -> Result<BookFile, Refused>
-    requires { 0 < factor }
-    ensures exact { IfSome (F.holding files.old) (λ at. GivesUnlessWant (λ b. b) result (book_at at path.now)) }
-    ensures calls { ComesFrom loads_book result }
-    ensures failed { F.has_failed files.new ≡ (F.has_failed files.old || is_file_fault result) }
-    ensures kept { F.holding files.new ≡ F.holding files.old }
-    ensures names { TellsOf (file path.now) result }
-{
-    let bytes = load_book_bytes(alloc, files, path)?;
-    match read_book_for(rt, alloc, Refining::Times(factor), flags, request, bytes) {
-        Ok(book) => Ok(book),
-        Err(fault) => Err(Refused {
-            refusal: Refusal::ReadBook(fault),
-            remark: Remark::of(of_book(alloc, path, fault)),
-        }),
-    }
 }

@@ -5,6 +5,7 @@ ghost use Rattle.flagops_files.specs.Refusal.{call_of, call_name, is_want, numbe
 use crate::files::{LoadFault, StoreFault};
 use crate::keeping::KeepRefusal;
 use crate::payload::payload;
+use crate::tallies::name_of_tally_fault;
 use book_core::{BookFault, BookFileFault};
 use bucket_core::RuleFault;
 use flag_defs::DefFault;
@@ -14,6 +15,7 @@ use plan_text::PlanFileFault;
 use price_core::PriceFault;
 use rollout_checks::{RolloutFault, VerifyFault};
 use std::alloc::{AllocError, Global};
+use tally_text::TallyFileFault;
 
 /// A call that can refuse, by the name that a refusal's line has.
 #[derive(Clone, Copy, Debug)]
@@ -42,6 +44,8 @@ pub enum Call {
     Resolve,
     /// `book_core::read_book`.
     ReadBook,
+    /// `tally_text::read_tally`.
+    ReadTally,
     /// The command `book` itself.
     Book,
     /// `plan_text::read_planned`.
@@ -78,6 +82,7 @@ impl Call {
             Call::Check => "check",
             Call::Resolve => "resolve",
             Call::ReadBook => "read_book",
+            Call::ReadTally => "read_tally",
             Call::Book => "book",
             Call::ReadPlanned => "read_planned",
             Call::Verify => "verify",
@@ -141,6 +146,8 @@ pub enum Refusal {
     ReadFlags(DefFault),
     /// Bytes are no book.
     ReadBook(BookFileFault),
+    /// Bytes that begin as the file of a tally are none.
+    ReadTally(TallyFileFault),
     /// Books have more than 1000000 inputs of a page together.
     FullBook,
     /// Bytes are no plan file.
@@ -176,6 +183,7 @@ impl Refusal {
             Refusal::Price(_) => Call::Price,
             Refusal::ReadFlags(_) => Call::ReadFlags,
             Refusal::ReadBook(_) => Call::ReadBook,
+            Refusal::ReadTally(_) => Call::ReadTally,
             Refusal::FullBook => Call::Book,
             Refusal::ReadPlanned(_) => Call::ReadPlanned,
             Refusal::Verify(_) => Call::Verify,
@@ -202,6 +210,7 @@ impl Refusal {
             Refusal::Price(fault) => fault.number(),
             Refusal::ReadFlags(fault) => fault.number(),
             Refusal::ReadBook(fault) => fault.number(),
+            Refusal::ReadTally(fault) => fault.number(),
             Refusal::FullBook => 2,
             Refusal::ReadPlanned(fault) => fault.number(),
             Refusal::Verify(fault) => fault.number(),
@@ -229,6 +238,7 @@ impl Refusal {
             Refusal::Price(fault) => fault.name(),
             Refusal::ReadFlags(fault) => fault.name(),
             Refusal::ReadBook(fault) => fault.name(),
+            Refusal::ReadTally(fault) => name_of_tally_fault(*fault),
             Refusal::FullBook => "PageFull",
             Refusal::ReadPlanned(fault) => fault.name(),
             Refusal::Verify(fault) => fault.name(),

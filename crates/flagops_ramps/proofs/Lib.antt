@@ -1,4 +1,5 @@
-mod Ending
+mod Applied
+pub mod Ending
 mod Loaded
 pub mod Matched
 mod Stepped

@@ -3,10 +3,10 @@ use Rattle.std.proofs.Common.{◌≡◌, false, ℕ, List, Vec, Global, Option, 
 use Rattle.std.specs.Prelude.{IfSome}
 use Rattle.flagops_files.specs.Files.{Holding, load_of}
 use Rattle.flagops_files.specs.Loading.{max_rule, refused_by}
-use Rattle.flagops_files.specs.Question.{IsQuestionAt, question_view}
+use Rattle.flagops_files.specs.Question.{IsBookQuestionAt, book_question_view}
 use Rattle.flagops_files.specs.Refusal as files
 use Rattle.flagops_files.specs.declared.outcome.Outcome.{Outcome}
-use Rattle.flagops_files.specs.declared.question.Question.{Question}
+use Rattle.flagops_files.specs.declared.book_question.BookQuestion.{BookQuestion}
 use Rattle.flagops_files.specs.declared.refusal.Refusal.TheVariants.{Load as Unread}
 use Rattle.flagops_files.specs.declared.refused.Refused.{Refused}
 use Rattle.plan_text.specs.Answer.{Answer}
@@ -25,21 +25,21 @@ not_want : (t : Told) (e : Refused) → t.refusal ≡ Load e.refusal → is_want
 not_want t e is no_want = ap is_want (sym is) ∙ no_want
 
 module _ (document steps book : List ℕ) (refine : Option ℕ) where
-  unloaded_at : (at : Holding) (e : Refused) (t : Told) → t.refusal ≡ Load e.refusal → files.GivesOne question_view (Err e) (IsQuestionAt at document steps book) → GivesOne (Err t) (IsRampReport at document steps book refine)
+  unloaded_at : (at : Holding) (e : Refused) (t : Told) → t.refusal ≡ Load e.refusal → files.GivesOne book_question_view (Err e) (IsBookQuestionAt at document steps book) → GivesOne (Err t) (IsRampReport at document steps book refine)
   unfolding IsRampReport
   unloaded_at at e t is asked = λ no_want. (Err e.refusal, asked (not_want t e is no_want), ap Err is)
 
-  pub unloaded : (holding : Option Holding) (e : Refused) (t : Told) → t.refusal ≡ Load e.refusal → IfSome holding (λ at. files.GivesOne question_view (Err e) (IsQuestionAt at document steps book))
+  pub unloaded : (holding : Option Holding) (e : Refused) (t : Told) → t.refusal ≡ Load e.refusal → IfSome holding (λ at. files.GivesOne book_question_view (Err e) (IsBookQuestionAt at document steps book))
       → IfSome holding (λ at. GivesOne (Err t) (IsRampReport at document steps book refine))
   unloaded None e t is asked = tt
   unloaded (Some at) e t is asked = unloaded_at at e t is asked
 
-  loaded_at : (at : Holding) (q : Question) (r : Result Outcome Told) → IsQuestionAt at document steps book (Ok (question_view q)) → GivesOne r (IsRampOf refine (Ok (question_view q))) → GivesOne r (IsRampReport at document steps book refine)
+  loaded_at : (at : Holding) (q : BookQuestion) (r : Result Outcome Told) → IsBookQuestionAt at document steps book (Ok (book_question_view q)) → GivesOne r (IsRampOf refine (Ok (book_question_view q))) → GivesOne r (IsRampReport at document steps book refine)
   unfolding IsRampReport
-  loaded_at at q (Ok o) asked gives = (Ok (question_view q), asked, gives)
-  loaded_at at q (Err t) asked gives = λ no_want. (Ok (question_view q), asked, gives no_want)
+  loaded_at at q (Ok o) asked gives = (Ok (book_question_view q), asked, gives)
+  loaded_at at q (Err t) asked gives = λ no_want. (Ok (book_question_view q), asked, gives no_want)
 
-  pub loaded : (holding : Option Holding) (q : Question) (r : Result Outcome Told) → IfSome holding (λ at. IsQuestionAt at document steps book (Ok (question_view q))) → GivesOne r (IsRampOf refine (Ok (question_view q)))
+  pub loaded : (holding : Option Holding) (q : BookQuestion) (r : Result Outcome Told) → IfSome holding (λ at. IsBookQuestionAt at document steps book (Ok (book_question_view q))) → GivesOne r (IsRampOf refine (Ok (book_question_view q)))
       → IfSome holding (λ at. GivesOne r (IsRampReport at document steps book refine))
   loaded None q r asked gives = tt
   loaded (Some at) q r asked gives = loaded_at at q r asked gives
@@ -47,41 +47,41 @@ module _ (document steps book : List ℕ) (refine : Option ℕ) where
   -- ---- and of the answers
 
   module _ (path : List ℕ) where
-    unasked_at : (at : Holding) (e : Refused) (t : Told) → t.refusal ≡ Load e.refusal → files.GivesOne question_view (Err e) (IsQuestionAt at document steps book) → GivesOne (Err t) (IsVerdictReport at document steps book path refine)
+    unasked_at : (at : Holding) (e : Refused) (t : Told) → t.refusal ≡ Load e.refusal → files.GivesOne book_question_view (Err e) (IsBookQuestionAt at document steps book) → GivesOne (Err t) (IsVerdictReport at document steps book path refine)
     unfolding IsVerdictReport
     unasked_at at e t is asked = λ no_want. (Err e.refusal, asked (not_want t e is no_want), ap Err is)
 
-    pub unasked : (holding : Option Holding) (e : Refused) (t : Told) → t.refusal ≡ Load e.refusal → IfSome holding (λ at. files.GivesOne question_view (Err e) (IsQuestionAt at document steps book))
+    pub unasked : (holding : Option Holding) (e : Refused) (t : Told) → t.refusal ≡ Load e.refusal → IfSome holding (λ at. files.GivesOne book_question_view (Err e) (IsBookQuestionAt at document steps book))
         → IfSome holding (λ at. GivesOne (Err t) (IsVerdictReport at document steps book path refine))
     unasked None e t is asked = tt
     unasked (Some at) e t is asked = unasked_at at e t is asked
 
-    judged_at : (at : Holding) (q : Question) (r : Result Outcome Told) → IsQuestionAt at document steps book (Ok (question_view q))
-        → GivesOne r (IsVerdictOf refine (Ok (question_view q)) (answers_at at path)) → GivesOne r (IsVerdictReport at document steps book path refine)
+    judged_at : (at : Holding) (q : BookQuestion) (r : Result Outcome Told) → IsBookQuestionAt at document steps book (Ok (book_question_view q))
+        → GivesOne r (IsVerdictOf refine (Ok (book_question_view q)) (answers_at at path)) → GivesOne r (IsVerdictReport at document steps book path refine)
     unfolding IsVerdictReport
-    judged_at at q (Ok o) asked gives = (Ok (question_view q), asked, gives)
-    judged_at at q (Err t) asked gives = λ no_want. (Ok (question_view q), asked, gives no_want)
+    judged_at at q (Ok o) asked gives = (Ok (book_question_view q), asked, gives)
+    judged_at at q (Err t) asked gives = λ no_want. (Ok (book_question_view q), asked, gives no_want)
 
-    pub judged : (old kept : Option Holding) (q : Question) (r : Result Outcome Told) → kept ≡ old → IfSome old (λ at. IsQuestionAt at document steps book (Ok (question_view q)))
-        → IfSome kept (λ at. GivesOne r (IsVerdictOf refine (Ok (question_view q)) (answers_at at path))) → IfSome old (λ at. GivesOne r (IsVerdictReport at document steps book path refine))
+    pub judged : (old kept : Option Holding) (q : BookQuestion) (r : Result Outcome Told) → kept ≡ old → IfSome old (λ at. IsBookQuestionAt at document steps book (Ok (book_question_view q)))
+        → IfSome kept (λ at. GivesOne r (IsVerdictOf refine (Ok (book_question_view q)) (answers_at at path))) → IfSome old (λ at. GivesOne r (IsVerdictReport at document steps book path refine))
     judged None None q r same asked gives = tt
     judged None (Some at) q r same asked gives = absurd (cc)
     judged (Some at) None q r same asked gives = absurd (cc)
     judged (Some at) (Some it) q r same asked gives =
         let one : it ≡ at = cc in
-        judged_at at q r asked (subst (λ (x : Holding). GivesOne r (IsVerdictOf refine (Ok (question_view q)) (answers_at x path))) one gives)
+        judged_at at q r asked (subst (λ (x : Holding). GivesOne r (IsVerdictOf refine (Ok (book_question_view q)) (answers_at x path))) one gives)
 
 -- answers that were not read
-pub unread : (holding : Option Holding) (path : List ℕ) (refine : Option ℕ) (q : Question) (t : Told) → IfSome holding (λ at. is_want t.refusal ≡ false → answers_at at path ≡ Err t.refusal)
-    → IfSome holding (λ at. GivesOne (Err t) (IsVerdictOf refine (Ok (question_view q)) (answers_at at path)))
+pub unread : (holding : Option Holding) (path : List ℕ) (refine : Option ℕ) (q : BookQuestion) (t : Told) → IfSome holding (λ at. is_want t.refusal ≡ false → answers_at at path ≡ Err t.refusal)
+    → IfSome holding (λ at. GivesOne (Err t) (IsVerdictOf refine (Ok (book_question_view q)) (answers_at at path)))
 unread None path refine q t answers = tt
-unread (Some at) path refine q t answers = λ no_want. subst (λ (x : Result (List Answer) RampRefusal). IsVerdictOf refine (Ok (question_view q)) x (Err t.refusal)) (sym (answers no_want)) refl
+unread (Some at) path refine q t answers = λ no_want. subst (λ (x : Result (List Answer) RampRefusal). IsVerdictOf refine (Ok (book_question_view q)) x (Err t.refusal)) (sym (answers no_want)) refl
 
 -- answers that were read
-pub read_so : (holding : Option Holding) (path : List ℕ) (refine : Option ℕ) (q : Question) (answers : List Answer) (r : Result Outcome Told) → IfSome holding (λ at. answers_at at path ≡ Ok answers)
-    → GivesOne r (IsVerdictOf refine (Ok (question_view q)) (Ok answers)) → IfSome holding (λ at. GivesOne r (IsVerdictOf refine (Ok (question_view q)) (answers_at at path)))
+pub read_so : (holding : Option Holding) (path : List ℕ) (refine : Option ℕ) (q : BookQuestion) (answers : List Answer) (r : Result Outcome Told) → IfSome holding (λ at. answers_at at path ≡ Ok answers)
+    → GivesOne r (IsVerdictOf refine (Ok (book_question_view q)) (Ok answers)) → IfSome holding (λ at. GivesOne r (IsVerdictOf refine (Ok (book_question_view q)) (answers_at at path)))
 read_so None path refine q answers r is gives = tt
-read_so (Some at) path refine q answers r is gives = subst (λ (x : Result (List Answer) RampRefusal). GivesOne r (IsVerdictOf refine (Ok (question_view q)) x)) (sym is) gives
+read_so (Some at) path refine q answers r is gives = subst (λ (x : Result (List Answer) RampRefusal). GivesOne r (IsVerdictOf refine (Ok (book_question_view q)) x)) (sym is) gives
 
 -- ---- the bytes of answers
 

@@ -7,7 +7,7 @@ use Rattle.clap.specs.Words.{App, HasMatchesOf, IsAmong, Kinds, Text, found_of, 
 use Rattle.clap.specs.declared.error.kind.ErrorKind.{ErrorKind}
 use Rattle.clap.specs.declared.error.kind.ErrorKind.TheVariants.{InvalidValue, OutOfMemory}
 use Rattle.clap.specs.declared.parser.matches.ArgMatches.{ArgMatches}
-use Rattle.flagops_ramps.specs.Words.{IsToldBy, asked_in, faults_in, ramp_app, verify_app}
+use Rattle.flagops_ramps.specs.Words.{IsToldBy, asked_in, faults_in, ramp_app, step_app, verify_app}
 
 pub ruleset values = (first_value-rows, raw_values-rows)
 
@@ -26,6 +26,14 @@ verify_plain = refl
 pub verify_free : is_simple_and_free verify_app ≡ true
 unfolding verify_app
 verify_free = refl
+
+pub step_plain : is_simple step_app ≡ true
+unfolding step_app
+step_plain = refl
+
+pub step_free : is_simple_and_free step_app ≡ true
+unfolding step_app
+step_free = refl
 
 -- a command that words are read for, by what the matches hold
 module _ {X : Type 0} (app : App) (plain : is_simple app ≡ true) (free : is_simple_and_free app ≡ true) (read : List Row → Option X) (words : List Text) where

@@ -1,6 +1,6 @@
 -- What is reported of steps.
 use Rattle.std.proofs.Common.{◌≡◌, ◌≢◌, ℕ, false, true, List, Option, Result, Ok, Err, unwrap_or, refl, sym, ap, ◌∙◌, subst, inl, inr}
-use Rattle.flagops_files.specs.Question.{Question}
+use Rattle.flagops_files.specs.Question.{BookQuestion}
 use Rattle.flagops_files.specs.declared.outcome.Outcome.{Outcome}
 use Rattle.plan_text.specs.Answer.{Answer}
 use Rattle.ramp.specs.Ramp.{ArePlans, IsRefused}
@@ -32,7 +32,7 @@ other_verify t f is no_want = λ want. let one : is_want t ≡ true = ap is_want
 other_steps : (e : StepsFault) → of_steps e ≢ WantOfMemory → e ≢ steps.WantOfMemory
 other_steps e other = λ want. other (ap of_steps want)
 
-module _ (refine : Option ℕ) (q : Question) where
+module _ (refine : Option ℕ) (q : BookQuestion) where
   pub planned_report : (requests : List (List ℕ)) (answers : List Answer) (r : Result Outcome Told) → ArePlans (Ok q.flags) (unwrap_or refine 1) requests q.book answers → GivesUnlessWant r (report_ramp answers) → GivesOne r (IsRampOver refine q (Ok requests))
   planned_report requests answers (Ok o) plans gives = inl (answers, plans, sym gives)
   planned_report requests answers (Err t) plans gives = λ no_want. inl (answers, plans, sym (gives no_want))

@@ -1,20 +1,24 @@
--- What `ramp` and `verify-ramp` come to, by what the two outlets show before and after, what the files show, and the status.
+-- What `ramp`, `verify-ramp` and `apply --step` come to, by what the two outlets show before and after, what the files show, and the status.
 use Rattle.std.specs.Prelude.{◌≡◌, ◌⊎◌, ℕ, Bool, true, false, List, Option, None, IfSome, codes}
 use Rattle.clap.specs.Kinds.{Kinds, IsAmong}
 use Rattle.clap.specs.Walk.{Text}
 use Rattle.clap.specs.declared.error.kind.ErrorKind.{ErrorKind}
 use Rattle.flagops_commands.specs.Telling.{Tells, Wants}
 use Rattle.flagops_files.specs.Files.{Holding}
+use Rattle.flagops_ramps.specs.Apply.{IsStepReport}
 use Rattle.flagops_ramps.specs.Ramp.{IsRampReport}
 use Rattle.flagops_ramps.specs.Report.{Reports}
 use Rattle.flagops_ramps.specs.Verify.{IsVerdictReport}
-use Rattle.flagops_ramps.specs.Words.{ramp_by, ramp_faults, verify_by, verify_faults}
+use Rattle.flagops_ramps.specs.Words.{ramp_by, ramp_faults, step_by, step_faults, verify_by, verify_faults}
 
 abbrev pub ramp_want : List ℕ
 ramp_want = codes "refused ramp 0 WantOfMemory\n"
 
 abbrev pub verify_want : List ℕ
 verify_want = codes "refused verify-ramp 0 WantOfMemory\n"
+
+abbrev pub step_want : List ℕ
+step_want = codes "refused apply 0 WantOfMemory\n"
 
 -- words with a mistake are told by one of their mistakes, as every other command tells one, or memory ran out
 abbrev pub TellsOne : Option (List ℕ) → Option (List ℕ) → Bool → Option (List ℕ) → Option (List ℕ) → Bool → ℕ → Kinds → Type 0
@@ -35,9 +39,17 @@ module _ {O E : Type 0} (bytes : O → Option (List ℕ)) (is_broken : O → Boo
       Reports (bytes out) (bytes out') (is_broken out') (told err) (told err') (is_mute err') status verify_want (IsVerdictReport at a.document a.steps a.book a.ramp a.refine)
       ⊎ Wants (bytes out) (bytes out') (is_broken out') (told err) (told err') (is_mute err') status))
 
+  abbrev pub AnswersStep : {F : Type 0} → (F → Option Holding) → F → List Text → Type 0
+  AnswersStep holding files words = IfSome (step_by words) (λ a. IfSome (holding files) (λ at.
+      Reports (bytes out) (bytes out') (is_broken out') (told err) (told err') (is_mute err') status step_want (IsStepReport at a.document a.ramp a.key a.site a.step)
+      ⊎ Wants (bytes out) (bytes out') (is_broken out') (told err) (told err') (is_mute err') status))
+
   -- words with a mistake are told by one of their mistakes
   abbrev pub TellsRamp : List Text → Type 0
   TellsRamp words = ramp_by words ≡ None → TellsOne (bytes out) (bytes out') (is_broken out') (told err) (told err') (is_mute err') status (ramp_faults words)
 
   abbrev pub TellsVerify : List Text → Type 0
   TellsVerify words = verify_by words ≡ None → TellsOne (bytes out) (bytes out') (is_broken out') (told err) (told err') (is_mute err') status (verify_faults words)
+
+  abbrev pub TellsStep : List Text → Type 0
+  TellsStep words = step_by words ≡ None → TellsOne (bytes out) (bytes out') (is_broken out') (told err) (told err') (is_mute err') status (step_faults words)

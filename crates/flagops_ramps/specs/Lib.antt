@@ -1,3 +1,4 @@
+pub mod Apply
 pub mod Ended
 pub mod Ramp
 pub mod Refusal

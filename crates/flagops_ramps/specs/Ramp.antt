@@ -1,7 +1,7 @@
 -- What the command `ramp` answers.
 use Rattle.std.specs.Prelude.{◌≡◌, ◌⊎◌, ℕ, false, List, [], ◌∷◌, unwrap_or, Option, Result, Ok, Err}
 use Rattle.flagops_files.specs.Files.{Holding}
-use Rattle.flagops_files.specs.Question.{Question, IsQuestionAt}
+use Rattle.flagops_files.specs.Question.{BookQuestion, IsBookQuestionAt}
 use Rattle.flagops_files.specs.declared.refusal.Refusal.{Refusal}
 use Rattle.plan_text.specs.Answer.{Answer, emit, none_exists}
 use Rattle.plan_text.specs.declared.fault.PlanFileFault.{PlanFileFault}
@@ -39,16 +39,16 @@ abbrev pub report_ramp : List Answer → Came
 report_ramp answers = report_file answers (ramp_file answers)
 
 -- the answers to the steps, each planned on the rule that the one before left, or the first refusal
-abbrev pub IsRampOver : Option ℕ → Question → Result (List (List ℕ)) StepsFault → Came → Type 0
+abbrev pub IsRampOver : Option ℕ → BookQuestion → Result (List (List ℕ)) StepsFault → Came → Type 0
 IsRampOver refine q (Err e) r = r ≡ Err (Ramp (of_steps e))
 IsRampOver refine q (Ok requests) r =
     ((answers : List Answer) × ArePlans (Ok q.flags) (unwrap_or refine 1) requests q.book answers × (r ≡ report_ramp answers))
     ⊎ ((e : StepFault) × IsRefused (Ok q.flags) (unwrap_or refine 1) requests q.book e × (r ≡ Err (Ramp e.fault)))
 
-abbrev pub IsRampOf : Option ℕ → Result Question Refusal → Came → Type 0
+abbrev pub IsRampOf : Option ℕ → Result BookQuestion Refusal → Came → Type 0
 IsRampOf refine (Err e) r = r ≡ Err (Load e)
 IsRampOf refine (Ok q) r = IsRampOver refine q (steps_of q.request) r
 
 -- what the files at these paths make
 unfoldable pub IsRampReport : Holding → List ℕ → List ℕ → List ℕ → Option ℕ → Came → Type 0
-IsRampReport at document steps book refine r = (question : Result Question Refusal) × IsQuestionAt at document steps book question × IsRampOf refine question r
+IsRampReport at document steps book refine r = (question : Result BookQuestion Refusal) × IsBookQuestionAt at document steps book question × IsRampOf refine question r

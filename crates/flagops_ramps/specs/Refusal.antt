@@ -10,7 +10,7 @@ use Rattle.ramp_steps.specs.declared.fault.RampFileFault.TheVariants.{Line}
 use Rattle.rollout_checks.specs.Fault as rollouts
 use Rattle.rollout_checks.specs.VerifyFault as verdicts
 use Rattle.flagops_ramps.specs.declared.refusal.RampRefusal.{RampRefusal}
-use Rattle.flagops_ramps.specs.declared.refusal.RampRefusal.TheVariants.{Load, Ramp, Print, Read, Verify, Lines}
+use Rattle.flagops_ramps.specs.declared.refusal.RampRefusal.TheVariants.{Load, Ramp, Print, Read, Verify, Lines, NoStep}
 
 -- want of memory is 0, and each other number is that of the call which refused
 abbrev pub number_of : RampRefusal → ℕ
@@ -20,6 +20,7 @@ number_of (Print e) = plan_files.number_of e
 number_of (Read e) = ramp_files.number_of e
 number_of (Verify e) = verdicts.number_of e
 number_of Lines = 14
+number_of NoStep = 14
 
 abbrev pub is_want : RampRefusal → Bool
 is_want r = nat_eq (number_of r) 0
@@ -37,3 +38,4 @@ line_of (Print e) = line_with (codes "print_ramp") (decimal (plan_files.number_o
 line_of (Read e) = line_with (codes "read_ramp") (decimal (ramp_files.number_of e)) (ramp_files.name_of e) (line_items e)
 line_of (Verify e) = line_with (codes "verify-ramp") (decimal (verdicts.number_of e)) (verdicts.name_of e) (verify_items e)
 line_of Lines = line_with (codes "verify-ramp") (decimal 14) (codes "Lines") []
+line_of NoStep = line_with (codes "apply") (decimal 14) (codes "NoStep") []

@@ -2,7 +2,7 @@
 use Rattle.std.specs.Prelude.{◌≡◌, ℕ, false, List, [], ◌∷◌, ◌++◌, codes, decimal, Option, Result, Ok, Err}
 use Rattle.flagops_files.specs.Files.{Holding, load_of}
 use Rattle.flagops_files.specs.Loading.{max_rule, refused_by}
-use Rattle.flagops_files.specs.Question.{Question, IsQuestionAt}
+use Rattle.flagops_files.specs.Question.{BookQuestion, IsBookQuestionAt}
 use Rattle.flagops_files.specs.declared.refusal.Refusal.{Refusal}
 use Rattle.flagops_files.specs.declared.refusal.Refusal.TheVariants.{Load as Unread}
 use Rattle.plan_text.specs.Answer.{Answer, emit, none_exists}
@@ -42,7 +42,7 @@ abbrev pub report_told : List Answer → Result (Unit {0}) RampFault → Came
 report_told answers (Ok u) = Ok (record { text = valid_ramp answers; status = 0; is_told = false })
 report_told answers (Err e) = Err (refused_as e)
 
-abbrev pub IsVerdictOver : Option ℕ → Question → List Answer → Result (List (List ℕ)) StepsFault → Came → Type 0
+abbrev pub IsVerdictOver : Option ℕ → BookQuestion → List Answer → Result (List (List ℕ)) StepsFault → Came → Type 0
 IsVerdictOver refine q answers (Err e) r = r ≡ Err (Verify (Request (of_steps e)))
 IsVerdictOver refine q answers (Ok requests) r = (told : Result (Unit {0}) RampFault) × IsTold (Ok q.flags) refine requests q.book answers told × (r ≡ report_told answers told)
 
@@ -60,11 +60,11 @@ unfoldable pub answers_at : Holding → List ℕ → Result (List Answer) RampRe
 answers_at at path = if_loaded (refused_by Unread (load_of at path max_rule))
 
 -- the answers are asked for where there is a question, and steps are judged behind them
-abbrev pub IsVerdictOf : Option ℕ → Result Question Refusal → Result (List Answer) RampRefusal → Came → Type 0
+abbrev pub IsVerdictOf : Option ℕ → Result BookQuestion Refusal → Result (List Answer) RampRefusal → Came → Type 0
 IsVerdictOf refine (Err e) answers r = r ≡ Err (Load e)
 IsVerdictOf refine (Ok q) (Err e) r = r ≡ Err e
 IsVerdictOf refine (Ok q) (Ok answers) r = IsVerdictOver refine q answers (steps_of q.request) r
 
 -- what the files at these paths make
 unfoldable pub IsVerdictReport : Holding → List ℕ → List ℕ → List ℕ → List ℕ → Option ℕ → Came → Type 0
-IsVerdictReport at document steps book path refine r = (question : Result Question Refusal) × IsQuestionAt at document steps book question × IsVerdictOf refine question (answers_at at path) r
+IsVerdictReport at document steps book path refine r = (question : Result BookQuestion Refusal) × IsBookQuestionAt at document steps book question × IsVerdictOf refine question (answers_at at path) r

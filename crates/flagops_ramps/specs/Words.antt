@@ -1,12 +1,14 @@
--- What the words of `ramp` and `verify-ramp` ask for, by what `clap` reads of them.
-use Rattle.std.specs.Prelude.{◌≡◌, ◌⊎◌, ℕ, is_some, List, [], ◌∷◌, codes, Option, Some, None, option_map, if◌then◌else◌}
+-- What the words of `ramp`, `verify-ramp` and `apply --step` ask for, by what `clap` reads of them.
+use Rattle.std.specs.Prelude.{◌≡◌, ◌⊎◌, ℕ, is_some, List, [], ◌∷◌, codes, Option, Some, None, option_map, if◌then◌else◌, true}
 use Rattle.clap.specs.Faults.{fault_of}
 use Rattle.clap.specs.Kinds.{Kinds, IsAmong, or_else}
 use Rattle.clap.specs.Simple.{App, matches_of, new_app, with_rule}
-use Rattle.clap.specs.Walk.{Row, Text, first_of}
+use Rattle.clap.specs.Walk.{Row, Rule, Text, first_of}
 use Rattle.clap.specs.declared.error.kind.ErrorKind.{ErrorKind}
 use Rattle.clap.specs.declared.error.kind.ErrorKind.TheVariants.{InvalidValue, OutOfMemory}
-use Rattle.flagops_words.specs.Words.{◌>>=◌, if_faultless, refine_in, refine_option, required}
+use Rattle.flagops_words.specs.Numbers.{factor_in, max_32, number_in}
+use Rattle.flagops_words.specs.Words.{◌>>=◌, if_faultless, number, option_number, refine_in, refine_option, required}
+use Rattle.flagops_ramps.specs.declared.asked.Applying as code_apply
 use Rattle.flagops_ramps.specs.declared.asked.Ramping as code_ramp
 use Rattle.flagops_ramps.specs.declared.asked.Verifying as code_verify
 
@@ -25,6 +27,17 @@ pub record Verifying : Type 0 where
   pub ramp : Text
   pub refine : Option ℕ
 
+-- the paths of a document and of answers, a flag with its site, and the number of a step, from 1
+pub record Applying : Type 0 where
+  pub document : Text
+  pub ramp : Text
+  pub key : Text
+  pub site : ℕ
+  pub step : ℕ
+
+abbrev pub applying_view : code_apply.Applying → Applying
+applying_view a = record { document = a.document.now; ramp = a.ramp.now; key = a.key.now; site = a.site; step = a.step }
+
 abbrev pub ramping_view : code_ramp.Ramping → Ramping
 ramping_view r = record { document = r.document.now; steps = r.steps.now; book = r.book.now; refine = option_map (λ m. m.number) r.refine }
 
@@ -42,6 +55,15 @@ ramp_app = with_rule (with_steps (new_app (codes "ramp"))) refine_option
 -- `verify-ramp DOC STEPS BOOK RAMP`, with `--refine M`
 unfoldable pub verify_app : App
 verify_app = with_rule (with_rule (with_steps (new_app (codes "verify-ramp"))) (required (codes "RAMP"))) refine_option
+
+-- `--step N`, which has to be there
+abbrev pub step_option : Rule
+step_option = record (option_number (codes "N") (codes "step") 1 max_32) { required = true }
+
+-- `apply --step N DOC RAMP FLAG SITE`
+unfoldable pub step_app : App
+step_app =
+    with_rule (with_rule (with_rule (with_rule (with_rule (new_app (codes "apply")) (required (codes "DOC"))) (required (codes "RAMP"))) (required (codes "FLAG"))) (number (codes "SITE") max_32)) step_option
 
 -- ---- what the words ask for
 
@@ -62,6 +84,26 @@ verify_in rows = do
   factor ← refine_in rows
   Some (record { document = document; steps = steps; book = book; ramp = ramp; refine = factor })
 
+-- a number of an argument
+abbrev pub site_in : List Row → Option ℕ
+site_in rows = do
+  word ← first_of (codes "SITE") rows
+  number_in 0 max_32 word
+
+abbrev pub number_of_step : List Row → Option ℕ
+number_of_step rows = do
+  word ← first_of (codes "N") rows
+  factor_in word
+
+abbrev pub step_in : List Row → Option Applying
+step_in rows = do
+  document ← first_of (codes "DOC") rows
+  ramp ← first_of (codes "RAMP") rows
+  key ← first_of (codes "FLAG") rows
+  site ← site_in rows
+  step ← number_of_step rows
+  Some (record { document = document; ramp = ramp; key = key; site = site; step = step })
+
 -- the mistakes of the words of a command: those that `clap` finds, and a value that is not there
 abbrev pub faults_in : {X : Type 0} → App → (List Row → Option X) → List Text → Kinds
 faults_in app read words = or_else (fault_of app words) (if is_some (read (matches_of app words)) then [] else (InvalidValue ∷ []))
@@ -81,6 +123,12 @@ verify_faults = faults_in verify_app verify_in
 
 unfoldable pub verify_by : List Text → Option Verifying
 verify_by = asked_in verify_app verify_in
+
+unfoldable pub step_faults : List Text → Kinds
+step_faults = faults_in step_app step_in
+
+unfoldable pub step_by : List Text → Option Applying
+step_by = asked_in step_app step_in
 
 -- why the words ask for nothing: one of their mistakes, unless memory ran out
 abbrev pub IsToldBy : {X : Type 0} → Kinds → Option X → ErrorKind → Type 0

@@ -10,6 +10,16 @@ pub struct Ramping<'a> {
     pub refine: Option<Factor>,
 }
 
+/// What `apply --step` is asked for: a document with the rule that a step left at a site of a flag.
+#[derive(Clone, Copy, Debug)]
+pub struct Applying<'a> {
+    pub document: &'a str,
+    pub ramp: &'a str,
+    pub key: &'a str,
+    pub site: u32,
+    pub step: u32,
+}
+
 /// What `verify-ramp` is asked for: whether answers to steps are right.
 #[derive(Clone, Copy, Debug)]
 pub struct Verifying<'a> {

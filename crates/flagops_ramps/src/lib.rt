@@ -1,7 +1,7 @@
 //! The commands on a rollout in steps: `ramp` plans each step on the rule that the step before left, `verify-ramp` checks the
-//! answers apart from the planner.
+//! answers apart from the planner, and `apply --step` gives the document with the rule that a step left.
 //!
-//! [`ramp()`] and [`verify_ramp`] take the words after the program's name, of which their own name is the first, the files and
+//! [`ramp()`], [`verify_ramp`] and [`apply_step`] take the words after the program's name, of which their own name is the first, the files and
 //! two outlets, as `flagops_commands::run` does for every other command. They read the words by `clap` and load the files; what
 //! they then do is `ramp_steps` and `ramp`.
 //!
@@ -17,10 +17,12 @@
 //! ```
 //!
 //! Proved, over the definitions in `specs/`: of words with a mistake, that it is told; else, over files whose bytes are known,
-//! that the output is the report that the files at the paths make (`Ramp`, `Verify`), or that memory ran out, with its status;
+//! that the output is the report that the files at the paths make (`Ramp`, `Verify`, `Apply`), or that memory ran out, with its
+//! status;
 //! that a refusal is told on the error outlet too; and that files are only read.
 #![tactic(auto)]
 
+mod applying;
 mod asked;
 mod ramping;
 mod refusal;
@@ -30,6 +32,10 @@ mod usage;
 mod verifying;
 mod words;
 
-pub use ramping::ramp;
+pub use applying::apply_step;
+pub use asked::Verifying;
+pub use ramping::{counted, of_steps, ramp};
 pub use refusal::RampRefusal;
-pub use verifying::verify_ramp;
+pub use remarks::of_step;
+pub use reports::{Told, finish};
+pub use verifying::{Paths, load_ramp, out_of_memory, verify_ramp, wrong};

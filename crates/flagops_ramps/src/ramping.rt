@@ -2,7 +2,7 @@
 ghost use Rattle.std.specs.Prelude.{◌≡◌, ◌<◌, ◌≤◌, unwrap_or, false, length, map, option_map, IfSome, Ok};
 ghost use Rattle.std.specs.List.{All};
 ghost use Rattle.flag_text.specs.Outcome.{GivesUnless};
-ghost use Rattle.flagops_files.specs.Question.{question_view};
+ghost use Rattle.flagops_files.specs.Question.{book_question_view};
 ghost use Rattle.flagops_files.specs.Report.{status_number};
 ghost use Rattle.flagops_ramps.specs.Ended.{AnswersRamp, TellsRamp};
 ghost use Rattle.flagops_ramps.specs.Ramp.{IsRampOf, IsRampOver, IsRampReport, of_steps, ramp_status, report_ramp};
@@ -19,7 +19,7 @@ use crate::words::read_ramp;
 use book_core::BookFileFault;
 use flag_text::Outlet;
 use flagops_commands::explain;
-use flagops_files::{FileSet, Outcome, Question, Remark, Status, load_question};
+use flagops_files::{BookQuestion, FileSet, Outcome, Remark, Status, load_book_question};
 use flagops_remarks::of_large_plan;
 use flagops_words::Factor;
 use page_tally::BookFile;
@@ -70,7 +70,7 @@ fn planned<R: Threads + Sync, F: FileSet>(
     ensures kept { F.holding files.new ≡ F.holding files.old }
 {
     let factor = factor_of(asked.refine);
-    match load_question(
+    match load_book_question(
         rt,
         alloc,
         files,
@@ -89,10 +89,10 @@ fn answer<R: Threads + Sync>(
     rt: &R,
     alloc: Global,
     path: &str,
-    question: &Question,
+    question: &BookQuestion,
     refine: Option<Factor>,
 ) -> Result<Outcome, Told>
-    ensures { GivesOne result (IsRampOf (option_map (λ m. m.number) refine) (Ok (question_view question.now))) }
+    ensures { GivesOne result (IsRampOf (option_map (λ m. m.number) refine) (Ok (book_question_view question.now))) }
 {
     match read_steps(alloc, question.request.as_slice()) {
         Ok(steps) => answers(rt, alloc, path, question, steps.as_slice(), refine),
@@ -105,12 +105,12 @@ fn answers<R: Threads + Sync>(
     rt: &R,
     alloc: Global,
     path: &str,
-    question: &Question,
+    question: &BookQuestion,
     steps: &[Vec<u8>],
     refine: Option<Factor>,
 ) -> Result<Outcome, Told>
     requires { length steps.now ≤ most_steps }
-    ensures { GivesOne result (IsRampOver (option_map (λ m. m.number) refine) (question_view question.now) (Ok (requests_view steps.now))) }
+    ensures { GivesOne result (IsRampOver (option_map (λ m. m.number) refine) (book_question_view question.now) (Ok (requests_view steps.now))) }
 {
     let Ok(book) = counted(rt, alloc, question, steps, factor_of(refine)) else {
         return Err(refused(alloc, path, out_of_memory()));
@@ -123,14 +123,14 @@ fn over<R: Threads + Sync>(
     rt: &R,
     alloc: Global,
     path: &str,
-    question: &Question,
+    question: &BookQuestion,
     book: &BookFile,
     steps: &[Vec<u8>],
     refine: Option<Factor>,
 ) -> Result<Outcome, Told>
     requires few { length steps.now ≤ most_steps }
     requires same { book.now ≡ question.now.book }
-    ensures { GivesOne result (IsRampOver (option_map (λ m. m.number) refine) (question_view question.now) (Ok (requests_view steps.now))) }
+    ensures { GivesOne result (IsRampOver (option_map (λ m. m.number) refine) (book_question_view question.now) (Ok (requests_view steps.now))) }
 {
     let factor = factor_of(refine);
     match plan_steps(rt, alloc, &question.flags, steps, book, factor) {
@@ -179,7 +179,7 @@ pub fn of_steps(fault: StepsFault) -> StepFault
 pub fn counted<R: Threads>(
     rt: &R,
     alloc: Global,
-    question: &Question,
+    question: &BookQuestion,
     steps: &[Vec<u8>],
     factor: u32,
 ) -> Result<BookFile, BookFileFault>

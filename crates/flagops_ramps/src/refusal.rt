@@ -26,6 +26,8 @@ pub enum RampRefusal {
     Verify(VerifyFault),
     /// All answers that are there are right, but there are fewer or more than steps.
     Lines,
+    /// There is no answer to the step that is applied.
+    NoStep,
 }
 
 impl RampRefusal {
@@ -40,6 +42,7 @@ impl RampRefusal {
             RampRefusal::Read(fault) => fault.number(),
             RampRefusal::Verify(fault) => fault.number(),
             RampRefusal::Lines => 14,
+            RampRefusal::NoStep => 14,
         }
     }
 
@@ -63,6 +66,7 @@ impl RampRefusal {
             RampRefusal::Read(fault) => read_line(alloc, fault),
             RampRefusal::Verify(fault) => verify_line(alloc, fault),
             RampRefusal::Lines => fault_line(alloc, "verify-ramp", 14, "Lines", ""),
+            RampRefusal::NoStep => fault_line(alloc, "apply", 14, "NoStep", ""),
         }
     }
 }

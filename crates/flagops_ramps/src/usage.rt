@@ -1,9 +1,11 @@
-//! What `ramp` and `verify-ramp` take, in the terms of `clap`.
-ghost use Rattle.std.specs.Prelude.{◌≡◌, IfOk, false};
+//! What `ramp`, `verify-ramp` and `apply --step` take, in the terms of `clap`.
+ghost use Rattle.std.specs.Prelude.{◌≡◌, IfOk, codes, false};
+ghost use Rattle.clap.specs.Simple.{new_app, with_rule};
 ghost use Rattle.clap.specs.Words.{app_of, kind_of, rule_of};
 ghost use Rattle.clap.specs.declared.error.kind.ErrorKind.TheVariants.{InvalidValue};
-ghost use Rattle.flagops_words.specs.Words.{refine_option, required};
-ghost use Rattle.flagops_ramps.specs.Words.{ramp_app, verify_app, with_steps};
+ghost use Rattle.flagops_words.specs.Numbers.{max_32};
+ghost use Rattle.flagops_words.specs.Words.{number, refine_option, required};
+ghost use Rattle.flagops_ramps.specs.Words.{ramp_app, step_app, step_option, verify_app, with_steps};
 
 use clap::builder::ValueParser;
 use clap::error::ErrorKind;
@@ -38,7 +40,32 @@ pub fn verify<'a>(alloc: Global) -> Result<Command<'a>, AllocError>
     with_steps(alloc, command)?.arg(answers)?.arg(factor)
 }
 
-/// The words that both commands begin with.
+/// `apply --step`. Its name is the first of the words, as a program's.
+#[tactic(auto, unfolding(crate::specs::Words::step_app))]
+pub fn step<'a>(alloc: Global) -> Result<Command<'a>, AllocError>
+    ensures { IfOk result (λ c. app_of c ≡ step_app) }
+{
+    let site = site(alloc);
+    let number = step_number(alloc);
+    applied(alloc)?.arg(site)?.arg(number)
+}
+
+/// The words that `apply --step` begins with.
+fn applied<'a>(alloc: Global) -> Result<Command<'a>, AllocError>
+    ensures { IfOk result (λ c. app_of c ≡ with_rule (with_rule (with_rule (new_app (codes "apply")) (required (codes "DOC"))) (required (codes "RAMP"))) (required (codes "FLAG"))) }
+{
+    let document = required(alloc, "DOC", "The flag document");
+    let ramp = required(alloc, "RAMP", "The file that ramp printed");
+    let flag = required(alloc, "FLAG", "The flag's key");
+    Command::new(alloc, "apply")
+        .bin_name("flagops apply")?
+        .about("Prints a document with the rule that a step of a rollout left at a site of a flag")
+        .arg(document)?
+        .arg(ramp)?
+        .arg(flag)
+}
+
+/// The words that `ramp` and `verify-ramp` begin with.
 fn with_steps<'a>(alloc: Global, command: Command<'a>) -> Result<Command<'a>, AllocError>
     ensures { IfOk result (λ c. app_of c ≡ with_steps (app_of command.entry)) }
 {
@@ -73,6 +100,29 @@ fn required<'a>(alloc: Global, name: &'a str, help: &'a str) -> Arg<'a>
     ensures local { result.global ≡ false }
 {
     Arg::new(alloc, name).required(true).help(help)
+}
+
+/// The number of a site.
+fn site<'a>(alloc: Global) -> Arg<'a>
+    ensures rule { rule_of result ≡ number (codes "SITE") max_32 }
+    ensures local { result.global ≡ false }
+{
+    Arg::new(alloc, "SITE")
+        .required(true)
+        .help("The number of the fractional operation, from 0")
+        .value_parser(ValueParser::Unsigned(0, LARGEST_FACTOR))
+}
+
+/// The number of a step.
+fn step_number<'a>(alloc: Global) -> Arg<'a>
+    ensures rule { rule_of result ≡ step_option }
+    ensures local { result.global ≡ false }
+{
+    Arg::new(alloc, "N")
+        .long("step")
+        .required(true)
+        .help("The number of the step whose rule is put into the document, from 1")
+        .value_parser(ValueParser::Unsigned(1, LARGEST_FACTOR))
 }
 
 /// What the weights of the site are multiplied by before the first step.

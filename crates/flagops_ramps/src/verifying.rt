@@ -1,6 +1,6 @@
 //! The command `verify-ramp`.
 ghost use Rattle.std.specs.Prelude.{◌≡◌, ◌<◌, ◌≤◌, ◌⊎◌, true, false, length, map, option_map, string_bytes, IfOk, IfSome, Ok};
-ghost use Rattle.flagops_files.specs.Question.{question_view};
+ghost use Rattle.flagops_files.specs.Question.{book_question_view};
 ghost use Rattle.flagops_ramps.specs.Ended.{AnswersVerify, TellsVerify};
 ghost use Rattle.flagops_ramps.specs.Remarks.{NamesFile, NamesStep};
 ghost use Rattle.flagops_ramps.specs.Report.{GivesOne, GivesUnlessWant, LoadsTo};
@@ -18,7 +18,7 @@ use crate::reports::{Told, finish};
 use crate::words::read_verify;
 use flag_text::Outlet;
 use flagops_commands::explain;
-use flagops_files::{FileSet, Outcome, Question, Remark, Status, load, load_question};
+use flagops_files::{BookQuestion, FileSet, Outcome, Remark, Status, load, load_book_question};
 use flagops_words::Factor;
 use page_tally::BookFile;
 use plan_text::Planned;
@@ -81,7 +81,7 @@ fn verdict<R: Threads + Sync, F: FileSet>(
     ensures kept { F.holding files.new ≡ F.holding files.old }
 {
     let factor = factor_of(asked.refine);
-    match load_question(
+    match load_book_question(
         rt,
         alloc,
         files,
@@ -101,9 +101,9 @@ fn against<R: Threads + Sync, F: FileSet>(
     alloc: Global,
     files: &mut F,
     asked: &Verifying<'_>,
-    question: &Question,
+    question: &BookQuestion,
 ) -> Result<Outcome, Told>
-    ensures exact { IfSome (F.holding files.old) (λ at. GivesOne result (IsVerdictOf (option_map (λ m. m.number) asked.now.refine) (Ok (question_view question.now)) (answers_at at asked.now.ramp.now))) }
+    ensures exact { IfSome (F.holding files.old) (λ at. GivesOne result (IsVerdictOf (option_map (λ m. m.number) asked.now.refine) (Ok (book_question_view question.now)) (answers_at at asked.now.ramp.now))) }
     ensures kept { F.holding files.new ≡ F.holding files.old }
 {
     match load_ramp(alloc, files, asked.ramp) {
@@ -120,13 +120,13 @@ fn against<R: Threads + Sync, F: FileSet>(
 
 /// Where what is verified was loaded from.
 #[derive(Clone, Copy)]
-struct Paths<'a> {
-    steps: &'a str,
-    ramp: &'a str,
+pub struct Paths<'a> {
+    pub steps: &'a str,
+    pub ramp: &'a str,
 }
 
 /// The answers of the file at a path.
-fn load_ramp<F: FileSet>(alloc: Global, files: &mut F, path: &str) -> Result<Vec<Planned>, Told>
+pub fn load_ramp<F: FileSet>(alloc: Global, files: &mut F, path: &str) -> Result<Vec<Planned>, Told>
     ensures exact { IfSome (F.holding files.old) (λ at. LoadsTo result (answers_at at path.now)) }
     ensures kept { F.holding files.new ≡ F.holding files.old }
 {
@@ -154,11 +154,11 @@ fn judged<R: Threads + Sync>(
     rt: &R,
     alloc: Global,
     paths: Paths<'_>,
-    question: &Question,
+    question: &BookQuestion,
     answers: &[Planned],
     refine: Option<Factor>,
 ) -> Result<Outcome, Told>
-    ensures { GivesOne result (IsVerdictOf (option_map (λ m. m.number) refine) (Ok (question_view question.now)) (Ok (map planned_view answers.now))) }
+    ensures { GivesOne result (IsVerdictOf (option_map (λ m. m.number) refine) (Ok (book_question_view question.now)) (Ok (map planned_view answers.now))) }
 {
     match read_steps(alloc, question.request.as_slice()) {
         Ok(steps) => {
@@ -180,13 +180,13 @@ fn told_of<R: Threads + Sync>(
     rt: &R,
     alloc: Global,
     paths: Paths<'_>,
-    question: &Question,
+    question: &BookQuestion,
     steps: &[Vec<u8>],
     answers: &[Planned],
     refine: Option<Factor>,
 ) -> Result<Outcome, Told>
     requires { length steps.now ≤ most_steps }
-    ensures { GivesOne result (IsVerdictOver (option_map (λ m. m.number) refine) (question_view question.now) (map planned_view answers.now) (Ok (requests_view steps.now))) }
+    ensures { GivesOne result (IsVerdictOver (option_map (λ m. m.number) refine) (book_question_view question.now) (map planned_view answers.now) (Ok (requests_view steps.now))) }
 {
     let Ok(book) = counted(rt, alloc, question, steps, factor_of(refine)) else {
         return Err(out_of_memory());
@@ -199,7 +199,7 @@ fn checked<R: Threads + Sync>(
     rt: &R,
     alloc: Global,
     paths: Paths<'_>,
-    question: &Question,
+    question: &BookQuestion,
     book: &BookFile,
     steps: &[Vec<u8>],
     answers: &[Planned],
@@ -207,7 +207,7 @@ fn checked<R: Threads + Sync>(
 ) -> Result<Outcome, Told>
     requires few { length steps.now ≤ most_steps }
     requires same { book.now ≡ question.now.book }
-    ensures { GivesOne result (IsVerdictOver (option_map (λ m. m.number) refine) (question_view question.now) (map planned_view answers.now) (Ok (requests_view steps.now))) }
+    ensures { GivesOne result (IsVerdictOver (option_map (λ m. m.number) refine) (book_question_view question.now) (map planned_view answers.now) (Ok (requests_view steps.now))) }
 {
     let factor = number_of(refine);
     match verify_steps(rt, alloc, &question.flags, steps, book, factor, answers) {
@@ -216,7 +216,8 @@ fn checked<R: Threads + Sync>(
     }
 }
 
-fn out_of_memory() -> Told
+/// Memory that ran out.
+pub fn out_of_memory() -> Told
     ensures { is_want result.refusal ≡ true }
 {
     Told {
@@ -226,7 +227,7 @@ fn out_of_memory() -> Told
 }
 
 /// Answers that are not right, which a person is told of.
-fn wrong(alloc: Global, paths: Paths<'_>, fault: RampFault) -> Told
+pub fn wrong(alloc: Global, paths: Paths<'_>, fault: RampFault) -> Told
     ensures { result.refusal ≡ refused_as fault }
 {
     match fault {

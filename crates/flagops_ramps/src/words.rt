@@ -1,15 +1,19 @@
-//! What the words of `ramp` and `verify-ramp` ask for, as `clap` reads them.
-ghost use Rattle.std.specs.Prelude.{◌≡◌, IfErr, IfOk, Some, map, option_map};
+//! What the words of `ramp`, `verify-ramp` and `apply --step` ask for, as `clap` reads them.
+ghost use Rattle.std.specs.Prelude.{◌≡◌, ◌≤◌, ◌&&◌, nat_le, if◌then◌else◌, IfErr, IfOk, IfSome, None, Some, map, option_map};
 ghost use Rattle.clap.specs.Words.{found_of, kind_of, rows_of};
+ghost use Rattle.flagops_words.specs.Numbers.{max_32, number_in};
 ghost use Rattle.flagops_words.specs.Words.{refine_in};
-ghost use Rattle.flagops_ramps.specs.Words.{IsToldBy, ramp_by, ramp_faults, ramp_in, ramping_view, verify_by, verify_faults, verify_in, verifying_view};
+ghost use Rattle.flagops_ramps.specs.Words.{IsToldBy, applying_view, number_of_step, ramp_by, ramp_faults, ramp_in, ramping_view, site_in, step_by, step_faults, step_in, verify_by, verify_faults, verify_in, verifying_view};
 
-use crate::asked::{Ramping, Verifying};
-use crate::usage::{missing_value, ramp, verify};
+use crate::asked::{Applying, Ramping, Verifying};
+use crate::usage::{missing_value, ramp, step, verify};
 use clap::{ArgMatches, Error};
 use flagops_words::Factor;
 use std::alloc::Global;
 use std::convert::AsStr;
+
+/// The largest number of 32 bits.
+const LARGEST: u64 = 4_294_967_295;
 
 /// What the words after the program's name ask of `ramp`, which is the first of them.
 #[tactic(auto, unfolding(crate::specs::Words::ramp_by, crate::specs::Words::ramp_faults))]
@@ -80,5 +84,75 @@ fn refine_in(matches: &ArgMatches<'_>) -> Option<Option<Factor>>
     match matches.get_str("M") {
         Some(word) => Some(Some(Factor::spelled(word)?)),
         None => Some(None),
+    }
+}
+
+/// What the words after the program's name ask of `apply --step`, whose name `apply` is the first of them.
+#[tactic(auto, unfolding(crate::specs::Words::step_by, crate::specs::Words::step_faults))]
+pub fn read_step<'a, S: AsStr>(alloc: Global, words: &'a [S]) -> Result<Applying<'a>, Error>
+    ensures ok { IfOk result (λ a. step_by (map S.text words.entry.now) ≡ Some (applying_view a)) }
+    ensures err { IfErr result (λ e. IsToldBy (step_faults (map S.text words.entry.now)) (step_by (map S.text words.entry.now)) (kind_of e)) }
+{
+    let matches = step(alloc)?.try_get_matches_from(words)?;
+    match applying_in(&matches) {
+        Some(applying) => Ok(applying),
+        None => Err(missing_value(alloc, step(alloc)?)?),
+    }
+}
+
+#[tactic(auto, using(crate::proofs::Matched::values))]
+fn applying_in<'a>(matches: &ArgMatches<'a>) -> Option<Applying<'a>>
+    ensures { option_map applying_view result ≡ step_in (rows_of (found_of matches.now)) }
+{
+    let document = matches.get_str("DOC")?;
+    let ramp = matches.get_str("RAMP")?;
+    let key = matches.get_str("FLAG")?;
+    let site = site_in(matches)?;
+    let step = number_of_step(matches)?;
+    Some(Applying {
+        document,
+        ramp,
+        key,
+        site,
+        step,
+    })
+}
+
+/// The number of a site.
+#[tactic(auto, using(crate::proofs::Matched::values))]
+fn site_in(matches: &ArgMatches<'_>) -> Option<u32>
+    ensures { result ≡ site_in (rows_of (found_of matches.now)) }
+{
+    let word = matches.get_str("SITE")?;
+    spelled(word)
+}
+
+/// The number of a step, which is from 1 as a factor is.
+#[tactic(auto, using(crate::proofs::Matched::values))]
+fn number_of_step(matches: &ArgMatches<'_>) -> Option<u32>
+    ensures { result ≡ number_of_step (rows_of (found_of matches.now)) }
+{
+    let word = matches.get_str("N")?;
+    let step = Factor::spelled(word)?;
+    Some(step.number)
+}
+
+/// The number of 32 bits that a word spells in decimal digits, perhaps after a plus.
+fn spelled(word: &str) -> Option<u32>
+    ensures { result ≡ number_in 0 max_32 word.now }
+{
+    match word.parse::<u64>() {
+        Ok(number) => within(number),
+        Err(_) => None,
+    }
+}
+
+fn within(number: u64) -> Option<u32>
+    ensures { result ≡ (if nat_le 0 number && nat_le number max_32 then Some number else None) }
+{
+    if number <= LARGEST {
+        Some(number as u32)
+    } else {
+        None
     }
 }

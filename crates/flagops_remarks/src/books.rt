@@ -83,7 +83,7 @@ fn put_others(lines: &mut Lines, others: &[&Page]) {
 }
 
 /// A page as a book spells it, without its flag.
-fn put_page(lines: &mut Lines, page: &Page) {
+pub(crate) fn put_page(lines: &mut Lines, page: &Page) {
     lines.put("\"site\":");
     lines.put_shown(&page.site);
     lines.put(", \"by\":");

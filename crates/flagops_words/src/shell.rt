@@ -48,6 +48,7 @@ _flagops() {
         plan:-* | verify:-* | ramp:-* | verify-ramp:-*) COMPREPLY=($(compgen -W "--refine --help" -- "$word")) ;;
         apply:-*) COMPREPLY=($(compgen -W "--keep --write --refine --help" -- "$word")) ;;
         drive:-*) COMPREPLY=($(compgen -W "--add --help" -- "$word")) ;;
+        serve:-* | follow:-*) COMPREPLY=($(compgen -W "--wait --help" -- "$word")) ;;
         *:-*) COMPREPLY=($(compgen -W "--help" -- "$word")) ;;
         completions:*) COMPREPLY=($(compgen -W "bash fish zsh" -- "$word")) ;;
         resolve:*)
@@ -85,6 +86,7 @@ complete -c flagops -n '__fish_seen_subcommand_from apply' -l keep -d 'Verify th
 complete -c flagops -n '__fish_seen_subcommand_from apply' -l write -d 'With --keep: write over the document'
 complete -c flagops -n '__fish_seen_subcommand_from apply' -l refine -x -d 'With --keep: the factor of the plan'
 complete -c flagops -n '__fish_seen_subcommand_from drive' -l add -d 'Keep what the book has'
+complete -c flagops -n '__fish_seen_subcommand_from serve follow' -l wait -x -d 'The most seconds to wait'
 complete -c flagops -n '__fish_seen_subcommand_from completions' -f -a 'bash fish zsh'
 "#;
 
@@ -120,6 +122,7 @@ _flagops() {
                 '--refine[with --keep\: the factor of the plan]:M:' '--help[print help]' '*:file:_files'
             ;;
         drive) _arguments '--add[keep what the book has]' '--help[print help]' '*:file:_files' ;;
+        serve | follow) _arguments '--wait[the most seconds to wait]:S:' '--help[print help]' '*:file:_files' ;;
         completions) _values shell bash fish zsh ;;
         *) _arguments '--help[print help]' '*:file:_files' ;;
     esac

@@ -43,9 +43,10 @@ label p = if p.label == 0 then [] else codes "<text class=\"l\" dx=\"8\" dy=\"50
 unfoldable pub spelled_piece : Piece → List ℕ
 spelled_piece p = codes "<g><title>" ++ (escaped p.name.now ++ (codes "</title>" ++ (rectangles p.look p.place p.extent ++ (label p ++ codes "</g>\n"))))
 
--- the number of its users on a band
-unfoldable pub users_label : Band → List ℕ
-users_label b = if b.is_wide then codes "<text class=\"l\" dx=\"8\" dy=\"50\"" ++ (at b.place ++ (codes ">" ++ (decimal b.users ++ codes "</text>"))) else []
+-- a number of users, where there is a place for it
+unfoldable pub users_label : Option Place → ℕ → List ℕ
+users_label None n = []
+users_label (Some p) n = codes "<text class=\"l\" dx=\"8\" dy=\"50\"" ++ (at p ++ (codes ">" ++ (decimal n ++ codes "</text>")))
 
 -- its names and numbers, which are shown where one points at it
 unfoldable pub band_title : Band → List ℕ
@@ -53,7 +54,7 @@ band_title b =
     codes "<g><title>" ++ (escaped b.from.now ++ (codes " &#8594; " ++ (escaped b.to.now ++ (codes ": " ++ (decimal b.points ++ (codes " points, " ++ (decimal b.users ++ codes " users</title>")))))))
 
 unfoldable pub spelled_band : Band → List ℕ
-spelled_band b = band_title b ++ (rectangles b.look b.place b.extent ++ (users_label b ++ codes "</g>\n"))
+spelled_band b = band_title b ++ (rectangles b.look b.place b.extent ++ (users_label b.label b.users ++ codes "</g>\n"))
 
 unfoldable pub spelled_content : Content → List ℕ
 spelled_content (content.Word w) = text_of w
@@ -79,10 +80,22 @@ spelled (element.Piece p) = spelled_piece p
 spelled (element.Band b) = spelled_band b
 spelled (element.Line p e) = spelled_line p e
 
--- the elements of a picture of this height, below its style sheet
-unfoldable pub page : ℕ → List Element → List ℕ
-page height es = codes "<svg xmlns=\"http://www.w3.org/2000/svg\" role=\"img\" viewBox=\"0 0 1200 " ++ (decimal height ++ (codes "\">\n" ++ (HEAD.now ++ (flat_map spelled es ++ codes "</svg>\n"))))
+-- the elements of a picture, so far below the top of its page
+unfoldable pub placed : ℕ → List Element → List ℕ
+placed y es = codes "<g transform=\"translate(0 " ++ (decimal y ++ (codes ")\">\n" ++ (flat_map spelled es ++ codes "</g>\n")))
 
--- a picture that tells this
+-- pictures on a page of this height, below its style sheet
+unfoldable pub page : ℕ → List ℕ → List ℕ
+page height pictures = codes "<svg xmlns=\"http://www.w3.org/2000/svg\" role=\"img\" viewBox=\"0 0 1200 " ++ (decimal height ++ (codes "\">\n" ++ (HEAD.now ++ (pictures ++ codes "</svg>\n"))))
+
+-- a picture that tells this was added to those that were there
+unfoldable pub Adds : List Item → List ℕ → List ℕ → Type 0
+Adds items before after = (y : ℕ) × (es : List Element) × (after ≡ before ++ placed y es) × (told es ≡ items)
+
+-- pictures that tell this in turn: how far below the top each stands, and its elements
+unfoldable pub IsBody : List Item → List ℕ → Type 0
+IsBody items bytes = (ds : List (ℕ × List Element)) × (bytes ≡ flat_map (λ d. placed d.0 d.1) ds) × (flat_map (λ d. told d.1) ds ≡ items)
+
+-- a page that tells this
 unfoldable pub IsPicture : List Item → List ℕ → Type 0
-IsPicture items bytes = (height : ℕ) × (es : List Element) × (bytes ≡ page height es) × (told es ≡ items)
+IsPicture items bytes = (height : ℕ) × (pictures : List ℕ) × (bytes ≡ page height pictures) × IsBody items pictures

@@ -6,6 +6,7 @@ use Rattle.picture.specs.declared.words.Word.{Word}
 use Rattle.picture.specs.declared.words.Word.TheVariants as word
 
 abbrev pub text_of : Word → List ℕ
+text_of word.Step = codes "Step"
 text_of word.Cost = codes "Cost"
 text_of word.Least = codes "No rule that keeps the limits costs less."
 text_of word.Points = codes "Points"

@@ -16,7 +16,7 @@ const WIDTH: u64 = 1120;
 pub(crate) const BAR: u64 = 80;
 
 /// About how wide a letter on a bar is.
-const LETTER: u64 = 20;
+const LETTER: u64 = 18;
 
 /// Up to so many points are drawn one by one.
 const FEW_POINTS: u64 = 100;
@@ -68,7 +68,7 @@ pub(crate) fn add_bar<'a>(
 
 /// How many letters find room on a rectangle.
 fn letters(width: u64) -> u32 {
-    let letters = width.saturating_sub(24) / LETTER;
+    let letters = width.saturating_sub(16) / LETTER;
     if letters < 2 {
         0
     } else {

@@ -1,17 +1,17 @@
 //! The picture of a rule that replaces another.
-ghost use Rattle.std.specs.Prelude.{◌≡◌, ◌++◌, ◌∷◌, [], IfOk, OnOk, length, string_bytes};
+ghost use Rattle.std.specs.Prelude.{◌≡◌, ◌++◌, ◌∷◌, [], OnOk, length, string_bytes};
 ghost use Rattle.std.specs.List.{flat_map};
 ghost use Rattle.std.specs.Map.{keys_of};
 ghost use Rattle.bucket_core.specs.Rule.{total_weight};
 ghost use Rattle.price_core.specs.Limits.{limits_view};
 ghost use Rattle.switch_table.specs.Runs.{runs_view};
 ghost use Rattle.transport_instance.specs.Certificate.{certificate_view};
-ghost use Rattle.picture.specs.Spelling.{IsPicture};
+ghost use Rattle.picture.specs.Spelling.{Adds};
 ghost use Rattle.picture.specs.Told.{change_told, number, run_told, told};
 
 use crate::bars::{BAR, LEFT, add_bar, edge, look_of};
 use crate::element::{Band, Content, Element, Extent, Place, add};
-use crate::print::page;
+use crate::print::place;
 use crate::switches::add_table;
 use crate::variants::add_variants;
 use crate::words::{Style, Word};
@@ -37,22 +37,28 @@ pub struct Change<'a> {
     pub certificate: &'a Certificate,
 }
 
-/// The picture of a change. The condition is that the table has a place for each variant that has limits.
-#[tactic(auto, unfolding(crate::specs::Spelling::IsPicture, crate::specs::Told::change_told))]
-pub fn draw_change(alloc: Global, change: &Change<'_>) -> Result<String, AllocError>
+/// Adds the picture of a change to those of a page, so far below its top, and gives how far below it the picture ends. The
+/// condition is that the table has a place for each variant that has limits.
+#[tactic(auto, unfolding(crate::specs::Spelling::Adds, crate::specs::Told::change_told))]
+pub fn draw_change(
+    alloc: Global,
+    pictures: &mut String,
+    y: u64,
+    change: &Change<'_>,
+) -> Result<u64, AllocError>
     requires { change.now.table.now.0 ≡ length (keys_of change.now.totals.now) }
-    ensures { IfOk result (λ s. IsPicture
+    ensures { OnOk result (Adds
         (change_told change.now.old.now change.now.new.now change.now.totals.now change.now.prices.now (runs_view change.now.runs.now) change.now.table.now (certificate_view change.now.certificate.now))
-        (string_bytes s)) }
+        (string_bytes pictures.old) (string_bytes pictures.new)) }
 {
     let limits = change.totals.entries();
     let mut elements = Vec::new(alloc);
     add_head(&mut elements, change)?;
     add_bars(&mut elements, change, limits)?;
-    let y = add_variants(&mut elements, change, limits, 540)?;
-    let height = add_table(&mut elements, change, limits, y)?;
-    let text = page(alloc, height, elements.as_slice())?;
-    Ok(text)
+    let below = add_variants(&mut elements, change, limits, 540)?;
+    let height = add_table(&mut elements, change, limits, below)?;
+    place(pictures, y, elements.as_slice())?;
+    Ok(y.saturating_add(height))
 }
 
 /// What a change costs, and how many points there are.
@@ -108,24 +114,82 @@ fn add_bands<'a>(
     ensures { OnOk result (told elements.new.items ≡ told elements.old.items ++ flat_map run_told (runs_view runs.now)) }
 {
     let mut begin = 0u64;
-    for run in runs {
+    for (i, run) in runs.iter().enumerate() {
         let end = begin.saturating_add(u64::from(run.points));
         if run.from != run.to {
-            elements.push(Element::Band(band(run, limits, edge(begin, total), edge(end, total))))?;
+            let next = next_move(&runs[i + 1..], end, total);
+            let edges = Edges {
+                left: edge(begin, total),
+                right: edge(end, total),
+                next: edge(next, total),
+            };
+            elements.push(Element::Band(band(run, limits, edges)))?;
         }
         begin = end;
     }
     Ok(())
 }
 
-/// The band of a run between two edges.
-fn band<'a>(run: &Run<'a>, limits: &[Limit], left: u64, right: u64) -> Band<'a>
+/// Where the next of these runs that moves begins, of which the first begins at a point; the total where none moves.
+fn next_move(runs: &[Run<'_>], point: u64, total: u64) -> u64 {
+    let mut begin = point;
+    for run in runs {
+        if run.from != run.to {
+            return begin;
+        }
+        begin = begin.saturating_add(u64::from(run.points));
+    }
+    total
+}
+
+/// Where a band begins and ends, and where the next one begins.
+#[derive(Clone, Copy)]
+struct Edges {
+    left: u64,
+    right: u64,
+    next: u64,
+}
+
+/// Where the number of a band's users stands: on it or beside it, where there is room.
+fn label_for(users: u64, edges: Edges) -> Option<Place> {
+    let room = digits_of(users).saturating_mul(DIGIT).saturating_add(16);
+    let x = if edges.right.saturating_sub(edges.left) >= room {
+        edges.left
+    } else {
+        edges.right
+    };
+    if x == edges.left || edges.next.saturating_sub(x) >= room {
+        Some(Place { x, y: 184 + BAR })
+    } else {
+        None
+    }
+}
+
+/// About how wide a digit on a band is.
+const DIGIT: u64 = 18;
+
+/// How many digits a number has.
+fn digits_of(number: u64) -> u64 {
+    let mut digits = 1u64;
+    let mut rest = number / 10;
+    for _ in 0..20 {
+        if rest == 0 {
+            return digits;
+        }
+        rest /= 10;
+        digits = digits.saturating_add(1);
+    }
+    digits
+}
+
+/// The band of a run.
+fn band<'a>(run: &Run<'a>, limits: &[Limit], edges: Edges) -> Band<'a>
     ensures from { result.from.now ≡ run.now.from.now }
     ensures to { result.to.now ≡ run.now.to.now }
     ensures points { result.points ≡ run.now.points }
     ensures users { result.users ≡ run.now.users }
 {
-    let width = right.saturating_sub(left);
+    let width = edges.right.saturating_sub(edges.left);
     Band {
         from: run.from,
         to: run.to,
@@ -133,10 +197,10 @@ fn band<'a>(run: &Run<'a>, limits: &[Limit], left: u64, right: u64) -> Band<'a>
         users: run.users,
         look: look_of(limits, run.to),
         place: Place {
-            x: left,
+            x: edges.left,
             y: 184 + BAR,
         },
         extent: Extent { width, height: BAR },
-        is_wide: width >= 60,
+        label: label_for(run.users, edges),
     }
 }

@@ -47,7 +47,8 @@ pub struct Piece<'a> {
     pub label: u32,
 }
 
-/// Points that move from one variant to another, drawn as a rectangle, with the number of their users.
+/// Points that move from one variant to another, drawn as a rectangle, with the number of their users on it or beside it, where
+/// there is room.
 #[derive(Clone, Copy, Debug)]
 pub struct Band<'a> {
     pub from: &'a str,
@@ -57,7 +58,7 @@ pub struct Band<'a> {
     pub look: Look,
     pub place: Place,
     pub extent: Extent,
-    pub is_wide: bool,
+    pub label: Option<Place>,
 }
 
 /// An element of a picture.

@@ -1,14 +1,14 @@
 //! The picture of a set of variants which shows that no rule fits.
-ghost use Rattle.std.specs.Prelude.{◌≡◌, ◌++◌, ◌∷◌, [], IfOk, OnOk, string_bytes};
+ghost use Rattle.std.specs.Prelude.{◌≡◌, ◌++◌, ◌∷◌, [], OnOk, string_bytes};
 ghost use Rattle.std.specs.List.{flat_map};
 ghost use Rattle.bucket_core.specs.Rule.{names_view, total_weight};
 ghost use Rattle.price_core.specs.Limits.{limit_view, limits_view};
-ghost use Rattle.picture.specs.Spelling.{IsPicture};
+ghost use Rattle.picture.specs.Spelling.{Adds};
 ghost use Rattle.picture.specs.Told.{limit_told, name, none_told, number, set_told, told};
 
 use crate::bars::{BAR, LEFT, add_bar, look_of};
 use crate::element::{Content, Element, Extent, Piece, Place, add};
-use crate::print::page;
+use crate::print::place;
 use crate::variants::{NAMES, ROW, number_at, size_for};
 use crate::words::{Style, Word};
 use bucket_core::Rule;
@@ -27,10 +27,16 @@ pub struct Deficit<'a> {
     pub cut: &'a Cut,
 }
 
-/// The picture of a set which shows that no rule fits.
-#[tactic(auto, unfolding(crate::specs::Spelling::IsPicture, crate::specs::Told::none_told))]
-pub fn draw_none(alloc: Global, deficit: &Deficit<'_>) -> Result<String, AllocError>
-    ensures { IfOk result (λ s. IsPicture (none_told deficit.now.old.now deficit.now.totals.now (names_view deficit.now.cut.now.names.items)) (string_bytes s)) }
+/// Adds the picture of a set which shows that no rule fits to those of a page, so far below its top, and gives how far below it
+/// the picture ends.
+#[tactic(auto, unfolding(crate::specs::Spelling::Adds, crate::specs::Told::none_told))]
+pub fn draw_none(
+    alloc: Global,
+    pictures: &mut String,
+    y: u64,
+    deficit: &Deficit<'_>,
+) -> Result<u64, AllocError>
+    ensures { OnOk result (Adds (none_told deficit.now.old.now deficit.now.totals.now (names_view deficit.now.cut.now.names.items)) (string_bytes pictures.old) (string_bytes pictures.new)) }
 {
     let limits = deficit.totals.entries();
     let mut elements = Vec::new(alloc);
@@ -38,8 +44,8 @@ pub fn draw_none(alloc: Global, deficit: &Deficit<'_>) -> Result<String, AllocEr
     let behind_set = add_set(&mut elements, deficit.cut.names.as_slice(), limits, 170)?;
     let behind_bar = add_rule(&mut elements, deficit.old, limits, behind_set)?;
     let height = add_limits(&mut elements, deficit.old, limits, behind_bar)?;
-    let text = page(alloc, height, elements.as_slice())?;
-    Ok(text)
+    place(pictures, y, elements.as_slice())?;
+    Ok(y.saturating_add(height))
 }
 
 /// That no rule fits, and of which kind the set is.

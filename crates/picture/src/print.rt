@@ -1,22 +1,27 @@
 //! The text of a picture.
-ghost use Rattle.std.specs.Prelude.{◌≡◌, ◌++◌, IfOk, OnOk, string_bytes};
+ghost use Rattle.std.specs.Prelude.{◌≡◌, ◌++◌, List, Some, IfOk, OnOk, string_bytes};
 ghost use Rattle.std.specs.Fmt.{decimal, signed_decimal};
 ghost use Rattle.std.specs.List.{flat_map};
-ghost use Rattle.picture.specs.Spelling.{at, band_title, coloured, label, page, patterned, rectangles, sized, spelled, spelled_band, spelled_content, spelled_line, spelled_name, spelled_piece, spelled_text, users_label};
+ghost use Rattle.picture.specs.Spelling.{IsBody, IsPicture, at, band_title, coloured, label, page, patterned, placed, rectangles, sized, spelled, spelled_band, spelled_content, spelled_line, spelled_name, spelled_piece, spelled_text, users_label};
+ghost use Rattle.picture.specs.Told.{Item};
 
 use crate::element::{Band, Content, Element, Extent, Look, Piece, Place};
 use crate::words::{Style, Word};
 use std::alloc::{AllocError, Global};
 use xml_text::{push_escaped, push_start};
 
-/// The elements as a picture of this height.
+/// The page of this height that has pictures, one below the other, as the calls that draw them wrote them.
+#[tactic(auto, unfolding(crate::specs::Spelling::page, crate::specs::Spelling::IsPicture))]
+pub fn page(alloc: Global, height: u64, pictures: &str) -> Result<String, AllocError>
+    ensures { IfOk result (λ s. (items : List Item) → IsBody items pictures.now → IsPicture items (string_bytes s)) }
+{
+    let text = page_text(alloc, height, pictures)?;
+    Ok(text)
+}
+
 #[tactic(auto, unfolding(crate::specs::Spelling::page))]
-pub(crate) fn page(
-    alloc: Global,
-    height: u64,
-    elements: &[Element<'_>],
-) -> Result<String, AllocError>
-    ensures { IfOk result (λ s. string_bytes s ≡ page height elements.now) }
+fn page_text(alloc: Global, height: u64, pictures: &str) -> Result<String, AllocError>
+    ensures { IfOk result (λ s. string_bytes s ≡ page height pictures.now) }
 {
     let mut out = String::new(alloc);
     write!(
@@ -24,9 +29,19 @@ pub(crate) fn page(
         "<svg xmlns=\"http://www.w3.org/2000/svg\" role=\"img\" viewBox=\"0 0 1200 {height}\">\n"
     )?;
     out.push_str(HEAD)?;
-    push_all(&mut out, elements)?;
+    out.push_str(pictures)?;
     out.push_str("</svg>\n")?;
     Ok(out)
+}
+
+/// Adds the elements of a picture, so far below the top of its page.
+#[tactic(auto, unfolding(crate::specs::Spelling::placed))]
+pub(crate) fn place(out: &mut String, y: u64, elements: &[Element<'_>]) -> Result<(), AllocError>
+    ensures { OnOk result (string_bytes out.new ≡ string_bytes out.old ++ placed y elements.now) }
+{
+    write!(out, "<g transform=\"translate(0 {y})\">\n")?;
+    push_all(out, elements)?;
+    out.push_str("</g>\n")
 }
 
 fn push_all(out: &mut String, elements: &[Element<'_>]) -> Result<(), AllocError>
@@ -111,7 +126,7 @@ fn push_band(out: &mut String, band: &Band<'_>) -> Result<(), AllocError>
 {
     push_band_title(out, band)?;
     push_rectangles(out, band.look, band.place, band.extent)?;
-    push_users(out, band)?;
+    push_users(out, band.label, band.users)?;
     out.push_str("</g>\n")
 }
 
@@ -129,15 +144,21 @@ fn push_band_title(out: &mut String, band: &Band<'_>) -> Result<(), AllocError>
 }
 
 #[tactic(auto, unfolding(crate::specs::Spelling::users_label))]
-fn push_users(out: &mut String, band: &Band<'_>) -> Result<(), AllocError>
-    ensures { OnOk result (string_bytes out.new ≡ string_bytes out.old ++ users_label band.now) }
+fn push_users(out: &mut String, label: Option<Place>, users: u64) -> Result<(), AllocError>
+    ensures { OnOk result (string_bytes out.new ≡ string_bytes out.old ++ users_label label users) }
 {
-    if !band.is_wide {
-        return Ok(());
+    match label {
+        Some(place) => push_users_at(out, place, users),
+        None => Ok(()),
     }
-    let users = band.users;
+}
+
+#[tactic(auto, unfolding(crate::specs::Spelling::users_label))]
+fn push_users_at(out: &mut String, place: Place, users: u64) -> Result<(), AllocError>
+    ensures { OnOk result (string_bytes out.new ≡ string_bytes out.old ++ users_label (Some place) users) }
+{
     out.push_str("<text class=\"l\" dx=\"8\" dy=\"50\"")?;
-    push_at(out, band.place)?;
+    push_at(out, place)?;
     write!(out, ">{users}</text>")
 }
 

@@ -5,6 +5,7 @@ ghost use Rattle.picture.specs.Words.{class_of, text_of};
 /// What a picture says in words of its own.
 #[derive(Clone, Copy, Debug)]
 pub enum Word {
+    Step,
     Cost,
     Least,
     Points,
@@ -30,6 +31,7 @@ impl Word {
         ensures { result.now ≡ text_of self }
     {
         match self {
+            Word::Step => "Step",
             Word::Cost => "Cost",
             Word::Least => "No rule that keeps the limits costs less.",
             Word::Points => "Points",

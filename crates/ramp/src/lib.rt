@@ -13,6 +13,7 @@
 //!   of the step before, and stops at the first step for which no rule fits; else it gives the first refusal and its step
 //!   (`Ramp`).
 //! - [`verify_steps`] accepts the answers exactly where each is right so, and tells the first that is not (`Right`).
+//! - [`left_by`] gives the flags that the next step stands on.
 //! - Where the steps ask for one site and forbid to leave a name, whoever is given the name is given it by each later rule, and
 //!   all rules are of one total ([`nobody_falls_back`]).
 #![tactic(auto)]
@@ -26,4 +27,5 @@ mod verifying;
 pub use fault::{RampFault, StepFault};
 pub use laws::nobody_falls_back;
 pub use planning::plan_steps;
+pub use standing::left_by;
 pub use verifying::verify_steps;

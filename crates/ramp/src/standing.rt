@@ -51,7 +51,7 @@ fn next(
 }
 
 /// The flags with the rule of an answer at the site that its request names; the flags as they are where it has none.
-fn left_by(
+pub fn left_by(
     alloc: Global,
     flags: &Flags,
     request: &[u8],

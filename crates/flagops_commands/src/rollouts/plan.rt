@@ -1,8 +1,9 @@
 //! The command `plan`: the answer of the planner to a rollout request.
-ghost use Rattle.std.specs.Prelude.{◌≡◌, ◌<◌, ◌||◌, [], ◌∷◌, false, true, is_some, Ok, IfOk, IfSome, option_map};
+ghost use Rattle.std.specs.Prelude.{◌≡◌, ◌<◌, ◌||◌, [], ◌∷◌, false, true, is_some, Ok, IfOk, IfSome, option_map, string_bytes, unwrap_or};
 ghost use Rattle.plan_text.specs.Answer.{IsOrdered, planned_view};
 ghost use Rattle.plan_text.specs.PlanFile.{IsWhole};
-ghost use Rattle.flagops_commands.specs.Plan.{Holds, IsPlanOf, IsPlanReport, MayBePlanned, plan_report, plan_status};
+ghost use Rattle.flagops_commands.specs.Plan.{Holds, IsPlanOf, IsPlanReport, IsPlannedOn, MayBePlanned, plan_report, plan_status};
+ghost use Rattle.flag_defs.specs.Flags.{flags_view};
 ghost use Rattle.flagops_files.specs.Question.{question_view};
 ghost use Rattle.flagops_commands.specs.Calls.{plan_calls, prints_plan};
 ghost use Rattle.flagops_files.specs.Refusal.{ComesFrom, GivesOne, GivesUnlessWant, is_file_fault};
@@ -12,13 +13,14 @@ ghost use Rattle.flagops_files.specs.Told.{Says, TellsOfOne, file, word};
 ghost use Rattle.flagops_commands.specs.Subjects.{is_of_request, is_of_size, plan_subjects, the_plan};
 
 use crate::rollouts::unrecorded::unrecorded;
+use flag_defs::Flags;
 use flagops_files::{
-    Call, FileSet, Outcome, Question, Refusal, Refused, Remark, Status, load_question,
+    Call, Evidence, FileSet, Outcome, Question, Refusal, Refused, Remark, Status, load_question,
 };
-use flagops_remarks::{of_large_plan, of_rollout};
+use flagops_remarks::{of_large_plan, of_other_tally, of_rollout};
 use flagops_words::Factor;
 use plan_text::{Planned, print_planned_line};
-use rollout::{RolloutFault, plan_refined};
+use rollout::{RolloutFault, plan_refined, plan_tally};
 use std::alloc::{AllocError, Global};
 use std::thread::Threads;
 
@@ -47,7 +49,7 @@ pub fn plan<R: Threads + Sync, F: FileSet>(
 
 /// The report on a question, which was loaded from these paths.
 #[tactic(auto, using(flagops_files::proofs::Told::says))]
-fn answer(
+pub fn answer(
     rt: &(impl Threads + Sync),
     alloc: Global,
     request: &str,
@@ -64,8 +66,7 @@ fn answer(
     let planned = match planned(rt, alloc, question, refine) {
         Ok(planned) => planned,
         Err(fault) => {
-            let (flags, bytes) = (&question.flags, question.request.as_slice());
-            let lines = of_rollout(alloc, request, flags, bytes, factor_of(refine), fault);
+            let lines = lines_on_request(alloc, request, book, question, refine, fault);
             return Err(Refused {
                 refusal: Refusal::Plan(fault),
                 remark: Remark::of(lines),
@@ -92,10 +93,53 @@ fn planned(
 {
     let flags = &question.flags;
     let request = question.request.as_slice();
-    let book = &question.book;
-    match refine {
-        None => rollout::plan(rt, alloc, flags, request, book),
-        Some(m) => plan_refined(rt, alloc, flags, request, book, m.number),
+    planned_on(
+        rt,
+        alloc,
+        flags,
+        request,
+        &question.evidence,
+        factor_of(refine),
+    )
+}
+
+/// The same over what was recorded, by a factor from 1.
+fn planned_on(
+    rt: &(impl Threads + Sync),
+    alloc: Global,
+    flags: &Flags,
+    request: &[u8],
+    evidence: &Evidence,
+    factor: u32,
+) -> Result<Planned, RolloutFault>
+    requires { 0 < factor }
+    ensures answers { IsPlannedOn factor (flags_view flags.now) request.now evidence.now result }
+    ensures ordered { IfOk result (λ p. IsOrdered (planned_view p)) }
+    ensures whole { IfOk result (λ p. IsWhole (planned_view p)) }
+{
+    match evidence {
+        Evidence::Book(book) => plan_refined(rt, alloc, flags, request, book, factor),
+        Evidence::Tally(tally) => plan_tally(alloc, flags, request, tally, factor),
+    }
+}
+
+/// What a person is told of a request that is refused over what was recorded in the file at a path.
+pub(crate) fn lines_on_request(
+    alloc: Global,
+    path: &str,
+    recorded: &str,
+    question: &Question,
+    refine: Option<Factor>,
+    fault: RolloutFault,
+) -> Result<String, AllocError>
+    ensures { IfOk result (λ s. Names path.now (string_bytes s)) }
+{
+    let (flags, bytes) = (&question.flags, question.request.as_slice());
+    match &question.evidence {
+        Evidence::Tally(tally) if fault == RolloutFault::OtherTally => {
+            of_other_tally(alloc, path, flags, bytes, recorded, tally)
+        }
+        _ => of_rollout(alloc, path, flags, bytes, factor_of(refine), fault),
     }
 }
 
@@ -134,7 +178,8 @@ fn status_of(planned: &Planned) -> Status
 
 /// What the weights of the site are multiplied by.
 pub(crate) fn factor_of(refine: Option<Factor>) -> u32
-    ensures { 0 < result }
+    ensures some { 0 < result }
+    ensures value { result ≡ unwrap_or (option_map (λ m. m.number) refine) 1 }
 {
     match refine {
         Some(m) => m.number,

@@ -1,24 +1,24 @@
-//! Whether the book has no input for a request, which a person is told.
+//! Whether what was recorded has no input for a request, which a person is told.
 ghost use Rattle.std.specs.Prelude.{◌≡◌, Some, is_some, option_map, IfOk, IfSome, string_bytes};
 ghost use Rattle.logic_ast.specs.Expr.{view};
 ghost use Rattle.flag_documents.specs.Flag.{flag_view};
 ghost use Rattle.flag_defs.specs.Flags.{flags_view};
-ghost use Rattle.flagops_commands.specs.Unrecorded.{is_bare, is_unrecorded, page_asked, page_in};
+ghost use Rattle.flagops_commands.specs.Unrecorded.{has_no_input, is_bare, is_unrecorded, page_asked, page_in};
 ghost use Rattle.flagops_files.specs.Question.{question_view};
 ghost use Rattle.flagops_files.specs.Told.{Says};
 ghost use Rattle.flagops_remarks.specs.Named.{Names};
 
 use book_core::{Book, BookFileFault, Page, read_book};
 use flag_defs::{Flag, Flags};
-use flagops_files::{Question, Remark};
-use flagops_remarks::of_unrecorded;
+use flagops_files::{Evidence, Question, Remark};
+use flagops_remarks::{of_empty_tally, of_unrecorded};
 use logic_ast::LogicFault;
 use page_tally::BookFile;
 use price_core::{PriceFault, Request};
 use std::alloc::{AllocError, Global};
 use std::thread::Threads;
 
-/// What is told where the page of a request has no input in the book, which is that of a path.
+/// What is told where the page of a request has no input in what was recorded, in the file at a path.
 pub fn unrecorded<R: Threads>(
     rt: &R,
     alloc: Global,
@@ -31,7 +31,7 @@ pub fn unrecorded<R: Threads>(
     match Request::read(alloc, question.request.as_slice()) {
         Ok(request) => {
             let page = page_asked(alloc, &question.flags, &request)?;
-            remark(rt, alloc, path, &question.book, page)
+            remark(rt, alloc, path, &question.evidence, page)
         }
         Err(PriceFault::WantOfMemory) => Err(AllocError),
         Err(_) => Ok(None),
@@ -74,19 +74,37 @@ fn remark<R: Threads>(
     rt: &R,
     alloc: Global,
     path: &str,
-    book: &BookFile,
+    evidence: &Evidence,
     page: Option<Page>,
 ) -> Result<Option<Remark>, AllocError>
-    ensures told { IfOk result (λ r. is_some r ≡ is_bare book.now page) }
+    ensures told { IfOk result (λ r. is_some r ≡ is_bare evidence.now page) }
     ensures notes { IfOk result (λ r. IfSome r (Says (Names path.now))) }
 {
     let Some(page) = page else {
         return Ok(None);
     };
-    if book.has_none(rt, alloc, &page)? {
-        Ok(Some(Remark::of(lines(alloc, path, book, &page))))
-    } else {
-        Ok(None)
+    if !has_no_input(rt, alloc, evidence, &page)? {
+        return Ok(None);
+    }
+    let lines = match evidence {
+        Evidence::Book(book) => lines(alloc, path, book, &page),
+        Evidence::Tally(_) => of_empty_tally(alloc, path, &page),
+    };
+    Ok(Some(Remark::of(lines)))
+}
+
+/// Whether a book has no input on a page, or a tally none at all.
+fn has_no_input<R: Threads>(
+    rt: &R,
+    alloc: Global,
+    evidence: &Evidence,
+    page: &Page,
+) -> Result<bool, AllocError>
+    ensures { IfOk result (λ none. none ≡ has_no_input evidence.now page.now) }
+{
+    match evidence {
+        Evidence::Book(book) => book.has_none(rt, alloc, page),
+        Evidence::Tally(tally) => Ok(tally.inputs == 0),
     }
 }
 

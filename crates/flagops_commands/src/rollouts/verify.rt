@@ -1,24 +1,29 @@
 //! The command `verify`: whether the answer of a plan file is right.
-ghost use Rattle.std.specs.Prelude.{◌≡◌, ◌||◌, [], ◌∷◌, false, is_some, Ok, IfOk, IfSome, option_map, string_bytes};
+ghost use Rattle.std.specs.Prelude.{◌≡◌, ◌||◌, [], ◌∷◌, false, is_some, Ok, IfOk, IfSome, OnOk, option_map, string_bytes};
+ghost use Rattle.flag_defs.specs.Flags.{flags_view};
 ghost use Rattle.plan_text.specs.Answer.{planned_view};
 ghost use Rattle.flagops_files.specs.Question.{question_view};
 ghost use Rattle.flagops_commands.specs.Calls.{verify_calls, verify_itself};
 ghost use Rattle.flagops_files.specs.Refusal.{ComesFrom, GivesOne, GivesUnlessWant, is_file_fault};
 ghost use Rattle.flagops_files.specs.Report.{beside, done, outcome_view};
-ghost use Rattle.flagops_commands.specs.Verify.{IsVerdict, IsVerifyReport, MayBeTold, valid_text};
+ghost use Rattle.flagops_commands.specs.Verify.{IsShownOn, IsToldOn, IsVerdict, IsVerifyReport, MayBeTold, valid_text};
+ghost use Rattle.flagops_files.specs.declared.evidence.Evidence.TheVariants.{Book, Tally};
 ghost use Rattle.flagops_remarks.specs.Named.{Names};
 ghost use Rattle.flagops_files.specs.Told.{Says, TellsOfOne, file};
 ghost use Rattle.flagops_commands.specs.Subjects.{NamesVerified, is_of_answer, is_of_request, verify_subjects};
 
-use crate::rollouts::plan::factor_of;
+use crate::rollouts::plan::{factor_of, lines_on_request};
 use crate::rollouts::unrecorded::unrecorded;
+use flag_defs::Flags;
 use flagops_files::{
-    Call, FileSet, Outcome, Question, Refusal, Refused, Remark, Status, load_planned, load_question,
+    Call, Evidence, FileSet, Outcome, Question, Refusal, Refused, Remark, Status, load_planned,
+    load_question,
 };
-use flagops_remarks::{of_check, of_rollout};
+use flagops_remarks::of_check;
 use flagops_words::Factor;
+use page_tally::BookFile;
 use plan_text::Planned;
-use rollout::{VerifyFault, verify_refined};
+use rollout::{PageTally, VerifyFault, verify_refined, verify_tally, verify_tally_refined};
 use std::alloc::{AllocError, Global};
 use std::thread::Threads;
 
@@ -122,19 +127,14 @@ pub fn lines_on(
 ) -> Result<String, AllocError>
     ensures { IfOk result (λ s. NamesVerified paths.entry.request.now paths.entry.plan.now fault.now (string_bytes s)) }
 {
-    let (flags, bytes) = (&question.flags, question.request.as_slice());
     match fault {
         VerifyFault::Request(fault) => {
-            of_rollout(
-                alloc,
-                paths.request,
-                flags,
-                bytes,
-                factor_of(refine),
-                *fault,
-            )
+            lines_on_request(alloc, paths.request, paths.book, question, refine, *fault)
         }
-        VerifyFault::Check(fault) => of_check(alloc, paths.plan, flags, bytes, planned, fault),
+        VerifyFault::Check(fault) => {
+            let (flags, bytes) = (&question.flags, question.request.as_slice());
+            of_check(alloc, paths.plan, flags, bytes, planned, fault)
+        }
     }
 }
 
@@ -150,10 +150,70 @@ pub fn verified(
 {
     let flags = &question.flags;
     let request = question.request.as_slice();
-    let book = &question.book;
+    verified_on(
+        rt,
+        alloc,
+        flags,
+        request,
+        &question.evidence,
+        planned,
+        refine,
+    )
+}
+
+/// The same over what was recorded.
+fn verified_on(
+    rt: &(impl Threads + Sync),
+    alloc: Global,
+    flags: &Flags,
+    request: &[u8],
+    evidence: &Evidence,
+    planned: &Planned,
+    refine: Option<Factor>,
+) -> Result<(), VerifyFault>
+    ensures told { IsToldOn (option_map (λ m. m.number) refine) (planned_view planned.now) (flags_view flags.now) request.now evidence.now result }
+    ensures shown { OnOk result (IsShownOn (option_map (λ m. m.number) refine) (planned_view planned.now) (flags_view flags.now) request.now evidence.now) }
+{
+    match evidence {
+        Evidence::Book(book) => by_book(rt, alloc, flags, request, book, planned, refine),
+        Evidence::Tally(tally) => by_tally(alloc, flags, request, tally, planned, refine),
+    }
+}
+
+/// The same over the inputs of a book.
+fn by_book(
+    rt: &(impl Threads + Sync),
+    alloc: Global,
+    flags: &Flags,
+    request: &[u8],
+    book: &BookFile,
+    planned: &Planned,
+    refine: Option<Factor>,
+) -> Result<(), VerifyFault>
+    ensures told { IsToldOn (option_map (λ m. m.number) refine) (planned_view planned.now) (flags_view flags.now) request.now (Book book.now) result }
+    ensures shown { OnOk result (IsShownOn (option_map (λ m. m.number) refine) (planned_view planned.now) (flags_view flags.now) request.now (Book book.now)) }
+{
     match refine {
         None => rollout::verify(rt, alloc, flags, request, book, planned),
         Some(m) => verify_refined(rt, alloc, flags, request, book, planned, m.number),
+    }
+}
+
+/// The same over all inputs of which so many fall on each point as a tally says.
+fn by_tally(
+    alloc: Global,
+    flags: &Flags,
+    request: &[u8],
+    tally: &PageTally,
+    planned: &Planned,
+    refine: Option<Factor>,
+) -> Result<(), VerifyFault>
+    ensures told { IsToldOn (option_map (λ m. m.number) refine) (planned_view planned.now) (flags_view flags.now) request.now (Tally tally.now) result }
+    ensures shown { OnOk result (IsShownOn (option_map (λ m. m.number) refine) (planned_view planned.now) (flags_view flags.now) request.now (Tally tally.now)) }
+{
+    match refine {
+        None => verify_tally(alloc, flags, request, tally, planned),
+        Some(m) => verify_tally_refined(alloc, flags, request, tally, planned, m.number),
     }
 }
 

@@ -1,6 +1,6 @@
 use Rattle.std.proofs.Common.{◌≡◌, ◌≢◌, ℕ, List, map, unwrap_or, Ok, option_map, sym, subst, ap₂}
 use Rattle.book_core.specs.Book.{Contents}
-use Rattle.flagops_files.specs.Question.{question_view}
+use Rattle.flagops_files.specs.Question.{book_question_view}
 use Rattle.plan_text.specs.Answer.{planned_view}
 use Rattle.plan_text.specs.declared.planned.Planned.{Planned}
 use Rattle.ramp.specs.Ramp.{ArePlans, IsRefused}
@@ -13,7 +13,7 @@ use Rattle.flagops_ramps.proofs.ramping.over.Goals as goal
 
 pub returns-in-Ok : goal.returns-in-Ok
 returns-in-Ok g c =
-    let q = question_view c.args.question.now in
+    let q = book_question_view c.args.question.now in
     let refine = option_map (λ m. m.number) c.args.refine in
     let requests = requests_view c.args.steps.now in
     let answers = map planned_view c.in-Ok.answers.items in
@@ -24,7 +24,7 @@ returns-in-Ok g c =
 
 pub returns-in-Err : goal.returns-in-Err
 returns-in-Err g c =
-    let q = question_view c.args.question.now in
+    let q = book_question_view c.args.question.now in
     let refine = option_map (λ m. m.number) c.args.refine in
     let requests = requests_view c.args.steps.now in
     refused_report refine q requests c.in-Err.fault c.refused.result c.refused.ensures (λ other.

@@ -1,6 +1,6 @@
 use Rattle.std.proofs.Common.{◌≡◌, ℕ, Ok, Err, Option, map, option_map, subst}
 use Rattle.book_core.specs.Book.{Contents}
-use Rattle.flagops_files.specs.Question.{question_view}
+use Rattle.flagops_files.specs.Question.{book_question_view}
 use Rattle.plan_text.specs.Answer.{planned_view}
 use Rattle.ramp.specs.Right.{IsTold}
 use Rattle.ramp_steps.specs.Steps.{requests_view}
@@ -9,7 +9,7 @@ use Rattle.flagops_ramps.proofs.verifying.checked.Goals as goal
 
 pub returns-in-Ok : goal.returns-in-Ok
 returns-in-Ok g c =
-    let q = question_view c.args.question.now in
+    let q = book_question_view c.args.question.now in
     let refine = option_map (λ m. m.number) c.args.refine in
     let requests = requests_view c.args.steps.now in
     let answers = map planned_view c.args.answers.now in
@@ -19,7 +19,7 @@ returns-in-Ok g c =
 
 pub returns-in-Err : goal.returns-in-Err
 returns-in-Err g c =
-    let q = question_view c.args.question.now in
+    let q = book_question_view c.args.question.now in
     let refine = option_map (λ m. m.number) c.args.refine in
     let requests = requests_view c.args.steps.now in
     let answers = map planned_view c.args.answers.now in

@@ -5,5 +5,5 @@ use Rattle.picture.specs.Told.{run_told, told}
 use Rattle.picture.proofs.change.add_bands.Given as goal
 
 -- what is told so far, and what the rest tells
-abbrev pub invariant-loop-run : goal.invariant-loop-run
-invariant-loop-run l = told l.elements.items ++ flat_map run_told (runs_view (drop l.run-index l.runs)) ≡ told l.fn.elements.items ++ flat_map run_told (runs_view l.runs)
+abbrev pub invariant-loop-i : goal.invariant-loop-i
+invariant-loop-i l = told l.elements.items ++ flat_map run_told (runs_view (drop l.i l.runs)) ≡ told l.fn.elements.items ++ flat_map run_told (runs_view l.runs)

@@ -1,12 +1,12 @@
 use Rattle.std.proofs.Common.{ap, ◌∙◌, string_bytes}
-use Rattle.picture.specs.Spelling.{IsPicture, page}
+use Rattle.picture.specs.Spelling.{Adds}
 use Rattle.picture.specs.Told.{change_told, told}
 use Rattle.picture.proofs.Telling.{four}
 use Rattle.picture.proofs.change.draw_change.Goals as goal
 
 pub returns : goal.returns
-unfolding IsPicture change_told
+unfolding Adds change_told
 returns c =
     let items = four (told c.new-elements.result.items) (told c.add_head.new.elements.items) (told c.add_bars.new.elements.items) (told c.add_variants.new.elements.items) (told c.add_table.new.elements.items) _ _ _ _
-    (ap told c.new-elements.ensures.items) c.in_ok-add_head.ensures c.in_ok-add_bars.ensures c.in_ok-y.ensures c.in_ok-height.ensures in
-    (c.in_ok-height.height, c.as_slice.result.now, c.in_ok-text.ensures, ap told c.as_slice.ensures.value ∙ rw c.entries-limits.ensures.value at items)
+    (ap told c.new-elements.ensures.items) c.in_ok-add_head.ensures c.in_ok-add_bars.ensures c.in_ok-below.ensures c.in_ok-height.ensures in
+    (c.args.y, c.as_slice.result.now, c.in_ok-place.ensures, ap told c.as_slice.ensures.value ∙ rw c.entries-limits.ensures.value at items)

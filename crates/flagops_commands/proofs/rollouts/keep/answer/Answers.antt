@@ -1,20 +1,16 @@
-use Rattle.std.proofs.Common.{◌≡◌, Option, IfSome, is_some, option_map, rules}
+use Rattle.std.proofs.Common.{◌≡◌, is_some, option_map, rules}
 use Rattle.std.specs.Prelude.{Err}
 use Rattle.plan_text.specs.Answer.{planned_view}
-use Rattle.flagops_commands.specs.Keep.{IsKeepWith, kept_view}
-use Rattle.flagops_files.specs.Files.{Holding}
-use Rattle.flagops_files.specs.Refusal.{GivesOne}
-use Rattle.flagops_files.specs.Report.{outcome_view}
+use Rattle.flagops_commands.specs.Keep.{kept_view}
 use Rattle.flagops_files.specs.Question.{question_view}
 use Rattle.flagops_commands.proofs.Keeping.{kept_put, not_kept}
 use Rattle.flagops_commands.proofs.rollouts.keep.answer.Goals as goal
 
 pub returns-in_err-text-clause-exact : goal.returns-in_err-text-clause-exact
 returns-in_err-text-clause-exact g c =
-    let told : (old after : Option Holding) → after ≡ old → IfSome old (λ at. GivesOne outcome_view (Err c.in_err-text.field-0.0) (IsKeepWith at after c.args.document.now c.args.write (option_map (λ m. m.number) c.args.refine) c.args.question.now.document.items (question_view c.args.question.now) (planned_view c.args.planned.now))) =
-    λ old after same. not_kept c.args.document.now c.args.write (option_map (λ m. m.number) c.args.refine) c.args.question.now.document.items (question_view c.args.question.now)
-    (planned_view c.args.planned.now) old after c.in_err-text.field-0.0 same c.in_err-text.ensures.exact in
-    search (told, rules)
+    let is : c.from_residual.result ≡ Err c.in_err-text.field-0.0 = search rules in
+    not_kept c.args.document.now c.args.write (option_map (λ m. m.number) c.args.refine) c.args.question.now.document.items (question_view c.args.question.now) (planned_view c.args.planned.now)
+    (g.F.FileSet.holding c.args.files.now) c.in_err-text.field-0.0 c.from_residual.result is c.in_err-text.ensures.exact
 
 pub returns-clause-exact : goal.returns-clause-exact
 returns-clause-exact g c =

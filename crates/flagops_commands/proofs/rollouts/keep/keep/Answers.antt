@@ -2,7 +2,7 @@ use Rattle.std.proofs.Common.{◌∙◌, inl, option_map, rules}
 use Rattle.plan_text.specs.Answer.{planned_view}
 use Rattle.flagops_files.specs.Question.{question_view}
 use Rattle.flagops_commands.proofs.Driving.{kept_after}
-use Rattle.flagops_commands.proofs.Keeping.{kept_whole, left_after, no_plan, no_question}
+use Rattle.flagops_commands.proofs.Keeping.{failed_after, kept_whole, left_after, no_plan, no_question}
 use Rattle.flagops_commands.proofs.rollouts.keep.keep.Goals as goal
 
 pub returns-in_err-question-clause-exact : goal.returns-in_err-question-clause-exact
@@ -36,6 +36,9 @@ returns-clause-exact g c =
     kept_whole c.args.document.now c.args.plan.now c.args.request.now c.args.book.now c.args.write (option_map (λ m. m.number) c.args.refine) (question_view c.in_ok-question.question)
     c.in_ok-question.question.document.items (planned_view c.in_ok-planned.planned) _ _ _ _ c.answer.result c.load_question.ensures.kept c.load_planned.ensures.kept c.in_ok-question.ensures.exact
     c.in_ok-question.ensures.bytes c.in_ok-planned.ensures.exact c.answer.ensures.exact
+
+pub returns-clause-failed : goal.returns-clause-failed
+returns-clause-failed g c = failed_after _ _ _ _ _ c.in_ok-question.ensures.failed c.in_ok-planned.ensures.failed c.answer.ensures.failed
 
 pub returns-clause-left : goal.returns-clause-left
 returns-clause-left g c = left_after _ _ _ _ c.args.document.now c.args.write c.load_question.ensures.kept c.load_planned.ensures.kept c.answer.ensures.left

@@ -1,0 +1,205 @@
+-- What is answered on the tally of a page of a book is answered on the book.
+use Rattle.std.proofs.Common.{◌≡◌, ◌≢◌, ◌∙◌, ℕ, zero, suc, List, [], ◌∷◌, length, Bool, Option, Some, None, unwrap_or, refl, sym, ap, subst}
+use Rattle.std.specs.Prelude.{Result, Ok, Err, OnOk, nat_eq, option_and_then}
+use Rattle.std.proofs.Math.Dec.{eqb-suc-zero}
+use Rattle.std.specs.Map.{lookup}
+use Rattle.std.specs.Result.{result_ok}
+use Rattle.std.specs.Str.{bytes_eq}
+use Rattle.bucket_core.specs.Rule.{total_weight, Entries}
+use Rattle.book_core.specs.Book.{Contents, Inputs, inputs_on}
+use Rattle.book_core.specs.Listing.{has_none}
+use Rattle.book_core.specs.Page.{PageName}
+use Rattle.book_core.specs.Site.{page_at}
+use Rattle.flag_documents.specs.Definition.{Definition}
+use Rattle.flag_documents.specs.Document.{Definitions}
+use Rattle.flag_documents.specs.Flag.{targeting_in}
+use Rattle.logic_ast.specs.Expression.{Expression}
+use Rattle.logic_ast.specs.Sites.{parts_at}
+use Rattle.logic_ast.specs.declared.fault.LogicFault.{LogicFault}
+use Rattle.plan_text.specs.Answer.{Answer, planned_view}
+use Rattle.plan_text.specs.declared.planned.Planned.{Planned}
+use Rattle.price_core.specs.Request.{Asked, asked_of}
+use Rattle.price_core.specs.declared.fault.PriceFault.{PriceFault}
+use Rattle.rollout.specs.Planned.{IsPlanned}
+use Rattle.rollout.specs.Tallied.{IsTallyPlanned, PlansAreByCounts, TalliesAskAsBooks}
+use Rattle.rollout_checks.specs.Lawful.{Place, Problem, and_then, by_logic, by_price, factor, or_refuse, place_in, place_of, problem_of}
+use Rattle.rollout_checks.specs.Tallied.{AreTallied, IsTallyOutcome, IsTallyShown, TallyProblem, tally_problem_of, with_inputs}
+use Rattle.rollout_checks.specs.Verified.{IsOutcome, IsShown, refining_for}
+use Rattle.rollout_checks.specs.declared.fault.RolloutFault.{RolloutFault}
+use Rattle.rollout_checks.specs.declared.fault.RolloutFault.TheVariants.{UnknownFlag, NoSite, OtherTally}
+use Rattle.rollout_checks.specs.declared.refining.Refining.{Refining}
+use Rattle.rollout_checks.specs.declared.refining.Refining.TheVariants.{Times}
+use Rattle.rollout_checks.specs.declared.verify_fault.VerifyFault.{VerifyFault}
+use Rattle.rollout_checks.specs.declared.verify_fault.VerifyFault.TheVariants.{Request, Check}
+use Rattle.tally_core.proofs.Pages.{same_page}
+use Rattle.tally_core.specs.Law.{IsTallyOf}
+use Rattle.tally_core.specs.Tally.{PageTally}
+use Rattle.flagops_commands.proofs.Asked.{asked_is, placed, refused_alike}
+use Rattle.flagops_commands.proofs.Valid.{outcome_over}
+use Rattle.flagops_commands.specs.Plan.{IsPlanOf, MayBePlanned, report_planned}
+use Rattle.flagops_commands.specs.Tallies.{TalliesPlanAsBooks, TalliesTellAsBooks, over}
+use Rattle.flagops_commands.specs.Unrecorded.{has_no_input, is_bare, is_unrecorded, page_asked, page_in}
+use Rattle.flagops_commands.specs.Verify.{IsShownOn, IsToldOn, IsVerdict, MayBeTold, tally_problem_checked, told}
+use Rattle.flagops_files.specs.Report.{Report, beside}
+use Rattle.flagops_files.specs.declared.evidence.Evidence.{Evidence}
+use Rattle.flagops_files.specs.declared.evidence.Evidence.TheVariants.{Book, Tally}
+use Rattle.flagops_files.specs.declared.refusal.Refusal.{Refusal}
+
+refused : {X E : Type 0} {e : E} {x : X} → Err e ≡ Ok x → ⊥
+refused h = cc
+
+-- ---- the page of a request
+
+module _ (key : List ℕ) (site : ℕ) (place : Place) where
+  in_parts : {P : Type 0} (flag : Definition) (parts : Result (P × Entries) LogicFault) (page : Result PageName LogicFault)
+      → and_then (by_logic parts) (λ it. and_then (by_logic page) (λ at. Ok (record { flag = flag; entries = it.1; page = at }))) ≡ Ok place → result_ok page ≡ Some place.page
+  in_parts flag (Err e) page h = absurd (refused h)
+  in_parts flag (Ok it) (Err e) h = absurd (refused h)
+  in_parts flag (Ok it) (Ok at) h =
+      let made : Place = record { flag = flag; entries = it.1; page = at } in
+      let same : made ≡ place = cc in
+      ap (λ (x : Place). Some x.page) same
+
+  in_targeting : (flag : Definition) (o : Option Expression) → and_then (or_refuse NoSite o) (λ targeting. place_in key site flag targeting) ≡ Ok place
+      → option_and_then (λ targeting. result_ok (page_at key site targeting)) o ≡ Some place.page
+  in_targeting flag None h = absurd (refused h)
+  in_targeting flag (Some targeting) h = in_parts flag (parts_at site targeting) (page_at key site targeting) h
+
+  in_flag : (o : Option Definition) → and_then (or_refuse UnknownFlag o) (λ flag. and_then (or_refuse NoSite (targeting_in flag)) (λ targeting. place_in key site flag targeting)) ≡ Ok place
+      → page_in key site o ≡ Some place.page
+  in_flag None h = absurd (refused h)
+  in_flag (Some flag) h = in_targeting flag (targeting_in flag) h
+
+read_so : (r : Result Asked PriceFault) (asked : Asked) → by_price r ≡ Ok asked → result_ok r ≡ Some asked
+read_so (Ok x) asked h = let same : x ≡ asked = cc in ap (λ (y : Asked). Some y) same
+read_so (Err e) asked h = absurd (refused h)
+
+page_is : (refining : Refining) (flags : Definitions) (request : List ℕ) (t : PageTally) (p : TallyProblem) → tally_problem_of refining flags request t ≡ Ok p → page_asked flags (result_ok (asked_of request)) ≡ Some t.page
+page_is refining flags request t p h =
+    let is = placed refining flags request t p h in
+    let asks = asked_is t is.asked is.place refining p is.asks in
+    ap (page_asked flags) (read_so (asked_of request) is.asked is.reads)
+    ∙ (in_flag is.asked.flag is.asked.site is.place (lookup (bytes_eq is.asked.flag) flags) is.stands ∙ ap (λ (page : PageName). Some page) (same_page is.place.page t.page asks.page))
+
+none_or_some : (inputs : Inputs) → nat_eq (length inputs) 0 ≡ has_none inputs
+none_or_some [] = refl
+none_or_some (input ∷ inputs) = eqb-suc-zero (length inputs)
+
+unrecorded_alike : (refining : Refining) (flags : Definitions) (request : List ℕ) (book : Contents) (t : PageTally) (p : TallyProblem) → IsTallyOf (inputs_on book t.page) t → tally_problem_of refining flags request t ≡ Ok p
+    → is_unrecorded (over flags request (Tally t)) ≡ is_unrecorded (over flags request (Book book))
+unrecorded_alike refining flags request book t p of h =
+    let page = page_is refining flags request t p h in
+    ap (is_bare (Tally t)) page ∙ (ap (λ n. nat_eq n 0) of.inputs ∙ (none_or_some (inputs_on book t.page) ∙ sym (ap (is_bare (Book book)) page)))
+
+-- ---- answers
+
+refused_planned : (f : RolloutFault) (it : Result Planned RolloutFault) → IsTallyPlanned (Err f) it → IsPlanned (Err f) it
+refused_planned f (Ok a) plan = plan
+refused_planned f (Err e) plan = plan
+
+refused_back : (f : RolloutFault) (it : Result Planned RolloutFault) → IsPlanned (Err f) it → IsTallyPlanned (Err f) it
+refused_back f (Ok a) plan = plan
+refused_back f (Err e) plan = plan
+
+plan_over : (p : TallyProblem) (inputs : Inputs) (it : Result Planned RolloutFault) → AreTallied p inputs → IsTallyPlanned (Ok p) it → IsPlanned (Ok (with_inputs p inputs)) it
+plan_over p inputs (Ok a) tallied plan = plan inputs tallied
+plan_over p inputs (Err e) tallied plan = plan
+
+plan_back : PlansAreByCounts → (p : TallyProblem) (inputs : Inputs) (it : Result Planned RolloutFault) → AreTallied p inputs → IsPlanned (Ok (with_inputs p inputs)) it → IsTallyPlanned (Ok p) it
+plan_back counts p inputs (Ok a) tallied plan = λ others of_others. counts p inputs others (planned_view a) tallied of_others plan
+plan_back counts p inputs (Err e) tallied plan = plan
+
+refused_told : (f : RolloutFault) (answer : Answer) (verdict : Result (Unit {0}) VerifyFault) → IsTallyOutcome (Err f) answer verdict → IsOutcome (Err f) answer verdict
+refused_told f answer (Ok u) outcome = outcome
+refused_told f answer (Err (Request e)) outcome = outcome
+refused_told f answer (Err (Check e)) outcome = outcome
+
+on_ok : {P Q : Type 0} (verdict : Result (Unit {0}) VerifyFault) → (P → Q) → OnOk verdict P → OnOk verdict Q
+on_ok (Ok u) f p = f p
+on_ok (Err e) f p = p
+
+module _ (asks : TalliesAskAsBooks) (refining : Refining) (flags : Definitions) (request : List ℕ) (book : Contents) (t : PageTally) (of : IsTallyOf (inputs_on book t.page) t) (apart : tally_problem_of refining flags request t ≢ Err OtherTally) where
+  refused_so : (f : RolloutFault) → tally_problem_of refining flags request t ≡ Err f → problem_of refining flags request book ≡ Err f
+  refused_so f is = refused_alike refining flags request book t f (λ other. apart (is ∙ ap (λ (e : RolloutFault). Err e) other)) is
+
+  planned_to : (r : Result TallyProblem RolloutFault) (it : Result Planned RolloutFault) → tally_problem_of refining flags request t ≡ r → IsTallyPlanned r it → IsPlanned (problem_of refining flags request book) it
+  planned_to (Err f) it is plan = subst (λ (b : Result Problem RolloutFault). IsPlanned b it) (sym (refused_so f is)) (refused_planned f it plan)
+  planned_to (Ok p) it is plan =
+      let alike = asks refining flags request book t p of is in
+      subst (λ (b : Result Problem RolloutFault). IsPlanned b it) (sym alike.0) (plan_over p (inputs_on book t.page) it alike.1 plan)
+
+  planned_back : PlansAreByCounts → (r : Result TallyProblem RolloutFault) (it : Result Planned RolloutFault) → tally_problem_of refining flags request t ≡ r → IsPlanned (problem_of refining flags request book) it → IsTallyPlanned r it
+  planned_back counts (Err f) it is plan = refused_back f it (subst (λ (b : Result Problem RolloutFault). IsPlanned b it) (refused_so f is) plan)
+  planned_back counts (Ok p) it is plan =
+      let alike = asks refining flags request book t p of is in
+      plan_back counts p (inputs_on book t.page) it alike.1 (subst (λ (b : Result Problem RolloutFault). IsPlanned b it) alike.0 plan)
+
+  planned_beside : (r : Result TallyProblem RolloutFault) (it : Result Planned RolloutFault) → tally_problem_of refining flags request t ≡ r → IsTallyPlanned r it
+      → beside (is_unrecorded (over flags request (Tally t))) (report_planned it) ≡ beside (is_unrecorded (over flags request (Book book))) (report_planned it)
+  planned_beside r (Err e) is plan = refl
+  planned_beside (Err f) (Ok a) is plan = absurd plan
+  planned_beside (Ok p) (Ok a) is plan = ap (λ (b : Bool). beside b (report_planned (Ok a))) (unrecorded_alike refining flags request book t p of is)
+
+  module _ (answer : Answer) (verdict : Result (Unit {0}) VerifyFault) where
+    told_to : (r : Result TallyProblem RolloutFault) → tally_problem_of refining flags request t ≡ r → IsTallyOutcome r answer verdict → IsOutcome (problem_of refining flags request book) answer verdict
+    told_to (Err f) is outcome = subst (λ (b : Result Problem RolloutFault). IsOutcome b answer verdict) (sym (refused_so f is)) (refused_told f answer verdict outcome)
+    told_to (Ok p) is outcome =
+        let alike = asks refining flags request book t p of is in
+        subst (λ (b : Result Problem RolloutFault). IsOutcome b answer verdict) (sym alike.0) (outcome_over p (inputs_on book t.page) answer verdict alike.1 outcome)
+
+    shown_to : (r : Result TallyProblem RolloutFault) → tally_problem_of refining flags request t ≡ r → IsTallyShown r answer → IsShown (problem_of refining flags request book) answer
+    shown_to (Err f) is shown = absurd shown
+    shown_to (Ok p) is shown =
+        let alike = asks refining flags request book t p of is in
+        subst (λ (b : Result Problem RolloutFault). IsShown b answer) (sym alike.0) (shown (inputs_on book t.page) alike.1)
+
+  told_beside : (answer : Answer) (verdict : Result (Unit {0}) VerifyFault) (r : Result TallyProblem RolloutFault) → tally_problem_of refining flags request t ≡ r → IsTallyOutcome r answer verdict
+      → beside (is_unrecorded (over flags request (Tally t))) (told answer verdict) ≡ beside (is_unrecorded (over flags request (Book book))) (told answer verdict)
+  told_beside answer (Err e) r is outcome = refl
+  told_beside answer (Ok u) (Err f) is outcome = absurd outcome
+  told_beside answer (Ok u) (Ok p) is outcome = ap (λ (b : Bool). beside b (told answer (Ok u))) (unrecorded_alike refining flags request book t p of is)
+
+-- ---- the laws
+
+pub plans_alike : PlansAreByCounts → TalliesAskAsBooks → TalliesPlanAsBooks
+plans_alike counts asks refine flags request book t r of apart = (to, from)
+  where
+    refining : Refining
+    refining = Times (unwrap_or refine 1)
+
+    to : IsPlanOf refine (Ok (over flags request (Tally t))) r → IsPlanOf refine (Ok (over flags request (Book book))) r
+    to (it, may, is, back) = (
+      it,
+      record { answers = planned_to asks refining flags request book t of apart (tally_problem_of refining flags request t) it refl may.answers; ordered = may.ordered; whole = may.whole },
+      is ∙ planned_beside asks refining flags request book t of apart (tally_problem_of refining flags request t) it refl may.answers,
+      back,
+    )
+
+    from : IsPlanOf refine (Ok (over flags request (Book book))) r → IsPlanOf refine (Ok (over flags request (Tally t))) r
+    from (it, may, is, back) =
+        let plan = planned_back asks refining flags request book t of apart counts (tally_problem_of refining flags request t) it refl may.answers in (
+          it,
+          record { answers = plan; ordered = may.ordered; whole = may.whole },
+          is ∙ sym (planned_beside asks refining flags request book t of apart (tally_problem_of refining flags request t) it refl plan),
+          back,
+        )
+
+pub tells_alike : TalliesAskAsBooks → TalliesTellAsBooks
+tells_alike asks None flags request book t answer r of apart (verdict, may, is) =
+    let refining = refining_for answer in (
+      verdict,
+      record {
+        told = told_to asks refining flags request book t of apart answer verdict (tally_problem_of refining flags request t) refl may.told;
+        shown = on_ok verdict (shown_to asks refining flags request book t of apart answer verdict (tally_problem_of refining flags request t) refl) may.shown;
+      },
+      is ∙ told_beside asks refining flags request book t of apart answer verdict (tally_problem_of refining flags request t) refl may.told,
+    )
+tells_alike asks (Some m) flags request book t answer r of apart (verdict, may, is) =
+    let refining = Times m in (
+      verdict,
+      record {
+        told = told_to asks refining flags request book t of apart answer verdict (tally_problem_of refining flags request t) refl may.told;
+        shown = on_ok verdict (shown_to asks refining flags request book t of apart answer verdict (tally_problem_of refining flags request t) refl) may.shown;
+      },
+      is ∙ told_beside asks refining flags request book t of apart answer verdict (tally_problem_of refining flags request t) refl may.told,
+    )

@@ -1,0 +1,22 @@
+use Rattle.std.proofs.Common.{rules, map, subst, sym}
+use Rattle.clap.specs.declared.error.kind.ErrorKind.{ErrorKind}
+use Rattle.flagops_ramps.specs.Words.{IsToldBy, step_by, step_faults, step_app, step_in}
+use Rattle.flagops_ramps.proofs.Matched.{asked_of, missed_in, told_of, step_plain, step_free}
+use Rattle.flagops_ramps.proofs.words.read_step.Goals as goal
+
+pub returns-in_err-matches-clause-err : goal.returns-in_err-matches-clause-err
+unfolding step_by step_faults
+returns-in_err-matches-clause-err g c =
+    let told = told_of step_app step_plain step_free step_in (map g.S.AsStr.text c.args.words.now) _ c.in_ok-step.ensures _ c.in_err-matches.ensures.kinds in search rules
+
+pub returns-in-Some-clause-ok : goal.returns-in-Some-clause-ok
+unfolding step_by step_faults
+returns-in-Some-clause-ok g c =
+    asked_of step_app step_plain step_free step_in (map g.S.AsStr.text c.args.words.now) _ c.in_ok-step.ensures c.in_ok-matches.matches c.in_ok-matches.ensures.kinds c.in_ok-matches.ensures.matches _ (sym c.in-Some.ensures)
+
+pub returns-clause-err : goal.returns-clause-err
+unfolding step_by step_faults
+returns-clause-err g c =
+    let words = map g.S.AsStr.text c.args.words.now in
+    let told = missed_in step_app step_plain step_free step_in words _ c.in_ok-step.ensures c.in_ok-matches.matches c.in_ok-matches.ensures.kinds c.in_ok-matches.ensures.matches (sym c.in-None.ensures) in
+    subst (λ (k : ErrorKind). IsToldBy (step_faults words) (step_by words) k) (sym c.in_ok-missing_value-in-None.ensures) told

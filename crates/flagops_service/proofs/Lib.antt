@@ -1,0 +1,2 @@
+pub mod Matched
+pub mod Started

@@ -1,0 +1,113 @@
+//! The threads of the workers.
+ghost use denote.Param.Send.{IsSend, IsSync};
+
+use crate::posts::Post;
+use flag_text::WriteOutlet;
+use http_server::Config;
+use note_log::NoteLog;
+use ofrep_connections::answer_connections;
+use ofrep_worker::{Counts, OfrepWorker};
+use snap_share::{ReadSeat, ShareName};
+use std::alloc::Global;
+use std::hash::RandomState;
+use std::io;
+use std::net::{Net, TcpListener, TcpStream};
+use std::sync::Wait;
+use std::sync::atomic::{AtomicBool, Ordering};
+use std::thread::{self, Threads};
+use std::time::Clock;
+
+/// The most bytes of a request's body. A longer one is answered with 413.
+const MOST_BODY: usize = 4_194_304;
+
+/// While more bytes than this wait to be sent on a connection, no request is read from it.
+const MOST_PENDING: usize = 16_777_216;
+
+/// Runs a worker on a thread for each post, with the seat of the same place, and does `beside` meanwhile on its own. It ends
+/// when all workers have ended, and they end where the system fails them. Where a thread can't be made it answers None, and
+/// `beside` is not done.
+pub fn work_beside<J, R, B, T>(
+    rt: &R,
+    alloc: Global,
+    keys: RandomState,
+    seats: Vec<ReadSeat<J>>,
+    posts: Vec<Post>,
+    beside: B,
+) -> Option<T>
+where
+    J: ShareName + Send + Sync,
+    R: Net<Listener = TcpListener, Stream = TcpStream> + Clock + Threads + Wait + Sync,
+    B: FnOnce() -> T + Drop,
+    requires { B.pre beside }
+{
+    let counts = Counts::new();
+    let stop = AtomicBool::new(false);
+    work_in_scope(rt, alloc, keys, &counts, &stop, seats, posts, beside)
+}
+
+fn work_in_scope<J, R, B, T>(
+    rt: &R,
+    alloc: Global,
+    keys: RandomState,
+    counts: &Counts,
+    stop: &AtomicBool,
+    seats: Vec<ReadSeat<J>>,
+    posts: Vec<Post>,
+    beside: B,
+) -> Option<T>
+where
+    J: ShareName + Send + Sync,
+    R: Net<Listener = TcpListener, Stream = TcpStream> + Clock + Threads + Wait + Sync,
+    B: FnOnce() -> T + Drop,
+    requires { B.pre beside }
+{
+    thread::scope(
+        thread::scope_env(),
+        rt,
+        move |scope| -> Option<T>
+            requires { IsSend J.row × IsSync J.row × IsSync R.row × B.pre beside }
+        {
+            for (seat, post) in seats.into_iter().zip(posts) {
+                let spawned = scope.spawn(move || work(rt, alloc, keys, counts, stop, seat, post));
+                if spawned.is_err() {
+                    stop.store(true, Ordering::SeqCst);
+                    return None;
+                }
+            }
+            Some(beside())
+        },
+    )
+}
+
+/// Answers the connections of a post until the flag is set or the system fails.
+fn work<J: ShareName, R: Net + Clock>(
+    rt: &R,
+    alloc: Global,
+    keys: RandomState,
+    counts: &Counts,
+    stop: &AtomicBool,
+    seat: ReadSeat<J>,
+    post: Post,
+) {
+    let _ended = answer(rt, alloc, keys, counts, stop, seat, post);
+}
+
+fn answer<J: ShareName, R: Net + Clock>(
+    rt: &R,
+    alloc: Global,
+    keys: RandomState,
+    counts: &Counts,
+    stop: &AtomicBool,
+    seat: ReadSeat<J>,
+    post: Post,
+) -> io::Result<()> {
+    let Post { listener, journal } = post;
+    let log = NoteLog::new(alloc, keys, WriteOutlet::new(journal))?;
+    let mut worker = OfrepWorker::new(rt, alloc, seat, log, counts);
+    let config = Config {
+        max_body_len: MOST_BODY,
+        max_pending: MOST_PENDING,
+        ..Config::default()
+    };
+    answer_connections(rt, alloc, keys, config, listener, stop, &mut worker)
+}

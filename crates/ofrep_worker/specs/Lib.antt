@@ -1,0 +1,6 @@
+pub use Rattle.ofrep_answers.specs.Answer
+pub mod Asked
+pub mod Notes
+pub mod Sent
+pub mod Answers
+pub mod Standing

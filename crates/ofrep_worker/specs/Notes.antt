@@ -1,0 +1,25 @@
+-- The notes of what an answer rests on: each hash input that its evaluations reached, on the page of its operation.
+use Rattle.std.specs.Prelude.{ℕ, ◌==◌, ◌||◌, List, [], map, Option, if◌then◌else◌}
+use Rattle.std.specs.List.{flat_map}
+use Rattle.flag_documents.specs.Document.{Definitions}
+use Rattle.logic_ast.specs.Expression.{Expression}
+use Rattle.logic_evaluator.specs.Run.{Reach}
+use Rattle.book_share.specs.Asked.{page_of, targeting_of}
+use Rattle.note_lines.specs.Note.{Noted}
+use Rattle.ofrep_answers.specs.Answer.{Answered}
+
+-- of sites of one flag
+abbrev pub notes_at : List ℕ → Option Expression → List Reach → List Noted
+notes_at key targeting sites = map (λ site. record { page = page_of key targeting site.site; input = site.input }) sites
+
+-- of what the evaluation of one flag reached
+abbrev pub notes_by : Definitions → List ℕ × List Reach → List Noted
+notes_by flags r = notes_at r.0 (targeting_of flags r.0) r.1
+
+-- of what the evaluations of flags reached
+abbrev pub notes_in : Definitions → List (List ℕ × List Reach) → List Noted
+notes_in flags reached = flat_map (notes_by flags) reached
+
+-- those to be recorded before an answer, which tells something of flags with 200 and 304 alone
+unfoldable pub notes_of : Definitions → Answered → List Noted
+notes_of flags a = if a.status == 200 || a.status == 304 then notes_in flags a.reached else []

@@ -1,0 +1,84 @@
+-- What answers rest on stands, and stays: the laws of a worker.
+use Rattle.std.proofs.Common.{◌<◌, ◌^◌, ℕ, Bool, true, false, List, [], Option, Contains, ap, ◌∙◌, append-nil, sym, subst, refl, inl, inr}
+use Rattle.std.proofs.Math.Logic.{∥∥₁_map, ∥∥₁_map₂}
+use Rattle.std.proofs.lemmas.List.Elements.{Contains-append_left}
+use mathlib.Core.List.{IsPrefix}
+use Rattle.flag_defs.specs.declared.flags.Flags.{Flags}
+use Rattle.http.specs.declared.request.Request.{Request}
+use Rattle.http_server.specs.declared.response.Response.{Response}
+use Rattle.note_lines.specs.Note.{Noted, note_line}
+use Rattle.note_log.specs.Line.{HasLine}
+use Rattle.note_log.specs.Log.{Logged, Records, Wants}
+use Rattle.note_log.proofs.Lines.{has_more, not_in}
+use Rattle.ofrep_answers.specs.Answer.{answer_of}
+use Rattle.snap_core.specs.Hub.{Numbered}
+use Rattle.snap_share.specs.Known.{IsLastOf, snapshots_of}
+use Rattle.snap_share.proofs.Numbers.{is_known, starts}
+use Rattle.ofrep_worker.specs.Answers.{AllRecorded, RecordedFirst, Responds, RestsOn, Stands}
+use Rattle.ofrep_worker.specs.Asked.{asked_of}
+use Rattle.ofrep_worker.specs.Notes.{notes_of}
+use Rattle.ofrep_worker.specs.Sent.{Gives}
+
+-- each line that is wanted stands
+abbrev HasLines : List Noted → List ℕ → Type 0
+HasLines notes bytes = (note : Noted) → Wants notes note → HasLine (note_line note) bytes
+
+all_stand : (notes : List Noted) (old new : Logged) (b0 b1 : Option (List ℕ)) → AllRecorded notes old new b0 b1 → ∥ HasLines notes new.handed ∥₁
+all_stand notes old new b0 b1 (inl none) = ∣ (λ note w. absurd (not_in note (subst (λ (l : List Noted). Contains l note) none.0 w.0))) ∣₁
+all_stand notes old new b0 b1 (inr records) = ∥∥₁_map records (λ (r : Records notes old new b0 b1 true). (r.whole refl).1)
+
+module _ (known : List Flags) (request : Request (List ℕ)) (response : Response) (old new : Logged) (b0 b1 : Option (List ℕ)) (s : Numbered) (last : IsLastOf known s) where
+  answered : (moment : ℕ) → moment < 2 ^ 53 → (all : Bool) → Gives all (answer_of s.flags moment (asked_of request)) response
+      → RecordedFirst all (notes_of s.flags (answer_of s.flags moment (asked_of request))) old new b0 b1
+      → Stands known new.handed request response
+  answered moment small false gives records = inl gives
+  answered moment small true gives records = inr (∥∥₁_map (all_stand (notes_of s.flags (answer_of s.flags moment (asked_of request))) old new b0 b1 records) (λ lines. record {
+    s = s;
+    is_known = is_known known s last;
+    moment = moment;
+    is_moment = small;
+    sends = gives;
+    lines = lines;
+  }))
+
+pub responded : (known known' : List Flags) (request : Request (List ℕ)) (response : Response) (old new : Logged) (b0 b1 : Option (List ℕ))
+    → Responds known known' request response old new b0 b1 → Stands known' new.handed request response
+responded known known' request response old new b0 b1 (inl r) =
+    let a = r.1.2 in
+    answered known' request response old new b0 b1 r.1.0 r.1.1 a.0 a.1 a.2 a.3 a.4
+responded known known' request response old new b0 b1 (inr r) = inl (inr r.1)
+
+-- ---- it stays
+
+-- the log has only grown
+grown : (notes : List Noted) (old new : Logged) (b0 b1 : Option (List ℕ)) (all : Bool) → RecordedFirst all notes old new b0 b1 → ∥ IsPrefix old.handed new.handed ∥₁
+grown notes old new b0 b1 true (inl none) = ∣ ([], append-nil old.handed ∙ ap (λ (l : Logged). l.handed) (sym none.1)) ∣₁
+grown notes old new b0 b1 true (inr records) = ∥∥₁_map records (λ (r : Records notes old new b0 b1 true). (r.more, sym r.handed))
+grown notes old new b0 b1 false records = ∥∥₁_map records (λ (r : Records notes old new b0 b1 false). (r.more, sym r.handed))
+
+further : (known known' : List Flags) (request : Request (List ℕ)) (response : Response) (old new : Logged) (b0 b1 : Option (List ℕ))
+    → Responds known known' request response old new b0 b1 → IsPrefix known known' × (∥ IsPrefix old.handed new.handed ∥₁)
+further known known' request response old new b0 b1 (inl r) =
+    let a = r.1.2 in
+    (r.0, grown (notes_of r.1.0.flags (answer_of r.1.0.flags a.0 (asked_of request))) old new b0 b1 a.2 a.4)
+further known known' request response old new b0 b1 (inr r) = (r.0, ∣ ([], append-nil old.handed ∙ ap (λ (l : Logged). l.handed) (sym r.2)) ∣₁)
+
+-- where more is known, and more stands in the log, an answer rests on no less
+rests_still : (known known' : List Flags) (bytes bytes' : List ℕ) (request : Request (List ℕ)) (response : Response)
+    → IsPrefix known known' → IsPrefix bytes bytes' → RestsOn known bytes request response → RestsOn known' bytes' request response
+rests_still known known' bytes bytes' request response k b r =
+    let more = starts known known' k in record {
+      s = r.s;
+      is_known = subst (λ (l : List Numbered). Contains l r.s) (sym more.1) (Contains-append_left (snapshots_of known) more.0 r.s r.is_known);
+      moment = r.moment;
+      is_moment = r.is_moment;
+      sends = r.sends;
+      lines = λ note w. subst (HasLine (note_line note)) b.1 (has_more (note_line note) bytes b.0 (r.lines note w));
+    }
+
+pub still_stands : (known known' : List Flags) (request : Request (List ℕ)) (response : Response) (old new : Logged) (b0 b1 : Option (List ℕ))
+    → Responds known known' request response old new b0 b1 → (earlier : Request (List ℕ)) (told : Response) → Stands known old.handed earlier told → Stands known' new.handed earlier told
+still_stands known known' request response old new b0 b1 r earlier told (inl fails) = inl fails
+still_stands known known' request response old new b0 b1 r earlier told (inr rests) =
+    let f = further known known' request response old new b0 b1 r in
+    inr (∥∥₁_map₂ f.1 rests (rests_still known known' old.handed new.handed earlier told f.0))

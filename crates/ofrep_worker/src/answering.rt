@@ -1,0 +1,80 @@
+//! One answer, from one snapshot.
+ghost use Rattle.std.specs.Prelude.{◌≡◌, ◌<◌, ◌^◌, IfOk, OnErr, OnOk};
+ghost use Rattle.std.specs.Arc.{arc_value};
+ghost use Rattle.flag_defs.specs.Flags.{flags_view};
+ghost use Rattle.http_server.specs.Response.{IsBlank};
+ghost use Rattle.note_log.specs.Log.{logged};
+ghost use Rattle.ofrep_answers.specs.Answer.{answer_of, answer_view};
+ghost use Rattle.ofrep_worker.specs.Answers.{Answers};
+ghost use Rattle.ofrep_worker.specs.Asked.{asked_of};
+ghost use Rattle.ofrep_worker.specs.Sent.{Sends};
+
+use crate::asked::tags_named;
+use crate::counts::Counts;
+use crate::failing::give;
+use crate::filling::fill;
+use crate::moment::moment_of;
+use crate::notes::notes_of;
+use crate::recording::record_first;
+use bytes::{BufMut, Bytes};
+use flag_text::Outlet;
+use http::Request;
+use http_server::Response;
+use note_log::NoteLog;
+use ofrep_answers::{Answer, Content, answer_to};
+use std::alloc::{AllocError, Global};
+use std::time::Clock;
+use sync_frames::SharedSnapshot;
+
+/// What an answer is made with: the snapshot that it is of, and what was counted so far.
+#[derive(Drop)]
+pub(crate) struct Answering<'a, R> {
+    pub(crate) rt: &'a R,
+    pub(crate) alloc: Global,
+    pub(crate) counts: &'a Counts,
+    pub(crate) snapshot: &'a SharedSnapshot,
+}
+
+/// Answers a request of the flags of a snapshot, once the notes of the answer are recorded. Where memory runs out the log is
+/// as it was.
+pub(crate) fn answer_from<R: Clock, O: Outlet>(
+    with: &Answering<'_, R>,
+    log: &mut NoteLog<O>,
+    request: &Request<Bytes>,
+    response: &mut Response,
+) -> Result<(), AllocError>
+    requires { IsBlank response.old }
+    ensures ok { OnOk result (Answers (flags_view (arc_value with.now.snapshot.now).flags) request.now response.new (logged log.old) (logged log.new) (O.bytes log.old.outlet) (O.bytes log.new.outlet)) }
+    ensures err { OnErr result (log.new ≡ log.old) }
+{
+    let moment = moment_of(with.rt);
+    let answer = with.answer_at(moment, request)?;
+    let notes = notes_of(with.alloc, with.snapshot.flags(), &answer)?;
+    fill(with.alloc, &answer, response)?;
+    if let Content::Counts = answer.content {
+        let number = with.snapshot.number();
+        let flags = with.snapshot.flags().len();
+        let text = with.counts.text(with.alloc, number, flags)?;
+        response.body.put_slice(text.as_bytes())?;
+    }
+    let recorded = record_first(with.alloc, log, notes.as_slice())?;
+    give(recorded, response);
+    Ok(())
+}
+
+impl<R> Answering<'_, R> {
+    /// The answer to a request at a moment.
+    fn answer_at(&self, moment: u64, request: &Request<Bytes>) -> Result<Answer, AllocError>
+        requires { moment < 2 ^ 53 }
+        ensures { IfOk result (λ answer. answer_view answer ≡ answer_of (flags_view (arc_value self.now.snapshot.now).flags) moment (asked_of request.now)) }
+    {
+        let tags = tags_named(self.alloc, request)?;
+        let asked = ofrep_answers::Request {
+            method: request.method().as_str(),
+            path: request.uri().path(),
+            if_none_match: tags.as_slice(),
+            body: request.body().as_slice(),
+        };
+        answer_to(self.alloc, self.snapshot.flags(), moment, &asked)
+    }
+}

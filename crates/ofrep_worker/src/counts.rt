@@ -1,0 +1,89 @@
+//! What the workers of a service count together.
+use http::StatusCode;
+use std::alloc::{AllocError, Global};
+use std::sync::atomic::{AtomicU64, Ordering};
+
+/// How many requests were answered with each status, and how many notes were made.
+#[derive(Drop)]
+pub struct Counts {
+    ok: AtomicU64,
+    not_modified: AtomicU64,
+    bad_request: AtomicU64,
+    not_found: AtomicU64,
+    not_allowed: AtomicU64,
+    too_large: AtomicU64,
+    failed: AtomicU64,
+    notes: AtomicU64,
+    inputs_too_long: AtomicU64,
+}
+
+impl Counts {
+    /// Nothing was counted yet.
+    pub fn new() -> Counts {
+        Counts {
+            ok: AtomicU64::new(0),
+            not_modified: AtomicU64::new(0),
+            bad_request: AtomicU64::new(0),
+            not_found: AtomicU64::new(0),
+            not_allowed: AtomicU64::new(0),
+            too_large: AtomicU64::new(0),
+            failed: AtomicU64::new(0),
+            notes: AtomicU64::new(0),
+            inputs_too_long: AtomicU64::new(0),
+        }
+    }
+
+    /// Counts a request that is answered with this status.
+    pub(crate) fn count(&self, status: StatusCode) {
+        let count = match status.as_u16() {
+            200 => &self.ok,
+            304 => &self.not_modified,
+            400 => &self.bad_request,
+            404 => &self.not_found,
+            405 => &self.not_allowed,
+            413 => &self.too_large,
+            _ => &self.failed,
+        };
+        count.fetch_add(1, Ordering::Relaxed);
+    }
+
+    /// Counts notes that were written, and inputs that were too long for one.
+    pub(crate) fn count_notes(&self, notes: u64, inputs_too_long: u64) {
+        self.notes.fetch_add(notes, Ordering::Relaxed);
+        self.inputs_too_long
+            .fetch_add(inputs_too_long, Ordering::Relaxed);
+    }
+
+    /// The text of what is counted, for Prometheus, with the number of the snapshot and how many flags it has.
+    pub(crate) fn text(
+        &self,
+        alloc: Global,
+        snapshot: u64,
+        flags: usize,
+    ) -> Result<String, AllocError> {
+        let mut text = format!(in alloc; "# TYPE ofrep_requests_total counter\n")?;
+        push_requests(&mut text, "200", &self.ok)?;
+        push_requests(&mut text, "304", &self.not_modified)?;
+        push_requests(&mut text, "400", &self.bad_request)?;
+        push_requests(&mut text, "404", &self.not_found)?;
+        push_requests(&mut text, "405", &self.not_allowed)?;
+        push_requests(&mut text, "413", &self.too_large)?;
+        push_requests(&mut text, "500", &self.failed)?;
+        let notes = self.notes.load(Ordering::Relaxed);
+        let too_long = self.inputs_too_long.load(Ordering::Relaxed);
+        write!(
+            text,
+            "# TYPE ofrep_notes_total counter\nofrep_notes_total {notes}\n# TYPE ofrep_inputs_too_long_total counter\nofrep_inputs_too_long_total {too_long}\n# TYPE ofrep_snapshot gauge\nofrep_snapshot {snapshot}\n# TYPE ofrep_flags gauge\nofrep_flags {flags}\n"
+        )?;
+        Ok(text)
+    }
+}
+
+/// Adds how many requests were answered with a status.
+fn push_requests(text: &mut String, status: &str, count: &AtomicU64) -> Result<(), AllocError> {
+    let count = count.load(Ordering::Relaxed);
+    write!(
+        text,
+        "ofrep_requests_total{{status=\"{status}\"}} {count}\n"
+    )
+}

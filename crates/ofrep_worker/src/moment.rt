@@ -1,0 +1,20 @@
+//! The moment of an evaluation.
+ghost use Rattle.std.specs.Prelude.{◌<◌, ◌^◌};
+
+use std::time::{Clock, SystemTime, UNIX_EPOCH};
+
+/// The last second that an evaluation may have.
+const LAST: u64 = (1 << 53) - 1;
+
+/// The seconds since 1970: 0 where the clock can't be read or is set before.
+pub(crate) fn moment_of<R: Clock>(rt: &R) -> u64
+    ensures { result < 2 ^ 53 }
+{
+    let Ok(now) = SystemTime::now(rt) else {
+        return 0;
+    };
+    match now.duration_since(UNIX_EPOCH) {
+        Ok(since) => since.as_secs().min(LAST),
+        Err(_) => 0,
+    }
+}

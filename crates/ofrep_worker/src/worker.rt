@@ -1,0 +1,102 @@
+//! The worker.
+ghost use Rattle.std.specs.Prelude.{◌≡◌, OnErr, OnOk};
+ghost use mathlib.Core.List.{IsPrefix};
+ghost use Rattle.http_server.specs.Response.{IsBlank};
+ghost use Rattle.note_log.specs.Log.{logged};
+ghost use Rattle.ofrep_worker.specs.Answers.{Responds, RespondsFrom};
+
+use crate::answering::{Answering, answer_from};
+use crate::counts::Counts;
+use crate::failing::leave_empty;
+use bytes::Bytes;
+use flag_text::Outlet;
+use http::Request;
+use http_server::{Response, Service};
+use note_log::NoteLog;
+use snap_share::{Current, ReadSeat, ShareFault, ShareName};
+use std::alloc::{AllocError, Global};
+use std::time::Clock;
+
+/// Answers requests from the last snapshot that its seat knows, once what the answers rest on is recorded.
+#[derive(Drop)]
+pub struct OfrepWorker<'a, J: ShareName, R, O> {
+    rt: &'a R,
+    alloc: Global,
+    pub(crate) seat: ReadSeat<J>,
+    pub(crate) log: NoteLog<O>,
+    counts: &'a Counts,
+}
+
+impl<'a, J: ShareName, R: Clock, O: Outlet> OfrepWorker<'a, J, R, O> {
+    /// A worker that answers from the snapshots of a seat. The workers of a service count together.
+    pub fn new(
+        rt: &'a R,
+        alloc: Global,
+        seat: ReadSeat<J>,
+        log: NoteLog<O>,
+        counts: &'a Counts,
+    ) -> OfrepWorker<'a, J, R, O>
+        ensures seat { result.seat ≡ seat }
+        ensures log { result.log ≡ log }
+    {
+        OfrepWorker {
+            rt,
+            alloc,
+            seat,
+            log,
+            counts,
+        }
+    }
+
+    /// Answers from the current snapshot. Where it fails the log has not changed.
+    fn respond(
+        &mut self,
+        request: &Request<Bytes>,
+        response: &mut Response,
+    ) -> Result<(), ShareFault>
+        requires { IsBlank response.old }
+        ensures ok { OnOk result (RespondsFrom self.old.seat self.new.seat request.now response.new (logged self.old.log) (logged self.new.log) (O.bytes self.old.log.outlet) (O.bytes self.new.log.outlet)) }
+        ensures err { OnErr result (IsPrefix self.old.seat self.new.seat × (self.new.log ≡ self.old.log)) }
+    {
+        let snapshot = self.seat.current()?;
+        let answering = Answering {
+            rt: self.rt,
+            alloc: self.alloc,
+            counts: self.counts,
+            snapshot: &snapshot,
+        };
+        answer_from(&answering, &mut self.log, request, response)?;
+        Ok(())
+    }
+
+    /// Answers from the current snapshot, or leaves the response empty where memory runs out.
+    fn respond_or_leave(&mut self, request: &Request<Bytes>, response: &mut Response)
+        requires { IsBlank response.old }
+        ensures { Responds self.old.seat self.new.seat request.now response.new (logged self.old.log) (logged self.new.log) (O.bytes self.old.log.outlet) (O.bytes self.new.log.outlet) }
+    {
+        match self.respond(request, response) {
+            Ok(()) => {}
+            Err(_) => leave_empty(response),
+        }
+    }
+}
+
+impl<J: ShareName, R: Clock, O: Outlet> Service for OfrepWorker<'_, J, R, O> {
+    ghost answers = { λ old request response new.
+        Responds old.seat new.seat request response (logged old.log) (logged new.log) (O.bytes old.log.outlet) (O.bytes new.log.outlet) };
+
+    fn call(
+        &mut self,
+        request: &Request<Bytes>,
+        response: &mut Response,
+    ) -> Result<(), AllocError> {
+        let (notes, too_long) = (self.log.written(), self.log.too_long());
+        self.respond_or_leave(request, response);
+        self.counts.count(response.status);
+        self.counts.count_notes(
+            self.log.written().saturating_sub(notes),
+            self.log.too_long().saturating_sub(too_long),
+        );
+        Ok(())
+    }
+}

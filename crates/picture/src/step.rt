@@ -1,0 +1,44 @@
+//! The number of a step above its picture.
+ghost use Rattle.std.specs.Prelude.{◌≡◌, ◌++◌, ◌∷◌, [], OnOk, string_bytes};
+ghost use Rattle.picture.specs.Spelling.{Adds};
+ghost use Rattle.picture.specs.Told.{number, told};
+
+use crate::bars::LEFT;
+use crate::element::{Content, Element, Extent, Place, add};
+use crate::print::place;
+use crate::words::{Style, Word};
+use std::alloc::{AllocError, Global};
+
+/// The height of a step's number with the line above it.
+const STEP: u64 = 100;
+
+/// Adds the number of a step to the pictures of a page, so far below its top, and gives how far below it that ends.
+#[tactic(auto, unfolding(crate::specs::Spelling::Adds))]
+pub fn draw_step(alloc: Global, pictures: &mut String, y: u64, step: u64) -> Result<u64, AllocError>
+    ensures { OnOk result (Adds (number step ∷ []) (string_bytes pictures.old) (string_bytes pictures.new)) }
+{
+    let mut elements = Vec::new(alloc);
+    add_number(&mut elements, step)?;
+    place(pictures, y, elements.as_slice())?;
+    Ok(y.saturating_add(STEP))
+}
+
+fn add_number(elements: &mut Vec<Element<'_>>, step: u64) -> Result<(), AllocError>
+    ensures { OnOk result (told elements.new.items ≡ told elements.old.items ++ (number step ∷ [])) }
+{
+    let line = Extent {
+        width: 1120,
+        height: 4,
+    };
+    add(
+        elements,
+        &[
+            Element::Line(Place { x: LEFT, y: 30 }, line),
+            Element::Text(
+                Style::Title,
+                Place { x: LEFT, y: 96 },
+                Content::Counted(Word::Step, step),
+            ),
+        ],
+    )
+}

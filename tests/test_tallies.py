@@ -1,0 +1,209 @@
+"""`plan`, `verify` and `apply --keep` on the file of a tally, beside the book whose inputs it counts.
+
+The tally is made by the tests' own program, from the inputs of the book. They wait for a release that takes tallies.
+"""
+import json
+import os
+import random
+import unittest
+
+from given import BOOK, FREE, RED_3, document, request
+from program import ProgramTest, run
+from test_planner import Problem
+from test_records import compact, note, printed
+
+CASES = int(os.environ.get("TALLY_CASES", "100"))
+SEED = 20_261_126
+
+PAGE = {"flag": "color", "site": 0, "by": '{"var":["key"]}'}
+INPUTS = [json.loads(line) for line in BOOK.splitlines()[2:]]
+
+# How a book begins: what begins otherwise than a tally is read as one.
+NO_BOOK = "refused read_book 1 Header\n"
+
+
+def lines_of(inputs, page):
+    """The note lines of inputs on a page, sorted."""
+    return sorted((note(text, page) for text in inputs), key=str.encode)
+
+
+def tally_of(inputs, total, page=None):
+    """The file of the tally of inputs on a page."""
+    page = page or PAGE
+    text = printed(lines_of(inputs, page), total)
+    head = json.loads(text.splitlines()[1])
+    return text.replace(compact(head), compact({**head, **page}), 1)
+
+
+TALLY = tally_of(INPUTS, 10)
+HEADER, HEAD, *POINTS = TALLY.splitlines(keepends=True)
+
+
+def changed(**members):
+    """The tally with other members in its second line."""
+    return HEADER + compact({**json.loads(HEAD), **members}) + "\n" + "".join(POINTS)
+
+
+def counting(points, inputs=7):
+    """The tally with other lines of points, and so many inputs."""
+    head = compact({**json.loads(HEAD), "inputs": inputs})
+    return HEADER + head + "\n" + points
+
+
+# Files that begin as a tally, and the refusal of each.
+BROKEN = [
+    ('{"tally":2}\n' + HEAD, "1 Header"),
+    ('{"tally":1}', "1 Header"),
+    ('{"tally":1}\r\n' + HEAD, "1 Header"),
+    (TALLY.replace("\n", "\r\n"), "1 Header"),
+    (HEADER, "2 Page"),
+    (HEADER + "".join(POINTS), "2 Page"),
+    (HEADER + HEAD[:-1], "2 Page"),
+    (HEADER + HEAD.replace(":", ": "), "2 Page"),
+    (changed(total=0), "2 Page"),
+    (changed(total=1_000_001), "2 Page"),
+    (changed(flag="other"), "2 Page"),
+    (changed(site=1), "2 Page"),
+    (changed(by=None), "2 Page"),
+    (changed(first=None), "2 Page"),
+    (changed(last=None), "2 Page"),
+    (changed(inputs=0), "2 Page"),
+    (changed(first=json.loads(HEAD)["last"], last=json.loads(HEAD)["first"]), "2 Page"),
+    (changed(more=1), "2 Page"),
+    (TALLY[:-1], f"3 Line {2 + len(POINTS)}"),
+    (TALLY + "\n", f"3 Line {3 + len(POINTS)}"),
+    (TALLY.replace(",1]", ", 1]", 1), "3 Line 3"),
+    (counting("[0,0]\n"), "3 Line 3"),
+    (counting("[10,7]\n"), "3 Line 3"),
+    (counting("[0,1]\n[01,6]\n"), "3 Line 4"),
+    (counting("[1,1]\n[0,6]\n"), "4 Order 4"),
+    (counting("[1,1]\n[1,6]\n"), "4 Order 4"),
+    (counting("[1,1]\n[3,3]\n[2,3]\n[10,1]\n"), "4 Order 5"),
+    (counting("[1,6]\n"), "5 Inputs"),
+    (counting("[1,8]\n"), "5 Inputs"),
+    (counting(""), "5 Inputs"),
+    (counting("[1,67108865]\n", 67_108_865), "5 Inputs"),
+]
+
+# Tallies that are none of the request's page and total.
+OTHERS = [
+    tally_of(INPUTS, 10, {**PAGE, "flag": "other"}),
+    tally_of(INPUTS, 10, {**PAGE, "site": 1}),
+    tally_of(INPUTS, 10, {**PAGE, "by": None}),
+    tally_of(INPUTS, 20),
+    tally_of([], 20),
+    tally_of(INPUTS, 1_000_000),
+]
+
+
+class Tallies(ProgramTest):
+    def setUp(self):
+        if run(["plan", "d", "r", "t"], self.files()).out == NO_BOOK:
+            self.skipTest("the program takes no tallies")
+
+    def files(self, tally=TALLY, asked=RED_3, text=None, plan=FREE):
+        return {"d": text or document(), "r": asked, "t": tally, "b": BOOK, "p": plan}
+
+    def test_as_books(self):
+        draw = random.Random(SEED)
+        seen = {"rule": 0, "none": 0, "refused": 0}
+        for number in range(CASES):
+            problem = Problem(draw)
+            files = problem.files()
+            page = {**PAGE, "flag": "f"}
+            files["t"] = tally_of(problem.inputs, len(problem.points), page)
+            with self.subTest(number=number, files=files):
+                seen[self.answer(problem, files)] += 1
+        self.assertGreater(min(seen.values()), CASES // 20, seen)
+
+    def answer(self, problem, files):
+        """The kind of the answer, which is the same on both, as is what `verify` tells of it and of a changed one."""
+        by = ["--refine", str(problem.factor)]
+        report = self.both(["plan", *by, "d", "r"], [], files)
+        if report.startswith("refused"):
+            return "refused"
+        planned = json.loads(report)
+        wrong = {**planned, "cost": 1 + planned["cost"]} if "cost" in planned else {**planned, "none": []}
+        for plan in [report, compact(wrong)]:
+            held = {**files, "p": plan}
+            self.both(["verify", *by, "d", "r"], ["p"], held)
+            self.both(["apply", "--keep", *by, "d", "p", "r"], [], held)
+        # Without the factor the total of a rule tells it; what no factor is told of is another total than the tally's.
+        if "rule" in planned:
+            self.both(["verify", "d", "r"], ["p"], {**files, "p": report})
+        return "none" if "none" in planned else "rule"
+
+    def both(self, front, back, files):
+        """What is printed on the book and on the tally."""
+        book, tally = (run([*front, name, *back], files) for name in "bt")
+        self.assertEqual((book.out, book.status), (tally.out, tally.status), front)
+        return book.out
+
+    def test_broken(self):
+        for tally, refusal in BROKEN:
+            for front, back in [(["plan", "d", "r"], []), (["verify", "d", "r"], ["p"]), (["apply", "--keep", "d", "p", "r"], [])]:
+                with self.subTest(tally=tally, words=front):
+                    ran = self.assert_ends([*front, "t", *back], self.files(tally), 1, f"refused read_tally {refusal}\n")
+                    self.assertTrue(ran.err.startswith('error: "t" is no tally: '), ran.err)
+
+    def test_others(self):
+        for tally in OTHERS:
+            with self.subTest(tally=tally[:300]):
+                ran = self.assert_ends(["plan", "d", "r", "t"], self.files(tally), 1, "refused plan 11 OtherTally\n")
+                self.assertTrue(ran.err.startswith('error: the request "r" is for another page or total than the tally "t"'), ran.err)
+                self.assertIn(f", at {json.loads(tally.splitlines()[1])['total']} points\n", ran.err)
+                self.assert_ends(["verify", "d", "r", "t", "p"], self.files(tally), 1, "refused verify 11 OtherTally\n")
+                # `Shared` has the number 11 there.
+                self.assert_ends(["apply", "--keep", "d", "p", "r", "t"], self.files(tally), 1, "refused apply 14 OtherTally\n")
+
+    def test_by_factor(self):
+        finer = tally_of(INPUTS, 50)
+        asked = request('"red":23,"blue":27')
+        for factor, tally, report in [("5", finer, None), ("1", finer, "11 OtherTally"), ("5", TALLY, "11 OtherTally"), ("10", finer, "11 OtherTally")]:
+            with self.subTest(factor=factor):
+                ran = run(["plan", "--refine", factor, "d", "r", "t"], self.files(tally, asked))
+                book = run(["plan", "--refine", factor, "d", "r", "b"], self.files(tally, asked))
+                self.assertEqual(ran.out, f"refused plan {report}\n" if report else book.out)
+
+    def test_order(self):
+        """Another tally is refused behind a site without weight, and before names and sums."""
+        other = OTHERS[1]
+        for text, asked, refusal in [
+            (None, "{", "1 Request 1 BadRequest"),
+            (None, RED_3.replace("color", "colour"), "2 UnknownFlag"),
+            (None, request('"red":3,"blue":7', ',"site":1'), "3 NoSite"),
+            (document('[{"var":"v"},5],["blue",5]'), RED_3, "4 Computed"),
+            (document('["red",0],["blue",0]'), RED_3, "9 NoWeight"),
+            (None, request('"red":3,"blue":6,"pink":0'), "11 OtherTally"),
+            (None, request('"red":3,"blue":6'), "11 OtherTally"),
+            (document('["red",500001],["blue",500000]'), request('"red":500000,"blue":500001'), "11 OtherTally"),
+        ]:
+            with self.subTest(text=text, asked=asked):
+                self.assert_ends(["plan", "d", "r", "t"], self.files(other, asked, text), 1, f"refused plan {refusal}\n")
+
+    def test_empty(self):
+        """A tally without inputs is told, as a book without the page is."""
+        ran = self.assert_ends(["plan", "d", "r", "t"], self.files(tally_of([], 10)), 0, run(["plan", "d", "r", "e"], {**self.files(), "e": '{"book":1}\n'}).out)
+        self.assertTrue(ran.err.startswith('note: "t" counts no input'), ran.err)
+
+    def test_more_than_a_book(self):
+        """More inputs than a page of a book takes, by their counts alone."""
+        counts = {0: 60_000_000, 4: 1, 7: 67_108_864}
+        points = "".join(f"[{point},{count}]\n" for point, count in counts.items())
+        files = self.files(counting(points, sum(counts.values())), request('"red":4,"blue":6'))
+        ran = run(["plan", "d", "r", "t"], files)
+        planned = json.loads(ran.out)
+        self.assertEqual((ran.status, planned["cost"]), (0, 0))
+        self.assertEqual(run(["verify", "d", "r", "t", "p"], {**files, "p": ran.out}).out, "valid cost 0\n")
+        self.assertEqual(run(["verify", "d", "r", "b", "p"], {**files, "p": ran.out}).out, "refused verify 8 Groups\n")
+
+    def test_other_commands(self):
+        """A command that takes books alone refuses a tally as no book."""
+        steps = '{"plan":1,"flag":"color","steps":[{"red":3,"blue":7}]}'
+        for words in [["ramp", "d", "s", "t"], ["book", "o", "t"]]:
+            with self.subTest(words=words):
+                self.assertEqual(run(words, {**self.files(), "s": steps}).out, NO_BOOK)
+
+
+if __name__ == "__main__":
+    unittest.main()
