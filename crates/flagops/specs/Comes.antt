@@ -7,9 +7,10 @@ use Rattle.flagops_commands.specs.Ended.{AnswersAsked, AnswersStored, AnswersUnr
 use Rattle.flagops_files.specs.Files.{Holding}
 use Rattle.flagops_network.specs.Ended.{AnswersServe, FollowsAsked, RefusesUnread, ServesAsked, TellsFollow, TellsServe}
 use Rattle.flagops_ramps.specs.Ended.{AnswersRamp, AnswersStep, AnswersVerify, TellsRamp, TellsStep, TellsVerify}
+use Rattle.flagops_service.specs.Ended.{AnswersOfrep, ServesOfrep, TellsOfrep}
 use Rattle.flagops_words.specs.Words.{asked_by}
 use Rattle.flagops.specs.declared.family.Family.{Family}
-use Rattle.flagops.specs.declared.family.Family.TheVariants.{Files, Serve, Follow, Ramp, VerifyRamp, ApplyStep}
+use Rattle.flagops.specs.declared.family.Family.TheVariants.{Files, Serve, Follow, Ramp, VerifyRamp, ApplyStep, Ofrep}
 
 module _ {O E F : Type 0} (bytes : O → Option (List ℕ)) (is_broken : O → Bool) (out out' : O) (told : E → Option (List ℕ)) (is_mute : E → Bool) (err err' : E) (holding : F → Option Holding) (has_failed : F → Bool) (files files' : F) (status : ℕ) where
   -- Of a command over files: its answer over files whose bytes are known; whatever they hold, a read or a write that failed; what is
@@ -60,6 +61,13 @@ module _ {O E F : Type 0} (bytes : O → Option (List ℕ)) (is_broken : O → B
       × TellsStep bytes is_broken out out' told is_mute err err' status words
       × (holding files' ≡ holding files)
 
+  -- of `ofrep`: its answer over files whose bytes are known; that it serves or is refused; and what is told of words with a mistake
+  abbrev pub ComesOfOfrep : List Text → Type 0
+  ComesOfOfrep words =
+      AnswersOfrep bytes is_broken out out' told is_mute err err' status holding files words
+      × ServesOfrep bytes is_broken out out' told is_mute err err' status words
+      × TellsOfrep bytes is_broken out out' told is_mute err err' status words
+
   abbrev pub Comes : Family → List Text → Type 0
   Comes Files words = ComesOfFiles words
   Comes Serve words = ComesOfServe words
@@ -67,3 +75,4 @@ module _ {O E F : Type 0} (bytes : O → Option (List ℕ)) (is_broken : O → B
   Comes Ramp words = ComesOfRamp words
   Comes VerifyRamp words = ComesOfVerifyRamp words
   Comes ApplyStep words = ComesOfApplyStep words
+  Comes Ofrep words = ComesOfOfrep words

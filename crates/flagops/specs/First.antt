@@ -4,7 +4,7 @@ use Rattle.std.specs.List.{starts_with}
 use Rattle.std.specs.Str.{bytes_eq}
 use Rattle.clap.specs.Walk.{Text}
 use Rattle.flagops.specs.declared.family.Family.{Family}
-use Rattle.flagops.specs.declared.family.Family.TheVariants.{Files, Serve, Follow, Ramp, VerifyRamp, ApplyStep}
+use Rattle.flagops.specs.declared.family.Family.TheVariants.{Files, Serve, Follow, Ramp, VerifyRamp, ApplyStep, Ofrep}
 
 -- the family that a word names: a command over files alone where it names none of the others
 abbrev pub family_named : Text → Family
@@ -12,7 +12,8 @@ family_named word =
     if bytes_eq word (codes "serve") then Serve else
     (if bytes_eq word (codes "follow") then Follow else
     (if bytes_eq word (codes "ramp") then Ramp else
-    (if bytes_eq word (codes "verify-ramp") then VerifyRamp else Files)))
+    (if bytes_eq word (codes "verify-ramp") then VerifyRamp else
+    (if bytes_eq word (codes "ofrep") then Ofrep else Files))))
 
 -- one of the words begins with the name of an option
 abbrev pub has_option : Text → List Text → Bool

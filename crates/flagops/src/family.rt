@@ -19,6 +19,8 @@ pub enum Family {
     VerifyRamp,
     /// `apply --step`.
     ApplyStep,
+    /// `ofrep`.
+    Ofrep,
 }
 
 /// The family of the command that the first of the words names, and for some an option among the others.
@@ -60,6 +62,7 @@ fn family_named(word: &str) -> Family
         "follow" => Family::Follow,
         "ramp" => Family::Ramp,
         "verify-ramp" => Family::VerifyRamp,
+        "ofrep" => Family::Ofrep,
         _ => Family::Files,
     }
 }

@@ -3,7 +3,8 @@
 //!
 //! What it does is `flagops_commands::run`, whose contract says what is written and which status is given; its clauses stand
 //! again at [`flagops`], over the status of the process. Beside it stand the two commands that use the network, `serve` and
-//! `follow` of `flagops_network`, and those on a rollout in steps, `ramp`, `verify-ramp` and `apply --step` of `flagops_ramps`.
+//! `follow` of `flagops_network`, those on a rollout in steps, `ramp`, `verify-ramp` and `apply --step` of `flagops_ramps`, and the
+//! service, `ofrep` of `flagops_service`.
 #![tactic(auto)]
 
 ghost use Rattle.std.specs.Prelude.{◌≡◌, false, map, drop, IfErr, IfOk, IsErrOf};
@@ -22,13 +23,17 @@ use flagops_commands::{complain, run};
 use flagops_files::{Call, FileSet, SystemFiles, want};
 use flagops_network::{follow, open_standard, serve};
 use flagops_ramps::{apply_step, ramp, verify_ramp};
+use flagops_service::ofrep;
 use outputs::Persistent;
 use std::alloc::Global;
 use std::convert::AsStr;
 use std::env::{self, Args};
-use std::io;
+use std::fs::File;
+use std::io::{self, Read};
 use std::net::{Net, TcpListener, TcpStream};
 use std::process::ExitCode;
+use std::random::RandomSource;
+use std::rt::Files;
 use std::sync::Wait;
 use std::thread::{self, Builder, Threads};
 use std::time::Clock;
@@ -52,7 +57,7 @@ fn main(rt: HostRuntime) -> ExitCode {
 }
 
 /// Does what the words ask for on a stack of its own, where there is memory for one.
-fn on_stack<R, S, F, O, E>(
+fn on_stack<R, D, S, F, O, E>(
     rt: &R,
     words: io::Result<Vec<S>>,
     files: F,
@@ -61,11 +66,14 @@ fn on_stack<R, S, F, O, E>(
 ) -> Option<ExitCode>
 where
     R: AllocGlobal
+        + Files<File = File, Dir = D>
         + Net<Listener = TcpListener, Stream = TcpStream>
         + Clock
+        + RandomSource
         + Threads
         + Wait
         + Sync,
+    D: Read + Send + Drop,
     S: AsStr + Send + Drop,
     F: FileSet + Send + Drop,
     O: Outlet + Send + Drop,
@@ -131,8 +139,10 @@ fn flagops<R, S, F, O, E>(
 ) -> ExitCode
 where
     R: AllocGlobal
+        + Files<File = File>
         + Net<Listener = TcpListener, Stream = TcpStream>
         + Clock
+        + RandomSource
         + Threads
         + Wait
         + Sync,
@@ -161,8 +171,10 @@ where
 fn status_of<R, S, F, O, E>(rt: &R, words: &[S], files: &mut F, out: &mut O, err: &mut E) -> u8
 where
     R: AllocGlobal
+        + Files<File = File>
         + Net<Listener = TcpListener, Stream = TcpStream>
         + Clock
+        + RandomSource
         + Threads
         + Wait
         + Sync,
@@ -182,5 +194,6 @@ where
         Family::Ramp => ramp(rt, words, files, out, err),
         Family::VerifyRamp => verify_ramp(rt, words, files, out, err),
         Family::ApplyStep => apply_step(rt, words, files, out, err),
+        Family::Ofrep => ofrep(rt, words, files, out, err),
     }
 }

@@ -1,0 +1,3 @@
+pub mod Matched
+pub mod Started
+pub mod Told

@@ -1,0 +1,23 @@
+use Rattle.std.proofs.Common.{List, [], ℕ, Vec, Global, Err, Ok, inr, subst, sym}
+use Rattle.std.proofs.lemmas.List.{length-map}
+use Rattle.flagops_network.specs.Loading.{documents_view}
+use Rattle.flagops_streams.specs.Documents.{Answer, Gives, texts_of}
+use Rattle.flagops_service.specs.Ended.{Reports}
+use Rattle.flagops_service.proofs.Started.{begun}
+use Rattle.flagops_service.proofs.command.answer_documents.Goals as goal
+
+pub returns-in-Ok : goal.returns-in-Ok
+returns-in-Ok g c =
+    let merged = c.in-Ok.ensures in
+    let d = documents_view c.args.documents in
+    let texts = c.args.documents.texts.items in
+    let gives = subst (λ (ts : List (Vec ℕ Global)). Gives d.sources (texts_of ts) [] (Ok merged.0)) c.as_slice.ensures.value merged.1 in
+    begun c.args.answering.now.workers _ d merged.0
+    (Reports (g.O.Outlet.bytes c.args.out.now) (g.O.Outlet.bytes c.answer_flags.new.out) (g.O.Outlet.is_broken c.answer_flags.new.out) (g.E.Outlet.bytes c.args.err.now) (g.E.Outlet.bytes c.answer_flags.new.err) (g.E.Outlet.is_broken c.answer_flags.new.err) c.answer_flags.result)
+    (sym (length-map texts (λ t. t.items))) gives c.answer_flags.ensures
+
+pub returns-in-Err : goal.returns-in-Err
+returns-in-Err g c =
+    let d = documents_view c.args.documents in
+    let gives = subst (λ (ts : List (Vec ℕ Global)). Gives d.sources (texts_of ts) [] (let r : Answer = Err c.in-Err.refusal in r)) c.as_slice.ensures.value c.in-Err.ensures in
+    (Err c.in-Err.refusal, inr gives, c.refuse_document.ensures)
