@@ -5,6 +5,7 @@ ghost use Rattle.ofrep_answers.specs.Answer.{answer_view, bare, body_view, bytes
 ghost use Rattle.ofrep_answers.specs.Answer as spec;
 ghost use Rattle.ofrep_answers.specs.Evaluation.{reached_at};
 
+use crate::reasons::Reasons;
 use http::StatusCode;
 use logic_eval::Reached;
 use std::alloc::{AllocError, Global};
@@ -46,6 +47,8 @@ pub struct Answer {
     pub content: Content,
     /// What the evaluations reached, by flag.
     pub reached: Vec<FlagReached>,
+    /// How they ended.
+    pub reasons: Reasons,
 }
 
 impl Content {
@@ -86,6 +89,7 @@ impl Answer {
             tag: None,
             content,
             reached: Vec::new(alloc),
+            reasons: Reasons::none(),
         }
     }
 
@@ -115,6 +119,7 @@ impl Answer {
             tag: None,
             content: Content::Fixed(r#"{"errorDetails":"this path takes another method"}"#),
             reached: Vec::new(alloc),
+            reasons: Reasons::none(),
         }
     }
 }

@@ -14,20 +14,22 @@ ghost use Rattle.ofrep_contexts.specs.Context.{context_of, max_body};
 use crate::answer::{Answer, Content, FlagReached, push_reached};
 use crate::evaluation::evaluate;
 use crate::one::without_context;
+use crate::reasons::Reasons;
 use entity_tags::{entity_tag, is_listed, opaque_tag};
 use flag_defs::Flags;
-use flag_resolve::Resolution;
+use flag_resolve::{Reason, Resolution};
 use flag_text::{Tree, print_tree};
 use http::StatusCode;
 use ofrep_bodies::{evaluation_of, flags_body, status_of};
 use ofrep_contexts::{ContextFault, read_context};
 use std::alloc::{AllocError, Global};
 
-/// The bodies of the flags that there are for the caller, and what the evaluations of all flags reached.
+/// The bodies of the flags that there are for the caller, and what the evaluations of all flags reached and how they ended.
 #[derive(Drop)]
 struct Told {
     bodies: Vec<Tree>,
     reached: Vec<FlagReached>,
+    reasons: Reasons,
     ghost whole: { items_are_whole (items_view bodies.items) ≡ true },
 }
 
@@ -63,16 +65,26 @@ fn told_flags(alloc: Global, flags: &Flags, moment: u64, context: &Tree) -> Resu
     let mut told = Told {
         bodies: Vec::new(alloc),
         reached: Vec::new(alloc),
+        reasons: Reasons::none(),
     };
     for i in 0..flags.len() {
         let (key, _) = flags.at(i);
         let resolution = evaluate(alloc, flags, key, context, moment)?;
+        told.count(resolution.reason);
         told.add(alloc, key, resolution)?;
     }
     Ok(told)
 }
 
 impl Told {
+    /// Counts an evaluation that ended with this reason.
+    fn count(&mut self, reason: Reason)
+        ensures bodies { map view self.new.bodies.items ≡ map view self.old.bodies.items }
+        ensures reached { map reached_view self.new.reached.items ≡ map reached_view self.old.reached.items }
+    {
+        self.reasons.count(reason);
+    }
+
     /// Adds the evaluation of the flag of a key.
     fn add(&mut self, alloc: Global, key: &str, resolution: Resolution) -> Result<(), AllocError>
         ensures bodies { OnOk result (map view self.new.bodies.items ≡ map view self.old.bodies.items ++ body_if_told key.now (resolution_view resolution)) }
@@ -101,6 +113,7 @@ fn tagged(alloc: Global, if_none_match: &[&[u8]], told: Told) -> Result<Answer, 
         tag: Some(tag),
         content: content_unless(named, text),
         reached: told.reached,
+        reasons: told.reasons,
     })
 }
 

@@ -11,6 +11,7 @@ ghost use Rattle.ofrep_requests.specs.Request as request;
 
 use crate::answer::{Answer, Content, push_reached};
 use crate::evaluation::evaluate;
+use crate::reasons::Reasons;
 use flag_defs::Flags;
 use flag_resolve::Code;
 use flag_text::{Tree, print_tree};
@@ -68,6 +69,7 @@ fn one_told(
 {
     let resolution = evaluate(alloc, flags, key, context, moment)?;
     let status = status_of(&resolution);
+    let reasons = Reasons::of(resolution.reason);
     let evaluation = evaluation_of(alloc, key, resolution)?;
     let text = print_tree(alloc, &evaluation.body)?;
     let mut reached = Vec::new(alloc);
@@ -78,6 +80,7 @@ fn one_told(
         tag: None,
         content: Content::Json(text),
         reached,
+        reasons,
     })
 }
 

@@ -8,10 +8,14 @@ ghost use Rattle.recorded_answers.specs.Stand.{AllStand};
 
 use http_server::Connection;
 use mio::net::TcpStream;
+use mio::{Interest, Registry, Token};
 use recorded_answers::Recording;
 use std::io;
 use std::io::{ErrorKind, Read, Write};
 use std::time::Instant;
+
+/// How often a connection is read or written before others have their turn.
+const MOST_TURNS: u32 = 4;
 
 /// A connection, its socket, and when it last had something to do.
 #[derive(Drop)]
@@ -26,17 +30,19 @@ pub(crate) struct Peer {
 pub(crate) enum Stay {
     /// The socket has nothing for now.
     Waits,
+    /// The socket may have more, and others come first.
+    Yields,
     Leaves,
 }
 
 impl Peer {
-    /// Reads, answers and writes until the socket would wait.
+    /// Reads, answers and writes until the socket would wait, or others have to have their turn.
     pub(crate) fn go_on<S: Recording>(&mut self, service: &mut S) -> Stay
         requires { AllStand S.stands service.old (history self.old.connection).calls }
         ensures stand { AllStand S.stands service.new (history self.new.connection).calls }
         ensures chain { (calls : List Call) × Chain S.answers service.old calls service.new }
     {
-        for _ in 0..u64::MAX {
+        for _ in 0..MOST_TURNS {
             self.connection.advance(service);
             if self.connection.is_done() {
                 return Stay::Leaves;
@@ -47,7 +53,17 @@ impl Peer {
                 Err(_) => return Stay::Leaves,
             }
         }
-        Stay::Leaves
+        Stay::Yields
+    }
+
+    /// Has the system tell once more what the socket is ready for, where the peer yields to others.
+    pub(crate) fn come_again(&mut self, registry: &Registry, key: usize, stay: Stay)
+        ensures { self.new.connection ≡ self.old.connection }
+    {
+        if stay == Stay::Yields {
+            let both = Interest::READABLE | Interest::WRITABLE;
+            let _ = registry.reregister(&mut self.stream, Token(key), both);
+        }
     }
 
     /// Writes once where bytes are pending, and reads once else. A write that takes no byte is an error.

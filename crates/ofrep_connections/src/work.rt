@@ -191,11 +191,13 @@ fn attend<S: Recording>(
         return;
     };
     peer.active = now;
-    if peer.go_on(service) == Stay::Waits {
-        peers.insert_reserved(peer);
-    } else {
+    let stay = peer.go_on(service);
+    if stay == Stay::Leaves {
         let _ = registry.deregister(&mut peer.stream);
+        return;
     }
+    peer.come_again(registry, key, stay);
+    peers.insert_reserved(peer);
 }
 
 /// Closes the connections that have had nothing to do for long.

@@ -10,19 +10,26 @@ use denote.Struct.Tuple.{TupleAt, type_at}
 use Rattle.std.proofs.Crossing.{crosses}
 use Rattle.std.specs.contracts.alloc.Global as Global
 use Rattle.std.specs.contracts.random_state.RandomState as RandomState
-use Rattle.std.specs.contracts.sync.atomic.AtomicBool as AtomicBool
+use Rattle.std.specs.contracts.net.tcp.TcpListener as TcpListener
 use Rattle.snap_share.specs.declared.history.ShareName as ShareName
 use Rattle.snap_share.specs.contracts.seat.ReadSeat as ReadSeat
 use Rattle.snap_share.proofs.Crossings.{ReadSeat-send}
 use Rattle.ofrep_worker.specs.contracts.counts.Counts as Counts
+use Rattle.ofrep_service.specs.contracts.board.Board as Board
 use Rattle.ofrep_service.specs.contracts.posts.Post as Post
 
--- seven captures that may go may be captured by one closure
-captured_send : (ν : Sym) (A B C D E F G : RattleType) → IsSend A → IsSend B → IsSend C → IsSend D → IsSend E → IsSend F → IsSend G
-    → IsSend (TupleAt ν (A ∷ B ∷ C ∷ D ∷ E ∷ F ∷ G ∷ []))
-captured_send ν A B C D E F G a b c d e f g =
-    declared_send (type_at ν (A ∷ B ∷ C ∷ D ∷ E ∷ F ∷ G ∷ []))
-    (as_row_send (row_field A) a, (as_row_send (row_field B) b, (as_row_send (row_field C) c, (as_row_send (row_field D) d, (as_row_send (row_field E) e, (as_row_send (row_field F) f, (as_row_send (row_field G) g, tt)))))))
+-- six captures that may go may be captured by one closure
+captured_six : (ν : Sym) (A B C D E F : RattleType) → IsSend A → IsSend B → IsSend C → IsSend D → IsSend E → IsSend F
+    → IsSend (TupleAt ν (A ∷ B ∷ C ∷ D ∷ E ∷ F ∷ []))
+captured_six ν A B C D E F a b c d e f =
+    declared_send (type_at ν (A ∷ B ∷ C ∷ D ∷ E ∷ F ∷ []))
+    (as_row_send (row_field A) a, (as_row_send (row_field B) b, (as_row_send (row_field C) c, (as_row_send (row_field D) d, (as_row_send (row_field E) e, (as_row_send (row_field F) f, tt))))))
+
+-- and so four
+captured_four : (ν : Sym) (A B C D : RattleType) → IsSend A → IsSend B → IsSend C → IsSend D → IsSend (TupleAt ν (A ∷ B ∷ C ∷ D ∷ []))
+captured_four ν A B C D a b c d =
+    declared_send (type_at ν (A ∷ B ∷ C ∷ D ∷ []))
+    (as_row_send (row_field A) a, (as_row_send (row_field B) b, (as_row_send (row_field C) c, (as_row_send (row_field D) d, tt))))
 
 Global-send : IsSend Global.the_row
 Global-send = search (sendable, crosses) depth 20
@@ -31,21 +38,33 @@ RandomState-send : IsSend RandomState.the_row
 RandomState-send = search (sendable, crosses) depth 40
 
 Counts-sync : IsSync Counts.the_row
-Counts-sync = search (sendable, crosses) depth 40
+Counts-sync = search (sendable, crosses) depth 80
 
-AtomicBool-sync : IsSync AtomicBool.the_row
-AtomicBool-sync = search (sendable, crosses) depth 40
+Board-sync : IsSync Board.the_row
+Board-sync = declared_sync Board.the_type (Counts-sync, (search (sendable, crosses) depth 40, (search (sendable, crosses) depth 40, tt)))
+
+TcpListener-send : IsSend TcpListener.the_row
+TcpListener-send = search (sendable, crosses) depth 40
 
 Post-send : IsSend Post.the_row
 Post-send = search (sendable, crosses) depth 80
 
--- the captures of a worker's thread: the handle, the allocator, the keys, the counts, the flag, its seat and its post
-abbrev pub Working : (T : RattleType) → ShareName.Ghosts T.Denot → Sym → NamedLft → NamedLft → NamedLft → RattleType → RattleType
-Working T g ν r c s R =
-    TupleAt ν (ShrRef r.mir r.lft R ∷ Global.the_row ∷ RandomState.the_row ∷ ShrRef c.mir c.lft Counts.the_row ∷ ShrRef s.mir s.lft AtomicBool.the_row ∷ ReadSeat.the_row T g ∷ Post.the_row ∷ [])
+-- the captures of a worker's thread: the handle, the allocator, the keys, the board, its seat and its post
+abbrev pub Working : (T : RattleType) → ShareName.Ghosts T.Denot → Sym → NamedLft → NamedLft → RattleType → RattleType
+Working T g ν r b R =
+    TupleAt ν (ShrRef r.mir r.lft R ∷ Global.the_row ∷ RandomState.the_row ∷ ShrRef b.mir b.lft Board.the_row ∷ ReadSeat.the_row T g ∷ Post.the_row ∷ [])
+
+-- the captures of a thread of the stream: the handle, the board, its seat and its listener
+abbrev pub Streaming : (T : RattleType) → ShareName.Ghosts T.Denot → Sym → NamedLft → NamedLft → RattleType → RattleType
+Streaming T g ν r b R = TupleAt ν (ShrRef r.mir r.lft R ∷ ShrRef b.mir b.lft Board.the_row ∷ ReadSeat.the_row T g ∷ TcpListener.the_row ∷ [])
 
 module _ (T : RattleType) (g : ShareName.Ghosts T.Denot) (send : IsSend T) (sync : IsSync T) where
-  pub work_send : (ν : Sym) (r c s : NamedLft) (R : RattleType) → IsSync R → IsSend (Working T g ν r c s R)
-  work_send ν r c s R is =
-      captured_send ν (ShrRef r.mir r.lft R) Global.the_row RandomState.the_row (ShrRef c.mir c.lft Counts.the_row) (ShrRef s.mir s.lft AtomicBool.the_row) (ReadSeat.the_row T g) Post.the_row
-      (shr_send r.mir r.lft R is) Global-send RandomState-send (shr_send c.mir c.lft Counts.the_row Counts-sync) (shr_send s.mir s.lft AtomicBool.the_row AtomicBool-sync) (ReadSeat-send T g send sync) Post-send
+  pub work_send : (ν : Sym) (r b : NamedLft) (R : RattleType) → IsSync R → IsSend (Working T g ν r b R)
+  work_send ν r b R is =
+      captured_six ν (ShrRef r.mir r.lft R) Global.the_row RandomState.the_row (ShrRef b.mir b.lft Board.the_row) (ReadSeat.the_row T g) Post.the_row
+      (shr_send r.mir r.lft R is) Global-send RandomState-send (shr_send b.mir b.lft Board.the_row Board-sync) (ReadSeat-send T g send sync) Post-send
+
+  pub stream_send : (ν : Sym) (r b : NamedLft) (R : RattleType) → IsSync R → IsSend (Streaming T g ν r b R)
+  stream_send ν r b R is =
+      captured_four ν (ShrRef r.mir r.lft R) (ShrRef b.mir b.lft Board.the_row) (ReadSeat.the_row T g) TcpListener.the_row
+      (shr_send r.mir r.lft R is) (shr_send b.mir b.lft Board.the_row Board-sync) (ReadSeat-send T g send sync) TcpListener-send

@@ -1,19 +1,20 @@
 //! The threads of the workers.
 ghost use denote.Param.Send.{IsSend, IsSync};
 
+use crate::board::Board;
 use crate::posts::Post;
+use crate::streams::stream_beside;
 use flag_text::WriteOutlet;
 use http_server::Config;
 use note_log::NoteLog;
 use ofrep_connections::answer_connections;
-use ofrep_worker::{Counts, OfrepWorker};
+use ofrep_worker::OfrepWorker;
 use snap_share::{ReadSeat, ShareName};
 use std::alloc::Global;
 use std::hash::RandomState;
 use std::io;
 use std::net::{Net, TcpListener, TcpStream};
 use std::sync::Wait;
-use std::sync::atomic::{AtomicBool, Ordering};
 use std::thread::{self, Threads};
 use std::time::Clock;
 
@@ -23,15 +24,18 @@ const MOST_BODY: usize = 4_194_304;
 /// While more bytes than this wait to be sent on a connection, no request is read from it.
 const MOST_PENDING: usize = 16_777_216;
 
-/// Runs a worker on a thread for each post, with the seat of the same place, and does `beside` meanwhile on its own. It ends
-/// when all workers have ended, and they end where the system fails them. Where a thread can't be made it answers None, and
-/// `beside` is not done.
+/// Runs a worker on a thread for each post, and serves the stream on a thread for each listener, each with the seat of the same
+/// place, and does `beside` meanwhile on its own. It ends when all workers have ended, and they end where the system fails them.
+/// Where a thread can't be made it answers None, and `beside` is not done.
 pub fn work_beside<J, R, B, T>(
     rt: &R,
     alloc: Global,
     keys: RandomState,
+    board: &Board,
     seats: Vec<ReadSeat<J>>,
     posts: Vec<Post>,
+    stream_seats: Vec<ReadSeat<J>>,
+    listeners: Vec<TcpListener>,
     beside: B,
 ) -> Option<T>
 where
@@ -40,17 +44,22 @@ where
     B: FnOnce() -> T + Drop,
     requires { B.pre beside }
 {
-    let counts = Counts::new();
-    let stop = AtomicBool::new(false);
-    work_in_scope(rt, alloc, keys, &counts, &stop, seats, posts, beside)
+    stream_beside(
+        rt,
+        board,
+        stream_seats,
+        listeners,
+        move || -> Option<T>
+            requires { IsSend J.row × IsSync J.row × IsSync R.row × B.pre beside }
+        { work_in_scope(rt, alloc, keys, board, seats, posts, beside) },
+    )
 }
 
 fn work_in_scope<J, R, B, T>(
     rt: &R,
     alloc: Global,
     keys: RandomState,
-    counts: &Counts,
-    stop: &AtomicBool,
+    board: &Board,
     seats: Vec<ReadSeat<J>>,
     posts: Vec<Post>,
     beside: B,
@@ -68,9 +77,9 @@ where
             requires { IsSend J.row × IsSync J.row × IsSync R.row × B.pre beside }
         {
             for (seat, post) in seats.into_iter().zip(posts) {
-                let spawned = scope.spawn(move || work(rt, alloc, keys, counts, stop, seat, post));
+                let spawned = scope.spawn(move || work(rt, alloc, keys, board, seat, post));
                 if spawned.is_err() {
-                    stop.store(true, Ordering::SeqCst);
+                    board.end();
                     return None;
                 }
             }
@@ -79,35 +88,41 @@ where
     )
 }
 
-/// Answers the connections of a post until the flag is set or the system fails.
+/// Answers the connections of a post until all threads are to end or the system fails.
 fn work<J: ShareName, R: Net + Clock>(
     rt: &R,
     alloc: Global,
     keys: RandomState,
-    counts: &Counts,
-    stop: &AtomicBool,
+    board: &Board,
     seat: ReadSeat<J>,
     post: Post,
 ) {
-    let _ended = answer(rt, alloc, keys, counts, stop, seat, post);
+    let _ended = answer(rt, alloc, keys, board, seat, post);
 }
 
 fn answer<J: ShareName, R: Net + Clock>(
     rt: &R,
     alloc: Global,
     keys: RandomState,
-    counts: &Counts,
-    stop: &AtomicBool,
+    board: &Board,
     seat: ReadSeat<J>,
     post: Post,
 ) -> io::Result<()> {
     let Post { listener, journal } = post;
     let log = NoteLog::new(alloc, keys, WriteOutlet::new(journal))?;
-    let mut worker = OfrepWorker::new(rt, alloc, seat, log, counts);
+    let mut worker = OfrepWorker::new(rt, alloc, seat, log, &board.counts);
     let config = Config {
         max_body_len: MOST_BODY,
         max_pending: MOST_PENDING,
         ..Config::default()
     };
-    answer_connections(rt, alloc, keys, config, listener, stop, &mut worker)
+    answer_connections(
+        rt,
+        alloc,
+        keys,
+        config,
+        listener,
+        &board.is_over,
+        &mut worker,
+    )
 }

@@ -59,6 +59,7 @@ pub(crate) fn answer_from<R: Clock, O: Outlet>(
     }
     let recorded = record_first(with.alloc, log, notes.as_slice())?;
     give(recorded, response);
+    with.counts.count_evaluations(answer.reasons);
     Ok(())
 }
 

@@ -1,9 +1,10 @@
 //! What the workers of a service count together.
 use http::StatusCode;
+use ofrep_answers::Reasons;
 use std::alloc::{AllocError, Global};
 use std::sync::atomic::{AtomicU64, Ordering};
 
-/// How many requests were answered with each status, and how many notes were made.
+/// How many requests were answered with each status, how many evaluations ended with each reason, and how many notes were made.
 #[derive(Drop)]
 pub struct Counts {
     ok: AtomicU64,
@@ -13,6 +14,11 @@ pub struct Counts {
     not_allowed: AtomicU64,
     too_large: AtomicU64,
     failed: AtomicU64,
+    error: AtomicU64,
+    disabled: AtomicU64,
+    fixed: AtomicU64,
+    default: AtomicU64,
+    targeting_match: AtomicU64,
     notes: AtomicU64,
     inputs_too_long: AtomicU64,
 }
@@ -28,6 +34,11 @@ impl Counts {
             not_allowed: AtomicU64::new(0),
             too_large: AtomicU64::new(0),
             failed: AtomicU64::new(0),
+            error: AtomicU64::new(0),
+            disabled: AtomicU64::new(0),
+            fixed: AtomicU64::new(0),
+            default: AtomicU64::new(0),
+            targeting_match: AtomicU64::new(0),
             notes: AtomicU64::new(0),
             inputs_too_long: AtomicU64::new(0),
         }
@@ -45,6 +56,16 @@ impl Counts {
             _ => &self.failed,
         };
         count.fetch_add(1, Ordering::Relaxed);
+    }
+
+    /// Counts evaluations that ended with these reasons.
+    pub(crate) fn count_evaluations(&self, reasons: Reasons) {
+        self.error.fetch_add(reasons.error, Ordering::Relaxed);
+        self.disabled.fetch_add(reasons.disabled, Ordering::Relaxed);
+        self.fixed.fetch_add(reasons.fixed, Ordering::Relaxed);
+        self.default.fetch_add(reasons.default, Ordering::Relaxed);
+        self.targeting_match
+            .fetch_add(reasons.targeting_match, Ordering::Relaxed);
     }
 
     /// Counts notes that were written, and inputs that were too long for one.
@@ -69,6 +90,7 @@ impl Counts {
         push_requests(&mut text, "405", &self.not_allowed)?;
         push_requests(&mut text, "413", &self.too_large)?;
         push_requests(&mut text, "500", &self.failed)?;
+        self.push_evaluations(&mut text)?;
         let notes = self.notes.load(Ordering::Relaxed);
         let too_long = self.inputs_too_long.load(Ordering::Relaxed);
         write!(
@@ -77,6 +99,25 @@ impl Counts {
         )?;
         Ok(text)
     }
+
+    /// Adds how many evaluations ended with each reason.
+    fn push_evaluations(&self, text: &mut String) -> Result<(), AllocError> {
+        write!(text, "# TYPE ofrep_evaluations_total counter\n")?;
+        push_reason(text, "STATIC", &self.fixed)?;
+        push_reason(text, "TARGETING_MATCH", &self.targeting_match)?;
+        push_reason(text, "DEFAULT", &self.default)?;
+        push_reason(text, "DISABLED", &self.disabled)?;
+        push_reason(text, "ERROR", &self.error)
+    }
+}
+
+/// Adds how many evaluations ended with a reason.
+fn push_reason(text: &mut String, reason: &str, count: &AtomicU64) -> Result<(), AllocError> {
+    let count = count.load(Ordering::Relaxed);
+    write!(
+        text,
+        "ofrep_evaluations_total{{reason=\"{reason}\"}} {count}\n"
+    )
 }
 
 /// Adds how many requests were answered with a status.

@@ -18,8 +18,8 @@ loop-i-preserved c =
     let d = flag_view c.at.result.1.now in
     let resolved = c.in_ok-resolution.ensures in
     record {
-      bodies = c.in_ok-add.ensures.bodies ∙ ap₂ (λ (ys : List Shape) (r : Resolved). ys ++ body_if_told key r) c.loop-i.invariant.bodies resolved
+      bodies = c.in_ok-add.ensures.bodies ∙ ap₂ (λ (ys : List Shape) (r : Resolved). ys ++ body_if_told key r) (c.count.ensures.bodies ∙ c.loop-i.invariant.bodies) resolved
           ∙ sym (flat_step (λ (f : List ℕ × Definition). body_if_told f.0 (evaluation fs f.0 context c.args.moment)) fs c.loop-i.i (key, d) c.at.ensures);
-      reached = c.in_ok-add.ensures.reached ∙ ap₂ (λ (ys : List (List ℕ × List Reach)) (r : Resolved). ys ++ reached_at key r.reached) c.loop-i.invariant.reached resolved
+      reached = c.in_ok-add.ensures.reached ∙ ap₂ (λ (ys : List (List ℕ × List Reach)) (r : Resolved). ys ++ reached_at key r.reached) (c.count.ensures.reached ∙ c.loop-i.invariant.reached) resolved
           ∙ sym (flat_step (λ (f : List ℕ × Definition). reached_at f.0 (evaluation fs f.0 context c.args.moment).reached) fs c.loop-i.i (key, d) c.at.ensures);
     }

@@ -14,7 +14,7 @@ at_life κ = record { mir = erased; lft = κ }
 pub spawn-spawned-requires-send-F : goal.spawn-spawned-requires-send-F
 spawn-spawned-requires-send-F g c = λ κs within.
     let sent =
-    work_send (param 0 g.row.J) g.J.ShareName c.requires.0 c.requires.1 [] (at_life κs.1.1.1.1.1.0) (at_life κs.1.1.1.1.1.1.0) (at_life κs.1.1.1.1.1.1.1.0) (param 1 g.row.R) c.requires.2 in
+    work_send (param 0 g.row.J) g.J.ShareName c.requires.0 c.requires.1 [] (at_life κs.1.1.1.1.1.0) (at_life κs.1.1.1.1.1.1.0) (param 1 g.row.R) c.requires.2 in
     let given =
-    param_send 1 (Working (param 0 g.row.J) g.J.ShareName [] (at_life κs.1.1.1.1.1.0) (at_life κs.1.1.1.1.1.1.0) (at_life κs.1.1.1.1.1.1.1.0) (param 1 g.row.R)) sent in
+    param_send 1 (Working (param 0 g.row.J) g.J.ShareName [] (at_life κs.1.1.1.1.1.0) (at_life κs.1.1.1.1.1.1.0) (param 1 g.row.R)) sent in
     record { owned = given.owned; leaving = given.leaving }
