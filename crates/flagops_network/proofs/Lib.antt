@@ -1,2 +1,2 @@
-pub mod Loaded
+pub mod DocumentsLoaded
 pub mod Matched

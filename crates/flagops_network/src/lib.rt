@@ -31,5 +31,6 @@ mod usage;
 mod words;
 
 pub use following::follow;
+pub use loading::{Unloaded, loaded};
 pub use serving::serve;
 pub use standard::open_standard;

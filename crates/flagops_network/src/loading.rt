@@ -10,13 +10,13 @@ use std::alloc::Global;
 
 /// Why the documents were not loaded, and the path of the one where that was seen.
 #[derive(Clone, Copy)]
-pub(crate) struct Unloaded<'a> {
-    pub(crate) refusal: Refusal,
-    pub(crate) path: &'a str,
+pub struct Unloaded<'a> {
+    pub refusal: Refusal,
+    pub path: &'a str,
 }
 
 /// The documents of the files at the paths, in their order. The source of each is added just before its file is loaded.
-pub(crate) fn loaded<'a, F: FileSet>(
+pub fn loaded<'a, F: FileSet>(
     alloc: Global,
     files: &mut F,
     paths: &[&'a str],

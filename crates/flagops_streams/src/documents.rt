@@ -77,7 +77,7 @@ impl Documents {
 }
 
 /// Sets the document of the source of a number, and merges all that were set.
-pub(crate) fn merge_next(
+pub fn merge_next(
     alloc: Global,
     sources: &mut Sources,
     number: u64,

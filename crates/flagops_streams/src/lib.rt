@@ -38,9 +38,9 @@ mod serve;
 mod subscriber;
 mod timed;
 
-pub use documents::Documents;
+pub use documents::{Documents, merge_next};
 pub use follow::{follow_lines, follow_port};
 pub use refusal::Refusal;
 pub use remark::{Remarks, say_refused};
-pub use report::refuse;
+pub use report::{refuse, write_line};
 pub use serve::serve_documents;

@@ -25,7 +25,7 @@ pub fn refuse<O: Outlet>(alloc: Global, out: &mut O, refusal: Refusal) -> u8
 
 #[tactic(auto, using(crate::proofs::Writes::good, crate::proofs::Writes::bad))]
 /// Writes a line, and gives the status, or 1 where the output failed.
-fn write_line<O: Outlet>(out: &mut O, line: &str, status: u8) -> u8
+pub fn write_line<O: Outlet>(out: &mut O, line: &str, status: u8) -> u8
     requires { O.is_broken out.old ≡ false }
     ensures { Writes (O.bytes out.old) (O.bytes out.new) (O.is_broken out.new) result line.now status }
 {

@@ -5,7 +5,7 @@ use Rattle.flagops_streams.specs.Report.{Reports}
 use Rattle.flagops_streams.specs.Told.{IsOfSubscribers}
 use Rattle.flagops_network.specs.Loading.{documents_view}
 use Rattle.flagops_network.specs.Words.{serve_by, serving_view}
-use Rattle.flagops_network.proofs.Loaded.{all_served, answered, none_served}
+use Rattle.flagops_network.proofs.DocumentsLoaded.{all_served, answered, none_served}
 use Rattle.flagops_network.proofs.serving.serve.Goals as goal
 
 pub returns-in-Ok-loaded-clause-answers : goal.returns-in-Ok-loaded-clause-answers

@@ -1,0 +1,4 @@
+pub mod Matched
+pub mod Seats
+pub mod Started
+pub mod Told

@@ -1,0 +1,87 @@
+-- Documents that are loaded, merged and answered from.
+use Rattle.std.proofs.Common.{◌≡◌, ◌⊎◌, ◌∙◌, ℕ, false, List, [], ◌∷◌, Option, Some, Result, Ok, Err, IfSome, inl, inr, refl, ap, arith, length, map, subst, sym}
+use Rattle.flag_documents.specs.Document.{Definitions}
+use Rattle.flag_defs.specs.declared.flags.Flags.{Flags}
+use Rattle.source_merge.specs.Sources.{SourceList}
+use Rattle.flagops_files.specs.Files.{Holding}
+use Rattle.flagops_network.specs.Loading.{Loaded, loaded_at}
+use Rattle.flagops_network.proofs.DocumentsLoaded.{where_known}
+use Rattle.flagops_streams.specs.Documents.{Answer, Gives, MayFail, Merges, count_of}
+use Rattle.flagops_streams.specs.Refusal.{is_want}
+use Rattle.flagops_streams.specs.declared.refusal.Refusal.{Refusal}
+use Rattle.flagops_streams.proofs.Gives.{counted}
+use Rattle.flagops_service.specs.Merging.{GivesMore}
+use Rattle.flagops_service.specs.Starting.{StartsLoaded, StartsOn, StartsTo}
+use Rattle.flagops_service.specs.Words.{Answering, seats_of}
+
+-- the first document is merged, and those behind it give the rest
+pub first_merged : (sources next last : SourceList) (flags : Definitions) (text : List ℕ) (texts : List (List ℕ)) (r : Result Flags Refusal)
+    → Merges 1 sources text next flags → GivesMore next last texts (flags ∷ []) r → GivesMore sources last (text ∷ texts) [] r
+first_merged sources next last flags text texts (Ok f) merges gives = (gives.0, inr (next, flags, merges, gives.1), gives.2)
+first_merged sources next last flags text texts (Err refusal) merges gives = inr (next, flags, merges, gives)
+
+-- what the report of an answer is of: as many documents as were loaded, or a refusal
+pub serves_as : (seats : ℕ) (d : Loaded) (answer : Answer) (Reported : Result ℕ Refusal → Type 0) → StartsOn seats d answer → Reported (count_of answer)
+    → Reported (Ok (length d.texts)) ⊎ ((refusal : Refusal) × Reported (Err refusal))
+serves_as seats d (Ok all) Reported (inl fails) p = absurd (cc (fails.1))
+serves_as seats d (Ok all) Reported (inr gives) p =
+    let count : length all ≡ length d.texts = omega (arith, counted d.sources d.texts [] all gives) in
+    inl (subst (λ (k : ℕ). Reported (Ok k)) count p)
+serves_as seats d (Err refusal) Reported starts p = inr (refusal, p)
+
+-- the same, for words that ask for as many documents
+pub served : (asked : Option Answering) (a : Answering) (d : Loaded) (answer : Answer) (Reported : Result ℕ Refusal → Type 0) (Wanted : Type 0)
+    → asked ≡ Some a → length d.texts ≡ length a.documents → StartsOn (seats_of a) d answer → Reported (count_of answer)
+    → IfSome asked (λ t. Reported (Ok (length t.documents)) ⊎ ((refusal : Refusal) × Reported (Err refusal)) ⊎ Wanted)
+served asked a d answer Reported Wanted is count starts report =
+    subst (λ (o : Option Answering). IfSome o (λ t. Reported (Ok (length t.documents)) ⊎ ((refusal : Refusal) × Reported (Err refusal)) ⊎ Wanted)) (sym is)
+    (by (serves_as (seats_of a) d answer Reported starts report))
+  where
+    by : Reported (Ok (length d.texts)) ⊎ ((refusal : Refusal) × Reported (Err refusal)) → Reported (Ok (length a.documents)) ⊎ ((refusal : Refusal) × Reported (Err refusal)) ⊎ Wanted
+    by (inl p) = inl (subst (λ (k : ℕ). Reported (Ok k)) count p)
+    by (inr refused) = inr (inl refused)
+
+-- and where they were not loaded
+pub unserved : (asked : Option Answering) (a : Answering) (refusal : Refusal) (Reported : Result ℕ Refusal → Type 0) (Wanted : Type 0)
+    → asked ≡ Some a → Reported (Err refusal) → IfSome asked (λ t. Reported (Ok (length t.documents)) ⊎ ((r : Refusal) × Reported (Err r)) ⊎ Wanted)
+unserved asked a refusal Reported Wanted is report =
+    subst (λ (o : Option Answering). IfSome o (λ t. Reported (Ok (length t.documents)) ⊎ ((r : Refusal) × Reported (Err r)) ⊎ Wanted)) (sym is) (inr (inl (refusal, report)))
+
+-- documents that were merged are answered from, or not
+pub begun : (seats n : ℕ) (d : Loaded) (all : List Definitions) (Reported : Result ℕ Refusal → Type 0) → n ≡ length d.texts → Gives d.sources d.texts [] (Ok all)
+    → Reported (Ok n) ⊎ ((refusal : Refusal) × MayFail seats refusal × Reported (Err refusal)) → (answer : Answer) × StartsOn seats d answer × Reported (count_of answer)
+begun seats n d all Reported same gives (inl p) =
+    let count : n ≡ length all = omega (arith, same, counted d.sources d.texts [] all gives) in
+    (Ok all, inr gives, subst (λ (k : ℕ). Reported (Ok k)) count p)
+begun seats n d all Reported same gives (inr fails) = (Err fails.0, inl (fails.0, refl, fails.1), fails.2)
+
+-- what documents that were loaded come to is what the words and the files come to
+loaded_started : (at : Holding) (a : Answering) (d : Loaded) (answer : Answer) → loaded_at at a.documents ≡ Ok d → StartsOn (seats_of a) d answer → StartsTo at a answer
+loaded_started at a d (Ok merges) loaded starts = subst (λ (r : Result Loaded Refusal). StartsLoaded (seats_of a) r (Ok merges)) (sym loaded) starts
+loaded_started at a d (Err refusal) loaded starts = λ _. subst (λ (r : Result Loaded Refusal). StartsLoaded (seats_of a) r (Err refusal)) (sym loaded) starts
+
+-- and so is why they were not loaded
+not_loaded : (at : Holding) (a : Answering) (refusal : Refusal) → (is_want refusal ≡ false → loaded_at at a.documents ≡ Err refusal) → StartsTo at a (Err refusal)
+not_loaded at a refusal loaded = λ other. subst (λ (r : Result Loaded Refusal). StartsLoaded (seats_of a) r (Err refusal)) (sym (loaded other)) refl
+
+-- an answer to words that ask for this, and its report
+pub answered : (holding : Option Holding) (asked : Option Answering) (a : Answering) (answer : Answer) (Reported : Answer → Type 0) (Wanted : Type 0)
+    → asked ≡ Some a → IfSome holding (λ at. StartsTo at a answer) → Reported answer
+    → IfSome asked (λ t. IfSome holding (λ at. ((r : Answer) × StartsTo at t r × Reported r) ⊎ Wanted))
+answered holding asked a answer Reported Wanted is answers report =
+    subst (λ (o : Option Answering). IfSome o (λ t. IfSome holding (λ at. ((r : Answer) × StartsTo at t r × Reported r) ⊎ Wanted))) (sym is)
+    (where_known holding (λ at. StartsTo at a answer) (λ at. ((r : Answer) × StartsTo at a r × Reported r) ⊎ Wanted) (λ at h. inl (answer, h, report)) answers)
+
+-- the same over the words' own paths, of which the slice was taken
+module _ {X : Type 0} (now : X → List ℕ) (slice items : List X) (same : slice ≡ items) (holding : Option Holding) (a : Answering) (paths : a.documents ≡ map now items) where
+  named : map now slice ≡ a.documents
+  named = ap (map now) same ∙ sym paths
+
+  pub all_started : (d : Loaded) (answer : Answer) → IfSome holding (λ at. loaded_at at (map now slice) ≡ Ok d) → StartsOn (seats_of a) d answer → IfSome holding (λ at. StartsTo at a answer)
+  all_started d answer loaded starts =
+      where_known holding (λ at. loaded_at at (map now slice) ≡ Ok d) (λ at. StartsTo at a answer) (λ at e. loaded_started at a d answer (ap (loaded_at at) (sym named) ∙ e) starts) loaded
+
+  pub none_started : (refusal : Refusal) → IfSome holding (λ at. is_want refusal ≡ false → loaded_at at (map now slice) ≡ Err refusal) → IfSome holding (λ at. StartsTo at a (Err refusal))
+  none_started refusal loaded =
+      where_known holding (λ at. is_want refusal ≡ false → loaded_at at (map now slice) ≡ Err refusal) (λ at. StartsTo at a (Err refusal))
+      (λ at e. not_loaded at a refusal (λ other. ap (loaded_at at) (sym named) ∙ e other)) loaded

@@ -1,0 +1,26 @@
+use Rattle.std.proofs.Common.{List, [], ◌∷◌, ◌++◌, ℕ, Vec, Global, Err, Ok, inr, subst, sym}
+use Rattle.std.proofs.lemmas.List.{length-map}
+use Rattle.flag_defs.specs.Flags.{flags_view}
+use Rattle.flagops_network.specs.Loading.{documents_view}
+use Rattle.flagops_streams.specs.Documents.{Answer, Gives, texts_of}
+use Rattle.flagops_service.specs.Ended.{Reports}
+use Rattle.flagops_service.specs.Words.{answering_view, seats_of}
+use Rattle.flagops_service.proofs.Started.{begun}
+use Rattle.flagops_service.proofs.command.answer_documents.Goals as goal
+
+pub returns-in-Ok : goal.returns-in-Ok
+returns-in-Ok g c =
+    let merged = c.in-Ok.ensures in
+    let d = documents_view c.args.documents in
+    let texts = c.args.documents.texts.items in
+    let all = merged.0 ++ flags_view c.in-Ok.flags ∷ [] in
+    let gives = subst (λ (ts : List (Vec ℕ Global)). Gives d.sources (texts_of ts) [] (Ok all)) c.as_slice.ensures.value merged.1 in
+    begun (seats_of (answering_view c.args.answering.now)) _ d all
+    (Reports (g.O.Outlet.bytes c.args.out.now) (g.O.Outlet.bytes c.answer_flags.new.out) (g.O.Outlet.is_broken c.answer_flags.new.out) (g.E.Outlet.bytes c.args.err.now) (g.E.Outlet.bytes c.answer_flags.new.err) (g.E.Outlet.is_broken c.answer_flags.new.err) c.answer_flags.result)
+    (sym (length-map texts (λ t. t.items))) gives c.answer_flags.ensures
+
+pub returns-in-Err : goal.returns-in-Err
+returns-in-Err g c =
+    let d = documents_view c.args.documents in
+    let gives = subst (λ (ts : List (Vec ℕ Global)). Gives d.sources (texts_of ts) [] (let r : Answer = Err c.in-Err.refusal in r)) c.as_slice.ensures.value c.in-Err.ensures in
+    (Err c.in-Err.refusal, inr gives, c.refuse_document.ensures)

@@ -1,0 +1,4 @@
+pub mod Words
+pub mod Merging
+pub mod Starting
+pub mod Ended

@@ -1,0 +1,47 @@
+//! The flags that the documents make at the start.
+ghost use Rattle.std.specs.Prelude.{◌<◌, ◌∷◌, [], length};
+ghost use Rattle.flag_defs.specs.Flags.{flags_view};
+ghost use Rattle.source_merge.specs.View.{sources_view};
+ghost use Rattle.flagops_streams.specs.Documents.{texts_of};
+ghost use Rattle.flagops_service.specs.Merging.{AreMerged, GivesMore};
+
+use flag_defs::Flags;
+use flagops_streams::{Refusal, merge_next};
+use source_merge::Sources;
+use std::alloc::Global;
+
+/// Sets each document, of which there is one at least, at the source of its place, merged over those before it, and gives the
+/// last merge. The first that refuses is the answer.
+pub(crate) fn merge_all(
+    alloc: Global,
+    sources: &mut Sources,
+    texts: &[Vec<u8>],
+) -> Result<Flags, Refusal>
+    requires { 0 < length texts.now }
+    ensures { GivesMore (sources_view sources.old) (sources_view sources.new) (texts_of texts.now) [] result }
+{
+    let [first, others @ ..] = texts else {
+        unreachable!()
+    };
+    let flags = merge_next(alloc, sources, 1, first.as_slice())?;
+    merge_others(alloc, sources, others, flags)
+}
+
+/// The same of the documents behind the first, whose merge is given.
+fn merge_others(
+    alloc: Global,
+    sources: &mut Sources,
+    texts: &[Vec<u8>],
+    first: Flags,
+) -> Result<Flags, Refusal>
+    requires { AreMerged (sources_view sources.old) first }
+    ensures { GivesMore (sources_view sources.old) (sources_view sources.new) (texts_of texts.now) (flags_view first ∷ []) result }
+{
+    let mut flags = first;
+    let mut number = 1;
+    for text in texts {
+        flags = merge_next(alloc, sources, number + 1, text.as_slice())?;
+        number += 1;
+    }
+    Ok(flags)
+}

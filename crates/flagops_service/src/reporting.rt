@@ -1,0 +1,117 @@
+//! The lines of the command, and why it is refused.
+ghost use Rattle.std.specs.Prelude.{◌≡◌, ℕ, Err, IfOk, false, string_bytes};
+ghost use Rattle.flagops_service.specs.Ended.{Reports, ServesOn, serving_line};
+ghost use Rattle.flagops_streams.specs.Told.{TellsText};
+
+use flag_text::Outlet;
+use flagops_files::tell;
+use flagops_remarks::{of_document, of_unreadable};
+use flagops_streams::{Refusal, refuse, say_refused, write_line};
+use source_merge::SourceFault;
+use std::alloc::{AllocError, Global};
+
+/// The line that says how many documents are answered from.
+#[tactic(auto, unfolding(crate::specs::Ended::serving_line))]
+pub(crate) fn serving_line(alloc: Global, documents: usize) -> Result<String, AllocError>
+    ensures { IfOk result (λ s. string_bytes s ≡ serving_line documents) }
+{
+    format!(in alloc; "serving {documents}\n")
+}
+
+/// Writes the line of a refusal, and tells a person of it.
+pub(crate) fn refuse_and_tell<O: Outlet, E: Outlet>(
+    alloc: Global,
+    out: &mut O,
+    err: &mut E,
+    refusal: Refusal,
+) -> u8
+    requires { O.is_broken out.old ≡ false }
+    ensures { Reports (O.bytes out.old) (O.bytes out.new) (O.is_broken out.new) (E.bytes err.old) (E.bytes err.new) (E.is_broken err.new) result (Err refusal) }
+{
+    say_refused(alloc, err, refusal);
+    refuse(alloc, out, refusal)
+}
+
+/// The logs can't be opened.
+pub(crate) fn refuse_log<O: Outlet, E: Outlet>(out: &mut O, err: &mut E) -> u8
+    requires out_whole { O.is_broken out.old ≡ false }
+    requires err_whole { E.is_broken err.old ≡ false }
+    ensures { (documents : ℕ) → ServesOn (O.bytes out.old) (O.bytes out.new) (O.is_broken out.new) (E.bytes err.old) (E.bytes err.new) (E.is_broken err.new) result documents }
+{
+    tell(
+        err,
+        "error: the logs cannot be opened\n  the folder of --log is no folder, or its files may not be read and written\n",
+    );
+    write_line(out, "refused log 1 Unopened\n", 1)
+}
+
+/// The document at a path was not loaded.
+pub(crate) fn refuse_unloaded<O: Outlet, E: Outlet>(
+    alloc: Global,
+    out: &mut O,
+    err: &mut E,
+    refusal: Refusal,
+    path: &str,
+) -> u8
+    requires out_whole { O.is_broken out.old ≡ false }
+    requires err_whole { E.is_broken err.old ≡ false }
+    ensures { Reports (O.bytes out.old) (O.bytes out.new) (O.is_broken out.new) (E.bytes err.old) (E.bytes err.new) (E.is_broken err.new) result (Err refusal) }
+{
+    match refusal {
+        Refusal::Unreadable => tell_made(alloc, err, of_unreadable(alloc, path), refusal),
+        _ => say_refused(alloc, err, refusal),
+    }
+    refuse(alloc, out, refusal)
+}
+
+/// One of the documents of these paths and bytes was not accepted.
+pub(crate) fn refuse_document<O: Outlet, E: Outlet>(
+    alloc: Global,
+    out: &mut O,
+    err: &mut E,
+    paths: &[&str],
+    texts: &[Vec<u8>],
+    refusal: Refusal,
+) -> u8
+    requires out_whole { O.is_broken out.old ≡ false }
+    requires err_whole { E.is_broken err.old ≡ false }
+    ensures { Reports (O.bytes out.old) (O.bytes out.new) (O.is_broken out.new) (E.bytes err.old) (E.bytes err.new) (E.is_broken err.new) result (Err refusal) }
+{
+    match why_refused(alloc, paths, texts, refusal) {
+        Some(text) => tell_made(alloc, err, text, refusal),
+        None => say_refused(alloc, err, refusal),
+    }
+    refuse(alloc, out, refusal)
+}
+
+/// What is wrong with the document that a refusal is of.
+fn why_refused(
+    alloc: Global,
+    paths: &[&str],
+    texts: &[Vec<u8>],
+    refusal: Refusal,
+) -> Option<Result<String, AllocError>> {
+    let Refusal::Set(SourceFault::Refused(fault), number) = refusal else {
+        return None;
+    };
+    let place = number.saturating_sub(1) as usize;
+    let path = *paths.get(place)?;
+    let text = texts.get(place)?;
+    Some(of_document(alloc, path, text.as_slice(), fault))
+}
+
+/// Tells a text that was made, or of the refusal alone where there is no memory for one.
+fn tell_made<E: Outlet>(
+    alloc: Global,
+    err: &mut E,
+    text: Result<String, AllocError>,
+    refusal: Refusal,
+)
+    requires { E.is_broken err.old ≡ false }
+    ensures { TellsText (E.bytes err.old) (E.bytes err.new) (E.is_broken err.new) }
+{
+    match text {
+        Ok(text) => tell(err, text.as_str()),
+        Err(AllocError) => say_refused(alloc, err, refusal),
+    }
+}

@@ -1,0 +1,130 @@
+//! What `ofrep` takes, in the terms of `clap`.
+ghost use Rattle.std.specs.Prelude.{◌≡◌, IfOk, false};
+ghost use Rattle.clap.specs.Words.{app_of, kind_of, rule_of};
+ghost use Rattle.clap.specs.declared.error.kind.ErrorKind.TheVariants.{InvalidValue};
+ghost use Rattle.flagops_words.specs.Words.{option_number};
+ghost use Rattle.flagops_service.specs.Words.{ofrep_app, ofrep_begun, option_text, some_words};
+
+use clap::builder::ValueParser;
+use clap::error::ErrorKind;
+use clap::{Arg, Command, Error};
+use std::alloc::{AllocError, Global};
+
+/// The most workers.
+pub const MOST_WORKERS: u64 = 32;
+
+/// The largest port.
+pub const LARGEST_PORT: u64 = 65_535;
+
+/// The most seconds between two readings of the documents.
+pub const LONGEST_POLL: u64 = 3_600;
+
+/// The command `ofrep`. Its name is the first of the words, as a program's.
+#[tactic(auto, unfolding(crate::specs::Words::ofrep_app))]
+pub fn command<'a>(alloc: Global) -> Result<Command<'a>, AllocError>
+    ensures { IfOk result (λ c. app_of c ≡ ofrep_app) }
+{
+    let stream = number(
+        alloc,
+        "PORT",
+        "stream",
+        "The port of 127.0.0.1 where each snapshot is sent to at most 32 subscribers at once",
+        1,
+        LARGEST_PORT,
+    );
+    let workers = number(
+        alloc,
+        "N",
+        "workers",
+        "How many threads answer, from 1 to 32 [default: 4]",
+        1,
+        MOST_WORKERS,
+    );
+    let poll = number(
+        alloc,
+        "SECONDS",
+        "poll",
+        "After how many seconds the documents are read again, at most 3600; 0 is for never [default: 2]",
+        0,
+        LONGEST_POLL,
+    );
+    begun(alloc)?.arg(stream)?.arg(workers)?.arg(poll)
+}
+
+/// The command `ofrep` with the words that are texts.
+#[tactic(auto, unfolding(crate::specs::Words::ofrep_begun))]
+fn begun<'a>(alloc: Global) -> Result<Command<'a>, AllocError>
+    ensures { IfOk result (λ c. app_of c ≡ ofrep_begun) }
+{
+    let documents = some_words(
+        alloc,
+        "DOC",
+        "The flag documents, each merged over those before it",
+    );
+    let listen = text(
+        alloc,
+        "ADDRESS:PORT",
+        "listen",
+        "Where HTTP is served [default: 127.0.0.1:8016]",
+    );
+    let log = text(
+        alloc,
+        "FOLDER",
+        "log",
+        "The folder in which each worker records hash inputs before it answers",
+    );
+    Command::new(alloc, "ofrep")
+        .bin_name("flagops ofrep")?
+        .about("Answers evaluations of flags over HTTP (OpenFeature Remote Evaluation Protocol)")
+        .arg(documents)?
+        .arg(listen)?
+        .arg(log)
+}
+
+/// The mistake of a value that is not there.
+pub fn missing_value(alloc: Global, command: Command<'_>) -> Result<Error, AllocError>
+    ensures { IfOk result (λ e. kind_of e ≡ InvalidValue) }
+{
+    let mut command = command;
+    command.error(
+        ErrorKind::InvalidValue,
+        "a value is missing or out of its range",
+    )
+}
+
+/// An option with a number within bounds, which may be left out.
+fn number<'a>(
+    alloc: Global,
+    name: &'a str,
+    long: &'a str,
+    help: &'a str,
+    least: u64,
+    most: u64,
+) -> Arg<'a>
+    ensures rule { rule_of result ≡ option_number name.entry.now long.entry.now least most }
+    ensures local { result.global ≡ false }
+{
+    Arg::new(alloc, name)
+        .long(long)
+        .help(help)
+        .value_parser(ValueParser::Unsigned(least, most))
+}
+
+/// An option with a text, which may be left out.
+fn text<'a>(alloc: Global, name: &'a str, long: &'a str, help: &'a str) -> Arg<'a>
+    ensures rule { rule_of result ≡ option_text name.entry.now long.entry.now }
+    ensures local { result.global ≡ false }
+{
+    Arg::new(alloc, name).long(long).help(help)
+}
+
+/// One word or more.
+fn some_words<'a>(alloc: Global, name: &'a str, help: &'a str) -> Arg<'a>
+    ensures rule { rule_of result ≡ some_words name.entry.now }
+    ensures local { result.global ≡ false }
+{
+    Arg::new(alloc, name)
+        .required(true)
+        .help(help)
+        .num_args(1..)
+}

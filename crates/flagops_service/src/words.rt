@@ -1,0 +1,142 @@
+//! What the words of `ofrep` ask for, as `clap` reads them.
+ghost use Rattle.std.specs.Prelude.{◌≡◌, ◌≤◌, ◌<◌, ◌&&◌, nat_le, None, if◌then◌else◌, IfErr, IfOk, IfSome, Some, length, map, option_map, option_copied};
+ghost use Rattle.clap.specs.Walk.{first_of};
+ghost use Rattle.clap.specs.Words.{found_of, kind_of, rows_of};
+ghost use Rattle.flagops_words.specs.Numbers.{number_in};
+ghost use Rattle.flagops_service.specs.Words.{IsToldBy, answering_in, answering_view, max_port, number_or, ofrep_by, ofrep_faults, port_in, texts_at};
+
+use crate::asked::Answering;
+use crate::usage::{LARGEST_PORT, LONGEST_POLL, MOST_WORKERS, command, missing_value};
+use clap::{ArgMatches, Error};
+use std::alloc::{AllocError, Global};
+use std::convert::AsStr;
+
+/// The workers where their number is left out.
+const WORKERS: u64 = 4;
+
+/// The seconds between two readings where they are left out.
+const POLL: u64 = 2;
+
+/// What the words after the program's name ask of `ofrep`, which is the first of them.
+#[tactic(auto, unfolding(crate::specs::Words::ofrep_by, crate::specs::Words::ofrep_faults))]
+pub fn read_ofrep<'a, S: AsStr>(alloc: Global, words: &'a [S]) -> Result<Answering<'a>, Error>
+    ensures ok { IfOk result (λ a. ofrep_by (map S.text words.entry.now) ≡ Some (answering_view a)) }
+    ensures err { IfErr result (λ e. IsToldBy (ofrep_faults (map S.text words.entry.now)) (ofrep_by (map S.text words.entry.now)) (kind_of e)) }
+{
+    let matches = command(alloc)?.try_get_matches_from(words)?;
+    let told = answering_in(alloc, &matches)?;
+    match told {
+        Some(answering) => Ok(answering),
+        // Words that `clap` takes have a value for each argument, within its bounds.
+        None => Err(missing_value(alloc, command(alloc)?)?),
+    }
+}
+
+fn answering_in<'a>(
+    alloc: Global,
+    matches: &ArgMatches<'a>,
+) -> Result<Option<Answering<'a>>, AllocError>
+    ensures { IfOk result (λ o. option_map answering_view o ≡ answering_in (rows_of (found_of matches.now))) }
+{
+    let Some(stream) = port_in(matches) else {
+        return Ok(None);
+    };
+    let Some(workers) = number_or(matches, "N", WORKERS, 1, MOST_WORKERS) else {
+        return Ok(None);
+    };
+    let Some(poll) = number_or(matches, "SECONDS", POLL, 0, LONGEST_POLL) else {
+        return Ok(None);
+    };
+    let Some(documents) = texts_at(matches, "DOC") else {
+        return Ok(None);
+    };
+    Ok(Some(Answering {
+        listen: text_at(matches, "ADDRESS:PORT"),
+        log: text_at(matches, "FOLDER"),
+        stream,
+        workers,
+        poll,
+        documents: documents.to_vec(alloc)?,
+    }))
+}
+
+/// The text that is given for an argument, where there is one.
+#[tactic(auto, using(crate::proofs::Matched::values))]
+fn text_at<'a>(matches: &ArgMatches<'a>, name: &str) -> Option<&'a str>
+    ensures { option_copied result ≡ first_of name.now (rows_of (found_of matches.now)) }
+{
+    matches.get_str(name)
+}
+
+/// The texts that are given for an argument, where there are any.
+#[tactic(auto, using(crate::proofs::Matched::values))]
+fn texts_at<'m, 'a>(matches: &'m ArgMatches<'a>, name: &str) -> Option<&'m [&'a str]>
+    ensures texts { option_map (λ s. map (λ t. t.now) s.now) result ≡ texts_at name.now (rows_of (found_of matches.now)) }
+    ensures some { IfSome result (λ s. 0 < length s.now) }
+{
+    let texts = matches.get_strs(name)?;
+    if texts.is_empty() {
+        return None;
+    }
+    Some(texts)
+}
+
+/// The port of the stream, where one is given.
+#[tactic(auto, using(crate::proofs::Matched::values))]
+fn port_in(matches: &ArgMatches<'_>) -> Option<Option<u16>>
+    ensures { result ≡ port_in (rows_of (found_of matches.now)) }
+{
+    match matches.get_str("PORT") {
+        Some(word) => as_port(spelled(word, 1, LARGEST_PORT)),
+        None => Some(None),
+    }
+}
+
+fn as_port(number: Option<u64>) -> Option<Option<u16>>
+    requires { IfSome number (λ n. n ≤ max_port) }
+    ensures { result ≡ option_map Some number }
+{
+    match number {
+        Some(number) => Some(Some(number as u16)),
+        None => None,
+    }
+}
+
+/// The number within bounds that is given for an argument, or another where it is left out.
+#[tactic(auto, using(crate::proofs::Matched::values))]
+fn number_or(
+    matches: &ArgMatches<'_>,
+    name: &str,
+    otherwise: u64,
+    least: u64,
+    most: u64,
+) -> Option<u64>
+    ensures { result ≡ number_or otherwise least most (first_of name.now (rows_of (found_of matches.now))) }
+{
+    match matches.get_str(name) {
+        Some(word) => spelled(word, least, most),
+        None => Some(otherwise),
+    }
+}
+
+/// The number within bounds that a word spells in decimal digits, perhaps after a plus.
+fn spelled(word: &str, least: u64, most: u64) -> Option<u64>
+    ensures number { result ≡ number_in least most word.now }
+    ensures bounds { IfSome result (λ n. (least ≤ n) × (n ≤ most)) }
+{
+    match word.parse::<u64>() {
+        Ok(number) => within(number, least, most),
+        Err(_) => None,
+    }
+}
+
+fn within(number: u64, least: u64, most: u64) -> Option<u64>
+    ensures number { result ≡ (if nat_le least number && nat_le number most then Some number else None) }
+    ensures bounds { IfSome result (λ n. (least ≤ n) × (n ≤ most)) }
+{
+    if least <= number && number <= most {
+        Some(number)
+    } else {
+        None
+    }
+}
