@@ -1,0 +1,7 @@
+pub mod Drawings
+pub mod Matched
+pub mod Pictures
+pub mod Planned
+pub mod Stepped
+pub mod Steps
+pub mod Wanted

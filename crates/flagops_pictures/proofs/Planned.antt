@@ -1,0 +1,118 @@
+-- A plan that is printed and drawn.
+use Rattle.std.proofs.Common.{◌≡◌, ◌⊎◌, false, true, ℕ, List, Option, None, Some, Result, Ok, Err, unwrap_or, refl, ap, ◌∙◌, subst, sym, inl, inr}
+use Rattle.std.specs.Prelude.{IfErr, IfOk, IfSome, OnErr}
+use Rattle.book_core.specs.Book.{Contents}
+use Rattle.flagops_commands.specs.Plan.{IsPlanOf, IsPlannedOn}
+use Rattle.flagops_files.specs.Files.{Holding, KeepsOthers, Stores}
+use Rattle.flagops_files.specs.Question.{BookQuestion, Question, IsBookQuestionAt, book_question_view}
+use Rattle.flagops_files.specs.Refusal.{GivesOne, is_want, unwritable}
+use Rattle.flagops_files.specs.Report.{Report, outcome_view}
+use Rattle.flagops_files.specs.declared.evidence.Evidence.{Evidence}
+use Rattle.flagops_files.specs.declared.evidence.Evidence.TheVariants.{Book}
+use Rattle.flagops_files.specs.declared.outcome.Outcome.{Outcome}
+use Rattle.flagops_files.specs.declared.refusal.Call.{Call}
+use Rattle.flagops_files.specs.declared.refusal.Refusal.{Refusal}
+use Rattle.flagops_files.specs.declared.refusal.Refusal.TheVariants.{WantOfMemory}
+use Rattle.flagops_files.specs.declared.refused.Refused.{Refused}
+use Rattle.plan_text.specs.Answer.{Answer, planned_view}
+use Rattle.plan_text.specs.PlanFile.{answer_of}
+use Rattle.plan_text.specs.declared.fault.PlanFileFault.{PlanFileFault}
+use Rattle.plan_text.specs.declared.planned.Planned.{Planned}
+use Rattle.rollout.specs.Planned.{IsPlanned}
+use Rattle.rollout_checks.specs.Lawful.{Problem}
+use Rattle.rollout_checks.specs.Refined.{problem_refined}
+use Rattle.rollout_checks.specs.Verified.{IsShown}
+use Rattle.rollout_checks.specs.declared.fault.RolloutFault.{RolloutFault}
+use Rattle.flagops_pictures.specs.Pictured.{IsDrawn}
+use Rattle.flagops_pictures.specs.Planning.{IsDrawnOn, IsPictureOf, IsPlanPicture, IsPlanWith, LeavesPicture, as_question}
+use Rattle.flagops_pictures.specs.Words.{Planning}
+
+-- what is planned is shown to be right
+shown : (asked : Result Problem RolloutFault) (p : Planned) → IsPlanned asked (Ok p) → IsShown asked (planned_view p)
+shown (Ok problem) p plan = (plan.lawful, plan.shows)
+shown (Err f) p plan = plan
+
+module _ (refine : Option ℕ) (q : Question) (book : Contents) (on : q.evidence ≡ Book book) where
+  abbrev posed : Result Problem RolloutFault
+  posed = problem_refined (unwrap_or refine 1) q.flags q.request book
+
+  -- a plan that is reported reads as an answer that is right
+  planned_there : (report : Report) → IsPlanOf refine (Ok q) (Ok report) → (answer : Answer) × (answer_of report.text ≡ Ok answer) × IsShown posed answer
+  planned_there report (Ok p, may, is, reads) = (planned_view p, reads, shown posed p (subst (λ (e : Evidence). IsPlannedOn (unwrap_or refine 1) q.flags q.request e (Ok p)) on may.answers))
+  planned_there report (Err f, may, is, reads) = absurd cc
+
+  pub read_right : (report : Report) (answer : Answer) → IsPlanOf refine (Ok q) (Ok report) → answer_of report.text ≡ Ok answer → IsShown posed answer
+  read_right report answer plan read =
+      let there = planned_there report plan in
+      subst (λ (r : Result Answer PlanFileFault). IfOk r (λ a. IsShown posed a)) (sym there.1 ∙ read) there.2
+
+  pub reads : (report : Report) (e : PlanFileFault) → IsPlanOf refine (Ok q) (Ok report) → answer_of report.text ≡ Err e → ⊥
+  reads report e plan unread =
+      let there = planned_there report plan in
+      subst (λ (r : Result Answer PlanFileFault). IfErr r (λ f. ⊥)) (sym there.1 ∙ unread) tt
+
+  -- and so is its picture the one that is asked for
+  pub drawn_on : (text bytes : List ℕ) (answer : Answer) → answer_of text ≡ Ok answer → IsDrawn posed answer bytes → IsPictureOf refine q text bytes
+  drawn_on text bytes answer read drawn = (answer, read, subst (λ (e : Evidence). IsDrawnOn (unwrap_or refine 1) q.flags q.request e answer bytes) (sym on) drawn)
+
+-- a want of memory is told by no file
+pub want_alone : (refusal : Refusal) (c : Call) → refusal ≡ WantOfMemory c → is_want refusal ≡ false → refusal ≡ unwritable
+want_alone refusal c is no_want = absurd (let both : true ≡ false = sym (ap is_want is) ∙ no_want in cc)
+
+module _ (path : List ℕ) (refine : Option ℕ) (q : Question) where
+  -- it was printed, and its picture written
+  pub planned_with : (old new : Option Holding) (o : Outcome) (bytes : List ℕ) → IsPlanOf refine (Ok q) (Ok (outcome_view o)) → IsPictureOf refine q o.text.items bytes → Stores old new path bytes → KeepsOthers old new path
+      → IfSome old (λ at. IsPlanWith at new path refine q (Ok (outcome_view o)))
+  planned_with None new o bytes plan picture stores others = tt
+  planned_with (Some at) new o bytes plan picture stores others = (plan, (bytes, picture, stores, others))
+
+  -- the picture was refused to be written
+  pub unwritten : (old new : Option Holding) (e : Refused) (r : Result Outcome Refused) → r ≡ Err e → (is_want e.refusal ≡ false → e.refusal ≡ unwritable) → new ≡ old → IfSome old (λ at. GivesOne outcome_view r (IsPlanWith at new path refine q))
+  unwritten None new e r is refusal same = tt
+  unwritten (Some at) new e r is refusal same = rw is (λ no_want. (inr (refusal no_want), same))
+
+  -- nothing was planned
+  pub unplanned : (old new : Option Holding) (e : Refused) (r : Result Outcome Refused) → r ≡ Err e → GivesOne outcome_view (Err e) (IsPlanOf refine (Ok q)) → new ≡ old → IfSome old (λ at. GivesOne outcome_view r (IsPlanWith at new path refine q))
+  unplanned None new e r is gives same = tt
+  unplanned (Some at) new e r is gives same = rw is (λ no_want. (inl (gives no_want), same))
+
+module _ (p : Planning) where
+  asked_at : (at : Holding) (new : Option Holding) (q : BookQuestion) (r : Result Outcome Refused) → IsBookQuestionAt at p.document p.request p.book (Ok q) → GivesOne outcome_view r (IsPlanWith at new p.picture p.refine (as_question q))
+      → GivesOne outcome_view r (IsPlanPicture at new p)
+  unfolding IsPlanPicture
+  asked_at at new q (Ok o) asked gives = (Ok q, asked, gives)
+  asked_at at new q (Err e) asked gives = λ no_want. (Ok q, asked, gives no_want)
+
+  pub asked_of : (old kept new : Option Holding) (q : BookQuestion) (r : Result Outcome Refused) → kept ≡ old → IfSome old (λ at. IsBookQuestionAt at p.document p.request p.book (Ok q))
+      → IfSome kept (λ at. GivesOne outcome_view r (IsPlanWith at new p.picture p.refine (as_question q))) → IfSome old (λ at. GivesOne outcome_view r (IsPlanPicture at new p))
+  asked_of None kept new q r same asked gives = tt
+  asked_of (Some at) kept new q r same asked gives =
+      asked_at at new q r asked (subst (λ (h : Option Holding). IfSome h (λ it. GivesOne outcome_view r (IsPlanWith it new p.picture p.refine (as_question q)))) same gives)
+
+  unasked_at : (at : Holding) (new : Option Holding) (e : Refused) → GivesOne book_question_view (Err e) (IsBookQuestionAt at p.document p.request p.book) → new ≡ Some at → GivesOne outcome_view (Err e) (IsPlanPicture at new p)
+  unfolding IsPlanPicture
+  unasked_at at new e asked same = λ no_want. (Err e.refusal, asked no_want, (refl, same))
+
+  pub unasked : (old new : Option Holding) (e : Refused) (r : Result Outcome Refused) → r ≡ Err e → IfSome old (λ at. GivesOne book_question_view (Err e) (IsBookQuestionAt at p.document p.request p.book)) → new ≡ old → IfSome old (λ at. GivesOne outcome_view r (IsPlanPicture at new p))
+  unasked None new e r is asked same = tt
+  unasked (Some at) new e r is asked same = rw is (unasked_at at new e asked same)
+
+-- ---- what becomes of the files
+
+pub left_alone : (o : Option Planning) (h : Option Holding) → LeavesPicture o h h
+left_alone None h = refl
+left_alone (Some p) h = inl refl
+
+pub left_so : (o : Option Planning) (p : Planning) (old new : Option Holding) → o ≡ Some p → (new ≡ old) ⊎ KeepsOthers old new p.picture → LeavesPicture o old new
+left_so o p old new is left = subst (λ (x : Option Planning). LeavesPicture x old new) (sym is) left
+
+-- files that a load left as they are
+pub left_behind : (old kept new : Option Holding) (path : List ℕ) → kept ≡ old → (new ≡ kept) ⊎ KeepsOthers kept new path → (new ≡ old) ⊎ KeepsOthers old new path
+left_behind old kept new path same left = subst (λ (h : Option Holding). (new ≡ h) ⊎ KeepsOthers h new path) same left
+
+pub kept_behind : {X E : Type 0} (r : Result X E) (old kept new : Option Holding) → kept ≡ old → OnErr r (new ≡ kept) → OnErr r (new ≡ old)
+kept_behind r old kept new same left = subst (λ (h : Option Holding). OnErr r (new ≡ h)) same left
+
+pub in_any_case : {X E P : Type 0} (r : Result X E) → P → OnErr r P
+in_any_case (Ok x) p = tt
+in_any_case (Err e) p = p

@@ -1,0 +1,147 @@
+-- The pictures of steps in turn.
+use Rattle.std.proofs.Common.{◌≡◌, ◌≢◌, ◌+◌, ◌-◌, ◌≤◌, ◌==◌, ℕ, suc, Bool, true, false, List, [], ◌∷◌, ◌++◌, append_assoc, append-nil, add-one, arith, drop, get_or, length, length-drop, map, take, Vec, Global, Option, Some, Result, Ok, Err, IfOk, refl, sym, ap, ◌∙◌, subst}
+use Rattle.std.proofs.Math.Seq.{drop-cons}
+use Rattle.std.proofs.lemmas.Bool.{eqb-true}
+use Rattle.std.proofs.lemmas.List.{nil_from_length, take_all}
+use Rattle.book_core.specs.Book.{Contents}
+use Rattle.picture.specs.Spelling.{Adds, IsBody}
+use Rattle.picture.specs.Told.{Item, number}
+use Rattle.picture.proofs.Bodies.{one_more}
+use Rattle.plan_text.specs.Answer.{Answer, emit, none_exists, planned_view}
+use Rattle.plan_text.specs.declared.planned.Planned.{Planned}
+use Rattle.ramp.specs.Ramp.{Standing, left_by, still}
+use Rattle.ramp_steps.specs.Steps.{requests_view}
+use Rattle.ramp.specs.Right.{AreRight, IsRight, checked_on}
+use Rattle.rollout_checks.specs.declared.fault.RolloutFault.{RolloutFault}
+use Rattle.flagops_pictures.specs.Pictured.{AddsTold}
+use Rattle.flagops_pictures.specs.Ramps.{AreTold, Continues}
+
+-- nothing is told of no answers
+pub told_none : (standing : Standing) (refine : Option ℕ) (requests : List (List ℕ)) (book : Contents) (n : ℕ) → AreTold standing refine requests book n [] []
+told_none standing refine [] book n = refl
+told_none standing refine (request ∷ requests) book n = refl
+
+pub continues_none : (bytes : List ℕ) → Continues [] bytes bytes
+continues_none bytes = λ told body. subst (λ (xs : List Item). IsBody xs bytes) (sym (append-nil told)) body
+
+-- the number of a step, its picture, and the rest
+pub continues_step : (n : ℕ) (this rest : List Item) (a b c d : List ℕ) → Adds (number n ∷ []) a b → Adds this b c → Continues rest c d → Continues (number n ∷ (this ++ rest)) a d
+continues_step n this rest a b c d first second others = λ told body.
+    let one = one_more told (number n ∷ []) a b body first in
+    let two = one_more (told ++ (number n ∷ [])) this b c one second in
+    let all = others ((told ++ (number n ∷ [])) ++ this) two in
+    subst (λ (xs : List Item). IsBody xs d) (append_assoc (told ++ (number n ∷ [])) this rest ∙ append_assoc told (number n ∷ []) (this ++ rest)) all
+
+-- no answer is right behind a refusal
+pub none_behind : (e : RolloutFault) (requests : List (List ℕ)) (book : Contents) (answers : List Answer) → answers ≢ [] → AreRight (Err e) (Some 1) requests book answers → ⊥
+none_behind e requests book [] some right = some refl
+none_behind e [] book (answer ∷ answers) some right = right
+none_behind e (request ∷ requests) book (answer ∷ answers) some right = right.0.shown
+
+-- a step that has others behind it has a rule
+pub goes_on : (standing : Standing) (answer : Answer) (requests : List (List ℕ)) (book : Contents) (answers : List Answer) → answers ≢ [] → AreRight standing (Some 1) (still answer requests) book answers → still answer requests ≡ requests
+goes_on standing (emit rule c) requests book answers some right = refl
+goes_on standing (none_exists kind names) requests book [] some right = absurd (some refl)
+goes_on standing (none_exists kind names) requests book (answer ∷ answers) some right = absurd right
+
+-- what is told of answers, and was added
+abbrev pub Tells : Standing → Option ℕ → List (List ℕ) → Contents → ℕ → List Answer → List ℕ → List ℕ → Type 0
+Tells standing refine requests book n answers before after = (items : List Item) × AreTold standing refine requests book n answers items × Continues items before after
+
+-- there are no answers
+pub no_answers : (standing : Standing) (refine : Option ℕ) (requests : List (List ℕ)) (book : Contents) (n : ℕ) (answers : List Answer) (bytes : List ℕ) → answers ≡ [] → Tells standing refine requests book n answers bytes bytes
+no_answers standing refine requests book n answers bytes none =
+    ([], subst (λ (xs : List Answer). AreTold standing refine requests book n xs []) (sym none) (told_none standing refine requests book n), continues_none bytes)
+
+module _ (standing : Standing) (refine : Option ℕ) (requests : List (List ℕ)) (book : Contents) (answers : List Answer) (request : List ℕ) (more : List (List ℕ)) (answer : Answer) (others : List Answer) (is : requests ≡ request ∷ more) (are : answers ≡ answer ∷ others) where
+  -- the first is right, and so are those behind it
+  pub both_right : AreRight standing refine requests book answers → IsRight standing refine request book answer × AreRight (left_by standing request answer) (Some 1) (still answer more) book others
+  both_right right = subst (λ (xs : List Answer). AreRight standing refine (request ∷ more) book xs) are (subst (λ (rs : List (List ℕ)). AreRight standing refine rs book answers) is right)
+
+  -- the first was told, and so were those behind it
+  pub both_told : (n : ℕ) (a b c d : List ℕ) → Adds (number n ∷ []) a b → AddsTold (checked_on standing refine answer request book) answer b c → Tells (left_by standing request answer) (Some 1) (still answer more) book (suc n) others c d
+      → Tells standing refine requests book n answers a d
+  both_told n a b c d first second rest =
+      let all : Tells standing refine (request ∷ more) book n (answer ∷ others) a d =
+      (number n ∷ (second.0 ++ rest.0), (second.0, rest.0, second.1, rest.1, refl), continues_step n second.0 rest.0 a b c d first second.2 rest.2) in
+      subst (λ (rs : List (List ℕ)). Tells standing refine rs book n answers a d) (sym is) (subst (λ (xs : List Answer). Tells standing refine (request ∷ more) book n xs a d) (sym are) all)
+
+-- those behind it, on the flags that it leaves
+pub behind : (left next : Standing) (steps more : List (List ℕ)) (book : Contents) (n m : ℕ) (answers : List Answer) (c d : List ℕ) → left ≡ next → steps ≡ more → m ≡ suc n → Tells next (Some 1) more book m answers c d → Tells left (Some 1) steps book (suc n) answers c d
+behind left next steps more book n m answers c d stands same follows tells =
+    subst (λ (s : Standing). Tells s (Some 1) steps book (suc n) answers c d) (sym stands)
+    (subst (λ (rs : List (List ℕ)). Tells next (Some 1) rs book (suc n) answers c d) (sym same) (subst (λ (k : ℕ). Tells next (Some 1) more book k answers c d) follows tells))
+
+-- ---- lists, as the program cuts and tests them
+
+-- a list that is not empty is its first item and the rest, as a slice pattern cuts it
+pub first_of : {X : Type 0} (xs : List X) (x : X) → 1 ≤ length xs → x ≡ get_or xs 0 x → xs ≡ x ∷ take (length xs - 1) (drop 1 xs)
+first_of xs x inside is = drop-cons xs 0 x (omega (arith, inside)) ∙ ap (λ y. y ∷ drop 1 xs) (sym is) ∙ ap (λ ys. x ∷ ys) (sym (take_all (length xs - 1) (drop 1 xs) (omega (arith, length-drop 1 xs))))
+
+-- by the test that the program makes
+pub empty_as : {X Y : Type 0} (f : X → Y) (xs : List X) (b : Bool) → b ≡ (length xs == 0) → b ≡ true → map f xs ≡ []
+empty_as f xs b tests is = ap (map f) (nil_from_length xs (eqb-true (length xs) 0 (sym tests ∙ is)))
+
+pub some_as : {X Y : Type 0} (f : X → Y) (xs : List X) (b : Bool) → b ≡ (length xs == 0) → b ≡ false → map f xs ≢ []
+some_as f [] b tests is = λ none. absurd (let both : true ≡ false = sym tests ∙ is in cc)
+some_as f (x ∷ xs) b tests is = λ none. cc
+
+-- a call that went well tells what it tells
+pub if_well : {X E : Type 0} {A B : Type 0} (r : Result X E) → (A → B) → IfOk r (λ x. A) → IfOk r (λ x. B)
+if_well (Ok x) f a = f a
+if_well (Err e) f a = tt
+
+-- the first step and answer of lists that are not empty, as the program cuts them, where all answers are right
+module _ (standing : Standing) (refine : Option ℕ) (steps : List (Vec ℕ Global)) (book : Contents) (answers : List Planned) (x : Vec ℕ Global) (planned : Planned) (more_steps : 1 ≤ length steps) (first_step : x ≡ get_or steps 0 x) (more_answers : 1 ≤ length answers) (first_answer : planned ≡ get_or answers 0 planned) where
+  abbrev answer : Answer
+  answer = planned_view planned
+
+  abbrev requests_behind : List (List ℕ)
+  requests_behind = requests_view (take (length steps - 1) (drop 1 steps))
+
+  abbrev others : List Planned
+  others = take (length answers - 1) (drop 1 answers)
+
+  abbrev left : Standing
+  left = left_by standing x.items answer
+
+  is : requests_view steps ≡ x.items ∷ requests_behind
+  is = ap requests_view (first_of steps x more_steps first_step)
+
+  are : map planned_view answers ≡ answer ∷ map planned_view others
+  are = ap (map planned_view) (first_of answers planned more_answers first_answer)
+
+  both : AreRight standing refine (requests_view steps) book (map planned_view answers) → IsRight standing refine x.items book answer × AreRight left (Some 1) (still answer requests_behind) book (map planned_view others)
+  both = both_right standing refine (requests_view steps) book (map planned_view answers) x.items requests_behind answer (map planned_view others) is are
+
+  -- those behind it, where the program found that there are some
+  module _ (right : AreRight standing refine (requests_view steps) book (map planned_view answers)) (ended : Bool) (tests : ended ≡ (length others == 0)) (not_ended : ended ≡ false) where
+    some : map planned_view others ≢ []
+    some = some_as planned_view others ended tests not_ended
+
+    same : still answer requests_behind ≡ requests_behind
+    same = goes_on left answer requests_behind book (map planned_view others) some (both right).1
+
+    pub others_right : (next : Standing) → left ≡ next → AreRight next (Some 1) requests_behind book (map planned_view others)
+    others_right next stands =
+        subst (λ (s : Standing). AreRight s (Some 1) requests_behind book (map planned_view others)) stands
+        (subst (λ (rs : List (List ℕ)). AreRight left (Some 1) rs book (map planned_view others)) same (both right).1)
+
+    pub not_left : (e : RolloutFault) → left ≡ Err e → ⊥
+    not_left e stands =
+        none_behind e (still answer requests_behind) book (map planned_view others) some
+        (subst (λ (s : Standing). AreRight s (Some 1) (still answer requests_behind) book (map planned_view others)) stands (both right).1)
+
+    pub all_told : (n : ℕ) (a b c d : List ℕ) (next : Standing) → left ≡ next → Adds (number n ∷ []) a b → AddsTold (checked_on standing refine answer x.items book) answer b c → Tells next (Some 1) requests_behind book (n + 1) (map planned_view others) c d
+        → Tells standing refine (requests_view steps) book n (map planned_view answers) a d
+    all_told n a b c d next stands first second tells =
+        let follows : n + 1 ≡ suc n = add-one n in
+        both_told standing refine (requests_view steps) book (map planned_view answers) x.items requests_behind answer (map planned_view others) is are n a b c d first second
+        (behind left next (still answer requests_behind) requests_behind book n (n + 1) (map planned_view others) c d stands same follows tells)
+
+  -- there are none
+  pub last_told : (ended : Bool) → ended ≡ (length others == 0) → ended ≡ true → (n : ℕ) (a b c : List ℕ) → Adds (number n ∷ []) a b → AddsTold (checked_on standing refine answer x.items book) answer b c
+      → Tells standing refine (requests_view steps) book n (map planned_view answers) a c
+  last_told ended tests is_ended n a b c first second =
+      both_told standing refine (requests_view steps) book (map planned_view answers) x.items requests_behind answer (map planned_view others) is are n a b c c first second
+      (no_answers left (Some 1) (still answer requests_behind) book (suc n) (map planned_view others) c (empty_as planned_view others ended tests is_ended))

@@ -1,0 +1,51 @@
+use Rattle.std.proofs.Common.{◌∙◌, ◌≢◌, ℕ, List, [], ◌∷◌, Ok, ap, rules, string_bytes, subst, sym}
+use Rattle.flag_defs.specs.Flags.{flags_view}
+use Rattle.picture.specs.Spelling.{Adds}
+use Rattle.picture.specs.Told.{number}
+use Rattle.plan_text.specs.Answer.{planned_view}
+use Rattle.ramp.specs.Ramp.{left_by}
+use Rattle.rollout_checks.specs.Refined.{problem_checked}
+use Rattle.rollout_checks.specs.declared.fault.RolloutFault.TheVariants.{WantOfMemory}
+use Rattle.flagops_pictures.specs.Pictured.{AddsTold}
+use Rattle.flagops_pictures.proofs.Steps.{all_told, if_well, last_told, not_left, others_right}
+use Rattle.flagops_pictures.proofs.ramps.+add_steps.Goals as goal
+
+-- a further step stands on flags, since its answer is right
+pub unreachable-requires : goal.unreachable-requires
+unreachable-requires g t c =
+    let a = c.args in
+    let p = c.planned-item.result in
+    let other : c.in-Err.field-0 ≢ WantOfMemory = search rules in
+    not_left (Ok (flags_view a.flags.now)) a.refine a.steps.now a.book.now a.answers.now c.request-item.result p c.in-len1-up.len_at_least c.request-item.is c.in-len1-up-answers.len_at_least c.planned-item.is c.requires.right c.is_empty.result c.is_empty.ensures c.if-is_empty.false c.in-Err.field-0
+    (ap (λ (r : List ℕ). left_by (Ok (flags_view a.flags.now)) r (planned_view p)) (sym c.as_slice-request.ensures.value) ∙ c.in-Err.ensures other)
+
+pub add_steps-requires-clause-right : goal.add_steps-requires-clause-right
+add_steps-requires-clause-right g t c κs within =
+    let a = c.args in
+    let p = c.planned-item.result in
+    others_right (Ok (flags_view a.flags.now)) a.refine a.steps.now a.book.now a.answers.now c.request-item.result p c.in-len1-up.len_at_least c.request-item.is c.in-len1-up-answers.len_at_least c.planned-item.is c.requires.right c.is_empty.result c.is_empty.ensures c.if-is_empty.false (Ok (flags_view c.in-Ok.next))
+    (ap (λ (r : List ℕ). left_by (Ok (flags_view a.flags.now)) r (planned_view p)) (sym c.as_slice-request.ensures.value) ∙ c.in-Ok.ensures)
+
+pub returns-then-is_empty : goal.returns-then-is_empty
+returns-then-is_empty g t c =
+    let a = c.args in
+    let p = c.planned-item.result in
+    let before = string_bytes c.draw_step.new.pictures in
+    let after = string_bytes c.add_picture.new.pictures in
+    let first = subst (λ (n : ℕ). Adds (number n ∷ []) (string_bytes a.pictures.now) before) c.from.ensures c.in_ok-y.ensures in
+    let second = subst (λ (r : List ℕ). AddsTold (problem_checked a.refine (planned_view p) (flags_view a.flags.now) r a.book.now) (planned_view p) before after) c.as_slice-request.ensures.value c.in_ok-y-2.ensures in
+    last_told (Ok (flags_view a.flags.now)) a.refine a.steps.now a.book.now a.answers.now c.request-item.result p c.in-len1-up.len_at_least c.request-item.is c.in-len1-up-answers.len_at_least c.planned-item.is c.is_empty.result c.is_empty.ensures c.if-is_empty.true a.place.number (string_bytes a.pictures.now) before after first second
+
+pub returns : goal.returns
+returns g t c =
+    let a = c.args in
+    let p = c.planned-item.result in
+    let before = string_bytes c.draw_step.new.pictures in
+    let after = string_bytes c.add_picture.new.pictures in
+    let first = subst (λ (n : ℕ). Adds (number n ∷ []) (string_bytes a.pictures.now) before) c.from.ensures c.in_ok-y.ensures in
+    let second = subst (λ (r : List ℕ). AddsTold (problem_checked a.refine (planned_view p) (flags_view a.flags.now) r a.book.now) (planned_view p) before after) c.as_slice-request.ensures.value c.in_ok-y-2.ensures in
+    let stands = ap (λ (r : List ℕ). left_by (Ok (flags_view a.flags.now)) r (planned_view p)) (sym c.as_slice-request.ensures.value) ∙ c.in-Ok.ensures in
+    if_well c.add_steps.result
+    (all_told (Ok (flags_view a.flags.now)) a.refine a.steps.now a.book.now a.answers.now c.request-item.result p c.in-len1-up.len_at_least c.request-item.is c.in-len1-up-answers.len_at_least c.planned-item.is c.requires.right c.is_empty.result c.is_empty.ensures c.if-is_empty.false
+    a.place.number (string_bytes a.pictures.now) before after (string_bytes c.add_steps.new.pictures) (Ok (flags_view c.in-Ok.next)) stands first second)
+    c.add_steps.ensures

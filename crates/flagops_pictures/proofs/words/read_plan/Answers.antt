@@ -1,0 +1,24 @@
+use Rattle.std.proofs.Common.{rules, map, subst, sym}
+use Rattle.clap.specs.declared.error.kind.ErrorKind.{ErrorKind}
+use Rattle.flagops_ramps.specs.Words.{IsToldBy}
+use Rattle.flagops_ramps.proofs.Matched.{asked_of, missed_in, told_of}
+use Rattle.flagops_pictures.specs.Words.{plan_app, plan_by, plan_faults, planning_in}
+use Rattle.flagops_pictures.proofs.Matched.{plan_free, plan_plain}
+use Rattle.flagops_pictures.proofs.words.read_plan.Goals as goal
+
+pub returns-in_err-matches-clause-err : goal.returns-in_err-matches-clause-err
+unfolding plan_by plan_faults
+returns-in_err-matches-clause-err g c =
+    let told = told_of plan_app plan_plain plan_free planning_in (map g.S.AsStr.text c.args.words.now) _ c.in_ok-plan.ensures _ c.in_err-matches.ensures.kinds in search rules
+
+pub returns-in-Some-clause-ok : goal.returns-in-Some-clause-ok
+unfolding plan_by plan_faults
+returns-in-Some-clause-ok g c =
+    asked_of plan_app plan_plain plan_free planning_in (map g.S.AsStr.text c.args.words.now) _ c.in_ok-plan.ensures c.in_ok-matches.matches c.in_ok-matches.ensures.kinds c.in_ok-matches.ensures.matches _ (sym c.in-Some.ensures)
+
+pub returns-clause-err : goal.returns-clause-err
+unfolding plan_by plan_faults
+returns-clause-err g c =
+    let words = map g.S.AsStr.text c.args.words.now in
+    let told = missed_in plan_app plan_plain plan_free planning_in words _ c.in_ok-plan.ensures c.in_ok-matches.matches c.in_ok-matches.ensures.kinds c.in_ok-matches.ensures.matches (sym c.in-None.ensures) in
+    subst (λ (k : ErrorKind). IsToldBy (plan_faults words) (plan_by words) k) (sym c.in_ok-missing_value-in-None.ensures) told

@@ -1,0 +1,24 @@
+use Rattle.std.proofs.Common.{rules, map, subst, sym}
+use Rattle.clap.specs.declared.error.kind.ErrorKind.{ErrorKind}
+use Rattle.flagops_ramps.specs.Words.{IsToldBy, verify_in}
+use Rattle.flagops_ramps.proofs.Matched.{asked_of, missed_in, told_of}
+use Rattle.flagops_pictures.specs.Words.{ramp_app, ramp_by, ramp_faults}
+use Rattle.flagops_pictures.proofs.Matched.{ramp_free, ramp_plain}
+use Rattle.flagops_pictures.proofs.words.read_ramp.Goals as goal
+
+pub returns-in_err-matches-clause-err : goal.returns-in_err-matches-clause-err
+unfolding ramp_by ramp_faults
+returns-in_err-matches-clause-err g c =
+    let told = told_of ramp_app ramp_plain ramp_free verify_in (map g.S.AsStr.text c.args.words.now) _ c.in_ok-ramp.ensures _ c.in_err-matches.ensures.kinds in search rules
+
+pub returns-in-Some-clause-ok : goal.returns-in-Some-clause-ok
+unfolding ramp_by ramp_faults
+returns-in-Some-clause-ok g c =
+    asked_of ramp_app ramp_plain ramp_free verify_in (map g.S.AsStr.text c.args.words.now) _ c.in_ok-ramp.ensures c.in_ok-matches.matches c.in_ok-matches.ensures.kinds c.in_ok-matches.ensures.matches _ (sym c.in-Some.ensures)
+
+pub returns-clause-err : goal.returns-clause-err
+unfolding ramp_by ramp_faults
+returns-clause-err g c =
+    let words = map g.S.AsStr.text c.args.words.now in
+    let told = missed_in ramp_app ramp_plain ramp_free verify_in words _ c.in_ok-ramp.ensures c.in_ok-matches.matches c.in_ok-matches.ensures.kinds c.in_ok-matches.ensures.matches (sym c.in-None.ensures) in
+    subst (λ (k : ErrorKind). IsToldBy (ramp_faults words) (ramp_by words) k) (sym c.in_ok-missing_value-in-None.ensures) told

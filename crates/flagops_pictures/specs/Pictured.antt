@@ -1,0 +1,99 @@
+-- What `picture` answers, and what a picture has to tell.
+use Rattle.std.specs.Prelude.{◌≡◌, ℕ, List, Bool, true, OnOk, Option, Result, Ok, Err, String, string_bytes}
+use Rattle.std.specs.Map.{keys_of}
+use Rattle.std.specs.declared.alloc.Global.{Global}
+use Rattle.book_core.specs.Counts.{counts_of}
+use Rattle.bucket_core.specs.Rule.{Entries, total_weight}
+use Rattle.flagops_files.specs.Files.{Holding}
+use Rattle.flagops_files.specs.PlanFile.{plan_at}
+use Rattle.flagops_files.specs.Question.{BookQuestion, IsBookQuestionAt}
+use Rattle.flagops_files.specs.Refusal.{loads_book_question}
+use Rattle.flagops_files.specs.Report.{Outcomes, Report, done}
+use Rattle.flagops_files.specs.declared.refusal.Call.{Call}
+use Rattle.flagops_files.specs.declared.refusal.Call.TheVariants as call
+use Rattle.flagops_files.specs.declared.refusal.Refusal.{Refusal}
+use Rattle.flagops_files.specs.declared.refusal.Refusal.TheVariants.{Verify}
+use Rattle.picture.specs.Spelling.{Adds, IsPicture}
+use Rattle.picture.specs.Told.{Item, change_told, none_told}
+use Rattle.plan_text.specs.Answer.{Answer, emit, none_exists}
+use Rattle.rollout_checks.specs.Lawful.{Problem}
+use Rattle.rollout_checks.specs.Refined.{problem_checked}
+use Rattle.rollout_checks.specs.Verified.{IsOutcome, IsShown}
+use Rattle.rollout_checks.specs.declared.fault.RolloutFault.{RolloutFault}
+use Rattle.rollout_checks.specs.declared.verify_fault.VerifyFault.{VerifyFault}
+use Rattle.switch_table.specs.Runs.{Run, AreRuns}
+use Rattle.switch_table.specs.Switches.{IsSwitchTable}
+use Rattle.switch_table.specs.declared.table.Switch.{Switch}
+use Rattle.transport_instance.specs.Certificate.{DualPrices}
+use Rattle.flagops_pictures.specs.Words.{Asked}
+
+-- what is told of a rule that a problem is answered with: its runs and its switches are those of the recorded inputs
+pub record IsChangeTold (p : Problem) (rule : Entries) (duals : DualPrices) (items : List Item) : Type 0 where
+  pub runs : List Run
+  pub table : ℕ × List Switch
+  pub in_runs : AreRuns p.old rule (counts_of p.inputs (total_weight p.old)) 0 runs (total_weight p.old)
+  pub switched : IsSwitchTable p.old rule (keys_of p.limits) (counts_of p.inputs (total_weight p.old)) table
+  pub told : items ≡ change_told p.old rule p.limits p.pricing runs table duals
+
+-- what is told of what a problem is answered with
+abbrev pub IsAnswerTold : Result Problem RolloutFault → Answer → List Item → Type 0
+IsAnswerTold (Ok p) (emit rule duals) items = IsChangeTold p rule duals items
+IsAnswerTold (Ok p) (none_exists kind names) items = items ≡ none_told p.old p.limits names
+IsAnswerTold (Err f) answer items = ⊥
+
+-- its picture
+abbrev pub IsDrawn : Result Problem RolloutFault → Answer → List ℕ → Type 0
+IsDrawn asked answer bytes = (items : List Item) × IsAnswerTold asked answer items × IsPicture items bytes
+
+-- its picture was added to others
+abbrev pub AddsTold : Result Problem RolloutFault → Answer → List ℕ → List ℕ → Type 0
+AddsTold asked answer before after = (items : List Item) × IsAnswerTold asked answer items × Adds items before after
+
+abbrev pub AddsChange : Problem → Entries → DualPrices → List ℕ → List ℕ → Type 0
+AddsChange p rule duals before after = (items : List Item) × IsChangeTold p rule duals items × Adds items before after
+
+-- a rule is of this total
+abbrev pub HasWeight : Answer → ℕ → Type 0
+HasWeight (emit rule duals) n = total_weight rule ≡ n
+HasWeight (none_exists kind names) n = Unit {0}
+
+-- what is asked that an answer is checked against
+abbrev pub asked_over : Option ℕ → Answer → BookQuestion → Result Problem RolloutFault
+asked_over refine answer q = problem_checked refine answer q.flags q.request q.book
+
+-- what may be told of an answer to a question: that it is right, or the first refusal; and where it is right, what it shows
+pub record MayBeTold (refine : Option ℕ) (q : BookQuestion) (answer : Answer) (verdict : Result (Unit {0}) VerifyFault) : Type 0 where
+  pub told : IsOutcome (asked_over refine answer q) answer verdict
+  pub shown : OnOk verdict (IsShown (asked_over refine answer q) answer)
+
+-- the picture, or the refusal of the check
+abbrev pub IsDrawnOrDenied : Result Problem RolloutFault → Answer → Result (List ℕ) VerifyFault → Type 0
+IsDrawnOrDenied asked answer (Ok bytes) = IsDrawn asked answer bytes
+IsDrawnOrDenied asked answer (Err e) = IsOutcome asked answer (Err e)
+
+-- a picture without where its text lies in memory
+abbrev pub text_view : Result (String Global) VerifyFault → Result (List ℕ) VerifyFault
+text_view (Ok text) = Ok (string_bytes text)
+text_view (Err e) = Err e
+
+-- its report
+abbrev pub drawn_report : Result (List ℕ) VerifyFault → Result Report Refusal
+drawn_report (Ok bytes) = done bytes
+drawn_report (Err e) = Err (Verify e)
+
+-- the report of an answer to a question: its picture, where it is right
+abbrev pub IsPictured : Option ℕ → Result BookQuestion Refusal → Result Answer Refusal → Outcomes
+IsPictured refine (Err e) answer r = r ≡ Err e
+IsPictured refine (Ok q) (Err e) r = r ≡ Err e
+IsPictured refine (Ok q) (Ok answer) r =
+    (bytes : Result (List ℕ) VerifyFault) × IsDrawnOrDenied (asked_over refine answer q) answer bytes × (r ≡ drawn_report bytes)
+
+unfoldable pub IsPictureReport : Holding → Asked → Outcomes
+IsPictureReport at a r =
+    (question : Result BookQuestion Refusal) × IsBookQuestionAt at a.document a.request a.book question × IsPictured a.refine question (plan_at at a.plan) r
+
+-- the calls that the command makes
+abbrev pub picture_calls : Call → Bool
+picture_calls call.Verify = true
+picture_calls call.ReadPlanned = true
+picture_calls c = loads_book_question c

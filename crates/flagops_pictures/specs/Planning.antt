@@ -1,0 +1,63 @@
+-- What `plan --picture` answers, and the file that it writes.
+use Rattle.std.specs.Prelude.{◌≡◌, ◌⊎◌, ℕ, Bool, true, List, unwrap_or, Option, Some, None, Result, Ok, Err}
+use Rattle.flag_documents.specs.Document.{Definitions}
+use Rattle.plan_text.specs.Answer.{Answer}
+use Rattle.plan_text.specs.PlanFile.{answer_of}
+use Rattle.rollout_checks.specs.Refined.{problem_refined}
+use Rattle.flagops_commands.specs.Plan.{IsPlanOf}
+use Rattle.flagops_files.specs.Files.{Holding, KeepsOthers, Stores}
+use Rattle.flagops_files.specs.Question.{BookQuestion, Question, IsBookQuestionAt}
+use Rattle.flagops_files.specs.Refusal.{loads_book_question, unwritable}
+use Rattle.flagops_files.specs.Report.{Outcomes, Report}
+use Rattle.flagops_files.specs.declared.evidence.Evidence.{Evidence}
+use Rattle.flagops_files.specs.declared.evidence.Evidence.TheVariants.{Book, Tally}
+use Rattle.flagops_files.specs.declared.refusal.Call.{Call}
+use Rattle.flagops_files.specs.declared.refusal.Call.TheVariants as call
+use Rattle.flagops_files.specs.declared.refusal.Refusal.{Refusal}
+use Rattle.flagops_pictures.specs.Pictured.{IsDrawn}
+use Rattle.flagops_pictures.specs.Words.{Planning}
+
+-- a question over a book, as `plan` asks it
+abbrev pub as_question : BookQuestion → Question
+as_question q = record { flags = q.flags; request = q.request; evidence = Book q.book }
+
+abbrev pub IsOfBook : Evidence → Type 0
+IsOfBook (Book book) = Unit {0}
+IsOfBook (Tally tally) = ⊥
+
+-- the picture of an answer over what was recorded in a book
+abbrev pub IsDrawnOn : ℕ → Definitions → List ℕ → Evidence → Answer → List ℕ → Type 0
+IsDrawnOn m flags request (Book book) answer bytes = IsDrawn (problem_refined m flags request book) answer bytes
+IsDrawnOn m flags request (Tally tally) answer bytes = ⊥
+
+-- the text is a plan whose picture this is
+abbrev pub IsPictureOf : Option ℕ → Question → List ℕ → List ℕ → Type 0
+IsPictureOf refine q text bytes = (answer : Answer) × (answer_of text ≡ Ok answer) × IsDrawnOn (unwrap_or refine 1) q.flags q.request q.evidence answer bytes
+
+-- the file at the path has the picture of the plan that is reported, and every other file is as it was
+abbrev pub HasPicture : Holding → Option Holding → List ℕ → Option ℕ → Question → Report → Type 0
+HasPicture at after path refine q report = (bytes : List ℕ) × IsPictureOf refine q report.text bytes × Stores (Some at) after path bytes × KeepsOthers (Some at) after path
+
+-- What is reported is what `plan` reports without a picture. Where that is a plan its picture is written, or the file is refused to be; after a refusal all files are as they were.
+abbrev pub IsPlanWith : Holding → Option Holding → List ℕ → Option ℕ → Question → Outcomes
+IsPlanWith at after path refine q (Ok report) = IsPlanOf refine (Ok q) (Ok report) × HasPicture at after path refine q report
+IsPlanWith at after path refine q (Err e) = (IsPlanOf refine (Ok q) (Err e) ⊎ (e ≡ unwritable)) × (after ≡ Some at)
+
+abbrev pub IsPlanPictured : Holding → Option Holding → List ℕ → Option ℕ → Result BookQuestion Refusal → Outcomes
+IsPlanPictured at after path refine (Err e) r = (r ≡ Err e) × (after ≡ Some at)
+IsPlanPictured at after path refine (Ok q) r = IsPlanWith at after path refine (as_question q) r
+
+unfoldable pub IsPlanPicture : Holding → Option Holding → Planning → Outcomes
+IsPlanPicture at after p r = (question : Result BookQuestion Refusal) × IsBookQuestionAt at p.document p.request p.book question × IsPlanPictured at after p.picture p.refine question r
+
+-- the files stay as they are, or the one at the path alone changes
+abbrev pub LeavesPicture : Option Planning → Option Holding → Option Holding → Type 0
+LeavesPicture None old new = new ≡ old
+LeavesPicture (Some p) old new = (new ≡ old) ⊎ KeepsOthers old new p.picture
+
+-- the calls that the command makes
+abbrev pub plan_calls : Call → Bool
+plan_calls call.Store = true
+plan_calls call.Plan = true
+plan_calls call.PrintPlanned = true
+plan_calls c = loads_book_question c

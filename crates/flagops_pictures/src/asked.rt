@@ -1,0 +1,22 @@
+//! The commands with their words.
+use flagops_words::Factor;
+
+/// What `picture` is asked for: the files of a rollout and of its plan, and the factor that it was made with.
+#[derive(Clone, Copy, Debug)]
+pub struct Asked<'a> {
+    pub document: &'a str,
+    pub request: &'a str,
+    pub book: &'a str,
+    pub plan: &'a str,
+    pub refine: Option<Factor>,
+}
+
+/// What `plan --picture` is asked for: the files of a rollout, the factor, and the file that the picture is written to.
+#[derive(Clone, Copy, Debug)]
+pub struct Planning<'a> {
+    pub document: &'a str,
+    pub request: &'a str,
+    pub book: &'a str,
+    pub picture: &'a str,
+    pub refine: Option<Factor>,
+}

@@ -1,0 +1,169 @@
+//! The command `picture`.
+ghost use Rattle.std.specs.Prelude.{◌≡◌, ◌<◌, false, map, IfErr, IfOk, IfSome, Err, Ok, option_map, unwrap_or};
+ghost use Rattle.flagops_files.specs.Refusal.{ComesFrom, GivesOne, call_of, is_want};
+ghost use Rattle.flagops_files.specs.Question.{book_question_view};
+ghost use Rattle.flagops_files.specs.Report.{AnswersOrWants, outcome_view, report_of};
+ghost use Rattle.flagops_pictures.specs.Ended.{AnswersPicture, TellsPicture};
+ghost use Rattle.flagops_pictures.specs.Pictured.{IsPictureReport, IsPictured, picture_calls};
+ghost use Rattle.flagops_pictures.specs.Words.{asked_view};
+ghost use Rattle.plan_text.specs.Answer.{planned_view};
+
+use crate::asked::Asked;
+use crate::checking::checked_picture;
+use crate::words::read_picture;
+use flag_text::Outlet;
+use flagops_commands::explain;
+use flagops_files::{
+    BookQuestion, Call, FileSet, Outcome, Refusal, Refused, Remark, Status, load_book_question,
+    load_planned, report, want,
+};
+use flagops_remarks::{of_check, of_rollout};
+use flagops_words::Factor;
+use plan_text::Planned;
+use rollout_checks::VerifyFault;
+use std::alloc::{AllocError, Global};
+use std::convert::AsStr;
+use std::thread::Threads;
+
+/// Does what the words after the program's name ask of `picture`, which is the first of them, and gives the status to end
+/// with: 0, or 1 where the files, the request or the plan are refused, as `verify` refuses them. Files are only read.
+pub fn picture<R: AllocGlobal + Threads + Sync, S: AsStr, F: FileSet, O: Outlet, E: Outlet>(
+    rt: &R,
+    words: &[S],
+    files: &mut F,
+    out: &mut O,
+    err: &mut E,
+) -> u8
+    requires out_whole { O.is_broken out.old ≡ false }
+    requires err_whole { E.is_broken err.old ≡ false }
+    ensures answers { AnswersPicture O.bytes O.is_broken out.old out.new E.bytes E.is_broken err.old err.new result
+        F.holding files.old (map S.text words.now) }
+    ensures tells { TellsPicture O.bytes O.is_broken out.old out.new E.bytes E.is_broken err.old err.new result (map S.text words.now) }
+    ensures kept { F.holding files.new ≡ F.holding files.old }
+{
+    let alloc = rt.alloc();
+    match read_picture(alloc, words) {
+        Ok(asked) => match answer(rt, alloc, files, &asked) {
+            Ok(outcome) => report(out, err, &outcome),
+            Err(call) => want(out, err, call),
+        },
+        Err(error) => explain(alloc, &error, out, err),
+    }
+}
+
+/// The picture or the line of a refusal, or the call that ran out of memory.
+fn answer<R: Threads + Sync, F: FileSet>(
+    rt: &R,
+    alloc: Global,
+    files: &mut F,
+    asked: &Asked<'_>,
+) -> Result<Outcome, Call>
+    ensures exact { IfSome (F.holding files.old) (λ at. AnswersOrWants picture_calls result (IsPictureReport at (asked_view asked.now))) }
+    ensures kept { F.holding files.new ≡ F.holding files.old }
+{
+    match outcome(rt, alloc, files, asked) {
+        Ok(outcome) => Ok(outcome),
+        Err(it) => refused(alloc, it),
+    }
+}
+
+/// The line of a refusal, or its call where memory ran out there or for the line.
+pub(crate) fn refused(alloc: Global, refused: Refused) -> Result<Outcome, Call>
+    ensures line { IfOk result (λ o. (is_want refused.refusal ≡ false) × (outcome_view o ≡ report_of (Err refused.refusal))) }
+    ensures call { IfErr result (λ c. c ≡ call_of refused.refusal) }
+{
+    let Refused { refusal, remark } = refused;
+    if refusal.is_want() {
+        return Err(refusal.call());
+    }
+    match refusal.line(alloc) {
+        Ok(text) => Ok(Outcome {
+            text: text.into_bytes(),
+            status: Status::Refused,
+            remark: Some(remark),
+        }),
+        Err(AllocError) => Err(refusal.call()),
+    }
+}
+
+/// The picture of what the files at the paths ask and answer.
+#[tactic(auto, unfolding(crate::specs::Pictured::IsPictureReport))]
+fn outcome<R: Threads + Sync, F: FileSet>(
+    rt: &R,
+    alloc: Global,
+    files: &mut F,
+    asked: &Asked<'_>,
+) -> Result<Outcome, Refused>
+    ensures exact { IfSome (F.holding files.old) (λ at. GivesOne outcome_view result (IsPictureReport at (asked_view asked.now))) }
+    ensures calls { ComesFrom picture_calls result }
+    ensures kept { F.holding files.new ≡ F.holding files.old }
+{
+    let factor = factor_of(asked.refine);
+    let question = load_book_question(
+        rt,
+        alloc,
+        files,
+        asked.document,
+        asked.request,
+        asked.book,
+        factor,
+    )?;
+    let planned = load_planned(alloc, files, asked.plan)?;
+    pictured(rt, alloc, asked, &question, &planned)
+}
+
+/// The picture of an answer to a question, which were loaded from these paths.
+fn pictured(
+    rt: &(impl Threads + Sync),
+    alloc: Global,
+    asked: &Asked<'_>,
+    question: &BookQuestion,
+    planned: &Planned,
+) -> Result<Outcome, Refused>
+    ensures exact { GivesOne outcome_view result (IsPictured (option_map (λ m. m.number) asked.now.refine) (Ok (book_question_view question.now)) (Ok (planned_view planned.now))) }
+    ensures calls { ComesFrom picture_calls result }
+{
+    match checked_picture(rt, alloc, question, planned, asked.refine) {
+        Ok(text) => Ok(Outcome::plain(text.into_bytes(), Status::Done)),
+        Err(fault) => {
+            let lines = lines_on(alloc, asked, question, planned, &fault);
+            Err(Refused {
+                refusal: Refusal::Verify(fault),
+                remark: Remark::of(lines),
+            })
+        }
+    }
+}
+
+/// What a person is told of an answer that is not right, or of a request that is refused.
+fn lines_on(
+    alloc: Global,
+    asked: &Asked<'_>,
+    question: &BookQuestion,
+    planned: &Planned,
+    fault: &VerifyFault,
+) -> Result<String, AllocError> {
+    let (flags, bytes) = (&question.flags, question.request.as_slice());
+    match fault {
+        VerifyFault::Request(fault) => of_rollout(
+            alloc,
+            asked.request,
+            flags,
+            bytes,
+            factor_of(asked.refine),
+            *fault,
+        ),
+        VerifyFault::Check(fault) => of_check(alloc, asked.plan, flags, bytes, planned, fault),
+    }
+}
+
+/// The number that the weights of the site are multiplied by: 1 where no factor is given.
+pub(crate) fn factor_of(refine: Option<Factor>) -> u32
+    ensures some { 0 < result }
+    ensures value { result ≡ unwrap_or (option_map (λ m. m.number) refine) 1 }
+{
+    match refine {
+        Some(m) => m.number,
+        None => 1,
+    }
+}

@@ -1,0 +1,202 @@
+//! The command `plan --picture`.
+ghost use Rattle.std.specs.Prelude.{◌≡◌, ◌⊎◌, ◌<◌, Ok, false, map, option_map, unwrap_or, IfErr, IfOk, IfSome, OnErr, string_bytes};
+ghost use Rattle.flagops_commands.specs.Plan.{IsPlanOf};
+ghost use Rattle.flagops_files.specs.Files.{KeepsOthers};
+ghost use Rattle.flagops_files.specs.Question.{book_question_view, question_view};
+ghost use Rattle.flagops_files.specs.Refusal.{ComesFrom, GivesOne};
+ghost use Rattle.flagops_files.specs.Report.{AnswersOrWants, outcome_view};
+ghost use Rattle.flagops_pictures.specs.Ended.{AnswersPlan, TellsPlan};
+ghost use Rattle.flagops_pictures.specs.Planning.{IsOfBook, IsPictureOf, IsPlanPicture, IsPlanWith, LeavesPicture, as_question, plan_calls};
+ghost use Rattle.flagops_pictures.specs.Words.{plan_by, planning_view};
+
+use crate::asked::Planning;
+use crate::command::{factor_of, refused};
+use crate::drawing::{Asked, drawn};
+use crate::words::read_plan;
+use flag_text::Outlet;
+use flagops_commands::{explain, plan_answer};
+use flagops_files::{
+    BookQuestion, Call, Evidence, FileSet, Outcome, Question, Refusal, Refused, Remark,
+    load_book_question, report, store, want,
+};
+use page_tally::BookFile;
+use plan_text::{PlanFileFault, read_planned};
+use std::alloc::{AllocError, Global};
+use std::convert::AsStr;
+use std::thread::Threads;
+
+/// Does what the words after the program's name ask of `plan --picture`, of which `plan` is the first, and gives the status to
+/// end with: it prints what `plan` does, and replaces the file of the picture whole, or leaves all files as they were.
+pub fn plan_picture<R: AllocGlobal + Threads + Sync, S: AsStr, F: FileSet, O: Outlet, E: Outlet>(
+    rt: &R,
+    words: &[S],
+    files: &mut F,
+    out: &mut O,
+    err: &mut E,
+) -> u8
+    requires out_whole { O.is_broken out.old ≡ false }
+    requires err_whole { E.is_broken err.old ≡ false }
+    ensures answers { AnswersPlan O.bytes O.is_broken out.old out.new E.bytes E.is_broken err.old err.new result
+        F.holding files.old files.new (map S.text words.now) }
+    ensures tells { TellsPlan O.bytes O.is_broken out.old out.new E.bytes E.is_broken err.old err.new result (map S.text words.now) }
+    ensures left { LeavesPicture (plan_by (map S.text words.now)) (F.holding files.old) (F.holding files.new) }
+{
+    let alloc = rt.alloc();
+    match read_plan(alloc, words) {
+        Ok(asked) => match answer(rt, alloc, files, &asked) {
+            Ok(outcome) => report(out, err, &outcome),
+            Err(call) => want(out, err, call),
+        },
+        Err(error) => explain(alloc, &error, out, err),
+    }
+}
+
+/// The plan or the line of a refusal, or the call that ran out of memory.
+fn answer<R: Threads + Sync, F: FileSet>(
+    rt: &R,
+    alloc: Global,
+    files: &mut F,
+    asked: &Planning<'_>,
+) -> Result<Outcome, Call>
+    ensures exact { IfSome (F.holding files.old) (λ at. AnswersOrWants plan_calls result (IsPlanPicture at (F.holding files.new) (planning_view asked.now))) }
+    ensures left { (F.holding files.new ≡ F.holding files.old) ⊎ KeepsOthers (F.holding files.old) (F.holding files.new) asked.now.picture.now }
+    ensures kept { OnErr result (F.holding files.new ≡ F.holding files.old) }
+{
+    match outcome(rt, alloc, files, asked) {
+        Ok(outcome) => Ok(outcome),
+        Err(it) => refused(alloc, it),
+    }
+}
+
+/// The plan that the files at the paths ask for, whose picture was written.
+#[tactic(auto, unfolding(crate::specs::Planning::IsPlanPicture))]
+fn outcome<R: Threads + Sync, F: FileSet>(
+    rt: &R,
+    alloc: Global,
+    files: &mut F,
+    asked: &Planning<'_>,
+) -> Result<Outcome, Refused>
+    ensures exact { IfSome (F.holding files.old) (λ at. GivesOne outcome_view result (IsPlanPicture at (F.holding files.new) (planning_view asked.now))) }
+    ensures calls { ComesFrom plan_calls result }
+    ensures left { (F.holding files.new ≡ F.holding files.old) ⊎ KeepsOthers (F.holding files.old) (F.holding files.new) asked.now.picture.now }
+    ensures kept { OnErr result (F.holding files.new ≡ F.holding files.old) }
+{
+    let factor = factor_of(asked.refine);
+    let question = load_book_question(
+        rt,
+        alloc,
+        files,
+        asked.document,
+        asked.request,
+        asked.book,
+        factor,
+    )?;
+    planned(rt, alloc, files, asked, &as_question(question))
+}
+
+/// A question over a book, as `plan` asks it.
+fn as_question(question: BookQuestion) -> Question
+    ensures view { question_view result ≡ as_question (book_question_view question) }
+    ensures book { IsOfBook result.evidence }
+{
+    let BookQuestion {
+        document,
+        flags,
+        request,
+        book,
+    } = question;
+    Question {
+        document,
+        flags,
+        request,
+        evidence: Evidence::Book(book),
+    }
+}
+
+/// The plan of a question, whose picture was written.
+fn planned<R: Threads + Sync, F: FileSet>(
+    rt: &R,
+    alloc: Global,
+    files: &mut F,
+    asked: &Planning<'_>,
+    question: &Question,
+) -> Result<Outcome, Refused>
+    requires { IsOfBook question.now.evidence }
+    ensures exact { IfSome (F.holding files.old) (λ at. GivesOne outcome_view result (IsPlanWith at (F.holding files.new) asked.now.picture.now (option_map (λ m. m.number) asked.now.refine) (question_view question.now))) }
+    ensures calls { ComesFrom plan_calls result }
+    ensures left { (F.holding files.new ≡ F.holding files.old) ⊎ KeepsOthers (F.holding files.old) (F.holding files.new) asked.now.picture.now }
+    ensures kept { OnErr result (F.holding files.new ≡ F.holding files.old) }
+{
+    let outcome = plan_answer(rt, alloc, asked.request, asked.book, question, asked.refine)?;
+    let picture = picture_of(rt, alloc, asked, question, &outcome)?;
+    store(alloc, files, asked.picture, picture.as_bytes())?;
+    Ok(outcome)
+}
+
+/// The picture of the plan that an outcome has.
+fn picture_of<R: Threads + Sync>(
+    rt: &R,
+    alloc: Global,
+    asked: &Planning<'_>,
+    question: &Question,
+    outcome: &Outcome,
+) -> Result<String, Refused>
+    requires book { IsOfBook question.now.evidence }
+    requires plan { IsPlanOf (option_map (λ m. m.number) asked.now.refine) (Ok (question_view question.now)) (Ok (outcome_view outcome.now)) }
+    ensures exact { IfOk result (λ s. IsPictureOf (option_map (λ m. m.number) asked.now.refine) (question_view question.now) outcome.now.text.items (string_bytes s)) }
+    ensures wants { IfErr result (λ e. e.refusal ≡ Refusal.WantOfMemory Call.Plan) }
+{
+    match picture_drawn(rt, alloc, asked, question, outcome) {
+        Ok(text) => Ok(text),
+        Err(AllocError) => Err(Refused {
+            refusal: Refusal::WantOfMemory(Call::Plan),
+            remark: Remark::Short,
+        }),
+    }
+}
+
+fn picture_drawn<R: Threads + Sync>(
+    rt: &R,
+    alloc: Global,
+    asked: &Planning<'_>,
+    question: &Question,
+    outcome: &Outcome,
+) -> Result<String, AllocError>
+    requires book { IsOfBook question.now.evidence }
+    requires plan { IsPlanOf (option_map (λ m. m.number) asked.now.refine) (Ok (question_view question.now)) (Ok (outcome_view outcome.now)) }
+    ensures { IfOk result (λ s. IsPictureOf (option_map (λ m. m.number) asked.now.refine) (question_view question.now) outcome.now.text.items (string_bytes s)) }
+{
+    match &question.evidence {
+        Evidence::Book(book) => on_book(rt, alloc, asked, question, book, outcome),
+        Evidence::Tally(_) => unreachable!(),
+    }
+}
+
+/// The same, over this book.
+fn on_book<R: Threads + Sync>(
+    rt: &R,
+    alloc: Global,
+    asked: &Planning<'_>,
+    question: &Question,
+    book: &BookFile,
+    outcome: &Outcome,
+) -> Result<String, AllocError>
+    requires book { question.now.evidence ≡ Evidence.Book book.now }
+    requires plan { IsPlanOf (option_map (λ m. m.number) asked.now.refine) (Ok (question_view question.now)) (Ok (outcome_view outcome.now)) }
+    ensures { IfOk result (λ s. IsPictureOf (option_map (λ m. m.number) asked.now.refine) (question_view question.now) outcome.now.text.items (string_bytes s)) }
+{
+    let planned = match read_planned(alloc, outcome.text.as_slice()) {
+        Ok(planned) => planned,
+        Err(PlanFileFault::WantOfMemory) => return Err(AllocError),
+        // What is printed of a plan reads back.
+        Err(_) => unreachable!(),
+    };
+    let asked = Asked {
+        flags: &question.flags,
+        request: question.request.as_slice(),
+        book,
+        refine: Some(factor_of(asked.refine)),
+    };
+    let text = drawn(rt, alloc, asked, &planned)?;
+    Ok(text)
+}

@@ -1,0 +1,119 @@
+//! What the words of `picture` and `plan --picture` ask for, as `clap` reads them.
+ghost use Rattle.std.specs.Prelude.{◌≡◌, IfErr, IfOk, Some, map, option_map};
+ghost use Rattle.clap.specs.Words.{found_of, kind_of, rows_of};
+ghost use Rattle.flagops_words.specs.Words.{refine_in};
+ghost use Rattle.flagops_pictures.specs.Words.{asked_view, picture_by, picture_faults, picture_in, plan_by, plan_faults, planning_in, planning_view, ramp_by, ramp_faults};
+ghost use Rattle.flagops_ramps.specs.Words.{IsToldBy, verify_in, verifying_view};
+
+use crate::asked::{Asked, Planning};
+use crate::usage::{missing_value, plan, ramp, usage};
+use clap::{ArgMatches, Error};
+use flagops_ramps::Verifying;
+use flagops_words::Factor;
+use std::alloc::Global;
+use std::convert::AsStr;
+
+/// What the words after the program's name ask of `picture`, which is the first of them.
+#[tactic(auto, unfolding(crate::specs::Words::picture_by, crate::specs::Words::picture_faults))]
+pub(crate) fn read_picture<'a, S: AsStr>(alloc: Global, words: &'a [S]) -> Result<Asked<'a>, Error>
+    ensures ok { IfOk result (λ a. picture_by (map S.text words.entry.now) ≡ Some (asked_view a)) }
+    ensures err { IfErr result (λ e. IsToldBy (picture_faults (map S.text words.entry.now)) (picture_by (map S.text words.entry.now)) (kind_of e)) }
+{
+    let matches = usage(alloc)?.try_get_matches_from(words)?;
+    match asked_in(&matches) {
+        Some(asked) => Ok(asked),
+        // Words that `clap` takes have a value for each argument, within its bounds.
+        None => Err(missing_value(alloc, usage(alloc)?)?),
+    }
+}
+
+/// What the words after the program's name ask of `picture --ramp`, of which `picture` is the first.
+#[tactic(auto, unfolding(crate::specs::Words::ramp_by, crate::specs::Words::ramp_faults))]
+pub(crate) fn read_ramp<'a, S: AsStr>(alloc: Global, words: &'a [S]) -> Result<Verifying<'a>, Error>
+    ensures ok { IfOk result (λ v. ramp_by (map S.text words.entry.now) ≡ Some (verifying_view v)) }
+    ensures err { IfErr result (λ e. IsToldBy (ramp_faults (map S.text words.entry.now)) (ramp_by (map S.text words.entry.now)) (kind_of e)) }
+{
+    let matches = ramp(alloc)?.try_get_matches_from(words)?;
+    match verifying_in(&matches) {
+        Some(verifying) => Ok(verifying),
+        None => Err(missing_value(alloc, ramp(alloc)?)?),
+    }
+}
+
+/// What the words after the program's name ask of `plan --picture`, of which `plan` is the first.
+#[tactic(auto, unfolding(crate::specs::Words::plan_by, crate::specs::Words::plan_faults))]
+pub(crate) fn read_plan<'a, S: AsStr>(alloc: Global, words: &'a [S]) -> Result<Planning<'a>, Error>
+    ensures ok { IfOk result (λ p. plan_by (map S.text words.entry.now) ≡ Some (planning_view p)) }
+    ensures err { IfErr result (λ e. IsToldBy (plan_faults (map S.text words.entry.now)) (plan_by (map S.text words.entry.now)) (kind_of e)) }
+{
+    let matches = plan(alloc)?.try_get_matches_from(words)?;
+    match planning_in(&matches) {
+        Some(planning) => Ok(planning),
+        None => Err(missing_value(alloc, plan(alloc)?)?),
+    }
+}
+
+#[tactic(auto, using(crate::proofs::Matched::rows))]
+fn verifying_in<'a>(matches: &ArgMatches<'a>) -> Option<Verifying<'a>>
+    ensures { option_map verifying_view result ≡ verify_in (rows_of (found_of matches.now)) }
+{
+    let document = matches.get_str("DOC")?;
+    let steps = matches.get_str("STEPS")?;
+    let book = matches.get_str("BOOK")?;
+    let ramp = matches.get_str("RAMP")?;
+    let refine = refine_in(matches)?;
+    Some(Verifying {
+        document,
+        steps,
+        book,
+        ramp,
+        refine,
+    })
+}
+
+#[tactic(auto, using(crate::proofs::Matched::rows))]
+fn planning_in<'a>(matches: &ArgMatches<'a>) -> Option<Planning<'a>>
+    ensures { option_map planning_view result ≡ planning_in (rows_of (found_of matches.now)) }
+{
+    let document = matches.get_str("DOC")?;
+    let request = matches.get_str("REQUEST")?;
+    let book = matches.get_str("BOOK")?;
+    let picture = matches.get_str("FILE")?;
+    let refine = refine_in(matches)?;
+    Some(Planning {
+        document,
+        request,
+        book,
+        picture,
+        refine,
+    })
+}
+
+#[tactic(auto, using(crate::proofs::Matched::rows))]
+fn asked_in<'a>(matches: &ArgMatches<'a>) -> Option<Asked<'a>>
+    ensures { option_map asked_view result ≡ picture_in (rows_of (found_of matches.now)) }
+{
+    let document = matches.get_str("DOC")?;
+    let request = matches.get_str("REQUEST")?;
+    let book = matches.get_str("BOOK")?;
+    let plan = matches.get_str("PLAN")?;
+    let refine = refine_in(matches)?;
+    Some(Asked {
+        document,
+        request,
+        book,
+        plan,
+        refine,
+    })
+}
+
+/// The factor of a refinement, if one is given; `None` where the word is no factor.
+#[tactic(auto, using(crate::proofs::Matched::rows))]
+fn refine_in(matches: &ArgMatches<'_>) -> Option<Option<Factor>>
+    ensures { option_map (λ o. option_map (λ m. m.number) o) result ≡ refine_in (rows_of (found_of matches.now)) }
+{
+    match matches.get_str("M") {
+        Some(word) => Some(Some(Factor::spelled(word)?)),
+        None => Some(None),
+    }
+}
