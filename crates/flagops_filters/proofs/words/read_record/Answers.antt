@@ -1,0 +1,22 @@
+use Rattle.std.proofs.Common.{rules, map, subst, sym}
+use Rattle.clap.specs.declared.error.kind.ErrorKind.{ErrorKind}
+use Rattle.flagops_filters.specs.Words.{IsToldBy, record_by, record_faults, record_app, record_in}
+use Rattle.flagops_filters.proofs.Matched.{asked_of, missed_in, told_of, record_plain, record_free}
+use Rattle.flagops_filters.proofs.words.read_record.Goals as goal
+
+pub returns-in_err-matches-clause-err : goal.returns-in_err-matches-clause-err
+unfolding record_by record_faults
+returns-in_err-matches-clause-err g c =
+    let told = told_of record_app record_plain record_free record_in (map g.S.AsStr.text c.args.words.now) _ c.in_ok-record.ensures _ c.in_err-matches.ensures.kinds in search rules
+
+pub returns-in-Some-clause-ok : goal.returns-in-Some-clause-ok
+unfolding record_by record_faults
+returns-in-Some-clause-ok g c =
+    asked_of record_app record_plain record_free record_in (map g.S.AsStr.text c.args.words.now) _ c.in_ok-record.ensures c.in_ok-matches.matches c.in_ok-matches.ensures.kinds c.in_ok-matches.ensures.matches _ (sym c.in-Some.ensures)
+
+pub returns-clause-err : goal.returns-clause-err
+unfolding record_by record_faults
+returns-clause-err g c =
+    let words = map g.S.AsStr.text c.args.words.now in
+    let told = missed_in record_app record_plain record_free record_in words _ c.in_ok-record.ensures c.in_ok-matches.matches c.in_ok-matches.ensures.kinds c.in_ok-matches.ensures.matches (sym c.in-None.ensures) in
+    subst (λ (k : ErrorKind). IsToldBy (record_faults words) (record_by words) k) (sym c.in_ok-missing_value-in-None.ensures) told

@@ -1,0 +1,25 @@
+-- What is joined, in private contracts alone.
+use Rattle.std.specs.Prelude.{◌≡◌, ◌⊎◌, ℕ, List, false, Result, Ok, Err}
+use Rattle.flagops_files.specs.Files.{Holding}
+use Rattle.tally_core.specs.Join.{Joins}
+use Rattle.tally_core.specs.Tally.{PageTally}
+use Rattle.tally_core.specs.declared.joining.JoinFault.{JoinFault}
+use Rattle.flagops_filters.specs.Join.{IsTallyOf}
+use Rattle.flagops_filters.specs.Refusal.{is_want}
+use Rattle.flagops_filters.specs.declared.refusal.FilterRefusal.{FilterRefusal}
+use Rattle.flagops_filters.specs.declared.refusal.FilterRefusal.TheVariants.{Join}
+use Rattle.flagops_filters.specs.declared.reports.Told.{Told}
+
+-- what was returned is one of these, unless memory ran out
+abbrev pub JoinsUnless : Result PageTally Told → (Result PageTally FilterRefusal → Type 0) → Type 0
+JoinsUnless (Ok t) Wanted = Wanted (Ok t)
+JoinsUnless (Err told) Wanted = is_want told.refusal ≡ false → Wanted (Err told.refusal)
+
+abbrev pub JoinsTwo : PageTally → PageTally → Result PageTally FilterRefusal → Type 0
+JoinsTwo one other (Ok both) = Joins one other (Ok both)
+JoinsTwo one other (Err e) = (fault : JoinFault) × Joins one other (Err fault) × (e ≡ Join fault)
+
+-- one and the tally of the file at a path, or why they are not joined
+abbrev pub JoinsNext : Holding → PageTally → List ℕ → Result PageTally FilterRefusal → Type 0
+JoinsNext at one path (Ok both) = (next : PageTally) × IsTallyOf at path (Ok next) × JoinsTwo one next (Ok both)
+JoinsNext at one path (Err e) = ((next : PageTally) × IsTallyOf at path (Ok next) × JoinsTwo one next (Err e)) ⊎ IsTallyOf at path (Err e)

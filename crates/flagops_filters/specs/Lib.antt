@@ -1,0 +1,12 @@
+pub mod Ended
+pub mod Join
+pub mod Joined
+pub mod Law
+pub mod Place
+pub mod Record
+pub mod Refusal
+pub mod Remarks
+pub mod Report
+pub mod Stopping
+pub mod Tally
+pub mod Words

@@ -1,0 +1,24 @@
+-- The site that is tallied at, in private contracts alone.
+use Rattle.std.specs.Prelude.{◌≡◌, Bool, true, Result, Ok, Err}
+use Rattle.book_core.specs.Page.{PageName}
+use Rattle.bucket_core.specs.Rule.{Entries, entries_view}
+use Rattle.flagops_files.specs.Report.{outcome_view}
+use Rattle.flagops_files.specs.declared.outcome.Outcome.{Outcome}
+use Rattle.tally_core.specs.Tally.{PageTally}
+use Rattle.tally_text.specs.File.{tally_text}
+use Rattle.flagops_filters.specs.Refusal.{is_want}
+use Rattle.flagops_filters.specs.Tally.{Target}
+use Rattle.flagops_filters.specs.declared.reports.Told.{Told}
+use Rattle.flagops_filters.specs.declared.tallying.Place as program
+use Rattle.flagops_filters.specs.declared.target.Target as program_target
+
+abbrev pub target_view : program_target.Target → Target
+target_view t = record { page = t.page; total = t.total }
+
+abbrev pub place_view : program.Place → Entries × PageName
+place_view p = (entries_view p.entries.items, p.page)
+
+-- the file of a tally is printed, unless memory ran out
+abbrev pub PrintsTally : PageTally → Result Outcome Told → Type 0
+PrintsTally t (Ok o) = (told : Bool) × (outcome_view o ≡ record { text = tally_text t; status = 0; is_told = told })
+PrintsTally t (Err told) = is_want told.refusal ≡ true

@@ -1,0 +1,164 @@
+//! Why a filter refuses.
+ghost use Rattle.std.specs.Prelude.{◌≡◌, IfOk, codes, decimal, string_bytes};
+ghost use Rattle.flagops_files.specs.Payload.{number_item};
+ghost use Rattle.flagops_files.specs.Refusal.{line_with};
+ghost use Rattle.tally_filters.specs.Fault as filters;
+ghost use Rattle.flagops_filters.specs.Refusal.{filter_items, filter_name, is_want, join_name, join_number, line_of, number_of, record_name};
+ghost use Rattle.flagops_filters.specs.declared.refusal.FilterRefusal.TheVariants.{Record, Tally};
+
+use flagops_files::Refusal;
+use note_streams::{RecordStop, TallyStop};
+use std::alloc::{AllocError, Global};
+use tally_core::JoinFault;
+use tally_filters::FilterFault;
+
+/// Why a filter refuses.
+#[derive(Debug, Drop)]
+pub enum FilterRefusal {
+    /// A file or a flag is refused as every other command refuses it.
+    Load(Refusal),
+    /// A line of the standard input is no context, or the input is not read to its end.
+    Record(RecordStop),
+    /// A line of the standard input is not tallied, or the input is not read to its end.
+    Tally(TallyStop),
+    /// Tallies are not joined.
+    Join(JoinFault),
+}
+
+impl FilterRefusal {
+    /// The number of the fault.
+    pub fn number(&self) -> u32
+        ensures { result ≡ number_of self.now }
+    {
+        match self {
+            FilterRefusal::Load(refusal) => refusal.number(),
+            FilterRefusal::Record(stop) => stop.number(),
+            FilterRefusal::Tally(stop) => stop.number(),
+            FilterRefusal::Join(fault) => join_number(fault),
+        }
+    }
+
+    /// Whether memory ran out.
+    pub fn is_want(&self) -> bool
+        ensures { result ≡ is_want self.now }
+    {
+        self.number() == 0
+    }
+
+    /// The line that the refusal is written as.
+    pub fn line(self, alloc: Global) -> Result<Vec<u8>, AllocError>
+        ensures { IfOk result (λ v. v.items ≡ line_of self) }
+    {
+        match self {
+            FilterRefusal::Load(refusal) => Ok(refusal.line(alloc)?.into_bytes()),
+            FilterRefusal::Record(stop) => record_line(alloc, stop),
+            FilterRefusal::Tally(stop) => tally_line(alloc, stop),
+            FilterRefusal::Join(fault) => {
+                fault_line(alloc, "join", join_number(&fault), join_name(&fault), "")
+            }
+        }
+    }
+}
+
+fn record_line(alloc: Global, stop: RecordStop) -> Result<Vec<u8>, AllocError>
+    ensures { IfOk result (λ v. v.items ≡ line_of (Record stop)) }
+{
+    let name = record_name(&stop);
+    match stop {
+        RecordStop::Line(n) => {
+            let item = number_item(alloc, n)?;
+            fault_line(alloc, "record", 1, name, item.as_str())
+        }
+        _ => fault_line(alloc, "record", stop.number(), name, ""),
+    }
+}
+
+fn record_name(stop: &RecordStop) -> &'static str
+    ensures { result.now ≡ record_name stop.now }
+{
+    match stop {
+        RecordStop::WantOfMemory => "WantOfMemory",
+        RecordStop::Line(_) => "Line",
+        RecordStop::Unreadable => "Unreadable",
+        RecordStop::TooLong => "TooLong",
+        RecordStop::Broken => "Broken",
+    }
+}
+
+fn tally_line(alloc: Global, stop: TallyStop) -> Result<Vec<u8>, AllocError>
+    ensures { IfOk result (λ v. v.items ≡ line_of (Tally stop)) }
+{
+    match stop {
+        TallyStop::Filter(fault) => filter_line(alloc, fault),
+        TallyStop::Unreadable => fault_line(alloc, "tally", 4, "Unreadable", ""),
+        TallyStop::TooLong => fault_line(alloc, "tally", 5, "TooLong", ""),
+    }
+}
+
+fn filter_line(alloc: Global, fault: FilterFault) -> Result<Vec<u8>, AllocError>
+    ensures { IfOk result (λ v. v.items ≡ line_with (codes "tally") (decimal (filters.number_of fault)) (filter_name fault) (filter_items fault)) }
+{
+    let name = filter_name(&fault);
+    match fault {
+        FilterFault::Line(n) => {
+            let item = number_item(alloc, n)?;
+            fault_line(alloc, "tally", 1, name, item.as_str())
+        }
+        FilterFault::Order(n) => {
+            let item = number_item(alloc, n)?;
+            fault_line(alloc, "tally", 2, name, item.as_str())
+        }
+        _ => fault_line(alloc, "tally", fault.number(), name, ""),
+    }
+}
+
+fn filter_name(fault: &FilterFault) -> &'static str
+    ensures { result.now ≡ filter_name fault.now }
+{
+    match fault {
+        FilterFault::WantOfMemory => "WantOfMemory",
+        FilterFault::Line(_) => "Line",
+        FilterFault::Order(_) => "Order",
+        FilterFault::TooMany => "TooMany",
+    }
+}
+
+fn join_number(fault: &JoinFault) -> u32
+    ensures { result ≡ join_number fault.now }
+{
+    match fault {
+        JoinFault::Page => 1,
+        JoinFault::Order => 2,
+        JoinFault::TooMany => 3,
+    }
+}
+
+fn join_name(fault: &JoinFault) -> &'static str
+    ensures { result.now ≡ join_name fault.now }
+{
+    match fault {
+        JoinFault::Page => "Page",
+        JoinFault::Order => "Order",
+        JoinFault::TooMany => "TooMany",
+    }
+}
+
+/// The number of a line, behind a blank.
+fn number_item(alloc: Global, n: u64) -> Result<String, AllocError>
+    ensures { IfOk result (λ s. string_bytes s ≡ number_item n) }
+{
+    format!(in alloc; " {n}")
+}
+
+fn fault_line(
+    alloc: Global,
+    call: &str,
+    number: u32,
+    name: &str,
+    items: &str,
+) -> Result<Vec<u8>, AllocError>
+    ensures { IfOk result (λ v. v.items ≡ line_with call.now (decimal number) name.now items.now) }
+{
+    let line = format!(in alloc; "refused {call} {number} {name}{items}\n")?;
+    Ok(line.into_bytes())
+}

@@ -1,0 +1,160 @@
+//! What the filters take, in the terms of `clap`.
+ghost use Rattle.std.specs.Prelude.{◌≡◌, IfOk, codes, false};
+ghost use Rattle.clap.specs.Simple.{new_app, with_rule};
+ghost use Rattle.clap.specs.Words.{app_of, kind_of, rule_of};
+ghost use Rattle.clap.specs.declared.error.kind.ErrorKind.TheVariants.{InvalidValue};
+ghost use Rattle.flagops_words.specs.Numbers.{max_32, max_moment};
+ghost use Rattle.flagops_words.specs.Words.{number, option_number, refine_option, required, some_words};
+ghost use Rattle.flagops_filters.specs.Words.{join_app, record_app, tally_app};
+
+use clap::builder::ValueParser;
+use clap::error::ErrorKind;
+use clap::{Arg, Command, Error};
+use std::alloc::{AllocError, Global};
+
+/// The largest factor, and the largest number of a site.
+const LARGEST_32: u64 = 4_294_967_295;
+
+/// The latest moment, 2^53-1.
+const LATEST_MOMENT: u64 = 9_007_199_254_740_991;
+
+/// The most threads.
+const MOST_WORKERS: u64 = 64;
+
+/// The command `record`. Its name is the first of the words, as a program's.
+#[tactic(auto, unfolding(crate::specs::Words::record_app))]
+pub fn record<'a>(alloc: Global) -> Result<Command<'a>, AllocError>
+    ensures { IfOk result (λ c. app_of c ≡ record_app) }
+{
+    let moment = moment(alloc);
+    let workers = workers(alloc);
+    record_begun(alloc)?.arg(moment)?.arg(workers)
+}
+
+/// The words that `record` begins with.
+fn record_begun<'a>(alloc: Global) -> Result<Command<'a>, AllocError>
+    ensures { IfOk result (λ c. app_of c ≡ with_rule (with_rule (new_app (codes "record")) (required (codes "DOC"))) (required (codes "KEY"))) }
+{
+    let document = required(alloc, "DOC", "The flag document");
+    let key = required(alloc, "KEY", "The flag's key");
+    Command::new(alloc, "record")
+        .bin_name("flagops record")?
+        .about(
+            "Prints the hash inputs that a flag's evaluation reaches in each context of the standard input",
+        )
+        .arg(document)?
+        .arg(key)
+}
+
+/// The command `tally`. Its name is the first of the words, as a program's.
+#[tactic(auto, unfolding(crate::specs::Words::tally_app))]
+pub fn tally<'a>(alloc: Global) -> Result<Command<'a>, AllocError>
+    ensures { IfOk result (λ c. app_of c ≡ tally_app) }
+{
+    let site = site(alloc);
+    let factor = refine(alloc);
+    tally_begun(alloc)?.arg(site)?.arg(factor)
+}
+
+/// The words that `tally` begins with.
+fn tally_begun<'a>(alloc: Global) -> Result<Command<'a>, AllocError>
+    ensures { IfOk result (λ c. app_of c ≡ with_rule (with_rule (new_app (codes "tally")) (required (codes "DOC"))) (required (codes "FLAG"))) }
+{
+    let document = required(alloc, "DOC", "The flag document");
+    let key = required(alloc, "FLAG", "The flag's key");
+    Command::new(alloc, "tally")
+        .bin_name("flagops tally")?
+        .about(
+            "Prints how many hash inputs of a site fall on each point, of the sorted lines of the standard input",
+        )
+        .arg(document)?
+        .arg(key)
+}
+
+/// The command `join`. Its name is the first of the words, as a program's.
+#[tactic(auto, unfolding(crate::specs::Words::join_app))]
+pub fn join<'a>(alloc: Global) -> Result<Command<'a>, AllocError>
+    ensures { IfOk result (λ c. app_of c ≡ join_app) }
+{
+    let command = Command::new(alloc, "join").bin_name("flagops join")?.about(
+        "Prints the tally of the lines of several tallies, which follow one another",
+    );
+    let tallies = tallies(alloc);
+    command.arg(tallies)
+}
+
+/// The mistake of a value that is not there.
+pub fn missing_value(alloc: Global, command: Command<'_>) -> Result<Error, AllocError>
+    ensures { IfOk result (λ e. kind_of e ≡ InvalidValue) }
+{
+    let mut command = command;
+    command.error(
+        ErrorKind::InvalidValue,
+        "a value is missing or out of its range",
+    )
+}
+
+/// A word that has to be there.
+fn required<'a>(alloc: Global, name: &'a str, help: &'a str) -> Arg<'a>
+    ensures rule { rule_of result ≡ required name.entry.now }
+    ensures local { result.global ≡ false }
+{
+    Arg::new(alloc, name).required(true).help(help)
+}
+
+/// The number of a site.
+fn site<'a>(alloc: Global) -> Arg<'a>
+    ensures rule { rule_of result ≡ number (codes "SITE") max_32 }
+    ensures local { result.global ≡ false }
+{
+    Arg::new(alloc, "SITE")
+        .required(true)
+        .help("The number of the fractional operation, from 0")
+        .value_parser(ValueParser::Unsigned(0, LARGEST_32))
+}
+
+/// The moment of an evaluation.
+fn moment<'a>(alloc: Global) -> Arg<'a>
+    ensures rule { rule_of result ≡ option_number (codes "MOMENT") (codes "moment") 0 max_moment }
+    ensures local { result.global ≡ false }
+{
+    Arg::new(alloc, "MOMENT")
+        .long("moment")
+        .help("The time of the evaluations, in seconds since 1970; 0 where it is left out")
+        .value_parser(ValueParser::Unsigned(0, LATEST_MOMENT))
+}
+
+/// The most threads that evaluate the contexts.
+fn workers<'a>(alloc: Global) -> Arg<'a>
+    ensures rule { rule_of result ≡ option_number (codes "WORKERS") (codes "workers") 1 64 }
+    ensures local { result.global ≡ false }
+{
+    Arg::new(alloc, "WORKERS")
+        .long("workers")
+        .help(
+            "The most threads that evaluate the contexts, from 1 to 64; the output is the same for any number",
+        )
+        .value_parser(ValueParser::Unsigned(1, MOST_WORKERS))
+}
+
+/// What the weights of the site are multiplied by.
+fn refine<'a>(alloc: Global) -> Arg<'a>
+    ensures rule { rule_of result ≡ refine_option }
+    ensures local { result.global ≡ false }
+{
+    Arg::new(alloc, "M")
+        .long("refine")
+        .help("Tally in finer points: multiply each weight of the rule by M first")
+        .value_parser(ValueParser::Unsigned(1, LARGEST_32))
+}
+
+/// The files of tallies.
+fn tallies<'a>(alloc: Global) -> Arg<'a>
+    ensures rule { rule_of result ≡ some_words (codes "TALLY") }
+    ensures local { result.global ≡ false }
+{
+    Arg::new(alloc, "TALLY")
+        .required(true)
+        .help("The files of tallies, in the order of their lines")
+        .num_args(1..)
+}

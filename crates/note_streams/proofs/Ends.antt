@@ -1,0 +1,70 @@
+-- How the tally of a stream ends, by how each of its parts ends.
+use Rattle.std.proofs.Common.{◌≡◌, ◌≤◌, ◌<◌, ◌+◌, ◌-◌, ℕ, Bool, true, List, length, Option, Some, None, IfSome, Result, Ok, Err, refl, arith}
+use Rattle.std.specs.Io.KnownBytes.{IsAtEnd}
+use Rattle.line_batches.specs.Fill.{Grows}
+use Rattle.line_batches.specs.Lines.{HasNoFeed, parts_of}
+use Rattle.line_batches.specs.declared.filling.FillFault.{FillFault}
+use Rattle.line_batches.specs.declared.filling.FillFault.TheVariants as fill
+use Rattle.line_tally.specs.Lines.{Tallied, finished}
+use Rattle.record_lines.specs.Record.{most_line}
+use Rattle.tally_core.specs.Tally.{PageTally}
+use Rattle.tally_filters.specs.Filter.{Filtered}
+use Rattle.tally_filters.specs.declared.fault.FilterFault.TheVariants.{WantOfMemory}
+use Rattle.note_streams.specs.Batch.{LeavesLines, TalliesBatch}
+use Rattle.note_streams.specs.Recorded.{most_bytes}
+use Rattle.note_streams.specs.Stop.{tallied_fill}
+use Rattle.note_streams.specs.Tallied.{Tallies, TalliesStream}
+use Rattle.note_streams.specs.declared.stop.TallyStop.{TallyStop}
+use Rattle.note_streams.specs.declared.stop.TallyStop.TheVariants.{Filter, Unreadable, TooLong}
+use Rattle.note_streams.specs.declared.tallying.StreamTally.{StreamTally}
+use Rattle.note_streams.proofs.Counting.{Known, grown, left_so, stopped, long}
+use Rattle.note_streams.proofs.Counting.{ended as ended_so}
+
+module _ (start : Tallied) (is_cut : Bool) where
+  -- what a stream comes to, where its bytes are known
+  abbrev pub Comes : Option (List ℕ) → Result StreamTally TallyStop → Type 0
+  Comes known r = IfSome known (λ bytes. TalliesStream start bytes is_cut r)
+
+  -- memory ran out
+  pub wanted : (known : Option (List ℕ)) → Comes known (Err (Filter WantOfMemory))
+  wanted None = tt
+  wanted (Some bytes) = λ other. absurd (other refl)
+
+  -- a batch was not filled
+  pub unfilled : (known : Option (List ℕ)) (fault : FillFault) → (fault ≡ fill.Read → is_cut ≡ true) → Comes known (Err (tallied_fill fault))
+  unfilled known fill.WantOfMemory cut = wanted known
+  unfilled None fill.Read cut = tt
+  unfilled (Some bytes) fill.Read cut = cut refl
+
+  -- a batch was not tallied to its end
+  pub failed : (known : Option (List ℕ)) (held after : List ℕ) (taken : ℕ) (old new : Filtered) (now next : Option (List ℕ)) (e : TallyStop) → Grows now next held after → TalliesBatch after old new (Err e) → Known start held taken old known now → Comes known (Err e)
+  failed known held after taken old new now next (Filter fault) grows batch goes =
+      stopped start after (taken + (length after - length held)) old known next fault batch (grown start held after taken old known now next grows goes)
+  failed known held after taken old new now next Unreadable grows batch goes = absurd batch
+  failed known held after taken old new now next TooLong grows batch goes = absurd batch
+
+  -- a fill and then a batch
+  pub next_batch : (known : Option (List ℕ)) (held after rest : List ℕ) (taken : ℕ) (old new : Filtered) (now next : Option (List ℕ)) → Grows now next held after → LeavesLines after rest old new → Known start held taken old known now
+      → Known start rest (taken + (length after - length held)) new known next
+  next_batch known held after rest taken old new now next grows leaves goes =
+      left_so start after rest (taken + (length after - length held)) old new known next leaves.goes (grown start held after taken old known now next grows goes)
+
+  -- the tally of all lines, where the bytes are known
+  abbrev pub IsTallied : Option (List ℕ) → PageTally → Type 0
+  IsTallied known t = IfSome known (λ bytes. (last : Tallied) × Tallies start 0 (parts_of bytes) (Ok last) × (t ≡ finished last))
+
+  tallied_at : (known : Option (List ℕ)) (f : Filtered) (t : PageTally) → t ≡ finished f.tally → IfSome known (λ bytes. Tallies start 0 (parts_of bytes) (Ok f.tally)) → IsTallied known t
+  tallied_at None f t is tallies = tt
+  tallied_at (Some bytes) f t is tallies = (f.tally, tallies, is)
+
+  -- the stream ended
+  pub ended : (known : Option (List ℕ)) (rest : List ℕ) (taken : ℕ) (f : Filtered) (now : Option (List ℕ)) (t : PageTally) → HasNoFeed rest → length rest ≤ most_line → IsAtEnd now → t ≡ finished f.tally → Known start rest taken f known now → IsTallied known t
+  ended known rest taken f now t none short end is goes = tallied_at known f t is (ended_so start rest taken f known now none short end goes)
+
+  long_at : (known : Option (List ℕ)) (taken : ℕ) → most_bytes < taken → IfSome known (λ bytes. taken ≤ length bytes) → Comes known (Err TooLong)
+  long_at None taken more within = tt
+  long_at (Some bytes) taken more within = omega (arith, more, within)
+
+  -- the stream is too long
+  pub too_long : (known : Option (List ℕ)) (held : List ℕ) (taken : ℕ) (f : Filtered) (now : Option (List ℕ)) → most_bytes < taken → Known start held taken f known now → Comes known (Err TooLong)
+  too_long known held taken f now more goes = long_at known taken more (long start held taken f known now goes)

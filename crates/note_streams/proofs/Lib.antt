@@ -1,0 +1,5 @@
+pub mod Batches
+pub mod Counting
+pub mod Ends
+pub mod Exits
+pub mod Parts

@@ -1,0 +1,11 @@
+pub use Rattle.bucket_core.specs.Rule
+pub use Rattle.book_core.specs.Page
+pub use Rattle.tally_core.specs.Tally
+pub use Rattle.line_tally.specs.Lines
+pub use Rattle.record_lines.specs.Record
+pub use Rattle.tally_filters.specs.Filter
+pub mod Batch
+pub mod Law
+pub mod Recorded
+pub mod Stop
+pub mod Tallied

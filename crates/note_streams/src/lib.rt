@@ -1,0 +1,20 @@
+//! Streams of any length in bounded memory: contexts that are recorded as note lines, and note lines that are tallied.
+//!
+//! [`record_stream`] reads contexts, one a line, and writes the note lines of what the evaluation of a flag reaches in each;
+//! [`tally_stream`] reads note lines in rising order and gives the tally of one page. Both hold one batch of lines, read with
+//! few calls and written with one, however long the stream is.
+//!
+//! Proved, over the definitions of `specs/`, for a stream whose bytes are known: what is written is the fold over its lines, up
+//! to the first that is no context, whose number is told (`Recorded`); what is tallied are its lines, or the first is told that
+//! is refused (`Tallied`), and without a refusal each input of the page is tallied once ([`a_stream_is_of_its_lines`]); a stream counts as unreadable only where a read of it failed.
+#![tactic(auto)]
+
+mod laws;
+mod recording;
+mod stop;
+mod tallying;
+
+pub use laws::a_stream_is_of_its_lines;
+pub use recording::{Counted, record_stream};
+pub use stop::{RecordStop, TallyStop};
+pub use tallying::{StreamTally, tally_stream};

@@ -1,0 +1,105 @@
+//! From a stream of contexts to note lines.
+ghost use Rattle.std.specs.Prelude.{◌≡◌, ◌<◌, ◌+◌, ◌^◌, length, false, IfSome};
+ghost use Rattle.record_lines.specs.Scene.{scene_of};
+ghost use Rattle.note_streams.specs.Batch.{RecordsBatch};
+ghost use Rattle.note_streams.specs.Recorded.{RecordsStream, recorded_of};
+ghost use Rattle.note_streams.specs.Stop.{is_output_fault};
+
+use crate::stop::RecordStop;
+use flag_text::{Outlet, write_whole};
+use line_batches::{Inlet, cut_lines, fill};
+use record_lines::{Recorder, record_lines};
+use std::alloc::Global;
+
+/// The bytes that one read is asked for.
+pub(crate) const PIECE: usize = 1_048_576;
+
+/// The bytes that a batch is filled to: more than a line has.
+pub(crate) const BATCH: usize = 8_388_608;
+
+/// The most bytes that a line has.
+pub(crate) const MOST_LINE: usize = 4_194_304;
+
+/// The most bytes that a stream has, 2^60.
+pub(crate) const MOST_BYTES: u64 = 1_152_921_504_606_846_976;
+
+/// What a person is told of contexts that were recorded.
+#[derive(Clone, Copy, Debug)]
+pub struct Counted {
+    /// The number of inputs that were not noted, as they have more than 1,024 bytes.
+    pub long: u64,
+    /// Whether bytes stood behind the last line, which were passed over.
+    pub torn: bool,
+}
+
+/// The lines of the batches so far, and the inputs that were not noted.
+#[derive(Drop)]
+struct Totals {
+    lines: u64,
+    long: u64,
+}
+
+/// Writes the note lines of what the evaluation of the recorder's flag reaches in each context of a stream, one context a line,
+/// in their order. A last line without its end is passed over.
+///
+/// Refusals, of the first line that is no context: `Line`. What is written before stays. At `Unreadable` a read failed, at
+/// `TooLong` the stream has more than 2^60 bytes, and at `Broken` a write failed; then a front of the lines is written.
+pub fn record_stream<I: Inlet, O: Outlet>(
+    alloc: Global,
+    recorder: &Recorder<'_>,
+    input: &mut I,
+    out: &mut O,
+) -> Result<Counted, RecordStop>
+    requires unbroken { I.is_broken input.old ≡ false }
+    requires whole { O.is_broken out.old ≡ false }
+    ensures exact { IfSome (I.bytes input.old) (λ bytes. RecordsStream (recorded_of (scene_of recorder.now) bytes) (length bytes) (I.is_broken input.new) (O.bytes out.old) (O.bytes out.new) result) }
+    ensures broken { O.is_broken out.new ≡ is_output_fault result }
+{
+    let mut piece = vec![in alloc; 0u8; PIECE]?;
+    let mut held = Vec::new(alloc);
+    let mut totals = Totals { lines: 0, long: 0 };
+    let mut taken = 0u64;
+    'batches: while taken <= MOST_BYTES {
+        let had = held.len();
+        let ended = fill(&mut held, input, piece.as_mut_slice(), BATCH)?;
+        taken += (held.len() - had) as u64;
+        let rest = record_batch(alloc, recorder, held.as_slice(), &mut totals, out)?;
+        if ended {
+            return Ok(Counted {
+                long: totals.long,
+                torn: !rest.is_empty(),
+            });
+        }
+        held = rest.to_vec(alloc)?;
+    }
+    Err(RecordStop::TooLong)
+}
+
+/// Writes the note lines of the lines that ended in a batch, and gives what stands behind them.
+fn record_batch<'a, O: Outlet>(
+    alloc: Global,
+    recorder: &Recorder<'_>,
+    bytes: &'a [u8],
+    totals: &mut Totals,
+    out: &mut O,
+) -> Result<&'a [u8], RecordStop>
+    requires whole { O.is_broken out.old ≡ false }
+    requires room { totals.old.lines + length bytes.now + 1 < 2 ^ 64 }
+    ensures exact { RecordsBatch (scene_of recorder.now) bytes.entry.now totals.old.lines totals.new.lines (O.bytes out.old) (O.bytes out.new) result }
+    ensures broken { O.is_broken out.new ≡ is_output_fault result }
+{
+    let (lines, rest) = cut_lines(alloc, bytes)?;
+    let recorded = record_lines(alloc, recorder, lines.as_slice())?;
+    if !write_whole(out, recorded.text.as_slice()) {
+        return Err(RecordStop::Broken);
+    }
+    totals.lines += recorded.lines;
+    totals.long = totals.long.saturating_add(recorded.long);
+    if recorded.refused {
+        return Err(RecordStop::Line(totals.lines));
+    }
+    if rest.len() > MOST_LINE {
+        return Err(RecordStop::Line(totals.lines + 1));
+    }
+    Ok(rest)
+}
