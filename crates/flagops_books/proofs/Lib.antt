@@ -1,0 +1,6 @@
+pub mod Ending
+pub mod Following
+pub mod Matched
+pub mod Naming
+pub mod Unions
+mod Whole

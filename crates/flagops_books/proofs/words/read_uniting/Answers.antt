@@ -1,0 +1,24 @@
+use Rattle.std.proofs.Common.{rules, ap, map, option_map, subst, sym, ◌∙◌}
+use Rattle.clap.specs.declared.error.kind.ErrorKind.{ErrorKind}
+use Rattle.flagops_ramps.specs.Words.{IsToldBy}
+use Rattle.flagops_ramps.proofs.Matched.{asked_of, missed_in, told_of}
+use Rattle.flagops_books.specs.Words.{book_app, book_by, book_faults, uniting_in, uniting_view}
+use Rattle.flagops_books.proofs.Matched.{book_free, book_plain}
+use Rattle.flagops_books.proofs.words.read_uniting.Goals as goal
+
+pub returns-in_err-matches-clause-err : goal.returns-in_err-matches-clause-err
+unfolding book_by book_faults
+returns-in_err-matches-clause-err g c =
+    let told = told_of book_app book_plain book_free uniting_in (map g.S.AsStr.text c.args.words.now) _ c.in_ok-usage.ensures _ c.in_err-matches.ensures.kinds in search rules
+
+pub returns-in-Some-clause-ok : goal.returns-in-Some-clause-ok
+unfolding book_by book_faults
+returns-in-Some-clause-ok g c =
+    asked_of book_app book_plain book_free uniting_in (map g.S.AsStr.text c.args.words.now) _ c.in_ok-usage.ensures c.in_ok-matches.matches c.in_ok-matches.ensures.kinds c.in_ok-matches.ensures.matches _ (sym c.in_ok-asked.ensures ∙ ap (option_map uniting_view) c.in-Some.is)
+
+pub returns-clause-err : goal.returns-clause-err
+unfolding book_by book_faults
+returns-clause-err g c =
+    let words = map g.S.AsStr.text c.args.words.now in
+    let told = missed_in book_app book_plain book_free uniting_in words _ c.in_ok-usage.ensures c.in_ok-matches.matches c.in_ok-matches.ensures.kinds c.in_ok-matches.ensures.matches (sym c.in_ok-asked.ensures ∙ ap (option_map uniting_view) c.in-None.is) in
+    subst (λ (k : ErrorKind). IsToldBy (book_faults words) (book_by words) k) (sym c.in_ok-missing_value-in-None.ensures) told

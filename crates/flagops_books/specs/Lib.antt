@@ -1,0 +1,9 @@
+pub mod Calls
+pub mod Ended
+pub mod Law
+pub mod Report
+pub mod Step
+pub mod Stray
+pub mod Told
+pub mod Union
+pub mod Words

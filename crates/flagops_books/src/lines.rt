@@ -1,0 +1,80 @@
+//! What is printed and told of lines that are those of no note.
+ghost use Rattle.std.specs.Prelude.{◌≡◌, ◌||◌, ◌==◌, true, not, IfOk, string_bytes};
+ghost use Rattle.flagops_books.specs.Stray.{stray_line};
+ghost use Rattle.flagops_books.specs.Told.{Adds, NamesFile, is_told};
+
+use flagops_files::quoted;
+use std::alloc::{AllocError, Global};
+
+/// The line of a refusal: line `n` of the file at a path is that of no note.
+pub(crate) fn stray_line(alloc: Global, path: &str, n: u64) -> Result<String, AllocError>
+    ensures { IfOk result (λ s. string_bytes s ≡ stray_line path.now n) }
+{
+    let name = quoted(alloc, path)?;
+    format!(in alloc; "refused book 1 Line {name} {n}\n")
+}
+
+/// What a person is told of it.
+pub(crate) fn stray_remark(alloc: Global, path: &str, n: u64) -> Result<String, AllocError>
+    ensures { IfOk result (λ s. NamesFile path.now (string_bytes s)) }
+{
+    let name = quoted(alloc, path)?;
+    format!(in alloc;
+        "error: {name}: line {n} is no note\n  a note line is [FLAG,SITE,BY,INPUT], spelled as record and ofrep write it; --torn passes over others\n"
+    )
+}
+
+/// What is told of files so far, with what was passed over in the file at a path.
+pub(crate) fn with_passed(
+    alloc: Global,
+    told: String,
+    path: &str,
+    passed: u64,
+    torn: bool,
+) -> Result<String, AllocError>
+    ensures told { IfOk result (λ s. is_told (string_bytes s) ≡ (is_told (string_bytes told) || (not (passed == 0) || torn))) }
+    ensures adds { IfOk result (λ s. Adds path.now (string_bytes told) (string_bytes s)) }
+{
+    if passes_over(passed, torn) {
+        return with_line(alloc, told, path, passed, torn);
+    }
+    Ok(told)
+}
+
+/// Whether something was passed over.
+fn passes_over(passed: u64, torn: bool) -> bool
+    ensures { result ≡ (not (passed == 0) || torn) }
+{
+    passed != 0 || torn
+}
+
+/// What is told of files so far, with a line on the file at a path.
+fn with_line(
+    alloc: Global,
+    told: String,
+    path: &str,
+    passed: u64,
+    torn: bool,
+) -> Result<String, AllocError>
+    ensures told { IfOk result (λ s. is_told (string_bytes s) ≡ true) }
+    ensures adds { IfOk result (λ s. Adds path.now (string_bytes told) (string_bytes s)) }
+{
+    let line = passed_line(alloc, path, passed, torn)?;
+    format!(in alloc; "{told}{line}")
+}
+
+/// A line on what was passed over in the file at a path.
+fn passed_line(alloc: Global, path: &str, passed: u64, torn: bool) -> Result<String, AllocError>
+    ensures { IfOk result (λ s. NamesFile path.now (string_bytes s)) }
+{
+    let name = quoted(alloc, path)?;
+    if !torn {
+        format!(in alloc; "note: {name}: lines that are no note, passed over: {passed}\n")
+    } else if passed == 0 {
+        format!(in alloc; "note: {name}: the last line has no end and is passed over\n")
+    } else {
+        format!(in alloc;
+            "note: {name}: lines that are no note, passed over: {passed}, and the last line, which has no end\n"
+        )
+    }
+}

@@ -1,0 +1,88 @@
+//! From what files note to the book that is written, and what is printed of it.
+ghost use Rattle.std.specs.Prelude.{◌≡◌, ◌||◌, [], ◌∷◌, false, true, IfErr, IfOk, IfSome, is_some, string_bytes};
+ghost use Rattle.book_core.specs.Book.{input_count};
+ghost use Rattle.book_core.specs.Printing.{book_text};
+ghost use Rattle.flagops_books.specs.Calls.{stores_book};
+ghost use Rattle.flagops_books.specs.Report.{IsStored, counts_text};
+ghost use Rattle.flagops_books.specs.Told.{is_told};
+ghost use Rattle.flagops_commands.specs.Drive.{KeepsUnlessDone};
+ghost use Rattle.flagops_files.specs.Files.{KeepsOthers};
+ghost use Rattle.flagops_files.specs.Refusal.{ComesFrom, GivesOne, is_file_fault, stores_file};
+ghost use Rattle.flagops_files.specs.Report.{outcome_view};
+ghost use Rattle.flagops_files.specs.Told.{TellsOfOne, by, file};
+ghost use Rattle.flagops_files.specs.declared.refused.Remark.TheVariants.{Lines};
+
+use crate::uniting::{Gathered, out_of_memory};
+use book_core::{Book, print_book};
+use flagops_files::{Call, FileSet, Outcome, Refusal, Refused, Remark, Status, store};
+use std::alloc::{AllocError, Global};
+
+/// What is printed of a book, and the file that it is written as.
+#[derive(Drop)]
+struct Output {
+    text: Vec<u8>,
+    file: Vec<u8>,
+}
+
+/// The report of what so many files note, once the book is written.
+pub(crate) fn stored<F: FileSet>(
+    alloc: Global,
+    files: &mut F,
+    out: &str,
+    all: Gathered,
+    count: usize,
+) -> Result<Outcome, Refused>
+    ensures exact { IfSome (F.holding files.old) (λ at. GivesOne outcome_view result (IsStored at (F.holding files.new) out.now (book_text all.book) (counts_text (input_count all.book) count) (is_told (string_bytes all.told)))) }
+    ensures calls { ComesFrom stores_book result }
+    ensures failed { F.has_failed files.new ≡ (F.has_failed files.old || is_file_fault result) }
+    ensures others { KeepsOthers (F.holding files.old) (F.holding files.new) out.now }
+    ensures kept { KeepsUnlessDone (F.holding files.old) (F.holding files.new) result }
+    ensures names { TellsOfOne ((file out.now, by stores_file) ∷ []) result }
+    ensures told { IfOk result (λ o. IfSome o.remark (λ m. (m ≡ Lines all.told) × (is_told (string_bytes all.told) ≡ true))) }
+{
+    let Gathered { book, told } = all;
+    let Output { text, file } = output_of(alloc, &book, count)?;
+    store(alloc, files, out, file.as_slice())?;
+    Ok(Outcome {
+        text,
+        status: Status::Done,
+        remark: remark_of(told),
+    })
+}
+
+/// What is printed of a book of so many files, and its file.
+fn output_of(alloc: Global, book: &Book, count: usize) -> Result<Output, Refused>
+    ensures text { IfOk result (λ o. o.text.items ≡ counts_text (input_count book.now) count) }
+    ensures file { IfOk result (λ o. o.file.items ≡ book_text book.now) }
+    ensures wants { IfErr result (λ e. e.refusal ≡ Refusal.WantOfMemory Call.Book) }
+{
+    match printed(alloc, book, count) {
+        Ok(output) => Ok(output),
+        Err(AllocError) => Err(out_of_memory()),
+    }
+}
+
+fn printed(alloc: Global, book: &Book, count: usize) -> Result<Output, AllocError>
+    ensures text { IfOk result (λ o. o.text.items ≡ counts_text (input_count book.now) count) }
+    ensures file { IfOk result (λ o. o.file.items ≡ book_text book.now) }
+{
+    let inputs = book.inputs();
+    let text = format!(in alloc; "inputs {inputs}\nfiles {count}\n")?;
+    let file = print_book(alloc, book)?;
+    Ok(Output {
+        text: text.into_bytes(),
+        file,
+    })
+}
+
+/// What a person is told beside the output, where there is something to tell.
+fn remark_of(told: String) -> Option<Remark>
+    ensures told { is_some result ≡ is_told (string_bytes told) }
+    ensures lines { IfSome result (λ m. (m ≡ Lines told) × (is_told (string_bytes told) ≡ true)) }
+{
+    if told.is_empty() {
+        None
+    } else {
+        Some(Remark::Lines(told))
+    }
+}

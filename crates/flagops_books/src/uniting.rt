@@ -1,0 +1,230 @@
+//! From the paths of books and of files of note lines to the book of all their notes.
+ghost use Rattle.std.specs.Prelude.{◌≡◌, ◌||◌, false, true, Ok, map, IfErr, IfOk, IfSome, string_bytes};
+ghost use Rattle.book_core.specs.Reading.{book_of};
+ghost use Rattle.flagops_books.specs.Calls.{unites_files};
+ghost use Rattle.flagops_books.specs.Step.{GivesUnited, IsStepOf, IsStopOf, SaysStep, SaysUnited};
+ghost use Rattle.flagops_books.specs.Told.{NamesFile, is_told, united_subjects};
+ghost use Rattle.flagops_books.specs.Union.{IsLast, IsUnited, IsWithBook, IsWithBytes, IsWithFile, union_refusal};
+ghost use Rattle.flagops_files.specs.Loading.{refused_by};
+ghost use Rattle.flagops_files.specs.Question.{book_bytes_at};
+ghost use Rattle.flagops_files.specs.Refusal.{ComesFrom, GivesUnlessWant, call_of, is_file_fault, is_unread, is_want, loads_book, loads_file};
+ghost use Rattle.flagops_files.specs.Told.{Says, TellsOf, TellsOfOne, file};
+ghost use Rattle.flagops_files.specs.declared.refusal.Refusal.TheVariants.{ReadBook};
+ghost use Rattle.flagops_remarks.specs.Named.{Names};
+ghost use Rattle.note_books.specs.Notes.{IsBookOf, Notes, no_notes};
+
+use crate::lines::{stray_line, stray_remark, with_passed};
+use book_core::{Book, BookFault, read_book};
+use flagops_files::{Call, FileSet, Outcome, Refusal, Refused, Remark, Status, load};
+use flagops_remarks::{of_book, of_full_book, of_unreadable};
+use note_books::{NotesFault, NotesTaken, begins_book, take_notes};
+use std::alloc::{AllocError, Global};
+
+/// The largest file, in bytes, as of a book.
+const FILE_LIMIT: u64 = 1 << 40;
+
+/// What files note, and what a person is told of lines that were passed over.
+#[derive(Drop)]
+pub(crate) struct Gathered {
+    pub(crate) book: Book,
+    pub(crate) told: String,
+}
+
+/// What files come to where no call refuses them.
+#[derive(Drop)]
+pub(crate) enum Step {
+    /// All lines were taken.
+    Noted(Gathered),
+    /// A line is that of no note: the whole output.
+    Stopped(Outcome),
+}
+
+/// What the files at these paths note, each read before the next.
+pub(crate) fn united<F: FileSet>(
+    alloc: Global,
+    files: &mut F,
+    paths: &[&str],
+    passing: bool,
+) -> Result<Step, Refused>
+    ensures exact { IfSome (F.holding files.old) (λ at. GivesUnited result (IsUnited at passing (map (λ p. p.now) paths.now) no_notes false)) }
+    ensures calls { ComesFrom unites_files result }
+    ensures failed { F.has_failed files.new ≡ (F.has_failed files.old || is_file_fault result) }
+    ensures kept { F.holding files.new ≡ F.holding files.old }
+    ensures names { TellsOfOne (united_subjects (map (λ p. p.now) paths.now)) result }
+    ensures says { SaysUnited (map (λ p. p.now) paths.now) result }
+{
+    let mut all = Gathered {
+        book: Book::new(alloc),
+        told: String::new(alloc),
+    };
+    for path in paths {
+        let step = with_file(alloc, files, all, path, passing)?;
+        all = match step {
+            Step::Noted(next) => next,
+            Step::Stopped(outcome) => return Ok(Step::Stopped(outcome)),
+        };
+    }
+    Ok(Step::Noted(all))
+}
+
+/// What is noted so far, with what the file at a path notes: a book where it begins as one, and else note lines.
+fn with_file<F: FileSet>(
+    alloc: Global,
+    files: &mut F,
+    all: Gathered,
+    path: &str,
+    passing: bool,
+) -> Result<Step, Refused>
+    ensures exact { IfSome (F.holding files.old) (λ at. (now : Notes) → IsBookOf now all.book → GivesUnited result (IsWithFile IsLast passing now (is_told (string_bytes all.told)) path.now (book_bytes_at at path.now))) }
+    ensures calls { ComesFrom unites_files result }
+    ensures failed { F.has_failed files.new ≡ (F.has_failed files.old || is_file_fault result) }
+    ensures kept { F.holding files.new ≡ F.holding files.old }
+    ensures names { TellsOf (file path.now) result }
+    ensures says { SaysStep path.now (string_bytes all.told) result }
+{
+    let bytes = load_whole(alloc, files, path)?;
+    if begins_book(bytes.as_slice()) {
+        with_book(alloc, all, path, bytes.as_slice())
+    } else {
+        with_lines(alloc, all, path, bytes.as_slice(), passing)
+    }
+}
+
+/// The bytes of the file at a path; one of more than 2^40 counts as unreadable.
+#[tactic(auto, using(flagops_files::proofs::Told::says), unfolding(flagops_files::specs::Question::book_bytes_at))]
+fn load_whole<F: FileSet>(alloc: Global, files: &mut F, path: &str) -> Result<Vec<u8>, Refused>
+    ensures exact { IfSome (F.holding files.old) (λ at. GivesUnlessWant (λ v. v.items) result (book_bytes_at at path.now)) }
+    ensures calls { ComesFrom loads_file result }
+    ensures failed { F.has_failed files.new ≡ (F.has_failed files.old || is_file_fault result) }
+    ensures kept { F.holding files.new ≡ F.holding files.old }
+    ensures names { TellsOf (file path.now) result }
+{
+    let bytes = load(alloc, files, path, FILE_LIMIT)?;
+    if bytes.len() as u64 > FILE_LIMIT {
+        return Err(Refused {
+            refusal: Refusal::LongBook,
+            remark: Remark::of(of_unreadable(alloc, path)),
+        });
+    }
+    Ok(bytes)
+}
+
+/// What is noted so far, with the book that bytes are, which were loaded from a path.
+fn with_book(alloc: Global, all: Gathered, path: &str, bytes: &[u8]) -> Result<Step, Refused>
+    ensures exact { (now : Notes) → IsBookOf now all.book → GivesUnited result (IsWithBook IsLast now (is_told (string_bytes all.told)) (book_of bytes.now)) }
+    ensures calls { ComesFrom unites_files result }
+    ensures read { is_file_fault result ≡ false }
+    ensures names { TellsOf (file path.now) result }
+    ensures says { SaysStep path.now (string_bytes all.told) result }
+{
+    let other = book_in(alloc, path, bytes)?;
+    let Gathered { book, told } = all;
+    match book.union(alloc, &other) {
+        Ok(both) => Ok(Step::Noted(Gathered { book: both, told })),
+        Err(fault) => Err(not_united(alloc, path, fault)),
+    }
+}
+
+/// The book that bytes are, which were loaded from a path.
+#[tactic(auto, using(flagops_files::proofs::Told::says))]
+fn book_in(alloc: Global, path: &str, bytes: &[u8]) -> Result<Book, Refused>
+    ensures exact { GivesUnlessWant (λ b. b) result (refused_by ReadBook (book_of bytes.now)) }
+    ensures calls { ComesFrom loads_book result }
+    ensures read { is_file_fault result ≡ false }
+    ensures names { TellsOf (file path.now) result }
+{
+    match read_book(alloc, bytes) {
+        Ok(book) => Ok(book),
+        Err(fault) => Err(Refused {
+            refusal: Refusal::ReadBook(fault),
+            remark: Remark::of(of_book(alloc, path, fault)),
+        }),
+    }
+}
+
+/// Why what is noted so far is not united with the book at a path.
+#[tactic(auto, using(flagops_files::proofs::Told::says))]
+fn not_united(alloc: Global, path: &str, fault: BookFault) -> Refused
+    ensures refusal { result.refusal ≡ union_refusal fault }
+    ensures calls { unites_files (call_of result.refusal) ≡ true }
+    ensures read { is_unread result.refusal ≡ false }
+    ensures names { is_want result.refusal ≡ false → Says (Names path.now) result.remark }
+{
+    match fault {
+        BookFault::WantOfMemory => out_of_memory(),
+        _ => full(alloc, path),
+    }
+}
+
+/// What is noted so far, with the note lines that bytes are, which were loaded from a path.
+fn with_lines(
+    alloc: Global,
+    all: Gathered,
+    path: &str,
+    bytes: &[u8],
+    passing: bool,
+) -> Result<Step, Refused>
+    ensures exact { (now : Notes) → IsBookOf now all.book → GivesUnited result (IsWithBytes false IsLast passing now (is_told (string_bytes all.told)) path.now bytes.now) }
+    ensures calls { ComesFrom unites_files result }
+    ensures read { is_file_fault result ≡ false }
+    ensures names { TellsOf (file path.now) result }
+    ensures says { SaysStep path.now (string_bytes all.told) result }
+{
+    let Gathered { book, told } = all;
+    match take_notes(alloc, book, bytes, passing) {
+        Ok(taken) => with_taken(alloc, taken, told, path),
+        Err(NotesFault::Line(n)) => stopped(alloc, path, n),
+        Err(NotesFault::PageFull) => Err(full(alloc, path)),
+        Err(NotesFault::WantOfMemory) => Err(out_of_memory()),
+    }
+}
+
+/// The notes of a file at a path with those before, and what is told of the file behind what is told so far.
+fn with_taken(alloc: Global, taken: NotesTaken, told: String, path: &str) -> Result<Step, Refused>
+    ensures noted { IfOk result (IsStepOf path.now taken (string_bytes told)) }
+    ensures wants { IfErr result (λ e. e.refusal ≡ Refusal.WantOfMemory Call.Book) }
+{
+    let NotesTaken { book, passed, torn } = taken;
+    match with_passed(alloc, told, path, passed, torn) {
+        Ok(told) => Ok(Step::Noted(Gathered { book, told })),
+        Err(AllocError) => Err(out_of_memory()),
+    }
+}
+
+/// The output where line `n` of the file at a path is that of no note.
+#[tactic(auto, using(flagops_files::proofs::Told::says))]
+fn stopped(alloc: Global, path: &str, n: u64) -> Result<Step, Refused>
+    ensures stray { IfOk result (IsStopOf path.now n) }
+    ensures wants { IfErr result (λ e. e.refusal ≡ Refusal.WantOfMemory Call.Book) }
+{
+    match stray_line(alloc, path, n) {
+        Ok(text) => Ok(Step::Stopped(Outcome {
+            text: text.into_bytes(),
+            status: Status::Refused,
+            remark: Some(Remark::of(stray_remark(alloc, path, n))),
+        })),
+        Err(AllocError) => Err(out_of_memory()),
+    }
+}
+
+/// The refusal of a file with whose notes a page would have too many inputs.
+#[tactic(auto, using(flagops_files::proofs::Told::says))]
+fn full(alloc: Global, path: &str) -> Refused
+    ensures refusal { result.refusal ≡ Refusal.FullBook }
+    ensures names { Says (Names path.now) result.remark }
+{
+    Refused {
+        refusal: Refusal::FullBook,
+        remark: Remark::of(of_full_book(alloc, path)),
+    }
+}
+
+/// The refusal where the command itself ran out of memory.
+pub(crate) fn out_of_memory() -> Refused
+    ensures { result.refusal ≡ Refusal.WantOfMemory Call.Book }
+{
+    Refused {
+        refusal: Refusal::WantOfMemory(Call::Book),
+        remark: Remark::Short,
+    }
+}
