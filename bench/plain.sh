@@ -3,7 +3,7 @@
 # one run, best of three, outputs compared; then how both grow with the inputs of a book of four pages.
 #
 # Needs python3, which makes the files and reads the figures of each run from the system, and cargo with the crates
-# serde_json and rayon as Debian's librust-serde-json-dev and librust-rayon-dev put them under /usr/share/cargo/registry;
+# mio, rayon and serde_json as Debian's librust-{mio,rayon,serde-json}-dev put them under /usr/share/cargo/registry;
 # nothing is fetched.
 
 . "$(dirname -- "$0")/opening.sh"

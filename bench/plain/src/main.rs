@@ -1,9 +1,12 @@
-//! The commands `bucket`, `price`, `check`, `plan` and `verify` of `flagops` in plain Rust, unproved: what the proved
-//! program is timed beside. It knows the files that `bench/plain.sh` makes, and stops with a message at any other.
+//! The commands `bucket`, `price`, `check`, `plan`, `verify`, `record`, `tally` and `ofrep` of `flagops` in plain Rust, unproved:
+//! what the proved program is timed beside. It knows the files that the scripts of `bench/` make, and stops with a message at any
+//! other.
 mod book;
 mod check;
 mod flow;
+mod ofrep;
 mod plan;
+mod records;
 mod request;
 mod rule;
 
@@ -65,6 +68,11 @@ fn run(words: &[&str]) -> Result<String, Fault> {
         ["plan", document, request, book] => plan::plan(&load(document)?, &load(request)?, book),
         ["verify", document, request, book, plan] => {
             plan::verify(&load(document)?, &load(request)?, book, &load(plan)?)
+        }
+        ["record", document, flag] => records::record(&load(document)?, flag).map(|()| String::new()),
+        ["tally", document, flag, "0"] => records::tally(&load(document)?, flag).map(|()| String::new()),
+        ["ofrep", address, workers, document, log @ ..] => {
+            ofrep::serve(address, workers.parse()?, log.first().copied(), &load(document)?)
         }
         _ => Err("no such command".into()),
     }

@@ -11,17 +11,17 @@ pub struct Rule<'a> {
 impl<'a> Rule<'a> {
     /// The rule of a text, whose names have no escapes.
     pub fn read(bytes: &'a [u8]) -> Result<Rule<'a>, Fault> {
-        Rule::of(serde_json::from_slice(bytes)?)
+        Rule::new(serde_json::from_slice(bytes)?)
     }
 
     /// The rule of a value.
     pub fn seen(value: &'a Value) -> Result<Rule<'a>, Fault> {
         let entry = |bucket: &'a Value| Some((bucket[0].as_str()?, u32::try_from(bucket[1].as_u64()?).ok()?));
         let entries = value.as_array().and_then(|buckets| buckets.iter().map(entry).collect::<Option<Vec<_>>>());
-        Rule::of(entries.ok_or("a rule is a list of names with weights")?)
+        Rule::new(entries.ok_or("a rule is a list of names with weights")?)
     }
 
-    fn of(entries: Vec<(&'a str, u32)>) -> Result<Rule<'a>, Fault> {
+    pub fn new(entries: Vec<(&'a str, u32)>) -> Result<Rule<'a>, Fault> {
         let mut sum = 0u32;
         let mut ends = Vec::with_capacity(entries.len());
         for (_, weight) in &entries {

@@ -1,0 +1,114 @@
+"""Requests a second, the 99th percentile and memory of `ofrep` beside a plain server (`bench/plain`) over the same document in one
+run, by `wrk`, the two by turns: 1 and 4 workers, 1, 4 and 64 connections, with and without a log, a flag with a rule and one without;
+then the memory of each beside 4,000 idle connections. Needs `wrk`, and cargo with Debian's librust-{mio,rayon,serde-json}-dev.
+Usage: beside.py [SECONDS]"""
+import json
+import os
+import re
+import select
+import socket
+import subprocess
+import sys
+import tempfile
+
+HERE = os.path.dirname(os.path.abspath(__file__))
+ROOT = os.path.dirname(os.path.dirname(HERE))
+PROVED = os.environ.get("FLAGOPS", os.path.join(ROOT, "crates", "flagops", "out", "flagops"))
+SECONDS = int(sys.argv[1]) if len(sys.argv) > 1 else 3
+SHOP = os.path.join(ROOT, "demo", "flags", "shop.json")
+SIZE = {"state": "ENABLED", "variants": {"small": 1, "large": 2}, "defaultVariant": "small"}
+IDLE = 4_000
+ASK = """
+wrk.method = "POST"
+wrk.headers["Content-Type"] = "application/json"
+local n, id, threads = 0, 0, 0
+function setup(thread) thread:set("id", threads); threads = threads + 1 end
+request = function()
+  n = n + 1
+  return wrk.format(nil, nil, nil, string.format('{"context":{"targetingKey":"user-%d-%d"}}', id, n % 100000))
+end
+"""
+
+
+def built(folder):
+    """The plain server."""
+    target = os.environ.get("CARGO_TARGET_DIR", os.path.join(folder, "target"))
+    words = ["cargo", "build", "--quiet", "--release", "--offline"]
+    subprocess.run(words, cwd=os.path.join(ROOT, "bench", "plain"), env={**os.environ, "CARGO_TARGET_DIR": target}, check=True)
+    return os.path.join(target, "release", "plain")
+
+
+def free_port():
+    with socket.socket() as probe:
+        probe.bind(("127.0.0.1", 0))
+        return probe.getsockname()[1]
+
+
+class Server:
+    """One of the two, listening; ended as it leaves its `with`."""
+
+    def __init__(self, program, document, workers, log):
+        self.port = free_port()
+        address = f"127.0.0.1:{self.port}"
+        if program == PROVED:
+            words = ["ofrep", "--listen", address, "--workers", str(workers), *(["--log", log] if log else []), document]
+        else:
+            words = ["ofrep", address, str(workers), document, *([log] if log else [])]
+        self.child = subprocess.Popen([program, *words], stdout=subprocess.PIPE, stderr=subprocess.DEVNULL, text=True)
+        assert select.select([self.child.stdout], [], [], 20)[0] and self.child.stdout.readline() == "serving 1\n"
+
+    def __enter__(self):
+        return self
+
+    def __exit__(self, *_):
+        self.child.kill()
+        self.child.wait()
+        self.child.stdout.close()
+
+    def resident(self):
+        with open(f"/proc/{self.child.pid}/status", encoding="utf-8") as file:
+            return next(int(line.split()[1]) for line in file if line.startswith("VmRSS:")) / 1024
+
+
+def timed(program, folder, workers, connections, logs, flag):
+    """Requests a second and the 99th percentile, as `wrk` gives them."""
+    with tempfile.TemporaryDirectory(dir=folder) as log, Server(program, os.path.join(folder, "flags.json"), workers, log if logs else None) as server:
+        threads = str(min(connections, 2))
+        words = ["wrk", "-t", threads, "-c", str(connections), "-d", f"{SECONDS}s", "--latency", "-s", os.path.join(folder, "ask.lua")]
+        words.append(f"http://127.0.0.1:{server.port}/ofrep/v1/evaluate/flags/{flag}")
+        told = subprocess.run(words, capture_output=True, text=True, check=True).stdout
+        assert "Non-2xx" not in told, told
+        return float(re.search(r"Requests/sec:\s+([0-9.]+)", told)[1]), re.search(r"99%\s+(\S+)", told)[1]
+
+
+def main():
+    with tempfile.TemporaryDirectory() as folder:
+        plain = built(folder)
+        with open(os.path.join(folder, "ask.lua"), "w", encoding="utf-8") as file:
+            file.write(ASK)
+        with open(SHOP, encoding="utf-8") as shop, open(os.path.join(folder, "flags.json"), "w", encoding="utf-8") as file:
+            document = json.load(shop)
+            document["flags"]["size"] = SIZE
+            json.dump(document, file)
+        print("| workers | connections | log | flag | proved, 1/s (p99) | plain, 1/s (p99) | ratio |\n|---|---|---|---|---|---|---|")
+        ratios = []
+        for workers in (1, 4):
+            for connections in (1, 4, 64):
+                for logs in (True, False):
+                    for flag in ("checkout", "size"):
+                        ours, theirs = (timed(it, folder, workers, connections, logs, flag) for it in (PROVED, plain))
+                        ratios.append(ours[0] / theirs[0])
+                        kind = "with a rule" if flag == "checkout" else "without"
+                        rates = " | ".join(f"{rate:,.0f} ({slowest})" for rate, slowest in (ours, theirs))
+                        print(f"| {workers} | {connections} | {'yes' if logs else 'no'} | {kind} | {rates} | {ratios[-1]:.2f} |", flush=True)
+        print(f"lowest ratio {min(ratios):.2f}")
+        for name, program in (("proved", PROVED), ("plain", plain)):
+            with Server(program, os.path.join(folder, "flags.json"), 4, None) as server:
+                before = server.resident()
+                idle = [socket.create_connection(("127.0.0.1", server.port)) for _ in range(IDLE)]
+                print(f"{name}: {before:.1f} MB, {server.resident():.1f} MB beside {IDLE:,} idle connections")
+                for connection in idle:
+                    connection.close()
+
+
+main()
