@@ -24,6 +24,10 @@ FAULTS = {
     "SourceFault": set(),
     "ShareFault": set(),
     "ReadEnd": {"Ended"},
+    "RecordStop": {"Broken"},
+    "FilterFault": set(),
+    "TallyStop": {"Filter"},
+    "JoinFault": set(),
 }
 
 

@@ -1,5 +1,6 @@
-"""Books: what `drive` notes and writes, and what is read of a book file or refused."""
+"""Books: what `drive` notes and writes, what is read of a book file or refused, and what `book` makes of books and note lines."""
 import json
+import random
 import unittest
 
 from given import BOOK, EMPTY_BOOK, FREE, document
@@ -218,6 +219,178 @@ class Unions(ProgramTest):
                 ran = self.assert_ends(words, files, 1, f"refused {refusal}\n")
                 self.assertEqual(ran.files, files)
                 self.assertIn(f"error: {named}", ran.err)
+
+
+def note(flag="a", text="x", site=0, by=None):
+    """A note line."""
+    return json.dumps([flag, site, by, text], ensure_ascii=False, separators=(",", ":")) + "\n"
+
+
+# Lines that are those of no note, and are not blank.
+STRAYS = [
+    "x\n",
+    "[]\n",
+    '["a",0,null]\n',
+    '["a",0,null,"x",0]\n',
+    '["a",0,null,5]\n',
+    '["a",0,5,"x"]\n',
+    '[5,0,null,"x"]\n',
+    '["a",-1,null,"x"]\n',
+    '["a",4294967296,null,"x"]\n',
+    '["a",0.0,null,"x"]\n',
+    '["a", 0,null,"x"]\n',
+    ' ["a",0,null,"x"]\n',
+    '["a",0,null,"x"] \n',
+    '["a",0,null,"x"]\r\n',
+    '["a",0,null,"\\u0078"]\n',
+    '["a",0,null,"x\n',
+    '"x"\n',
+    note(text="x" * 1025),
+]
+
+# White space alone.
+BLANKS = ["\n", " \n", "\t \r\n"]
+
+
+class Notes(ProgramTest):
+    def assert_booked(self, words, files, inputs, book):
+        """A book is written, and nothing else is; what is told is given."""
+        count = len([word for word in words if not word.startswith("--")])
+        ran = self.assert_ends(["book", "o", *words], files, 0, f"inputs {inputs}\nfiles {count}\n")
+        self.assertEqual(ran.files, {**files, "o": book})
+        return ran.err
+
+    def test_books_and_note_lines(self):
+        files = {
+            "one": note("a", "z") + note("a", "x") + note("a", "z"),
+            "other": note("b", "k") + note("a", "y"),
+            "book": book_of({"a": {"x", "w"}, "c": {"k"}}),
+            "empty": "",
+        }
+        for words, inputs, pages in [
+            (["empty"], 0, {}),
+            (["one"], 2, {"a": "xz"}),
+            (["one", "other"], 4, {"a": "xyz", "b": "k"}),
+            (["other", "empty", "book", "one", "one"], 6, {"a": "wxyz", "b": "k", "c": "k"}),
+            (["book", "--torn", "one"], 4, {"a": "wxz", "c": "k"}),
+        ]:
+            with self.subTest(words=words):
+                self.assertEqual(self.assert_booked(words, files, inputs, book_of(pages)), "")
+
+    def test_a_page_is_its_flag_site_and_expression(self):
+        lines = [note(text="1", site=1), note(text="2", by="b"), note(text="3"), note(text="4", by=""), note("", "5")]
+        book = EMPTY_BOOK + "".join(
+            f'{{"by":{by},"flag":"{flag}","site":{site}}}\n"{text}"\n'
+            for flag, site, by, text in [("", 0, "null", 5), ("a", 0, "null", 3), ("a", 0, '""', 4), ("a", 0, '"b"', 2), ("a", 1, "null", 1)]
+        )
+        self.assert_booked(["n"], {"n": "".join(lines)}, 5, book)
+
+    def test_inputs_of_every_spelling(self):
+        texts = ["", "x" * 1024, 'a"b\né', "\u0000\u001f\u007f", "\U0001f600", "\\/"]
+        ran = run(["book", "o", "n"], {"n": "".join(note("f", text) for text in texts)})
+        self.assertEqual((ran.status, ran.err, ran.out), (0, "", f"inputs {len(texts)}\nfiles 1\n"))
+        lines = ran.files["o"].splitlines()[2:]
+        self.assertEqual([json.loads(line) for line in lines], sorted(texts, key=str.encode))
+
+    def test_a_line_that_is_no_note(self):
+        """It is refused by the number among all lines, and the file stays; or passed over, and told."""
+        for stray in STRAYS:
+            for before in (0, 1, 2):
+                with self.subTest(stray=stray[:40], before=before):
+                    lines = "".join([note(text="a"), "\n"][:before]) + stray + note(text="b")
+                    files = {"g": note(text="c"), "n": lines, "o": "as before"}
+                    ran = self.assert_ends(["book", "o", "g", "n"], files, 1, f'refused book 1 Line "n" {before + 1}\n')
+                    self.assertEqual(ran.files, files)
+                    self.assertTrue(ran.err.startswith(f'error: "n": line {before + 1} '), ran.err)
+                    kept = {"a": {"b", "c", *("a" if before else "")}}
+                    told = self.assert_booked(["--torn", "g", "n"], files, len(kept["a"]), book_of(kept))
+                    self.assertTrue(told.startswith('note: "n": ') and " 1" in told, told)
+
+    def test_blank_lines(self):
+        lines = "".join(BLANKS) + note() + "".join(BLANKS)
+        for words in (["n"], ["--torn", "n"]):
+            self.assertEqual(self.assert_booked(words, {"n": lines}, 1, book_of({"a": "x"})), "")
+
+    def test_a_last_line_without_its_end(self):
+        whole = note(text="a") + note(text="b")
+        for taken in range(len(whole)):
+            with self.subTest(taken=taken):
+                cut = whole[:taken]
+                texts = "ab"[: cut.count("\n")]
+                pages = {"a": texts} if texts else {}
+                for words in (["n"], ["--torn", "n"]):
+                    told = self.assert_booked(words, {"n": cut}, len(texts), book_of(pages))
+                    self.assertEqual(told != "", cut != "" and not cut.endswith("\n"), told)
+                    self.assertTrue(told == "" or told.startswith('note: "n": the last line has no end'), told)
+
+    def test_each_file_is_told_of(self):
+        files = {"one": "x\n" + note() + "y\n", "two": note(), "three": note(text="z") + "[", "four": "x\n["}
+        told = self.assert_booked(["--torn", *files], files, 2, book_of({"a": "xz"}))
+        self.assertEqual([line.split(":")[1] for line in told.splitlines()], [' "one"', ' "three"', ' "four"'])
+        self.assertIn(": 2\n", told)
+
+    def test_a_file_is_a_book_where_it_begins_as_one(self):
+        for text, report in [
+            (' \t\r{"book":1}\n', "inputs 0\nfiles 1\n"),
+            ("{\n", "refused read_book 1 Header\n"),
+            ('\n{"book":1}\n', "refused read_book 1 Header\n"),
+            ('{"tally":1}\n', "refused read_book 1 Header\n"),
+            ("\n[\n", 'refused book 1 Line "n" 2\n'),
+            ("text\n", 'refused book 1 Line "n" 1\n'),
+        ]:
+            with self.subTest(text=text):
+                self.assert_ends(["book", "o", "n"], {"n": text}, int("refused" in report), report)
+
+    def test_the_first_file_at_fault_refuses(self):
+        files = {"n": note(), "stray": note() + "x\n", "bad": "{}\n"}
+        for words, refusal in [
+            (["n", "stray", "none"], 'book 1 Line "stray" 2'),
+            (["none", "stray"], "load 1 Unreadable"),
+            (["bad", "stray"], "read_book 1 Header"),
+            (["--torn", "stray", "bad"], "read_book 1 Header"),
+        ]:
+            with self.subTest(words=words):
+                self.assert_ends(["book", "o", *words], files, 1, f"refused {refusal}\n")
+        ran = run(["book", "nowhere/o", "n"], files)
+        self.assertEqual((ran.status, ran.out), (1, "refused store 1 Unwritable\n"))
+
+    def test_a_page_takes_1000000_notes(self):
+        full = "".join(note(text=f"{number:07}") for number in range(MOST))
+        pages = book_of({"a": {f"{number:07}" for number in range(MOST)}})
+        files = {"full": full, "one": note(), "again": note(text="0000007"), "book": book_of({"a": {"x"}})}
+        self.assert_booked(["full", "again"], files, MOST, pages)
+        for words, named in [(["full", "one"], "one"), (["full", "book"], "book"), (["one", "full"], "full"), (["book", "full"], "full")]:
+            with self.subTest(words=words):
+                ran = self.assert_ends(["book", "o", *words], files, 1, "refused book 2 PageFull\n")
+                self.assertEqual(ran.files, files)
+                self.assertIn(f'error: "{named}"', ran.err)
+        self.assert_ends(["book", "o", "n"], {"n": full + note() + "x\n"}, 1, "refused book 2 PageFull\n")
+        self.assert_ends(["book", "o", "n"], {"n": full + "x\n" + note()}, 1, f'refused book 1 Line "n" {MOST + 1}\n')
+
+    def test_drawn_files(self):
+        """The book has what a set of the tests' own has, of 200 drawn lists of files."""
+        draw = random.Random(40)
+        for turn in range(200):
+            with self.subTest(turn=turn):
+                files, seen, passed = {}, {}, 0
+                for number in range(draw.randint(1, 5)):
+                    pairs = [(draw.choice("abc"), draw.choice("kxyz") * draw.randint(0, 3)) for _ in range(draw.randint(0, 12))]
+                    if pairs and draw.random() < 0.3:
+                        pages = {}
+                        for flag, text in pairs:
+                            pages.setdefault(flag, set()).add(text)
+                        files[f"f{number}"] = book_of(pages)
+                    else:
+                        lines = [note(flag, text) for flag, text in pairs]
+                        for stray in draw.sample(STRAYS, draw.randint(0, 2)):
+                            lines.insert(draw.randint(0, len(lines)), stray)
+                            passed += 1
+                        files[f"f{number}"] = "".join(lines)
+                    for flag, text in pairs:
+                        seen.setdefault(flag, set()).add(text)
+                count = sum(map(len, seen.values()))
+                told = self.assert_booked(["--torn", *files], files, count, book_of(seen))
+                self.assertEqual(told != "", passed > 0, told)
 
 
 if __name__ == "__main__":

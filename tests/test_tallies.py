@@ -197,10 +197,19 @@ class Tallies(ProgramTest):
         self.assertEqual(run(["verify", "d", "r", "t", "p"], {**files, "p": ran.out}).out, "valid cost 0\n")
         self.assertEqual(run(["verify", "d", "r", "b", "p"], {**files, "p": ran.out}).out, "refused verify 8 Groups\n")
 
-    def test_ramp(self):
-        """The steps of a rollout are planned on books alone."""
+    def test_books_alone(self):
+        """The steps of a rollout are planned on books alone, and so are pictures drawn."""
         steps = '{"plan":1,"flag":"color","steps":[{"red":3,"blue":7}]}'
-        self.assertEqual(run(["ramp", "d", "s", "t"], {**self.files(), "s": steps}).out, NO_BOOK)
+        for words in (
+            ["ramp", "d", "s", "t"],
+            ["picture", "d", "r", "t", "p"],
+            ["picture", "--ramp", "d", "s", "t", "p"],
+            ["plan", "--picture", "svg", "d", "r", "t"],
+        ):
+            with self.subTest(words=words):
+                ran = run(words, {**self.files(), "s": steps})
+                self.assertEqual(ran.out, NO_BOOK)
+                self.assertNotIn("svg", ran.files)
 
 
 if __name__ == "__main__":

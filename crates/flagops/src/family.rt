@@ -17,8 +17,24 @@ pub enum Family {
     Ramp,
     /// `verify-ramp`.
     VerifyRamp,
+    /// `picture` of a plan.
+    Picture,
+    /// `picture --ramp`.
+    PictureRamp,
+    /// `plan --picture`.
+    PlanPicture,
     /// `apply --step`.
     ApplyStep,
+    /// `ofrep`.
+    Ofrep,
+    /// `record`.
+    Record,
+    /// `tally`.
+    Tally,
+    /// `join`.
+    Join,
+    /// `book`.
+    Book,
 }
 
 /// The family of the command that the first of the words names, and for some an option among the others.
@@ -34,6 +50,12 @@ pub fn family_of<S: AsStr>(words: &[S]) -> Family
 fn family_with<S: AsStr>(first: &str, words: &[S]) -> Family
     ensures { result ≡ family_with first.now (map S.text words.now) }
 {
+    if first == "plan" && has_option(words, b"--picture") {
+        return Family::PlanPicture;
+    }
+    if first == "picture" && has_option(words, b"--ramp") {
+        return Family::PictureRamp;
+    }
     if first == "apply" && has_option(words, b"--step") {
         return Family::ApplyStep;
     }
@@ -60,6 +82,12 @@ fn family_named(word: &str) -> Family
         "follow" => Family::Follow,
         "ramp" => Family::Ramp,
         "verify-ramp" => Family::VerifyRamp,
+        "picture" => Family::Picture,
+        "ofrep" => Family::Ofrep,
+        "record" => Family::Record,
+        "tally" => Family::Tally,
+        "join" => Family::Join,
+        "book" => Family::Book,
         _ => Family::Files,
     }
 }

@@ -3,7 +3,9 @@
 //!
 //! What it does is `flagops_commands::run`, whose contract says what is written and which status is given; its clauses stand
 //! again at [`flagops`], over the status of the process. Beside it stand the two commands that use the network, `serve` and
-//! `follow` of `flagops_network`, and those on a rollout in steps, `ramp`, `verify-ramp` and `apply --step` of `flagops_ramps`.
+//! `follow` of `flagops_network`, those on a rollout in steps, `ramp`, `verify-ramp` and `apply --step` of `flagops_ramps`, and those
+//! that draw, `picture` and `plan --picture` of `flagops_pictures`, the service, `ofrep` of `flagops_service`, the filters of
+//! `flagops_filters`, `record` and `tally`, which read the standard input, and `join`, and `book` of `flagops_books`.
 #![tactic(auto)]
 
 ghost use Rattle.std.specs.Prelude.{◌≡◌, false, map, drop, IfErr, IfOk, IsErrOf};
@@ -18,17 +20,25 @@ mod outputs;
 
 use family::{Family, family_of};
 use flag_text::{Outlet, WriteOutlet};
+use flagops_books::book;
 use flagops_commands::{complain, run};
 use flagops_files::{Call, FileSet, SystemFiles, want};
+use flagops_filters::{join, record, tally};
 use flagops_network::{follow, open_standard, serve};
+use flagops_pictures::{picture, picture_ramp, plan_picture};
 use flagops_ramps::{apply_step, ramp, verify_ramp};
-use outputs::Persistent;
+use flagops_service::ofrep;
+use line_batches::{Inlet, ReadInlet};
+use outputs::{Persistent, PersistentInput};
 use std::alloc::Global;
 use std::convert::AsStr;
 use std::env::{self, Args};
-use std::io;
+use std::fs::File;
+use std::io::{self, Read};
 use std::net::{Net, TcpListener, TcpStream};
 use std::process::ExitCode;
+use std::random::RandomSource;
+use std::rt::Files;
 use std::sync::Wait;
 use std::thread::{self, Builder, Threads};
 use std::time::Clock;
@@ -39,9 +49,10 @@ const STACK: usize = 4 * 1024 * 1024;
 fn main(rt: HostRuntime) -> ExitCode {
     let _are_open = open_standard(&rt);
     let words = behind_name(rt.alloc(), env::args(&rt));
+    let input = ReadInlet::new(PersistentInput::new(rt.stdin()));
     let out = WriteOutlet::new(Persistent::new(rt.stdout()));
     let err = WriteOutlet::new(Persistent::new(rt.stderr()));
-    match on_stack(&rt, words, SystemFiles::new(&rt), out, err) {
+    match on_stack(&rt, words, input, SystemFiles::new(&rt), out, err) {
         Some(code) => code,
         None => {
             let mut out = WriteOutlet::new(Persistent::new(rt.stdout()));
@@ -52,32 +63,38 @@ fn main(rt: HostRuntime) -> ExitCode {
 }
 
 /// Does what the words ask for on a stack of its own, where there is memory for one.
-fn on_stack<R, S, F, O, E>(
+fn on_stack<R, D, S, I, F, O, E>(
     rt: &R,
     words: io::Result<Vec<S>>,
+    input: I,
     files: F,
     out: O,
     err: E,
 ) -> Option<ExitCode>
 where
     R: AllocGlobal
+        + Files<File = File, Dir = D>
         + Net<Listener = TcpListener, Stream = TcpStream>
         + Clock
+        + RandomSource
         + Threads
         + Wait
         + Sync,
+    D: Read + Send + Drop,
     S: AsStr + Send + Drop,
+    I: Inlet + Send + Drop,
     F: FileSet + Send + Drop,
     O: Outlet + Send + Drop,
     E: Outlet + Send + Drop,
+    requires in_whole { I.is_broken input ≡ false }
     requires out_whole { O.is_broken out ≡ false }
     requires err_whole { E.is_broken err ≡ false }
 {
     let commands = move || -> ExitCode
-        requires { (O.is_broken out ≡ false) × (E.is_broken err ≡ false) }
+        requires { (I.is_broken input ≡ false) × (O.is_broken out ≡ false) × (E.is_broken err ≡ false) }
     {
-        let (mut files, mut out, mut err) = (files, out, err);
-        flagops(rt, words, &mut files, &mut out, &mut err)
+        let (mut input, mut files, mut out, mut err) = (input, files, out, err);
+        flagops(rt, words, &mut input, &mut files, &mut out, &mut err)
     };
     spawned(rt, commands)
 }
@@ -122,34 +139,39 @@ fn behind_name(alloc: Global, words: io::Result<Args>) -> io::Result<Vec<String>
 
 /// Does what the words after the program's name ask for, over whatever files and outlets it is given, and gives the status
 /// that the process ends with.
-fn flagops<R, S, F, O, E>(
+fn flagops<R, S, I, F, O, E>(
     rt: &R,
     words: io::Result<Vec<S>>,
+    input: &mut I,
     files: &mut F,
     out: &mut O,
     err: &mut E,
 ) -> ExitCode
 where
     R: AllocGlobal
+        + Files<File = File>
         + Net<Listener = TcpListener, Stream = TcpStream>
         + Clock
+        + RandomSource
         + Threads
         + Wait
         + Sync,
     S: AsStr + Drop,
+    I: Inlet,
     F: FileSet,
     O: Outlet,
     E: Outlet + Drop,
+    requires in_whole { I.is_broken input.old ≡ false }
     requires out_whole { O.is_broken out.old ≡ false }
     requires err_whole { E.is_broken err.old ≡ false }
     ensures comes { IfOk words (λ w.
         Comes O.bytes O.is_broken out.old out.new E.bytes E.is_broken err.old err.new F.holding F.has_failed files.old files.new
-        (exit_status result) (family_of (map S.text w.items)) (map S.text w.items)) }
+        (exit_status result) (I.bytes input.old) (I.is_broken input.new) (family_of (map S.text w.items)) (map S.text w.items)) }
     ensures no_words { IfErr words (λ _. ComplainsAt O.bytes O.is_broken out.old out.new E.bytes E.is_broken err.old err.new (exit_status result)) }
     ensures no_words_kept { IfErr words (λ _. files.new ≡ files.old) }
 {
     match words {
-        Ok(words) => ExitCode::from(status_of(rt, words.as_slice(), files, out, err)),
+        Ok(words) => ExitCode::from(status_of(rt, words.as_slice(), input, files, out, err)),
         Err(e) if e.kind() == io::ErrorKind::OutOfMemory => {
             ExitCode::from(want(out, err, Call::Flagops))
         }
@@ -158,22 +180,33 @@ where
 }
 
 /// The status to end with, after what the words after the program's name ask for was done.
-fn status_of<R, S, F, O, E>(rt: &R, words: &[S], files: &mut F, out: &mut O, err: &mut E) -> u8
+fn status_of<R, S, I, F, O, E>(
+    rt: &R,
+    words: &[S],
+    input: &mut I,
+    files: &mut F,
+    out: &mut O,
+    err: &mut E,
+) -> u8
 where
     R: AllocGlobal
+        + Files<File = File>
         + Net<Listener = TcpListener, Stream = TcpStream>
         + Clock
+        + RandomSource
         + Threads
         + Wait
         + Sync,
     S: AsStr,
+    I: Inlet,
     F: FileSet,
     O: Outlet,
     E: Outlet + Drop,
+    requires in_whole { I.is_broken input.old ≡ false }
     requires out_whole { O.is_broken out.old ≡ false }
     requires err_whole { E.is_broken err.old ≡ false }
     ensures { Comes O.bytes O.is_broken out.old out.new E.bytes E.is_broken err.old err.new F.holding F.has_failed files.old files.new
-        result (family_of (map S.text words.now)) (map S.text words.now) }
+        result (I.bytes input.old) (I.is_broken input.new) (family_of (map S.text words.now)) (map S.text words.now) }
 {
     match family_of(words) {
         Family::Files => run(rt, words, files, out, err),
@@ -181,6 +214,14 @@ where
         Family::Follow => follow(rt, words, out, err),
         Family::Ramp => ramp(rt, words, files, out, err),
         Family::VerifyRamp => verify_ramp(rt, words, files, out, err),
+        Family::Picture => picture(rt, words, files, out, err),
+        Family::PictureRamp => picture_ramp(rt, words, files, out, err),
+        Family::PlanPicture => plan_picture(rt, words, files, out, err),
         Family::ApplyStep => apply_step(rt, words, files, out, err),
+        Family::Ofrep => ofrep(rt, words, files, out, err),
+        Family::Record => record(rt, words, input, files, out, err),
+        Family::Tally => tally(rt, words, input, files, out, err),
+        Family::Join => join(rt, words, files, out, err),
+        Family::Book => book(rt, words, files, out, err),
     }
 }

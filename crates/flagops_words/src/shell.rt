@@ -41,12 +41,17 @@ _flagops() {
     local word=${COMP_WORDS[COMP_CWORD]}
     COMPREPLY=()
     if [ "$COMP_CWORD" -eq 1 ]; then
-        COMPREPLY=($(compgen -W "bucket price check resolve plan verify apply drive book ramp verify-ramp serve follow completions --help --version" -- "$word"))
+        COMPREPLY=($(compgen -W "bucket price check resolve plan verify apply drive book ramp verify-ramp picture record tally join ofrep serve follow completions --help --version" -- "$word"))
         return
     fi
     case ${COMP_WORDS[1]}:$word in
-        plan:-* | verify:-* | ramp:-* | verify-ramp:-*) COMPREPLY=($(compgen -W "--refine --help" -- "$word")) ;;
-        apply:-*) COMPREPLY=($(compgen -W "--keep --write --refine --help" -- "$word")) ;;
+        plan:-*) COMPREPLY=($(compgen -W "--refine --picture --help" -- "$word")) ;;
+        picture:-*) COMPREPLY=($(compgen -W "--refine --ramp --help" -- "$word")) ;;
+        verify:-* | ramp:-* | verify-ramp:-* | tally:-*) COMPREPLY=($(compgen -W "--refine --help" -- "$word")) ;;
+        record:-*) COMPREPLY=($(compgen -W "--moment --workers --help" -- "$word")) ;;
+        apply:-*) COMPREPLY=($(compgen -W "--keep --write --refine --step --help" -- "$word")) ;;
+        book:-*) COMPREPLY=($(compgen -W "--torn --help" -- "$word")) ;;
+        ofrep:-*) COMPREPLY=($(compgen -W "--listen --log --stream --workers --poll --help" -- "$word")) ;;
         drive:-*) COMPREPLY=($(compgen -W "--add --help" -- "$word")) ;;
         serve:-* | follow:-*) COMPREPLY=($(compgen -W "--wait --help" -- "$word")) ;;
         *:-*) COMPREPLY=($(compgen -W "--help" -- "$word")) ;;
@@ -78,10 +83,26 @@ complete -c flagops -n __fish_use_subcommand -f -a drive -d 'Answer asks and wri
 complete -c flagops -n __fish_use_subcommand -f -a book -d 'Write the book of several books'
 complete -c flagops -n __fish_use_subcommand -f -a ramp -d 'Plan a rollout in steps'
 complete -c flagops -n __fish_use_subcommand -f -a verify-ramp -d 'Check the plans of a rollout in steps'
+complete -c flagops -n __fish_use_subcommand -f -a picture -d 'Draw a plan as SVG'
+complete -c flagops -n __fish_use_subcommand -f -a record -d 'Print the hash inputs that contexts reach'
+complete -c flagops -n __fish_use_subcommand -f -a tally -d 'Count sorted hash inputs by their points'
+complete -c flagops -n __fish_use_subcommand -f -a join -d 'Make one tally of several'
+complete -c flagops -n __fish_use_subcommand -f -a ofrep -d 'Answer evaluations over HTTP'
 complete -c flagops -n __fish_use_subcommand -f -a serve -d 'Publish documents to subscribers'
 complete -c flagops -n __fish_use_subcommand -f -a follow -d 'Print the snapshots that come'
 complete -c flagops -n __fish_use_subcommand -f -a completions -d 'Print the completion of a shell'
-complete -c flagops -n '__fish_seen_subcommand_from plan verify ramp verify-ramp' -l refine -x -d 'Plan in finer points'
+complete -c flagops -n '__fish_seen_subcommand_from plan verify ramp verify-ramp picture tally' -l refine -x -d 'Plan in finer points'
+complete -c flagops -n '__fish_seen_subcommand_from plan' -l picture -r -d 'Write the picture of the plan'
+complete -c flagops -n '__fish_seen_subcommand_from picture' -l ramp -d 'Draw the steps of a rollout'
+complete -c flagops -n '__fish_seen_subcommand_from record' -l moment -x -d 'The time of the evaluations'
+complete -c flagops -n '__fish_seen_subcommand_from record' -l workers -x -d 'The most threads that evaluate'
+complete -c flagops -n '__fish_seen_subcommand_from apply' -l step -x -d 'The step whose rule is put'
+complete -c flagops -n '__fish_seen_subcommand_from book' -l torn -d 'Pass over lines that are no notes'
+complete -c flagops -n '__fish_seen_subcommand_from ofrep' -l stream -x -d 'The port of the stream of snapshots'
+complete -c flagops -n '__fish_seen_subcommand_from ofrep' -l listen -x -d 'The address and port of the service'
+complete -c flagops -n '__fish_seen_subcommand_from ofrep' -l log -r -d 'The folder of the logs'
+complete -c flagops -n '__fish_seen_subcommand_from ofrep' -l workers -x -d 'The threads that answer'
+complete -c flagops -n '__fish_seen_subcommand_from ofrep' -l poll -x -d 'The seconds between two readings of the documents'
 complete -c flagops -n '__fish_seen_subcommand_from apply' -l keep -d 'Verify the plan and keep the rest of the text'
 complete -c flagops -n '__fish_seen_subcommand_from apply' -l write -d 'With --keep: write over the document'
 complete -c flagops -n '__fish_seen_subcommand_from apply' -l refine -x -d 'With --keep: the factor of the plan'
@@ -106,6 +127,11 @@ _flagops() {
         'book:write the book of several books'
         'ramp:plan a rollout in steps'
         'verify-ramp:check the plans of a rollout in steps'
+        'picture:draw a plan as SVG'
+        'record:print the hash inputs that contexts reach'
+        'tally:count sorted hash inputs by their points'
+        'join:make one tally of several'
+        'ofrep:answer evaluations over HTTP'
         'serve:publish documents to subscribers'
         'follow:print the snapshots that come'
         'completions:print the completion of a shell'
@@ -116,10 +142,25 @@ _flagops() {
         return
     fi
     case $words[2] in
-        plan | verify | ramp | verify-ramp) _arguments '--refine[plan in finer points]:M:' '--help[print help]' '*:file:_files' ;;
+        plan)
+            _arguments '--refine[plan in finer points]:M:' '--picture[write the picture of the plan]:file:_files' '--help[print help]' '*:file:_files'
+            ;;
+        picture) _arguments '--refine[plan in finer points]:M:' '--ramp[draw the steps of a rollout]' '--help[print help]' '*:file:_files' ;;
+        verify | ramp | verify-ramp | tally) _arguments '--refine[plan in finer points]:M:' '--help[print help]' '*:file:_files' ;;
+        record)
+            _arguments '--moment[the time of the evaluations]:MOMENT:' '--workers[the most threads that evaluate]:WORKERS:' \
+                '--help[print help]' '*:file:_files'
+            ;;
         apply)
             _arguments '--keep[verify the plan and keep the rest of the text]' '--write[with --keep\: write over the document]' \
-                '--refine[with --keep\: the factor of the plan]:M:' '--help[print help]' '*:file:_files'
+                '--refine[with --keep\: the factor of the plan]:M:' '--step[the step whose rule is put]:N:' '--help[print help]' '*:file:_files'
+            ;;
+        book) _arguments '--torn[pass over lines that are no notes]' '--help[print help]' '*:file:_files' ;;
+        ofrep)
+            _arguments '--listen[the address and port of the service]:ADDRESS\:PORT:' '--log[the folder of the logs]:folder:_files -/' \
+                '--stream[the port of the stream of snapshots]:PORT:' \
+                '--workers[the threads that answer]:N:' '--poll[the seconds between two readings of the documents]:SECONDS:' \
+                '--help[print help]' '*:file:_files'
             ;;
         drive) _arguments '--add[keep what the book has]' '--help[print help]' '*:file:_files' ;;
         serve | follow) _arguments '--wait[the most seconds to wait]:S:' '--help[print help]' '*:file:_files' ;;

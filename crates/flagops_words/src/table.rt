@@ -188,7 +188,7 @@ const DRIVE: Usage = Usage {
 
 const UNITE: Usage = Usage {
     name: "book",
-    about: "Writes the book of all that is in several books",
+    about: "Writes the book of all that is in several books and logs",
     words: &[
         Word::Text("OUT", "The book file that is written"),
         Word::Texts("FILE", "The book files that are read"),

@@ -1,0 +1,229 @@
+"""The filters `record`, `tally` and `join`: what they pass over, tell and refuse, and how they end."""
+import json
+import os
+import subprocess
+import tempfile
+import unittest
+
+from program import PROGRAM, ROOT, SECONDS, ProgramTest, run
+from test_planner import murmur3
+from test_records import DOCUMENT, TOTAL, compact, note, printed, sorted_once
+
+BROKEN = compact(
+    {
+        "flags": {
+            "color": {"state": "ENABLED", "variants": {"red": 1.5}, "targeting": {"fractional": [["red", 1]]}},
+            "plain": {"state": "ENABLED", "variants": {"red": 1}, "defaultVariant": "red"},
+            "empty": {
+                "state": "ENABLED",
+                "variants": {"red": 1},
+                "defaultVariant": "red",
+                "targeting": {"fractional": [["red", 0]]},
+            },
+            "large": {
+                "state": "ENABLED",
+                "variants": {"red": 1},
+                "defaultVariant": "red",
+                "targeting": {"fractional": [["red", 1_000_001]]},
+            },
+        }
+    }
+)
+
+
+def context(key):
+    """A line with the context of a key."""
+    return compact({"key": key}) + "\n"
+
+
+def record(lines, *more, document=DOCUMENT, key="color"):
+    """What `record` comes to on these lines."""
+    return run(["record", "d", key, *more], {"d": document}, input=lines)
+
+
+def tally(lines, *more, document=DOCUMENT, key="color", site="0"):
+    """What `tally` comes to on these lines."""
+    return run(["tally", "d", key, site, *more], {"d": document}, input=lines)
+
+
+class FiltersTest(ProgramTest):
+    """The filters on small inputs."""
+
+    def test_empty(self):
+        """No line gives no note, and the tally of none."""
+        self.assertEqual((record("").out, record("").status), ("", 0))
+        self.assertEqual((tally("").out, tally("").status), (printed([], TOTAL), 0))
+
+    def test_refused_line(self):
+        """What was printed before stays, the line of the refusal is the last, and later lines are not looked at."""
+        for bad in ["[]", "{", "1", '{"key":1.5}', '{"key":"b"} x', '"b"']:
+            with self.subTest(bad=bad):
+                ran = record(context("a") + "\n" + bad + "\n" + context("c") + "}\n")
+                self.assertEqual((ran.out, ran.status), (note("a") + "refused record 1 Line 3\n", 1))
+                self.assertIn("line 3", ran.err)
+                refused = tally(ran.out)
+                self.assertEqual((refused.out, refused.status), ("refused tally 1 Line 2\n", 1))
+
+    def test_passed_over(self):
+        """Blank lines are passed over, and a last line without its end, which is told."""
+        for lines in [context("a") + " \t\r\n\n" + context("b"), context("a") + context("b")]:
+            self.assertEqual(record(lines), (note("a") + note("b"), "", 0, {"d": DOCUMENT}))
+            torn = record(lines + '{"key":"c"}')
+            self.assertEqual((torn.out, torn.status), (note("a") + note("b"), 0))
+            self.assertIn("no end", torn.err)
+        torn = tally(note("a") + note("b")[:-1])
+        self.assertEqual((torn.out, torn.status), (printed([note("a")], TOTAL), 0))
+        self.assertIn("no end", torn.err)
+
+    def test_long_inputs(self):
+        """An input above 1,024 bytes is not noted; their number is told."""
+        ran = record(context("k" * 1024) + context("k" * 1025) + context("é" * 513))
+        self.assertEqual((ran.out, ran.status), (note("k" * 1024), 0))
+        self.assertIn("2 inputs", ran.err)
+
+    def test_long_lines(self):
+        """A line has at most 4,194,304 bytes, whether or not it ends."""
+        most = 4_194_304
+        line = '{"key":"a"' + " " * (most - 11) + "}"
+        self.assertEqual(len(line), most)
+        self.assertEqual(record(line + "\n").out, note("a"))
+        for end in ["\n", ""]:
+            ran = record(context("b") + line.replace("}", " }") + end)
+            self.assertEqual((ran.out, ran.status), (note("b") + "refused record 1 Line 2\n", 1))
+            ran = tally(note("b") + "x" * (most + 1) + end)
+            self.assertEqual((ran.out, ran.status), ("refused tally 1 Line 2\n", 1))
+
+    def test_batches(self):
+        """Lines of more than one batch, cut at any place, are those of one."""
+        filler = "f" * 1000
+        keys = [f"user{n}" for n in range(30_000)]
+        lines = "".join(compact({"filler": filler, "key": key}) + "\n" for key in keys)
+        ran = record(lines)
+        self.assertEqual((ran.out == "".join(map(note, keys)), ran.status), (True, 0))
+        lines = sorted_once(note(f"{filler}{n}") for n in range(20_000))
+        self.assertEqual(tally("".join(lines)).out, printed(lines, TOTAL))
+        refused = tally("".join(lines) + lines[-1])
+        self.assertEqual(refused.out, "refused tally 2 Order 20001\n")
+
+    def test_flags(self):
+        """A flag that is not there or broken, and a site that is not there, are refused as `plan` refuses them."""
+        ran = record(context("a"), document=BROKEN, key="none")
+        self.assertEqual((ran.out, ran.status), ("refused plan 2 UnknownFlag\n", 1))
+        self.assertIn('"none"', ran.err)
+        self.assertEqual(record("", document=BROKEN).out, "refused plan 3 NoSite\n")
+        self.assertEqual(record(context("a"), document=BROKEN, key="plain"), ("", "", 0, {"d": BROKEN}))
+        for key, site, refused in [
+            ("none", "0", "2 UnknownFlag"),
+            ("color", "0", "3 NoSite"),
+            ("plain", "0", "3 NoSite"),
+            ("empty", "1", "3 NoSite"),
+            ("empty", "0", "9 NoWeight"),
+            ("large", "0", "7 TotalTooLarge"),
+        ]:
+            with self.subTest(key=key, site=site):
+                ran = tally("", document=BROKEN, key=key, site=site)
+                self.assertEqual((ran.out, ran.status), (f"refused plan {refused}\n", 1))
+        self.assertEqual(tally("", "--refine", "125000").out, printed([], 1_000_000))
+        self.assertEqual(tally("", "--refine", "125001").out, "refused plan 7 TotalTooLarge\n")
+
+    def test_moment(self):
+        """The moment is that of each evaluation, and 0 where it is left out."""
+        targeting = {"if": [{">": [{"var": "$flagd.timestamp"}, 5]}, {"fractional": [{"var": "key"}, ["red", 1]]}, "red"]}
+        flags = {"t": {"state": "ENABLED", "variants": {"red": 1}, "defaultVariant": "red", "targeting": targeting}}
+        document = compact({"flags": flags})
+        for more, count in [([], 0), (["--moment", "5"], 0), (["--moment", "6"], 1)]:
+            ran = record(context("a"), *more, document=document, key="t")
+            self.assertEqual((len(ran.out.splitlines()), ran.status), (count, 0))
+
+    def test_unreadable(self):
+        """A read that fails is a refusal of its own."""
+        with tempfile.TemporaryDirectory() as folder:
+            with open(os.path.join(folder, "d"), "w", encoding="utf-8") as file:
+                file.write(DOCUMENT)
+            for words, refused in [
+                (["record", "d", "color"], "record 2 Unreadable"),
+                (["tally", "d", "color", "0"], "tally 4 Unreadable"),
+            ]:
+                directory = os.open(folder, os.O_RDONLY)
+                try:
+                    ended = subprocess.run(
+                        [PROGRAM, *words], cwd=folder, stdin=directory, capture_output=True, timeout=SECONDS, check=False
+                    )
+                finally:
+                    os.close(directory)
+                self.assertEqual((ended.stdout.decode(), ended.returncode), (f"refused {refused}\n", 1))
+
+    def test_closed_pipe(self):
+        """A pipe that is closed early ends `record` quietly, with status 1."""
+        with tempfile.TemporaryDirectory() as folder:
+            with open(os.path.join(folder, "d"), "w", encoding="utf-8") as file:
+                file.write(DOCUMENT)
+            with open(os.path.join(folder, "c"), "w", encoding="utf-8") as file:
+                file.writelines(context(f"user{n}") for n in range(600_000))
+            with open(os.path.join(folder, "c"), "rb") as contexts:
+                running = subprocess.Popen(
+                    [PROGRAM, "record", "d", "color"],
+                    cwd=folder,
+                    stdin=contexts,
+                    stdout=subprocess.PIPE,
+                    stderr=subprocess.PIPE,
+                )
+                first = running.stdout.readline()
+                running.stdout.close()
+                told = running.stderr.read()
+                running.stderr.close()
+                status = running.wait(SECONDS)
+        self.assertEqual((first.decode(), told, status), (note("user0"), b"", 1))
+
+    def test_words(self):
+        """Words that are none of the filters'."""
+        for words in [
+            ["record", "d"],
+            ["record", "d", "color", "more"],
+            ["record", "d", "color", "--workers", "0"],
+            ["record", "d", "color", "--workers", "65"],
+            ["record", "d", "color", "--moment", "x"],
+            ["tally", "d", "color"],
+            ["tally", "d", "color", "-1"],
+            ["tally", "d", "color", "4294967296"],
+            ["tally", "d", "color", "0", "--refine", "0"],
+            ["join"],
+        ]:
+            with self.subTest(words=words):
+                ran = run(words, {"d": DOCUMENT}, input="")
+                self.assertEqual((ran.out, ran.status), ("", 2))
+                self.assertTrue(ran.err.startswith("error: ") and ran.err.endswith("try '--help'.\n"), ran.err)
+        self.assertIn("--workers", run(["record", "--help"], {}, input="").out)
+
+    def test_files(self):
+        """Files that are not there, and documents that are none."""
+        self.assertEqual(run(["record", "d", "color"], {}, input="").out, "refused load 1 Unreadable\n")
+        self.assertEqual(run(["tally", "d", "color", "0"], {"d": "{}"}, input="").out, "refused read_flags 2 NoFlags\n")
+        ran = run(["join", "a", "b"], {"a": printed([note("a")], TOTAL)})
+        self.assertEqual((ran.out, ran.status), ("refused load 1 Unreadable\n", 1))
+        self.assertIn('"b"', ran.err)
+
+    def test_book(self):
+        """The tally of the demo's contexts has the counts of the book that `drive` writes of the same asks."""
+        path = os.path.join(ROOT, "demo")
+        shop = os.path.join(path, "flags", "shop.json")
+        with open(os.path.join(path, "drive", "asks.json"), encoding="utf-8") as file:
+            asks = json.load(file)
+        with open(os.path.join(path, "rollout", "book.txt"), encoding="utf-8") as file:
+            inputs = [json.loads(line) for line in file.readlines()[2:]]
+        lines = "".join(compact(ask["context"]) + "\n" for ask in asks)
+        ran = run(["record", shop, "checkout"], {}, input=lines)
+        self.assertEqual((ran.err, ran.status), ("", 0))
+        lines = sorted_once(ran.out.splitlines(keepends=True))
+        self.assertEqual([json.loads(line)[3] for line in lines], inputs)
+        printed_tally = run(["tally", shop, "checkout", "0"], {}, input="".join(lines)).out.splitlines()
+        counts = {}
+        for each in inputs:
+            point = murmur3(each.encode()) * 100 >> 32
+            counts[point] = counts.get(point, 0) + 1
+        self.assertEqual(json.loads(printed_tally[1])["inputs"], len(inputs))
+        self.assertEqual([json.loads(line) for line in printed_tally[2:]], [[p, counts[p]] for p in sorted(counts)])
+
+
+if __name__ == "__main__":
+    unittest.main()

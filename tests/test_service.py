@@ -1,0 +1,522 @@
+"""The command `ofrep` over the loopback: what it answers over HTTP, and what its logs hold then."""
+import concurrent.futures
+import hashlib
+import http.client
+import json
+import os
+import select
+import signal
+import socket
+import struct
+import subprocess
+import tempfile
+import threading
+import time
+import unittest
+
+from program import PROGRAM, run
+
+FLAGS = "/ofrep/v1/evaluate/flags"
+JSON = "application/json"
+
+# A flag for each answer: one variant by a rule, one always, one of another kind, and those that have none.
+DOCUMENT = {
+    "flags": {
+        "broken": {"state": "ENABLED"},
+        "color": {
+            "state": "ENABLED",
+            "variants": {"red": "r", "blue": "b"},
+            "defaultVariant": "red",
+            "targeting": {"fractional": [["red", 50], ["blue", 50]]},
+        },
+        "default": {"state": "ENABLED", "variants": {"on": True, "off": False}},
+        "off": {"state": "DISABLED", "variants": {"on": True}, "defaultVariant": "on"},
+        "size": {"state": "ENABLED", "variants": {"one": 1, "two": 2}, "defaultVariant": "two"},
+        "two words/ß": {"state": "ENABLED", "variants": {"on": True}, "defaultVariant": "on"},
+    }
+}
+
+
+def compact(value):
+    """The text of a value as the service prints it."""
+    return json.dumps(value, separators=(",", ":"), sort_keys=True, ensure_ascii=False)
+
+
+def context(key=None, **more):
+    """The body of a request with this targeting key."""
+    members = dict(more) if key is None else {"targetingKey": key, **more}
+    return compact({"context": members}).encode()
+
+
+def color_of(key):
+    """What the program itself resolves the flag `color` to."""
+    files = {"d": compact(DOCUMENT), "c": compact({"targetingKey": key})}
+    told = json.loads(run(["resolve", "d", "color", "text", '"x"', "c", "0"], files).out)
+    return {"key": "color", "metadata": {}, **{name: told[name] for name in ("reason", "value", "variant")}}
+
+
+def free_port():
+    """A port that nobody listens on."""
+    with socket.socket() as probe:
+        probe.bind(("127.0.0.1", 0))
+        return probe.getsockname()[1]
+
+
+class ServiceTest(unittest.TestCase):
+    """A service of its own for each test."""
+
+    def setUp(self):
+        folder = tempfile.TemporaryDirectory()
+        self.addCleanup(folder.cleanup)
+        self.folder = folder.name
+        self.put("d", compact(DOCUMENT))
+
+    def put(self, name, text):
+        with open(os.path.join(self.folder, name), "w", encoding="utf-8") as file:
+            file.write(text)
+
+    def start(self, *words, documents=("d",)):
+        """A service that listens."""
+        self.port = free_port()
+        words = [PROGRAM, "ofrep", "--listen", f"127.0.0.1:{self.port}", *words, *documents]
+        how = {"stdout": subprocess.PIPE, "stderr": subprocess.PIPE, "text": True, "cwd": self.folder}
+        child = subprocess.Popen(words, **how)
+        self.addCleanup(child.communicate)
+        self.addCleanup(child.kill)
+        ready, _, _ = select.select([child.stdout], [], [], 20)
+        self.assertTrue(ready, "the service does not listen")
+        self.assertEqual(child.stdout.readline(), f"serving {len(documents)}\n")
+        return child
+
+    def ask(self, method, path, body=b"", headers={}):
+        """The status, the headers and the body of one answer."""
+        connection = http.client.HTTPConnection("127.0.0.1", self.port, timeout=20)
+        try:
+            connection.request(method, path, body, dict(headers))
+            answer = connection.getresponse()
+            return answer.status, dict(answer.getheaders()), answer.read()
+        finally:
+            connection.close()
+
+    def flag(self, key, body=b""):
+        """The status and the body of the answer for one flag."""
+        status, headers, text = self.ask("POST", f"{FLAGS}/{key}", body)
+        value = {name.lower(): text for name, text in headers.items()}
+        self.assertEqual(value["content-type"], JSON)
+        told = json.loads(text)
+        self.assertEqual(text.decode(), compact(told))
+        return status, told
+
+    def notes(self, folder="log"):
+        """The lines of all logs, which are whole."""
+        lines = []
+        for name in sorted(os.listdir(os.path.join(self.folder, folder))):
+            with open(os.path.join(self.folder, folder, name), encoding="utf-8") as file:
+                text = file.read()
+            self.assertTrue(text == "" or text.endswith("\n"))
+            lines += text.splitlines()
+        return lines
+
+
+class Answers(ServiceTest):
+    """What is answered."""
+
+    def setUp(self):
+        super().setUp()
+        self.start("--log", "log", "--workers", "2", "--poll", "0")
+
+    def test_one_flag(self):
+        for key in ("mallory", "alice", "bob", ""):
+            with self.subTest(key):
+                self.assertEqual(self.flag("color", context(key)), (200, color_of(key)))
+        told = {"key": "size", "metadata": {}, "reason": "STATIC", "value": 2, "variant": "two"}
+        self.assertEqual(self.flag("size"), (200, told))
+        self.assertEqual(self.flag("size", b'{"context":null}'), (200, told))
+        self.assertEqual(self.flag("two%20words%2F%C3%9F")[1]["key"], "two words/ß")
+
+    def test_flags_without_a_variant(self):
+        for key in ("nobody", "off", "default"):
+            with self.subTest(key):
+                status, told = self.flag(key)
+                self.assertEqual((status, told["errorCode"], told["key"]), (404, "FLAG_NOT_FOUND", key))
+                self.assertNotEqual(told["errorDetails"], "")
+                self.assertNotIn("value", told)
+        status, told = self.flag("broken")
+        self.assertEqual((status, told["errorCode"]), (400, "PARSE_ERROR"))
+
+    def test_contexts(self):
+        bodies = [
+            (b"{", "PARSE_ERROR"),
+            (b"[]", "INVALID_CONTEXT"),
+            (b'{"context":1}', "INVALID_CONTEXT"),
+            (b'{"context":{"a":[0.5]}}', "INVALID_CONTEXT"),
+        ]
+        for body, code in bodies:
+            with self.subTest(body):
+                status, told = self.flag("color", body)
+                self.assertEqual((status, told["errorCode"], told["key"]), (400, code, "color"))
+
+    def test_every_flag(self):
+        status, headers, body = self.ask("POST", FLAGS, context("mallory"))
+        self.assertEqual(status, 200)
+        told = json.loads(body)["flags"]
+        self.assertEqual([flag["key"] for flag in told], ["broken", "color", "size", "two words/ß"])
+        self.assertEqual(told[1], color_of("mallory"))
+        for flag in told[1:]:
+            self.assertEqual(self.flag(quoted(flag["key"]), context("mallory")), (200, flag))
+        tag = {name.lower(): value for name, value in headers.items()}["etag"]
+        self.assertEqual(tag, f'"{hashlib.sha256(body).hexdigest()}"')
+        for given in (tag, "*", f'"x", W/{tag}', f'"x" , {tag}'):
+            with self.subTest(given):
+                status, _, rest = self.ask("POST", FLAGS, context("mallory"), {"If-None-Match": given})
+                self.assertEqual((status, rest), (304, b""))
+        status, _, rest = self.ask("POST", FLAGS, context("mallory"), {"If-None-Match": '"x"'})
+        self.assertEqual((status, rest), (200, body))
+
+    def test_other_places(self):
+        for path in ("/healthz", "/readyz"):
+            status, _, body = self.ask("GET", path)
+            self.assertEqual((status, body), (200, b"ok"))
+        status, headers, _ = self.ask("GET", f"{FLAGS}/color")
+        self.assertEqual((status, headers.get("Allow", headers.get("allow"))), (405, "POST"))
+        for path in ("/", "/ofrep/v1/evaluate/flag", f"{FLAGS}/", f"{FLAGS}/%FF", f"{FLAGS}/%zz"):
+            with self.subTest(path):
+                status, _, body = self.ask("POST", path)
+                self.assertEqual(status, 404)
+                self.assertIn("errorDetails", json.loads(body))
+
+    def metrics(self):
+        """What the service counts, by name."""
+        status, _, body = self.ask("GET", "/metrics")
+        self.assertEqual(status, 200)
+        return dict(line.rsplit(" ", 1) for line in body.decode().splitlines() if line[0] != "#")
+
+    def test_evaluations_are_counted_by_reason(self):
+        self.flag("nobody")
+        self.ask("POST", FLAGS, context("mallory"))
+        self.flag("color", b"{")
+        lines = self.metrics()
+        reasons = {"STATIC": "2", "TARGETING_MATCH": "1", "DEFAULT": "1", "DISABLED": "1", "ERROR": "2"}
+        for reason, count in reasons.items():
+            with self.subTest(reason):
+                self.assertEqual(lines[f'ofrep_evaluations_total{{reason="{reason}"}}'], count)
+
+    def test_metrics(self):
+        self.flag("color", context("mallory"))
+        self.flag("nobody")
+        lines = self.metrics()
+        self.assertEqual(lines['ofrep_requests_total{status="200"}'], "1")
+        self.assertEqual(lines['ofrep_requests_total{status="404"}'], "1")
+        self.assertEqual((lines["ofrep_notes_total"], lines["ofrep_snapshot"]), ("1", "1"))
+        self.assertEqual(lines["ofrep_flags"], str(len(DOCUMENT["flags"])))
+
+    def test_pieces_and_pipelines(self):
+        body = context("mallory")
+        head = f"POST {FLAGS}/color HTTP/1.1\r\nHost: h\r\nContent-Length: {len(body)}\r\n\r\n".encode()
+        with socket.create_connection(("127.0.0.1", self.port), 20) as stream:
+            for byte in head + body:
+                stream.sendall(bytes([byte]))
+            first = self.whole_answer(stream)
+            stream.sendall((head + body) * 50)
+            for _ in range(50):
+                self.assertEqual(self.whole_answer(stream), first)
+        self.assertEqual(first, compact(color_of("mallory")).encode())
+
+    def whole_answer(self, stream):
+        """The body of the next answer on a connection."""
+        answer = http.client.HTTPResponse(stream)
+        kept, answer.fp = answer.fp, Unbuffered(stream)
+        kept.close()
+        answer.begin()
+        return answer.read()
+
+    def test_bad_heads(self):
+        for head in (b"NONSENSE\r\n\r\n", b"GET / HTTP/1.1\r\nbad header\r\n\r\n", b"GET / HTTP/1.1\r\n\r\n"):
+            with self.subTest(head), socket.create_connection(("127.0.0.1", self.port), 20) as stream:
+                stream.sendall(head)
+                self.assertTrue(stream.recv(4096).startswith(b"HTTP/1.1 400 "))
+        with socket.create_connection(("127.0.0.1", self.port), 20) as stream:
+            stream.sendall(b"POST / HTTP/1.1\r\nHost: h\r\nContent-Length: 4194305\r\n\r\n")
+            self.assertTrue(stream.recv(4096).startswith(b"HTTP/1.1 413 "))
+
+    def test_expect_continue(self):
+        body = context("mallory")
+        with socket.create_connection(("127.0.0.1", self.port), 20) as stream:
+            head = f"POST {FLAGS}/color HTTP/1.1\r\nHost: h\r\nExpect: 100-continue\r\nContent-Length: {len(body)}\r\n\r\n"
+            stream.sendall(head.encode())
+            self.assertTrue(stream.recv(4096).startswith(b"HTTP/1.1 100 "))
+            stream.sendall(body)
+            self.assertTrue(stream.recv(4096).startswith(b"HTTP/1.1 200 "))
+
+
+class Unbuffered:
+    """Reads of a socket that take no byte of the next answer."""
+
+    def __init__(self, stream):
+        self.stream = stream
+
+    def readline(self, limit=-1):
+        line = b""
+        while not line.endswith(b"\n") and len(line) != limit:
+            line += self.stream.recv(1)
+        return line
+
+    def read(self, count):
+        text = b""
+        while len(text) < count:
+            text += self.stream.recv(count - len(text))
+        return text
+
+    def close(self):
+        pass
+
+    def flush(self):
+        pass
+
+
+def quoted(key):
+    """A key as a part of a path."""
+    return "".join(c if c.isalnum() and c.isascii() else "".join(f"%{b:02X}" for b in c.encode()) for c in key)
+
+
+class Turns(ServiceTest):
+    """Many connections of one worker."""
+
+    def pipeline(self, stop):
+        """Asks without a pause on one connection until it is told to stop, and says how many bytes were answered."""
+        requests = b"GET /healthz HTTP/1.1\r\nHost: h\r\n\r\n" * 5_000
+        left, answered = requests, 0
+        with socket.create_connection(("127.0.0.1", self.port), 20) as stream:
+            stream.setblocking(False)
+            while not stop.is_set():
+                readable, writable, _ = select.select([stream], [stream], [], 1)
+                if readable:
+                    answered += len(stream.recv(1 << 20))
+                if writable:
+                    left = left[stream.send(left) :] or requests
+        return answered
+
+    def test_who_never_pauses_holds_up_nobody(self):
+        self.start("--workers", "1", "--poll", "0")
+        stop = threading.Event()
+        with concurrent.futures.ThreadPoolExecutor() as pool:
+            busy = [pool.submit(self.pipeline, stop) for _ in range(3)]
+            try:
+                for _ in range(20):
+                    self.assertEqual(self.flag("size")[1]["value"], 2)
+            finally:
+                stop.set()
+        self.assertTrue(all(each.result() > 0 for each in busy))
+
+
+class Logs(ServiceTest):
+    """What stands in the logs once something is told."""
+
+    def note(self, key):
+        return compact(["color", 0, None, f"color{key}"])
+
+    def test_notes_stand_before_answers(self):
+        self.start("--log", "log", "--workers", "3")
+        for number in range(30):
+            status, _ = self.flag("color", context(f"user-{number}"))
+            self.assertEqual(status, 200)
+            self.assertIn(self.note(f"user-{number}"), self.notes())
+        self.flag("size", context("nobody"))
+        self.flag("color", b"{")
+        self.assertEqual(sorted(set(self.notes())), sorted(self.note(f"user-{n}") for n in range(30)))
+        status, _, _ = self.ask("POST", FLAGS, context("late"), {"If-None-Match": "*"})
+        self.assertEqual(status, 304)
+        self.assertIn(self.note("late"), self.notes())
+
+    def test_inputs_that_are_too_long(self):
+        self.start("--log", "log")
+        self.assertEqual(self.flag("color", context("x" * 1019))[0], 200)
+        self.assertEqual(self.flag("color", context("y" * 1020))[0], 200)
+        self.assertEqual(self.notes(), [self.note("x" * 1019)])
+
+    def test_a_last_line_without_its_end_is_cut_off(self):
+        os.mkdir(os.path.join(self.folder, "log"))
+        whole = self.note("early") + "\n"
+        self.put("log/worker-1.log", whole + '["color",0,nu')
+        self.put("log/worker-2.log", "torn")
+        self.start("--log", "log", "--workers", "2")
+        self.assertEqual(self.notes(), [self.note("early")])
+        self.flag("color", context("late"))
+        self.assertEqual(sorted(self.notes()), sorted([self.note("early"), self.note("late")]))
+
+    def test_nothing_that_was_told_is_lost_by_a_kill(self):
+        child = self.start("--log", "log/of/today")
+        told = [f"user-{number}" for number in range(20) if self.flag("color", context(f"user-{number}"))[0] == 200]
+        child.send_signal(signal.SIGKILL)
+        child.wait()
+        self.assertEqual(sorted(set(self.notes("log/of/today"))), sorted(self.note(key) for key in told))
+
+    def test_a_log_that_cannot_be_written_tells_no_variant(self):
+        if not os.path.exists("/dev/full"):
+            self.skipTest("no /dev/full")
+        os.mkdir(os.path.join(self.folder, "log"))
+        os.symlink("/dev/full", os.path.join(self.folder, "log", "worker-1.log"))
+        self.start("--log", "log", "--workers", "1")
+        status, told = self.flag("color", context("mallory"))
+        self.assertEqual((status, list(told)), (500, ["errorDetails"]))
+        self.assertEqual(self.flag("size")[0], 200)
+        self.assertEqual(self.ask("POST", FLAGS, context("mallory"), {"If-None-Match": "*"})[0], 500)
+
+    def test_without_a_log(self):
+        child = self.start()
+        self.assertEqual(self.flag("color", context("mallory")), (200, color_of("mallory")))
+        child.kill()
+        self.assertIn("records nothing", child.stderr.read())
+
+
+class Changing(ServiceTest):
+    """A service whose document changes."""
+
+    def until(self, wanted):
+        """Asks until the flag `size` has this value."""
+        end = time.monotonic() + 20
+        while time.monotonic() < end:
+            if self.flag("size")[1].get("value") == wanted:
+                return
+            time.sleep(0.05)
+        self.fail(f"size is not {wanted}")
+
+    def changed(self, variant):
+        flags = {**DOCUMENT["flags"], "size": {**DOCUMENT["flags"]["size"], "defaultVariant": variant}}
+        return compact({"flags": flags})
+
+
+class Publishing(Changing):
+    """Documents that change while they are answered from."""
+
+    def test_what_changes_is_published(self):
+        self.put("over", '{"flags":{}}')
+        child = self.start("--poll", "1", documents=("d", "over"))
+        self.until(2)
+        self.put("d", self.changed("one"))
+        self.until(1)
+        self.put("over", "{")
+        os.remove(os.path.join(self.folder, "d"))
+        time.sleep(2.5)
+        self.until(1)
+        self.put("d", self.changed("two"))
+        self.until(2)
+        self.put("over", '{"flags":{"size":{"state":"DISABLED","variants":{"one":1}}}}')
+        self.until(None)
+        child.kill()
+        told = child.stderr.read()
+        self.assertEqual(told.count("cannot be read"), 1, told)
+        self.assertEqual(told.count("what was accepted of it last"), 2, told)
+        self.assertIn("answers from snapshot 4", told)
+
+
+class Streaming(Changing):
+    """The stream beside the service."""
+
+    SUBSCRIBERS = 32
+
+    def stream(self, *words):
+        """A service that streams, and its port."""
+        port = free_port()
+        return self.start("--poll", "1", "--stream", str(port), *words), port
+
+    def subscriber(self, port, patience=20):
+        """A connection to the stream."""
+        stream = socket.create_connection(("127.0.0.1", port), patience)
+        self.addCleanup(stream.close)
+        return stream
+
+    def frame(self, stream):
+        """The number and the document of the next frame."""
+        whole = Unbuffered(stream)
+        length, number = struct.unpack(">IQ", whole.read(12))
+        return number, json.loads(whole.read(length - 8))
+
+    def size(self, stream):
+        """The number of the next frame, and the variant that its flag `size` has by default."""
+        number, told = self.frame(stream)
+        return number, told["flags"]["size"]["defaultVariant"]
+
+    def test_a_subscriber_is_sent_each_latest_snapshot(self):
+        child, port = self.stream()
+        early = self.subscriber(port)
+        self.assertEqual(self.size(early), (1, "two"))
+        early.sendall(b"whatever a subscriber sends is dropped")
+        self.put("d", self.changed("one"))
+        self.assertEqual(self.size(early), (2, "one"))
+        late = self.subscriber(port)
+        self.assertEqual(self.size(late), (2, "one"))
+        self.assertEqual(self.flag("size")[1]["value"], 1)
+        self.put("d", self.changed("two"))
+        self.assertEqual([self.size(early), self.size(late)], [(3, "two")] * 2)
+        followed = run(["follow", str(port), "1"], {})
+        self.assertEqual(followed.out, f"snapshot 3 flags {len(DOCUMENT['flags'])}\nstopped Limit\n")
+        child.kill()
+        self.assertIn(f"127.0.0.1:{port}", child.stderr.read())
+
+    def test_a_seat_is_taken_again_once_its_subscriber_has_left(self):
+        _, port = self.stream("--workers", "32")
+        seated = [self.subscriber(port) for _ in range(self.SUBSCRIBERS)]
+        for stream in seated:
+            self.assertEqual(self.size(stream), (1, "two"))
+        waiting = self.subscriber(port, 1)
+        with self.assertRaises(TimeoutError):
+            waiting.recv(1)
+        seated[7].close()
+        waiting.settimeout(20)
+        self.assertEqual(self.size(waiting), (1, "two"))
+
+    def test_who_takes_nothing_holds_up_nobody(self):
+        _, port = self.stream()
+        self.subscriber(port)
+        taking = self.subscriber(port)
+        self.assertEqual(self.size(taking), (1, "two"))
+        self.put("d", self.changed("one"))
+        self.assertEqual(self.size(taking), (2, "one"))
+        self.until(1)
+
+    def test_a_port_that_is_taken(self):
+        with socket.socket() as taken:
+            taken.bind(("127.0.0.1", 0))
+            taken.listen()
+            port = str(taken.getsockname()[1])
+            ran = run(["ofrep", "--listen", "127.0.0.1:0", "--stream", port, "d"], {"d": compact(DOCUMENT)})
+        self.assertEqual((ran.out, ran.status), ("refused bind 1 Unbound\n", 1))
+
+
+class Refusals(ServiceTest):
+    """Runs that answer nobody."""
+
+    def refused(self, *words):
+        return run(["ofrep", *words], {"d": compact(DOCUMENT), "bad": "{"})
+
+    def test_documents(self):
+        for words, line in [
+            (["none"], "refused load 1 Unreadable\n"),
+            (["d", "bad"], "refused set 4 Refused 1 NotJson\n"),
+            (["d"] * 17, "refused add 2 TooMany\n"),
+        ]:
+            with self.subTest(words):
+                ran = self.refused("--listen", "127.0.0.1:0", *words)
+                self.assertEqual((ran.out, ran.status), (line, 1))
+                self.assertNotEqual(ran.err, "")
+
+    def test_addresses_and_logs(self):
+        for words, line in [
+            (["--listen", "nowhere", "d"], "refused bind 1 Unbound\n"),
+            (["--listen", "127.0.0.1:0", "--log", "d", "d"], "refused log 1 Unopened\n"),
+        ]:
+            with self.subTest(words):
+                ran = self.refused(*words)
+                self.assertEqual((ran.out, ran.status), (line, 1))
+                self.assertNotEqual(ran.err, "")
+
+    def test_mistakes(self):
+        for words in ([], ["--workers", "0", "d"], ["--workers", "33", "d"], ["--poll", "3601", "d"], ["--stream", "0", "d"], ["--stream", "65536", "d"], ["--fast", "d"], ["--log"]):
+            with self.subTest(words):
+                ran = self.refused(*words)
+                self.assertEqual((ran.out, ran.status), ("", 2))
+
+
+if __name__ == "__main__":
+    unittest.main()
