@@ -92,12 +92,23 @@ def ran(stages, given, kept):
         source.close()
         source = None if last else child.stdout
         children.append(child)
-    told = []
-    for child, words in zip(children, stages):
-        _, status, used = os.wait4(child.pid, 0)
-        child.returncode = status
-        told.append((os.path.basename(words[0]), words[1], status, used.ru_utime + used.ru_stime, used.ru_maxrss / 1024))
-    return time.perf_counter() - started, told
+    peaks, ended = [0] * len(children), {}
+    while len(ended) < len(children):
+        for at, child in enumerate(children):
+            if at in ended:
+                continue
+            peaks[at] = max(peaks[at], resident(child.pid))
+            pid, child.returncode, used = os.wait4(child.pid, os.WNOHANG)
+            if pid:
+                ended[at] = (os.path.basename(stages[at][0]), stages[at][1], child.returncode, used.ru_utime + used.ru_stime, peaks[at])
+        time.sleep(0.02)
+    return time.perf_counter() - started, [ended[at] for at in range(len(children))]
+
+
+def resident(pid):
+    """The peak of a process's own memory in MB. (What the system gives of a child that ended counts who started it.)"""
+    with open(f"/proc/{pid}/status", encoding="ascii", errors="replace") as file:
+        return max((int(line.split()[1]) for line in file if line.startswith("VmHWM:")), default=0) / 1024
 
 
 def tell(what, seconds, told):
