@@ -41,7 +41,7 @@ def recorded(document, flag, moment, part):
     """The note lines of a part, as a table of one column. Within the part each stands once, so that less is moved."""
     with open(part, "rb") as file:
         lines = ran(["record", document, flag, "--moment", str(moment)], file.read()).decode()
-    return pandas.DataFrame({"line": sorted(set(lines.splitlines()))}, dtype=object)
+    return pandas.DataFrame({"line": sorted(set(lines.split("\n")) - {""})}, dtype=object)
 
 
 def tallied(lines, document, flag, site, refine, folder, partition_info=None):
