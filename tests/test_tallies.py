@@ -113,6 +113,9 @@ class Tallies(ProgramTest):
             page = {**PAGE, "flag": "f"}
             files["t"] = tally_of(problem.inputs, len(problem.points), page)
             with self.subTest(number=number, files=files):
+                by = ["--refine", str(problem.factor)]
+                counted = run(["tally", *by, "d", "f", str(PAGE["site"])], files, input="".join(lines_of(problem.inputs, page)))
+                self.assertEqual((counted.out, counted.status), (files["t"], 0))
                 seen[self.answer(problem, files)] += 1
         self.assertGreater(min(seen.values()), CASES // 20, seen)
 
