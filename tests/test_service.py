@@ -410,6 +410,32 @@ class Publishing(Changing):
         self.assertIn("answers from snapshot 4", told)
 
 
+    def test_the_life_of_a_provider(self):
+        """It polls every flag with the tag that it was told last, evaluates single ones, and learns of a change within the poll; a
+        document that an edit breaks changes nothing."""
+        self.start("--poll", "1")
+        tag, flags = self.polled(None)
+        for flag in flags:
+            self.assertEqual(self.flag(quoted(flag["key"]), context("mallory"))[1], flag)
+        self.assertEqual(self.polled(tag), (tag, None))
+        self.put("d", self.changed("one"))
+        self.until(1)
+        new, flags = self.polled(tag)
+        self.assertNotEqual(new, tag)
+        self.assertEqual([flag["value"] for flag in flags if flag["key"] == "size"], [1])
+        self.put("d", '{"flags":')
+        time.sleep(2.5)
+        self.assertEqual(self.polled(new), (new, None))
+        self.assertEqual(self.flag("size")[1]["value"], 1)
+
+    def polled(self, tag):
+        """The tag of every flag's answer, and the flags where they are others than under the tag."""
+        status, headers, body = self.ask("POST", FLAGS, context("mallory"), {"If-None-Match": tag} if tag else {})
+        new = {name.lower(): value for name, value in headers.items()}["etag"]
+        self.assertEqual(status, 304 if new == tag else 200)
+        return new, json.loads(body)["flags"] if body else None
+
+
 class Streaming(Changing):
     """The stream beside the service."""
 

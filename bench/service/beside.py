@@ -1,5 +1,5 @@
 """Requests a second, the 99th percentile and memory of `ofrep` beside a plain server (`bench/plain`) over the same document in one
-run, by `wrk`, the two by turns: 1 and 4 workers, 1, 4 and 64 connections, with and without a log, a flag with a rule and one without;
+run, by `wrk`, the two by turns, the best of three: 1 and 4 workers, 1, 4 and 64 connections, with and without a log, a flag with a rule and one without;
 then the memory of each beside 4,000 idle connections. Needs `wrk`, and cargo with Debian's librust-{mio,rayon,serde-json}-dev.
 Usage: beside.py [SECONDS]"""
 import json
@@ -96,7 +96,8 @@ def main():
             for connections in (1, 4, 64):
                 for logs in (True, False):
                     for flag in ("checkout", "size"):
-                        ours, theirs = (timed(it, folder, workers, connections, logs, flag) for it in (PROVED, plain))
+                        runs = [[timed(it, folder, workers, connections, logs, flag) for it in (PROVED, plain)] for _ in range(3)]
+                        ours, theirs = map(max, zip(*runs))
                         ratios.append(ours[0] / theirs[0])
                         kind = "with a rule" if flag == "checkout" else "without"
                         rates = " | ".join(f"{rate:,.0f} ({slowest})" for rate, slowest in (ours, theirs))
