@@ -64,6 +64,8 @@ int open(const char *path, int flags, ...) {
     va_start(rest, flags);
     int mode = va_arg(rest, int);
     va_end(rest);
+    // which the program opens before anything else, to see that its standard descriptors are open
+    if (strcmp(path, "/dev/null") == 0) return syscall(SYS_openat, AT_FDCWD, path, flags, mode);
     FAILS("open")
     return syscall(SYS_openat, AT_FDCWD, path, flags, mode);
 }
