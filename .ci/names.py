@@ -18,6 +18,7 @@ FAULTS = {
     "PlanFileFault": set(),
     "LoadFault": set(),
     "PriceMismatch": set(),
+    "Doubt": set(),
     "StoreFault": set(),
     "DriveFault": set(),
     "DriveRefusal": {"Drive"},

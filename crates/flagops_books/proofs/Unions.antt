@@ -8,13 +8,12 @@ use Rattle.book_core.specs.declared.fault.BookFault.TheVariants as noting
 use Rattle.book_core.specs.declared.fault.BookFileFault.{BookFileFault}
 use Rattle.flagops_books.specs.Step.{GivesUnited, IsStepOf, IsStopOf}
 use Rattle.flagops_books.specs.Told.{is_told}
-use Rattle.flagops_books.specs.Union.{IsLast, IsWithBook, IsWithBytes, IsWithFile, United, noted, passes_over, stray, union_refusal}
+use Rattle.flagops_books.specs.Union.{IsLast, IsWithBook, IsWithBytes, IsWithFile, United, file_bytes_at, noted, passes_over, stray, union_refusal}
 use Rattle.flagops_books.specs.declared.uniting.Gathered.{Gathered}
 use Rattle.flagops_books.specs.declared.uniting.Step.{Step}
 use Rattle.flagops_books.specs.declared.uniting.Step.TheVariants.{Noted, Stopped}
 use Rattle.flagops_files.specs.Files.{Holding}
 use Rattle.flagops_files.specs.Loading.{refused_by}
-use Rattle.flagops_files.specs.Question.{book_bytes_at}
 use Rattle.flagops_files.specs.Refusal.{is_want}
 use Rattle.flagops_files.specs.declared.refusal.Call.TheVariants as call
 use Rattle.flagops_files.specs.declared.refusal.Refusal.{Refusal}
@@ -102,22 +101,22 @@ module _ (passing : Bool) (all : Notes) (path bytes before : List ℕ) where
 
 module _ (passing : Bool) (path : List ℕ) (g : Gathered) (h : Option Holding) where
   abbrev File : Result Step Refused → Holding → Type 0
-  File r at = (all : Notes) → IsBookOf all g.book → GivesUnited r (IsWithFile IsLast passing all (is_told (string_bytes g.told)) path (book_bytes_at at path))
+  File r at = (all : Notes) → IsBookOf all g.book → GivesUnited r (IsWithFile IsLast passing all (is_told (string_bytes g.told)) path (file_bytes_at at path))
 
-  pub unread_file : (e : Refused) → IfSome h (λ at. is_want e.refusal ≡ false → book_bytes_at at path ≡ Err e.refusal) → IfSome h (File (Err e))
+  pub unread_file : (e : Refused) → IfSome h (λ at. is_want e.refusal ≡ false → file_bytes_at at path ≡ Err e.refusal) → IfSome h (File (Err e))
   unread_file e loaded = go h loaded
     where
-      go : (k : Option Holding) → IfSome k (λ at. is_want e.refusal ≡ false → book_bytes_at at path ≡ Err e.refusal) → IfSome k (File (Err e))
+      go : (k : Option Holding) → IfSome k (λ at. is_want e.refusal ≡ false → file_bytes_at at path ≡ Err e.refusal) → IfSome k (File (Err e))
       go None loaded = tt
       go (Some at) loaded = λ all is_of wanted.
           subst (λ (b : Result (List ℕ) Refusal). IsWithFile IsLast passing all (is_told (string_bytes g.told)) path b (Err e.refusal)) (sym (loaded wanted)) refl
 
-  pub read_file : (as_book : Bool) (bytes : List ℕ) (r : Result Step Refused) → begins_book bytes ≡ as_book → IfSome h (λ at. book_bytes_at at path ≡ Ok bytes)
+  pub read_file : (as_book : Bool) (bytes : List ℕ) (r : Result Step Refused) → begins_book bytes ≡ as_book → IfSome h (λ at. file_bytes_at at path ≡ Ok bytes)
       → ((all : Notes) → IsBookOf all g.book → GivesUnited r (IsWithBytes as_book IsLast passing all (is_told (string_bytes g.told)) path bytes)) → IfSome h (File r)
   read_file as_book bytes r begins loaded gives = go h loaded
     where
-      there : (at : Holding) (all : Notes) → book_bytes_at at path ≡ Ok bytes → (x : Result United Refusal) → IsWithBytes as_book IsLast passing all (is_told (string_bytes g.told)) path bytes x
-          → IsWithFile IsLast passing all (is_told (string_bytes g.told)) path (book_bytes_at at path) x
+      there : (at : Holding) (all : Notes) → file_bytes_at at path ≡ Ok bytes → (x : Result United Refusal) → IsWithBytes as_book IsLast passing all (is_told (string_bytes g.told)) path bytes x
+          → IsWithFile IsLast passing all (is_told (string_bytes g.told)) path (file_bytes_at at path) x
       there at all is x came =
           subst (λ (b : Result (List ℕ) Refusal). IsWithFile IsLast passing all (is_told (string_bytes g.told)) path b x) (sym is)
           (subst (λ (b : Bool). IsWithBytes b IsLast passing all (is_told (string_bytes g.told)) path bytes x) (sym begins) came)
@@ -127,7 +126,7 @@ module _ (passing : Bool) (path : List ℕ) (g : Gathered) (h : Option Holding) 
       wider P Q f (Ok (Stopped o)) came = (came.0, came.1, f (Ok (stray came.0 came.1)) came.2, came.3)
       wider P Q f (Err e) came = λ wanted. f (Err e.refusal) (came wanted)
 
-      go : (k : Option Holding) → IfSome k (λ at. book_bytes_at at path ≡ Ok bytes) → IfSome k (File r)
+      go : (k : Option Holding) → IfSome k (λ at. file_bytes_at at path ≡ Ok bytes) → IfSome k (File r)
       go None loaded = tt
       go (Some at) loaded = λ all is_of.
-          wider (IsWithBytes as_book IsLast passing all (is_told (string_bytes g.told)) path bytes) (IsWithFile IsLast passing all (is_told (string_bytes g.told)) path (book_bytes_at at path)) (there at all loaded) r (gives all is_of)
+          wider (IsWithBytes as_book IsLast passing all (is_told (string_bytes g.told)) path bytes) (IsWithFile IsLast passing all (is_told (string_bytes g.told)) path (file_bytes_at at path)) (there at all loaded) r (gives all is_of)

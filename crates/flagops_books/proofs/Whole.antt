@@ -6,9 +6,8 @@ use Rattle.book_core.specs.Page.{PageName}
 use Rattle.book_core.specs.Reading.{book_of}
 use Rattle.book_core.specs.declared.fault.BookFileFault.{BookFileFault}
 use Rattle.flagops_books.specs.Law.{BookNotes, BytesNote, FileNotes, OneNotes, UnitesFiles}
-use Rattle.flagops_books.specs.Union.{IsUnited, IsWithBook, IsWithBytes, IsWithFile, IsWithLines, Later, United, noted, stray}
+use Rattle.flagops_books.specs.Union.{IsUnited, IsWithBook, IsWithBytes, IsWithFile, IsWithLines, Later, United, file_bytes_at, noted, stray}
 use Rattle.flagops_files.specs.Files.{Holding}
-use Rattle.flagops_files.specs.Question.{book_bytes_at}
 use Rattle.flagops_files.specs.declared.refusal.Refusal.{Refusal}
 use Rattle.line_batches.specs.Lines.{parts_of}
 use Rattle.note_books.proofs.Noted.{notes_its_lines}
@@ -104,7 +103,7 @@ module _ (at : Holding) (passing : Bool) (all : Notes) (told : Bool) (page : Pag
       last : all page input ≡ before page input → (before page input ≡ true) ⊎ OneNotes at [] page input → all page input ≡ true
       last same (inl h) = same ∙ h
       last same (inr none) = absurd none
-  by_files (path ∷ paths) before t is = by_file (IsUnited at passing paths) (OneNotes at paths page input) (λ n u later. by_files paths n u later) before t path (book_bytes_at at path) is
+  by_files (path ∷ paths) before t is = by_file (IsUnited at passing paths) (OneNotes at paths page input) (λ n u later. by_files paths n u later) before t path (file_bytes_at at path) is
 
 pub unites_files : UnitesFiles
 unites_files at passing paths all told book united is_of page input =

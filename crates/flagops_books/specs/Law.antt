@@ -4,9 +4,8 @@ use Rattle.book_core.specs.Book.{Contents, inputs_on, is_among}
 use Rattle.book_core.specs.Page.{PageName}
 use Rattle.book_core.specs.Reading.{book_of}
 use Rattle.book_core.specs.declared.fault.BookFileFault.{BookFileFault}
-use Rattle.flagops_books.specs.Union.{IsUnited, noted}
+use Rattle.flagops_books.specs.Union.{IsUnited, file_bytes_at, noted}
 use Rattle.flagops_files.specs.Files.{Holding}
-use Rattle.flagops_files.specs.Question.{book_bytes_at}
 use Rattle.flagops_files.specs.declared.refusal.Refusal.{Refusal}
 use Rattle.line_batches.specs.Lines.{parts_of}
 use Rattle.note_books.specs.Blank.{begins_book}
@@ -31,7 +30,7 @@ FileNotes (Ok bytes) page input = BytesNote (begins_book bytes) bytes page input
 -- one of the files at these paths notes the input on the page
 abbrev pub OneNotes : Holding → List (List ℕ) → PageName → List ℕ → Type 0
 OneNotes at [] page input = ⊥
-OneNotes at (path ∷ paths) page input = FileNotes (book_bytes_at at path) page input ⊎ OneNotes at paths page input
+OneNotes at (path ∷ paths) page input = FileNotes (file_bytes_at at path) page input ⊎ OneNotes at paths page input
 
 -- where no file is refused, the book of what they come to has an input on a page exactly where one of them notes it there
 abbrev pub UnitesFiles : Type 0

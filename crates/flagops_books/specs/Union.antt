@@ -5,8 +5,9 @@ use Rattle.book_core.specs.Reading.{book_of}
 use Rattle.book_core.specs.declared.fault.BookFault.{BookFault}
 use Rattle.book_core.specs.declared.fault.BookFault.TheVariants as noting
 use Rattle.book_core.specs.declared.fault.BookFileFault.{BookFileFault}
-use Rattle.flagops_files.specs.Files.{Holding}
-use Rattle.flagops_files.specs.Question.{book_bytes_at}
+use Rattle.flagops_files.specs.Files.{Holding, load_of}
+use Rattle.flagops_files.specs.Loading.{◌>>=◌, refused_by}
+use Rattle.flagops_files.specs.Question.{if_readable, max_book}
 use Rattle.flagops_files.specs.declared.refusal.Call.TheVariants as call
 use Rattle.flagops_files.specs.declared.refusal.Refusal.{Refusal}
 use Rattle.flagops_files.specs.declared.refusal.Refusal.TheVariants as refusal
@@ -59,10 +60,16 @@ abbrev pub IsWithFile : Later → Bool → Notes → Bool → List ℕ → Resul
 IsWithFile Next passing all told path (Err e) r = r ≡ Err e
 IsWithFile Next passing all told path (Ok bytes) r = IsWithBytes (begins_book bytes) Next passing all told path bytes r
 
+-- the bytes of the file at a path, a book or note lines
+unfoldable pub file_bytes_at : Holding → List ℕ → Result (List ℕ) Refusal
+file_bytes_at at path = do
+  bytes ← refused_by refusal.Load (load_of at path max_book)
+  if_readable bytes
+
 -- those of the files at these paths, or the first that is refused
 unfoldable pub IsUnited : Holding → Bool → List (List ℕ) → Later
 IsUnited at passing [] all told r = r ≡ Ok (noted all told)
-IsUnited at passing (path ∷ paths) all told r = IsWithFile (IsUnited at passing paths) passing all told path (book_bytes_at at path) r
+IsUnited at passing (path ∷ paths) all told r = IsWithFile (IsUnited at passing paths) passing all told path (file_bytes_at at path) r
 
 -- why a union is refused, as the refusal of the command
 abbrev pub union_refusal : BookFault → Refusal

@@ -4,9 +4,8 @@ ghost use Rattle.book_core.specs.Reading.{book_of};
 ghost use Rattle.flagops_books.specs.Calls.{unites_files};
 ghost use Rattle.flagops_books.specs.Step.{GivesUnited, IsStepOf, IsStopOf, SaysStep, SaysUnited};
 ghost use Rattle.flagops_books.specs.Told.{NamesFile, is_told, united_subjects};
-ghost use Rattle.flagops_books.specs.Union.{IsLast, IsUnited, IsWithBook, IsWithBytes, IsWithFile, union_refusal};
+ghost use Rattle.flagops_books.specs.Union.{IsLast, IsUnited, IsWithBook, IsWithBytes, IsWithFile, file_bytes_at, union_refusal};
 ghost use Rattle.flagops_files.specs.Loading.{refused_by};
-ghost use Rattle.flagops_files.specs.Question.{book_bytes_at};
 ghost use Rattle.flagops_files.specs.Refusal.{ComesFrom, GivesUnlessWant, call_of, is_file_fault, is_unread, is_want, loads_book, loads_file};
 ghost use Rattle.flagops_files.specs.Told.{Says, TellsOf, TellsOfOne, file};
 ghost use Rattle.flagops_files.specs.declared.refusal.Refusal.TheVariants.{ReadBook};
@@ -16,7 +15,7 @@ ghost use Rattle.note_books.specs.Notes.{IsBookOf, Notes, no_notes};
 use crate::lines::{stray_line, stray_remark, with_passed};
 use book_core::{Book, BookFault, read_book};
 use flagops_files::{Call, FileSet, Outcome, Refusal, Refused, Remark, Status, load};
-use flagops_remarks::{of_book, of_full_book, of_unreadable};
+use flagops_remarks::{Ends, of_book, of_full_book, of_long_book};
 use note_books::{NotesFault, NotesTaken, begins_book, take_notes};
 use std::alloc::{AllocError, Global};
 
@@ -75,7 +74,7 @@ fn with_file<F: FileSet>(
     path: &str,
     passing: bool,
 ) -> Result<Step, Refused>
-    ensures exact { IfSome (F.holding files.old) (λ at. (now : Notes) → IsBookOf now all.book → GivesUnited result (IsWithFile IsLast passing now (is_told (string_bytes all.told)) path.now (book_bytes_at at path.now))) }
+    ensures exact { IfSome (F.holding files.old) (λ at. (now : Notes) → IsBookOf now all.book → GivesUnited result (IsWithFile IsLast passing now (is_told (string_bytes all.told)) path.now (file_bytes_at at path.now))) }
     ensures calls { ComesFrom unites_files result }
     ensures failed { F.has_failed files.new ≡ (F.has_failed files.old || is_file_fault result) }
     ensures kept { F.holding files.new ≡ F.holding files.old }
@@ -91,9 +90,9 @@ fn with_file<F: FileSet>(
 }
 
 /// The bytes of the file at a path; one of more than 2^40 counts as unreadable.
-#[tactic(auto, using(flagops_files::proofs::Told::says), unfolding(flagops_files::specs::Question::book_bytes_at))]
+#[tactic(auto, using(flagops_files::proofs::Told::says), unfolding(crate::specs::Union::file_bytes_at))]
 fn load_whole<F: FileSet>(alloc: Global, files: &mut F, path: &str) -> Result<Vec<u8>, Refused>
-    ensures exact { IfSome (F.holding files.old) (λ at. GivesUnlessWant (λ v. v.items) result (book_bytes_at at path.now)) }
+    ensures exact { IfSome (F.holding files.old) (λ at. GivesUnlessWant (λ v. v.items) result (file_bytes_at at path.now)) }
     ensures calls { ComesFrom loads_file result }
     ensures failed { F.has_failed files.new ≡ (F.has_failed files.old || is_file_fault result) }
     ensures kept { F.holding files.new ≡ F.holding files.old }
@@ -103,7 +102,7 @@ fn load_whole<F: FileSet>(alloc: Global, files: &mut F, path: &str) -> Result<Ve
     if bytes.len() as u64 > FILE_LIMIT {
         return Err(Refused {
             refusal: Refusal::LongBook,
-            remark: Remark::of(of_unreadable(alloc, path)),
+            remark: Remark::of(of_long_book(alloc, path)),
         });
     }
     Ok(bytes)
@@ -137,7 +136,7 @@ fn book_in(alloc: Global, path: &str, bytes: &[u8]) -> Result<Book, Refused>
         Ok(book) => Ok(book),
         Err(fault) => Err(Refused {
             refusal: Refusal::ReadBook(fault),
-            remark: Remark::of(of_book(alloc, path, fault)),
+            remark: Remark::of(of_book(alloc, path, Ends::of(bytes), fault)),
         }),
     }
 }

@@ -12,7 +12,7 @@ use Rattle.flagops_files.specs.Documents.{IsDocumentAt}
 use Rattle.flagops_files.specs.Files.{Holding, KeepsOthers, Stores}
 use Rattle.flagops_files.specs.Loading.{max_text, refused_by, tree_at}
 use Rattle.flagops_files.specs.Refusal.{GivesOne, is_want, unwritable}
-use Rattle.flagops_files.specs.Report.{Report, done, outcome_view}
+use Rattle.flagops_files.specs.Report.{Report, beside, done, outcome_view}
 use Rattle.flagops_files.specs.declared.outcome.Outcome.{Outcome}
 use Rattle.flagops_files.specs.declared.refused.Refused.{Refused}
 use Rattle.flagops_files.specs.declared.refusal.Refusal.{Refusal}
@@ -29,7 +29,7 @@ others_after old mid new path same kept = subst (λ (h : Option Holding). KeepsO
 
 -- ---- the book is written
 
-pub book_stored : (old new : Option Holding) (book : List ℕ) (d : Drove) (r : Result Report Refusal) → r ≡ done d.text → Stores old new book d.book → KeepsOthers old new book
+pub book_stored : (old new : Option Holding) (book : List ℕ) (d : Drove) (r : Result Report Refusal) → r ≡ beside true (done d.text) → Stores old new book d.book → KeepsOthers old new book
     → IfSome old (λ at. IsWritten at new book (Ok d) r)
 book_stored None new book d r is stored kept = tt
 book_stored (Some at) new book d r is stored kept = inl (is, stored, kept)

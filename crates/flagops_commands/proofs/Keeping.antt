@@ -39,8 +39,9 @@ use Rattle.flagops_files.specs.declared.evidence.Evidence.TheVariants.{Book, Tal
 use Rattle.flagops_files.specs.declared.outcome.Outcome.{Outcome}
 use Rattle.flagops_files.specs.declared.refused.Refused.{Refused}
 use Rattle.flagops_files.specs.declared.refusal.Refusal.{Refusal}
-use Rattle.flagops_commands.specs.Keep.{IsEdited, IsEditedTo, IsKeepReport, IsKeepWith, IsKeptAt, IsKeptFor, IsKeptWith, IsPut, Kept, LeavesDocument, MayBeKept, some_view}
-use Rattle.flagops_commands.specs.Unrecorded.{is_unrecorded}
+use Rattle.flagops_commands.specs.Keep.{IsEdited, IsEditedTo, IsKeepReport, IsKeepWith, IsKeptAt, IsKeptFor, IsKeptPut, IsKeptWith, IsPut, Kept, LeavesDocument, MayBeKept, some_view}
+use Rattle.flagops_commands.specs.Doubts.{doubt_of, settle}
+use Rattle.flagops_files.specs.declared.refusal.Call.TheVariants as call
 use Rattle.flagops_commands.specs.Verify.{IsToldOn, MayBeTold}
 use Rattle.flagops_commands.proofs.Driving.{others_after}
 
@@ -101,31 +102,37 @@ module _ (refine : Option ℕ) (document : List ℕ) (q : Question) (answer : An
 
 -- ---- the report
 
-module _ (path : List ℕ) (write : Bool) (refine : Option ℕ) (document : List ℕ) (q : Question) (answer : Answer) where
-  none_kept : (old : Option Holding) (e : Refused) → (is_want e.refusal ≡ false → MayBeKept refine document q answer (Err e.refusal))
-      → IfSome old (λ at. GivesOne outcome_view (Err e) (IsKeepWith at old path write refine document q answer))
-  none_kept None e kept = tt
-  none_kept (Some at) e kept = λ wanted. (Err e.refusal, kept wanted, (refl, refl))
+module _ (path : List ℕ) (write strict : Bool) (refine : Option ℕ) (document : List ℕ) (q : Question) (answer : Answer) where
+  pub not_kept : (old after : Option Holding) (e : Refused) → after ≡ old → (is_want e.refusal ≡ false → MayBeKept refine document q answer (Err e.refusal))
+      → IfSome old (λ at. GivesOne outcome_view (Err e) (IsKeepWith at after path write strict refine document q answer))
+  not_kept None after e same kept = tt
+  not_kept (Some at) after e same kept = λ wanted. (Err e.refusal, kept wanted, (refl, same))
 
-  pub not_kept : (old : Option Holding) (e : Refused) (r : Result Outcome Refused) → r ≡ Err e → (is_want e.refusal ≡ false → MayBeKept refine document q answer (Err e.refusal))
-      → IfSome old (λ at. GivesOne outcome_view r (IsKeepWith at old path write refine document q answer))
-  not_kept old e r is kept = subst (λ (x : Result Outcome Refused). IfSome old (λ at. GivesOne outcome_view x (IsKeepWith at old path write refine document q answer))) (sym is) (none_kept old e kept)
+  abbrev settled : Result Bool Refusal
+  settled = settle call.Apply strict (doubt_of q)
 
-  pub kept_put : (old after : Option Holding) (kept : Kept) (told : Bool) (r : Result Outcome Refused) → told ≡ is_unrecorded q → MayBeKept refine document q answer (Ok kept)
-      → IfSome old (λ at. GivesOne outcome_view r (IsPut at after path write told (Ok kept))) → IfSome old (λ at. GivesOne outcome_view r (IsKeepWith at after path write refine document q answer))
-  kept_put old after kept told r is may put = go old (subst (λ (b : Bool). IfSome old (λ at. GivesOne outcome_view r (IsPut at after path write b (Ok kept)))) is put)
+  -- a doubt that is refused puts nothing
+  pub not_settled : (old after : Option Holding) (kept : Kept) (e : Refused) → after ≡ old → (is_want e.refusal ≡ false → settled ≡ Err e.refusal) → MayBeKept refine document q answer (Ok kept)
+      → IfSome old (λ at. GivesOne outcome_view (Err e) (IsKeepWith at after path write strict refine document q answer))
+  not_settled None after kept e same refused may = tt
+  not_settled (Some at) after kept e same refused may = λ wanted.
+      (Ok kept, may, subst (λ (s : Result Bool Refusal). IsPut at after path write s (Ok kept) (Err e.refusal)) (sym (refused wanted)) (refl, same))
+
+  pub kept_put : (old after : Option Holding) (kept : Kept) (told : Bool) (r : Result Outcome Refused) → settled ≡ Ok told → MayBeKept refine document q answer (Ok kept)
+      → IfSome old (λ at. GivesOne outcome_view r (IsKeptPut at after path write told kept)) → IfSome old (λ at. GivesOne outcome_view r (IsKeepWith at after path write strict refine document q answer))
+  kept_put old after kept told r is may put = go old (subst (λ (s : Result Bool Refusal). IfSome old (λ at. GivesOne outcome_view r (IsPut at after path write s (Ok kept)))) (sym is) put)
     where
-      ends : (at : Holding) (s : Result Outcome Refused) → GivesOne outcome_view s (IsPut at after path write (is_unrecorded q) (Ok kept)) → GivesOne outcome_view s (IsKeepWith at after path write refine document q answer)
+      ends : (at : Holding) (s : Result Outcome Refused) → GivesOne outcome_view s (IsPut at after path write settled (Ok kept)) → GivesOne outcome_view s (IsKeepWith at after path write strict refine document q answer)
       ends at (Ok o) put = (Ok kept, may, put)
       ends at (Err e) put = λ wanted. (Ok kept, may, put wanted)
 
-      go : (h : Option Holding) → IfSome h (λ at. GivesOne outcome_view r (IsPut at after path write (is_unrecorded q) (Ok kept))) → IfSome h (λ at. GivesOne outcome_view r (IsKeepWith at after path write refine document q answer))
+      go : (h : Option Holding) → IfSome h (λ at. GivesOne outcome_view r (IsPut at after path write settled (Ok kept))) → IfSome h (λ at. GivesOne outcome_view r (IsKeepWith at after path write strict refine document q answer))
       go None put = tt
       go (Some at) put = ends at r put
 
-module _ (path plan request book : List ℕ) (write : Bool) (refine : Option ℕ) where
+module _ (path plan request book : List ℕ) (write strict : Bool) (refine : Option ℕ) where
   abbrev Is : Option Holding → Option Holding → Result Outcome Refused → Type 0
-  Is old after r = IfSome old (λ at. GivesOne outcome_view r (IsKeepReport at after path plan request book write refine))
+  Is old after r = IfSome old (λ at. GivesOne outcome_view r (IsKeepReport at after path plan request book write refine strict))
 
   pub no_question : (old after : Option Holding) (e : Refused) → after ≡ old → IfSome old (λ at. is_want e.refusal ≡ false → IsQuestionAt at path request book (Err e.refusal)) → Is old after (Err e)
   unfolding IsKeepReport
@@ -144,19 +151,19 @@ module _ (path plan request book : List ℕ) (write : Bool) (refine : Option ℕ
 
     module _ (document : List ℕ) (answer : Answer) where
       pub kept_whole : (old mid last after : Option Holding) (r : Result Outcome Refused) → mid ≡ old → last ≡ mid → IfSome old (λ at. IsQuestionAt at path request book (Ok q)) → IfSome old (λ at. load_of at path max_text ≡ Ok document)
-          → IfSome mid (λ at. plan_at at plan ≡ Ok answer) → IfSome last (λ at. GivesOne outcome_view r (IsKeepWith at after path write refine document q answer)) → Is old after r
+          → IfSome mid (λ at. plan_at at plan ≡ Ok answer) → IfSome last (λ at. GivesOne outcome_view r (IsKeepWith at after path write strict refine document q answer)) → Is old after r
       unfolding IsKeepReport
       kept_whole old mid last after r first second asked loaded planned put =
           go old asked loaded (subst (λ (h : Option Holding). IfSome h (λ at. plan_at at plan ≡ Ok answer)) first planned)
-          (subst (λ (h : Option Holding). IfSome h (λ at. GivesOne outcome_view r (IsKeepWith at after path write refine document q answer))) (second ∙ first) put)
+          (subst (λ (h : Option Holding). IfSome h (λ at. GivesOne outcome_view r (IsKeepWith at after path write strict refine document q answer))) (second ∙ first) put)
         where
           ends : (at : Holding) (s : Result Outcome Refused) → IsQuestionAt at path request book (Ok q) → load_of at path max_text ≡ Ok document → plan_at at plan ≡ Ok answer
-              → GivesOne outcome_view s (IsKeepWith at after path write refine document q answer) → GivesOne outcome_view s (IsKeepReport at after path plan request book write refine)
+              → GivesOne outcome_view s (IsKeepWith at after path write strict refine document q answer) → GivesOne outcome_view s (IsKeepReport at after path plan request book write refine strict)
           ends at (Ok o) asked loaded planned put = (Ok q, asked, rw planned (document, loaded, put))
           ends at (Err e) asked loaded planned put = λ wanted. (Ok q, asked, rw planned (document, loaded, put wanted))
 
           go : (h : Option Holding) → IfSome h (λ at. IsQuestionAt at path request book (Ok q)) → IfSome h (λ at. load_of at path max_text ≡ Ok document) → IfSome h (λ at. plan_at at plan ≡ Ok answer)
-              → IfSome h (λ at. GivesOne outcome_view r (IsKeepWith at after path write refine document q answer)) → Is h after r
+              → IfSome h (λ at. GivesOne outcome_view r (IsKeepWith at after path write strict refine document q answer)) → Is h after r
           go None asked loaded planned put = tt
           go (Some at) asked loaded planned put = ends at r asked loaded planned put
 

@@ -1,7 +1,7 @@
 -- What the commands leave of the files, and which refusals a file that failed or changed is told by.
 use Rattle.std.proofs.Common.{◌≡◌, ◌∙◌, ◌||◌, Option, Some, None, Bool, true, false, IfSome, IfOk, IfErr, inl, inr, refl, sym, ap, subst}
 use Rattle.std.specs.Prelude.{Result, Ok, Err}
-use Rattle.flagops_words.specs.Asked.{Asked, bucket, price, check, resolve, verify, apply, keep, plan, drive, unite, completions}
+use Rattle.flagops_words.specs.Asked.{Asked, bucket, price, check, resolve, verify, apply, keep, plan, drive, completions}
 use Rattle.flagops_commands.specs.Commands.{calls_of, IsOutcome, IsRunOutcome, Leaves, LeavesAsked}
 use Rattle.flagops_commands.specs.Drive.{KeepsUnlessDone}
 use Rattle.flagops_files.specs.Files.{Holding}
@@ -22,15 +22,14 @@ use Rattle.flagops_files.specs.declared.refused.Refused.{Refused}
 leaves_same : (asked : Asked) (h : Option Holding) → Leaves asked h h
 leaves_same (bucket rule key) h = refl
 leaves_same (price old new request keys) h = refl
-leaves_same (check document) h = refl
+leaves_same (check document strict) h = refl
 leaves_same (resolve document key kind default context moment) h = refl
-leaves_same (verify document request book file refine) h = refl
+leaves_same (verify document request book file refine strict) h = refl
 leaves_same (apply document file key site) h = refl
-leaves_same (keep document file request book write refine) h = inl refl
-leaves_same (plan document request book refine) h = refl
+leaves_same (keep document file request book write refine strict) h = inl refl
+leaves_same (plan document request book refine strict explain) h = refl
 leaves_same (completions shell) h = refl
 leaves_same (drive document file workers book add) h = inl refl
-leaves_same (unite out files) h = inl refl
 
 pub left_alone : (o : Option Asked) (h : Option Holding) → LeavesAsked o h h
 left_alone None h = refl
@@ -59,6 +58,7 @@ file_refusal refusal.FullBook e = cc
 file_refusal (refusal.ReadPlanned f) e = cc
 file_refusal (refusal.Verify f) e = cc
 file_refusal (refusal.Apply f) e = cc
+file_refusal (refusal.Doubted c d) e = cc
 file_refusal (refusal.Keep f) e = cc
 file_refusal (refusal.Plan f) e = cc
 file_refusal (refusal.PrintPlanned f) e = cc

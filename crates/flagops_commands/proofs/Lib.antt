@@ -3,15 +3,16 @@ mod Asked
 pub mod Checked
 pub mod Driving
 mod Distinct
+mod Doubting
 mod Gathered
 pub mod Hexadecimal
 mod Keeping
 pub mod Leaving
 mod Noted
+mod Passed
 pub mod Refusing
 mod Tallies
 mod Telling
-pub mod Uniting
 pub mod Valid
 pub mod Verdicts
 pub mod Wants

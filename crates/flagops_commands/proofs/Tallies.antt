@@ -1,7 +1,7 @@
 -- What is answered on the tally of a page of a book is answered on the book.
 use Rattle.std.proofs.Common.{◌≡◌, ◌≢◌, ◌∙◌, ℕ, zero, suc, List, [], ◌∷◌, length, Bool, Option, Some, None, unwrap_or, refl, sym, ap, subst}
-use Rattle.std.specs.Prelude.{Result, Ok, Err, OnOk, nat_eq, option_and_then}
 use Rattle.std.proofs.Math.Dec.{eqb-suc-zero}
+use Rattle.std.specs.Prelude.{Result, Ok, Err, OnOk, nat_eq, option_and_then}
 use Rattle.std.specs.Map.{lookup}
 use Rattle.std.specs.Result.{result_ok}
 use Rattle.std.specs.Str.{bytes_eq}
@@ -36,11 +36,14 @@ use Rattle.tally_core.specs.Law.{IsTallyOf}
 use Rattle.tally_core.specs.Tally.{PageTally}
 use Rattle.flagops_commands.proofs.Asked.{asked_is, placed, refused_alike}
 use Rattle.flagops_commands.proofs.Valid.{outcome_over}
+use Rattle.flagops_commands.specs.Doubts.{doubt_of, first_doubt, is_unread, settle}
 use Rattle.flagops_commands.specs.Plan.{IsPlanOf, MayBePlanned, report_planned}
 use Rattle.flagops_commands.specs.Tallies.{TalliesPlanAsBooks, TalliesTellAsBooks, over}
 use Rattle.flagops_commands.specs.Unrecorded.{has_no_input, is_bare, is_unrecorded, page_asked, page_in}
 use Rattle.flagops_commands.specs.Verify.{IsShownOn, IsToldOn, IsVerdict, MayBeTold, tally_problem_checked, told}
-use Rattle.flagops_files.specs.Report.{Report, beside}
+use Rattle.flagops_files.specs.Report.{Report}
+use Rattle.flagops_files.specs.declared.refusal.Call.TheVariants as call
+use Rattle.flagops_files.specs.declared.refusal.Doubt.{Doubt}
 use Rattle.flagops_files.specs.declared.evidence.Evidence.{Evidence}
 use Rattle.flagops_files.specs.declared.evidence.Evidence.TheVariants.{Book, Tally}
 use Rattle.flagops_files.specs.declared.refusal.Refusal.{Refusal}
@@ -91,6 +94,10 @@ unrecorded_alike refining flags request book t p of h =
     let page = page_is refining flags request t p h in
     ap (is_bare (Tally t)) page ∙ (ap (λ n. nat_eq n 0) of.inputs ∙ (none_or_some (inputs_on book t.page) ∙ sym (ap (is_bare (Book book)) page)))
 
+doubted_alike : (refining : Refining) (flags : Definitions) (request : List ℕ) (book : Contents) (t : PageTally) (p : TallyProblem) → IsTallyOf (inputs_on book t.page) t → tally_problem_of refining flags request t ≡ Ok p
+    → doubt_of (over flags request (Tally t)) ≡ doubt_of (over flags request (Book book))
+doubted_alike refining flags request book t p of h = ap (first_doubt (is_unread request)) (unrecorded_alike refining flags request book t p of h)
+
 -- ---- answers
 
 refused_planned : (f : RolloutFault) (it : Result Planned RolloutFault) → IsTallyPlanned (Err f) it → IsPlanned (Err f) it
@@ -134,11 +141,11 @@ module _ (asks : TalliesAskAsBooks) (refining : Refining) (flags : Definitions) 
       let alike = asks refining flags request book t p of is in
       plan_back counts p (inputs_on book t.page) it alike.1 (subst (λ (b : Result Problem RolloutFault). IsPlanned b it) alike.0 plan)
 
-  planned_beside : (r : Result TallyProblem RolloutFault) (it : Result Planned RolloutFault) → tally_problem_of refining flags request t ≡ r → IsTallyPlanned r it
-      → beside (is_unrecorded (over flags request (Tally t))) (report_planned it) ≡ beside (is_unrecorded (over flags request (Book book))) (report_planned it)
-  planned_beside r (Err e) is plan = refl
-  planned_beside (Err f) (Ok a) is plan = absurd plan
-  planned_beside (Ok p) (Ok a) is plan = ap (λ (b : Bool). beside b (report_planned (Ok a))) (unrecorded_alike refining flags request book t p of is)
+  planned_beside : (strict explain : Bool) (r : Result TallyProblem RolloutFault) (it : Result Planned RolloutFault) → tally_problem_of refining flags request t ≡ r → IsTallyPlanned r it
+      → report_planned explain (settle call.Plan strict (doubt_of (over flags request (Tally t)))) it ≡ report_planned explain (settle call.Plan strict (doubt_of (over flags request (Book book)))) it
+  planned_beside strict explain r (Err e) is plan = refl
+  planned_beside strict explain (Err f) (Ok a) is plan = absurd plan
+  planned_beside strict explain (Ok p) (Ok a) is plan = ap (λ (d : Option Doubt). report_planned explain (settle call.Plan strict d) (Ok a)) (doubted_alike refining flags request book t p of is)
 
   module _ (answer : Answer) (verdict : Result (Unit {0}) VerifyFault) where
     told_to : (r : Result TallyProblem RolloutFault) → tally_problem_of refining flags request t ≡ r → IsTallyOutcome r answer verdict → IsOutcome (problem_of refining flags request book) answer verdict
@@ -153,53 +160,53 @@ module _ (asks : TalliesAskAsBooks) (refining : Refining) (flags : Definitions) 
         let alike = asks refining flags request book t p of is in
         subst (λ (b : Result Problem RolloutFault). IsShown b answer) (sym alike.0) (shown (inputs_on book t.page) alike.1)
 
-  told_beside : (answer : Answer) (verdict : Result (Unit {0}) VerifyFault) (r : Result TallyProblem RolloutFault) → tally_problem_of refining flags request t ≡ r → IsTallyOutcome r answer verdict
-      → beside (is_unrecorded (over flags request (Tally t))) (told answer verdict) ≡ beside (is_unrecorded (over flags request (Book book))) (told answer verdict)
-  told_beside answer (Err e) r is outcome = refl
-  told_beside answer (Ok u) (Err f) is outcome = absurd outcome
-  told_beside answer (Ok u) (Ok p) is outcome = ap (λ (b : Bool). beside b (told answer (Ok u))) (unrecorded_alike refining flags request book t p of is)
+  told_beside : (strict : Bool) (answer : Answer) (verdict : Result (Unit {0}) VerifyFault) (r : Result TallyProblem RolloutFault) → tally_problem_of refining flags request t ≡ r → IsTallyOutcome r answer verdict
+      → told (settle call.Verify strict (doubt_of (over flags request (Tally t)))) answer verdict ≡ told (settle call.Verify strict (doubt_of (over flags request (Book book)))) answer verdict
+  told_beside strict answer (Err e) r is outcome = refl
+  told_beside strict answer (Ok u) (Err f) is outcome = absurd outcome
+  told_beside strict answer (Ok u) (Ok p) is outcome = ap (λ (d : Option Doubt). told (settle call.Verify strict d) answer (Ok u)) (doubted_alike refining flags request book t p of is)
 
 -- ---- the laws
 
 pub plans_alike : PlansAreByCounts → TalliesAskAsBooks → TalliesPlanAsBooks
-plans_alike counts asks refine flags request book t r of apart = (to, from)
+plans_alike counts asks strict explain refine flags request book t r of apart = (to, from)
   where
     refining : Refining
     refining = Times (unwrap_or refine 1)
 
-    to : IsPlanOf refine (Ok (over flags request (Tally t))) r → IsPlanOf refine (Ok (over flags request (Book book))) r
+    to : IsPlanOf strict explain refine (Ok (over flags request (Tally t))) r → IsPlanOf strict explain refine (Ok (over flags request (Book book))) r
     to (it, may, is, back) = (
       it,
       record { answers = planned_to asks refining flags request book t of apart (tally_problem_of refining flags request t) it refl may.answers; ordered = may.ordered; whole = may.whole },
-      is ∙ planned_beside asks refining flags request book t of apart (tally_problem_of refining flags request t) it refl may.answers,
+      is ∙ planned_beside asks refining flags request book t of apart strict explain (tally_problem_of refining flags request t) it refl may.answers,
       back,
     )
 
-    from : IsPlanOf refine (Ok (over flags request (Book book))) r → IsPlanOf refine (Ok (over flags request (Tally t))) r
+    from : IsPlanOf strict explain refine (Ok (over flags request (Book book))) r → IsPlanOf strict explain refine (Ok (over flags request (Tally t))) r
     from (it, may, is, back) =
         let plan = planned_back asks refining flags request book t of apart counts (tally_problem_of refining flags request t) it refl may.answers in (
           it,
           record { answers = plan; ordered = may.ordered; whole = may.whole },
-          is ∙ sym (planned_beside asks refining flags request book t of apart (tally_problem_of refining flags request t) it refl plan),
+          is ∙ sym (planned_beside asks refining flags request book t of apart strict explain (tally_problem_of refining flags request t) it refl plan),
           back,
         )
 
 pub tells_alike : TalliesAskAsBooks → TalliesTellAsBooks
-tells_alike asks None flags request book t answer r of apart (verdict, may, is) =
+tells_alike asks strict None flags request book t answer r of apart (verdict, may, is) =
     let refining = refining_for answer in (
       verdict,
       record {
         told = told_to asks refining flags request book t of apart answer verdict (tally_problem_of refining flags request t) refl may.told;
         shown = on_ok verdict (shown_to asks refining flags request book t of apart answer verdict (tally_problem_of refining flags request t) refl) may.shown;
       },
-      is ∙ told_beside asks refining flags request book t of apart answer verdict (tally_problem_of refining flags request t) refl may.told,
+      is ∙ told_beside asks refining flags request book t of apart strict answer verdict (tally_problem_of refining flags request t) refl may.told,
     )
-tells_alike asks (Some m) flags request book t answer r of apart (verdict, may, is) =
+tells_alike asks strict (Some m) flags request book t answer r of apart (verdict, may, is) =
     let refining = Times m in (
       verdict,
       record {
         told = told_to asks refining flags request book t of apart answer verdict (tally_problem_of refining flags request t) refl may.told;
         shown = on_ok verdict (shown_to asks refining flags request book t of apart answer verdict (tally_problem_of refining flags request t) refl) may.shown;
       },
-      is ∙ told_beside asks refining flags request book t of apart answer verdict (tally_problem_of refining flags request t) refl may.told,
+      is ∙ told_beside asks refining flags request book t of apart strict answer verdict (tally_problem_of refining flags request t) refl may.told,
     )

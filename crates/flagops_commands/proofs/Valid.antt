@@ -1,5 +1,5 @@
 -- What was planned and printed is told as valid.
-use Rattle.std.proofs.Common.{◌≡◌, ◌≤◌, ◌+◌, ◌*◌, ◌%◌, ◌==◌, ℕ, zero, suc, List, length, Bool, true, false, cond, Option, Some, None, unwrap_or, refl, sym, ap, subst, ◌∙◌, arith, eq-eqb}
+use Rattle.std.proofs.Common.{◌≡◌, ◌≤◌, ◌+◌, ◌*◌, ◌%◌, ◌==◌, ℕ, zero, suc, List, length, Bool, true, false, cond, Option, Some, None, is_some, unwrap_or, refl, sym, ap, subst, ◌∙◌, arith, eq-eqb}
 use Rattle.std.specs.Prelude.{Result, Ok, Err}
 use Rattle.std.proofs.lemmas.Bool.{ltb-false}
 use Rattle.std.proofs.lemmas.List.{take_all}
@@ -45,8 +45,9 @@ use Rattle.flagops_files.specs.declared.evidence.Evidence.TheVariants.{Book, Tal
 use Rattle.flagops_files.specs.declared.refusal.Refusal.{Refusal}
 use Rattle.flagops_files.specs.declared.refusal.Refusal.TheVariants.{Load, ReadPlanned}
 use Rattle.flagops_files.specs.Question.{Question}
-use Rattle.flagops_files.specs.Report.{Report, beside}
-use Rattle.flagops_commands.specs.Unrecorded.{is_unrecorded}
+use Rattle.flagops_files.specs.Report.{Report}
+use Rattle.flagops_commands.specs.Doubts.{doubt_of, settle}
+use Rattle.flagops_files.specs.declared.refusal.Call.TheVariants as call
 
 -- ---- a rule of the refined total tells its factor
 
@@ -126,7 +127,7 @@ module _ (flags : Definitions) (request : List ℕ) where
 
 -- ---- what proves a problem is told as valid
 
-told_valid : (b : Bool) (p : Problem) (answer : Answer) (verdict : Result (Unit {0}) VerifyFault) → Proves p answer → IsOutcome (Ok p) answer verdict → IsValid answer (beside b (told answer verdict))
+told_valid : (b : Bool) (p : Problem) (answer : Answer) (verdict : Result (Unit {0}) VerifyFault) → Proves p answer → IsOutcome (Ok p) answer verdict → IsValid answer (told (Ok b) answer verdict)
 told_valid b p answer (Ok u) proves h = (refl, refl)
 told_valid b p answer (Err (Request e)) proves h = rw h refl
 told_valid b p answer (Err (Check check.WantOfMemory)) proves h = refl
@@ -147,14 +148,14 @@ outcome_over p inputs answer (Err (Check e)) tallied h = h inputs tallied
 
 module _ (refine : Option ℕ) (flags : Definitions) (request : List ℕ) (answer : Planned) (b : Bool) (verdict : Result (Unit {0}) VerifyFault) where
   book_right : (book : Contents) (r : Result Problem RolloutFault) → problem_refined (unwrap_or refine 1) flags request book ≡ r → IsPlanned r (Ok answer) → IsToldOn refine (planned_view answer) flags request (Book book) verdict
-      → IsValid (planned_view answer) (beside b (told (planned_view answer) verdict))
+      → IsValid (planned_view answer) (told (Ok b) (planned_view answer) verdict)
   book_right book (Err f) e plan outcome = absurd plan
   book_right book (Ok p) e plan outcome =
       told_valid b p (planned_view answer) verdict plan.proves
       (subst (λ (it : Result Problem RolloutFault). IsOutcome it (planned_view answer) verdict) (same_problem flags request refine (planned_view answer) book p e plan.proves) outcome)
 
   tally_right : (tally : PageTally) (inputs : Inputs) → tally.counts ≡ counts_of inputs tally.total → (r : Result TallyProblem RolloutFault) → tally_problem_of (Times (unwrap_or refine 1)) flags request tally ≡ r
-      → IsTallyPlanned r (Ok answer) → IsToldOn refine (planned_view answer) flags request (Tally tally) verdict → IsValid (planned_view answer) (beside b (told (planned_view answer) verdict))
+      → IsTallyPlanned r (Ok answer) → IsToldOn refine (planned_view answer) flags request (Tally tally) verdict → IsValid (planned_view answer) (told (Ok b) (planned_view answer) verdict)
   tally_right tally inputs of (Err f) e plan outcome = absurd plan
   tally_right tally inputs of (Ok p) e plan outcome =
       let tallied = are_tallied (Times (unwrap_or refine 1)) flags request tally p inputs e of in
@@ -164,7 +165,7 @@ module _ (refine : Option ℕ) (flags : Definitions) (request : List ℕ) (answe
       (subst (λ (it : Result TallyProblem RolloutFault). IsTallyOutcome it (planned_view answer) verdict) (same_tally_problem flags request refine (planned_view answer) tally p inputs e proves) outcome))
 
   right_on : (evidence : Evidence) → IsOfInputs evidence → IsPlannedOn (unwrap_or refine 1) flags request evidence (Ok answer) → IsToldOn refine (planned_view answer) flags request evidence verdict
-      → IsValid (planned_view answer) (beside b (told (planned_view answer) verdict))
+      → IsValid (planned_view answer) (told (Ok b) (planned_view answer) verdict)
   right_on (Book book) of plan outcome = book_right book (problem_refined (unwrap_or refine 1) flags request book) refl plan outcome
   right_on (Tally tally) (inputs, of) plan outcome = tally_right tally inputs of (tally_problem_of (Times (unwrap_or refine 1)) flags request tally) refl plan outcome
 
@@ -189,13 +190,13 @@ module _ (refine : Option ℕ) (q : Question) (report : Report) (p : Planned) wh
     answer = planned_view p;
     holds = holds;
     valid = λ at path r is told_of.
-        let verdict : IsVerdict refine (Ok q) (Ok (planned_view p)) r = subst (λ (it : Result Answer Refusal). IsVerdict refine (Ok q) it r) (saved_plan at path report.text (planned_view p) is holds) told_of in
-        subst (IsValid (planned_view p)) (sym verdict.2) (right_on refine q.flags q.request p (is_unrecorded q) verdict.0 q.evidence of may.answers verdict.1.told);
+        let verdict : IsVerdict false refine (Ok q) (Ok (planned_view p)) r = subst (λ (it : Result Answer Refusal). IsVerdict false refine (Ok q) it r) (saved_plan at path report.text (planned_view p) is holds) told_of in
+        subst (IsValid (planned_view p)) (sym verdict.2) (right_on refine q.flags q.request p (is_some (doubt_of q)) verdict.0 q.evidence of may.answers verdict.1.told);
   }
 
-pub plans_are_valid : (refine : Option ℕ) (q : Question) (report : Report) → IsOfInputs q.evidence → IsPlanOf refine (Ok q) (Ok report) → IsValidPlan refine q report.text
-plans_are_valid refine q report of (planned, may, is, back) = go planned may is back
+pub plans_are_valid : (strict explain : Bool) (refine : Option ℕ) (q : Question) (report : Report) → IsOfInputs q.evidence → IsPlanOf strict explain refine (Ok q) (Ok report) → IsValidPlan refine q report.text
+plans_are_valid strict explain refine q report of (planned, may, is, back) = go planned may is back
   where
-    go : (planned : Result Planned RolloutFault) → MayBePlanned refine q planned → Ok report ≡ beside (is_unrecorded q) (report_planned planned) → ReadsBack planned (Ok report) → IsValidPlan refine q report.text
+    go : (planned : Result Planned RolloutFault) → MayBePlanned refine q planned → Ok report ≡ report_planned explain (settle call.Plan strict (doubt_of q)) planned → ReadsBack planned (Ok report) → IsValidPlan refine q report.text
     go (Err e) may is back = absurd (refused (sym is))
     go (Ok p) may is back = planned_valid refine q report p of may back

@@ -1,5 +1,5 @@
 -- What was loaded in turn and then told, as one report.
-use Rattle.std.proofs.Common.{◌≡◌, ℕ, List, Option, Some, None, IfOk, IfSome, subst, sym}
+use Rattle.std.proofs.Common.{◌≡◌, ℕ, Bool, List, Option, Some, None, IfOk, IfSome, subst, sym}
 use Rattle.std.specs.Prelude.{Result, Ok, Err}
 use Rattle.flag_documents.specs.Document.{Definitions}
 use Rattle.plan_text.specs.Answer.{Answer}
@@ -23,27 +23,27 @@ joined {P} {Q} {R} old kept same p q both = go old p (subst (λ (h : Option Hold
     go None a b = tt
     go (Some at) a b = both at a b
 
-module _ (document request book plan : List ℕ) (refine : Option ℕ) (q : Question) (answer : Answer) where
+module _ (document request book plan : List ℕ) (refine : Option ℕ) (strict : Bool) (q : Question) (answer : Answer) where
   verified_over : (at : Holding) (r : Result Outcome Refused) → IsQuestionAt at document request book (Ok q) → plan_at at plan ≡ Ok answer
-      → GivesOne outcome_view r (IsVerdict refine (Ok q) (Ok answer)) → GivesOne outcome_view r (IsVerifyReport at document request book plan refine)
+      → GivesOne outcome_view r (IsVerdict strict refine (Ok q) (Ok answer)) → GivesOne outcome_view r (IsVerifyReport at document request book plan refine strict)
   unfolding IsVerifyReport
   verified_over at (Ok o) asked answered told = (Ok q, asked, rw answered told)
   verified_over at (Err e) asked answered told = λ no. (Ok q, asked, rw answered (told no))
 
   pub verified : (old kept : Option Holding) (r : Result Outcome Refused) → kept ≡ old → IfSome old (λ at. IsQuestionAt at document request book (Ok q))
-      → IfSome kept (λ at. plan_at at plan ≡ Ok answer) → GivesOne outcome_view r (IsVerdict refine (Ok q) (Ok answer))
-      → IfSome old (λ at. GivesOne outcome_view r (IsVerifyReport at document request book plan refine))
+      → IfSome kept (λ at. plan_at at plan ≡ Ok answer) → GivesOne outcome_view r (IsVerdict strict refine (Ok q) (Ok answer))
+      → IfSome old (λ at. GivesOne outcome_view r (IsVerifyReport at document request book plan refine strict))
   verified old kept r same asked answered told = joined old kept same asked answered (λ at a b. verified_over at r a b told)
 
-module _ (document request book : List ℕ) (refine : Option ℕ) (q : Question) where
-  planned_over : (at : Holding) (r : Result Outcome Refused) → IsQuestionAt at document request book (Ok q) → GivesOne outcome_view r (IsPlanOf refine (Ok q))
-      → GivesOne outcome_view r (IsPlanReport at document request book refine)
+module _ (document request book : List ℕ) (refine : Option ℕ) (strict explain : Bool) (q : Question) where
+  planned_over : (at : Holding) (r : Result Outcome Refused) → IsQuestionAt at document request book (Ok q) → GivesOne outcome_view r (IsPlanOf strict explain refine (Ok q))
+      → GivesOne outcome_view r (IsPlanReport at document request book refine strict explain)
   unfolding IsPlanReport
   planned_over at (Ok o) asked told = (Ok q, asked, told)
   planned_over at (Err e) asked told = λ no. (Ok q, asked, told no)
 
-  pub planned : (old : Option Holding) (r : Result Outcome Refused) → IfSome old (λ at. IsQuestionAt at document request book (Ok q)) → GivesOne outcome_view r (IsPlanOf refine (Ok q))
-      → IfSome old (λ at. GivesOne outcome_view r (IsPlanReport at document request book refine))
+  pub planned : (old : Option Holding) (r : Result Outcome Refused) → IfSome old (λ at. IsQuestionAt at document request book (Ok q)) → GivesOne outcome_view r (IsPlanOf strict explain refine (Ok q))
+      → IfSome old (λ at. GivesOne outcome_view r (IsPlanReport at document request book refine strict explain))
   planned None r asked told = tt
   planned (Some at) r asked told = planned_over at r asked told
 

@@ -1,6 +1,6 @@
 -- The calls that each command makes, by the names that the lines of refusals have.
 use Rattle.std.specs.Prelude.{Bool, true, false}
-use Rattle.flagops_files.specs.Refusal.{loads_book, loads_tree, loads_rule, loads_flags, loads_question}
+use Rattle.flagops_files.specs.Refusal.{loads_tree, loads_rule, loads_flags, loads_question}
 use Rattle.flagops_files.specs.declared.refusal.Call.{Call}
 use Rattle.flagops_files.specs.declared.refusal.Call.TheVariants as call
 
@@ -123,19 +123,3 @@ drive_calls call.Store = true
 drive_calls call.ReadTree = true
 drive_calls call.ReadBook = true
 drive_calls c = loads_flags c
-
--- the calls that uniting books makes
-abbrev pub unites_books : Call → Bool
-unites_books call.Book = true
-unites_books c = loads_book c
-
--- the call of the command `book` itself
-abbrev pub unite_itself : Call → Bool
-unite_itself call.Book = true
-unite_itself c = false
-
--- the calls that the command `book` makes
-abbrev pub unite_calls : Call → Bool
-unite_calls call.Book = true
-unite_calls call.Store = true
-unite_calls c = loads_book c

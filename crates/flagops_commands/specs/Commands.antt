@@ -5,18 +5,17 @@ use Rattle.flagops_commands.specs.Bucket.{bucket_report}
 use Rattle.flagops_commands.specs.Check.{IsCheckReport}
 use Rattle.flagops_commands.specs.Completions.{completions_report}
 use Rattle.flagops_commands.specs.Drive.{IsDriveReport, LeavesBook}
-use Rattle.flagops_commands.specs.Unite.{IsUniteReport, LeavesUnited}
 use Rattle.flagops_files.specs.Files.{Holding}
 use Rattle.flagops_commands.specs.Keep.{IsKeepReport, LeavesDocument}
 use Rattle.flagops_commands.specs.Plan.{IsPlanReport}
 use Rattle.flagops_commands.specs.Price.{price_report}
-use Rattle.flagops_commands.specs.Calls.{bucket_calls, completions_calls, price_calls, check_calls, resolve_calls, verify_calls, apply_calls, keep_calls, plan_calls, drive_calls, unite_calls}
+use Rattle.flagops_commands.specs.Calls.{bucket_calls, completions_calls, price_calls, check_calls, resolve_calls, verify_calls, apply_calls, keep_calls, plan_calls, drive_calls}
 use Rattle.flagops_files.specs.Report.{IsFileRefusal, Outcomes}
 use Rattle.flagops_commands.specs.Resolve.{IsResolveReport}
 use Rattle.flagops_commands.specs.Verify.{IsVerifyReport}
 use Rattle.flagops_files.specs.declared.refusal.Call.{Call}
 use Rattle.flagops_files.specs.declared.refusal.Call.TheVariants as call
-use Rattle.flagops_words.specs.Asked.{Asked, bucket, price, check, resolve, verify, apply, keep, plan, drive, unite, completions}
+use Rattle.flagops_words.specs.Asked.{Asked, bucket, price, check, resolve, verify, apply, keep, plan, drive, completions}
 
 -- the command waits for others: `drive` for its workers, and no other command
 abbrev pub waits : Asked → Bool
@@ -27,25 +26,23 @@ waits asked = false
 abbrev pub IsOutcome : Holding → Option Holding → Asked → Outcomes
 IsOutcome at after (bucket rule key) r = bucket_report at rule key ≡ r
 IsOutcome at after (price old new request keys) r = price_report at old new request keys ≡ r
-IsOutcome at after (check document) r = IsCheckReport at document r
+IsOutcome at after (check document strict) r = IsCheckReport at document strict r
 IsOutcome at after (resolve document key kind default context moment) r = IsResolveReport at document key kind default context moment r
-IsOutcome at after (verify document request book file refine) r = IsVerifyReport at document request book file refine r
+IsOutcome at after (verify document request book file refine strict) r = IsVerifyReport at document request book file refine strict r
 IsOutcome at after (apply document file key site) r = IsApplyReport at document file key site r
-IsOutcome at after (keep document file request book write refine) r = IsKeepReport at after document file request book write refine r
-IsOutcome at after (plan document request book refine) r = IsPlanReport at document request book refine r
+IsOutcome at after (keep document file request book write refine strict) r = IsKeepReport at after document file request book write refine strict r
+IsOutcome at after (plan document request book refine strict explain) r = IsPlanReport at document request book refine strict explain r
 IsOutcome at after (completions shell) r = completions_report shell ≡ r
 IsOutcome at after (drive document file workers book add) r = IsDriveReport at after document file workers book add r
-IsOutcome at after (unite out files) r = IsUniteReport at after out files r
 
 -- the same; and that a file cannot be read or written is told only where one has failed
 abbrev pub IsRunOutcome : Holding → Option Holding → Bool → Asked → Outcomes
 IsRunOutcome at after has_failed asked r = IsOutcome at after asked r × (IsFileRefusal r → has_failed ≡ true)
 
--- a command leaves the files as they are; `drive`, `book` and `apply --keep --write` change the one file that they write, and only where there is something to write
+-- a command leaves the files as they are; `drive` and `apply --keep --write` change the one file that they write, and only where there is something to write
 abbrev pub Leaves : Asked → Option Holding → Option Holding → Type 0
-Leaves (keep document file request book write refine) old new = LeavesDocument old new document write
+Leaves (keep document file request book write refine strict) old new = LeavesDocument old new document write
 Leaves (drive document file workers book add) old new = LeavesBook old new document file workers book add
-Leaves (unite out files) old new = LeavesUnited old new out files
 Leaves asked old new = new ≡ old
 
 -- words that ask for no command leave them
@@ -57,15 +54,14 @@ LeavesAsked o old new = new ≡ old
 abbrev pub calls_of : Asked → Call → Bool
 calls_of (bucket rule key) c = bucket_calls c
 calls_of (price old new request keys) c = price_calls c
-calls_of (check document) c = check_calls c
+calls_of (check document strict) c = check_calls c
 calls_of (resolve document key kind default context moment) c = resolve_calls c
-calls_of (verify document request book file refine) c = verify_calls c
+calls_of (verify document request book file refine strict) c = verify_calls c
 calls_of (apply document file key site) c = apply_calls c
-calls_of (keep document file request book write refine) c = keep_calls c
-calls_of (plan document request book refine) c = plan_calls c
+calls_of (keep document file request book write refine strict) c = keep_calls c
+calls_of (plan document request book refine strict explain) c = plan_calls c
 calls_of (completions shell) c = completions_calls c
 calls_of (drive document file workers book add) c = drive_calls c
-calls_of (unite out files) c = unite_calls c
 
 -- the calls that may run out of memory: those of the command, and reading the words
 abbrev pub can_want : Asked → Call → Bool

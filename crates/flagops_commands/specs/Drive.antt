@@ -9,18 +9,18 @@ use Rattle.flagops_drive.specs.declared.fault.DriveRefusal.{DriveRefusal}
 use Rattle.flagops_files.specs.Documents.{IsDocumentAt}
 use Rattle.flagops_files.specs.Files.{Holding, KeepsOthers, Stores}
 use Rattle.flagops_files.specs.Loading.{◌>>=◌, max_text, refused_by, tree_at}
-use Rattle.flagops_files.specs.Question.{book_at}
+use Rattle.flagops_files.specs.Question.{book_at, replaceable_at}
 use Rattle.flagops_files.specs.Refusal.{call_of, is_want, unwritable}
-use Rattle.flagops_files.specs.Report.{Outcomes, done, status_number}
+use Rattle.flagops_files.specs.Report.{Outcomes, beside, done, status_number}
 use Rattle.flagops_files.specs.declared.outcome.Outcome.{Outcome}
 use Rattle.flagops_files.specs.declared.refusal.Call.TheVariants as call
 use Rattle.flagops_files.specs.declared.refusal.Refusal.{Refusal}
 use Rattle.flagops_files.specs.declared.refusal.Refusal.TheVariants.{Drive}
 use Rattle.flagops_files.specs.declared.refused.Refused.{Refused}
 
--- the book that was there before: that of the file where it is added to, and else none
+-- the book that was there before: that of the file where it is added to, and else none, where the file may become another book
 unfoldable pub before_at : Holding → List ℕ → Bool → Result (Option Contents) Refusal
-before_at at book false = Ok None
+before_at at book false = replaceable_at at book >>= λ _. Ok None
 before_at at book true = book_at at book >>= λ before. Ok (Some before)
 
 -- what comes of the asks, where the document, the asks and the book before were read, each before the next
@@ -30,10 +30,10 @@ IsDroveOf (Ok flags) (Err e) before workers r = r ≡ Err e
 IsDroveOf (Ok flags) (Ok t) (Err e) workers r = r ≡ Err e
 IsDroveOf (Ok flags) (Ok t) (Ok before) workers r = (d : Result Drove DriveRefusal) × IsDriveOf flags (asks_of t) workers before d × (r ≡ refused_by Drive d)
 
--- The book is written before the output, and no other file changes; none does where there is no book, or where it is refused to be written.
+-- The book is written before the output, and no other file changes; none does where there is no book, or where it is refused to be written. A person is told how many asks ended in what, and how many inputs they reached.
 abbrev pub IsWritten : Holding → Option Holding → List ℕ → Result Drove Refusal → Outcomes
 IsWritten at after book (Err e) r = (r ≡ Err e) × (after ≡ Some at)
-IsWritten at after book (Ok d) r = ((r ≡ done d.text) × Stores (Some at) after book d.book × KeepsOthers (Some at) after book) ⊎ ((r ≡ Err unwritable) × (after ≡ Some at))
+IsWritten at after book (Ok d) r = ((r ≡ beside true (done d.text)) × Stores (Some at) after book d.book × KeepsOthers (Some at) after book) ⊎ ((r ≡ Err unwritable) × (after ≡ Some at))
 
 unfoldable pub IsDriveReport : Holding → Option Holding → List ℕ → List ℕ → ℕ → List ℕ → Bool → Outcomes
 IsDriveReport at after path asks workers book add r =

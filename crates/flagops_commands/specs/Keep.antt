@@ -12,7 +12,7 @@ use Rattle.rollout_checks.specs.declared.fault.RolloutFault.{RolloutFault}
 use Rattle.rollout_checks.specs.declared.verify_fault.VerifyFault.{VerifyFault}
 use Rattle.site_places.specs.Place.{SitePlace}
 use Rattle.flagops_commands.specs.Apply.{none_report}
-use Rattle.flagops_commands.specs.Unrecorded.{is_unrecorded}
+use Rattle.flagops_commands.specs.Doubts.{doubt_of, settle}
 use Rattle.flagops_commands.specs.Verify.{MayBeTold}
 use Rattle.flagops_files.specs.Files.{Holding, KeepsOthers, Stores, load_of}
 use Rattle.flagops_files.specs.Loading.{max_text}
@@ -21,6 +21,7 @@ use Rattle.flagops_files.specs.Question.{Question, IsQuestionAt}
 use Rattle.flagops_files.specs.Refusal.{unwritable}
 use Rattle.flagops_files.specs.Report.{Outcomes, beside, done}
 use Rattle.flagops_files.specs.declared.keeping.KeepRefusal.TheVariants.{Verify, Document}
+use Rattle.flagops_files.specs.declared.refusal.Call.TheVariants as call
 use Rattle.flagops_files.specs.declared.refusal.Refusal.{Refusal}
 use Rattle.flagops_files.specs.declared.refusal.Refusal.TheVariants.{Apply, Keep}
 
@@ -87,26 +88,31 @@ IsTextPut at after path false told text r = (r ≡ beside told (done text)) × (
 IsTextPut at after path true told text r = IsWritten at after path told text r
 
 -- Nothing is changed where there is none.
-abbrev pub IsPut : Holding → Option Holding → List ℕ → Bool → Bool → Result Kept Refusal → Outcomes
-IsPut at after path write told (Err e) r = (r ≡ Err e) × (after ≡ Some at)
-IsPut at after path write told (Ok None) r = (r ≡ beside told (Ok none_report)) × (after ≡ Some at)
-IsPut at after path write told (Ok (Some text)) r = IsTextPut at after path write told text r
+abbrev pub IsKeptPut : Holding → Option Holding → List ℕ → Bool → Bool → Kept → Outcomes
+IsKeptPut at after path write told None r = (r ≡ beside told (Ok none_report)) × (after ≡ Some at)
+IsKeptPut at after path write told (Some text) r = IsTextPut at after path write told text r
 
--- The same, of what becomes of the document. A person is told where the book has no input for the request.
-abbrev pub IsKeepWith : Holding → Option Holding → List ℕ → Bool → Option ℕ → List ℕ → Question → Answer → Outcomes
-IsKeepWith at after path write refine document q answer r =
-    (kept : Result Kept Refusal) × MayBeKept refine document q answer kept × IsPut at after path write (is_unrecorded q) kept r
+-- Nor where it is refused, or doubted and `--strict` refuses that.
+abbrev pub IsPut : Holding → Option Holding → List ℕ → Bool → Result Bool Refusal → Result Kept Refusal → Outcomes
+IsPut at after path write settled (Err e) r = (r ≡ Err e) × (after ≡ Some at)
+IsPut at after path write (Err e) (Ok kept) r = (r ≡ Err e) × (after ≡ Some at)
+IsPut at after path write (Ok told) (Ok kept) r = IsKeptPut at after path write told kept r
+
+-- The same, of what becomes of the document. A person is told of a doubt.
+abbrev pub IsKeepWith : Holding → Option Holding → List ℕ → Bool → Bool → Option ℕ → List ℕ → Question → Answer → Outcomes
+IsKeepWith at after path write strict refine document q answer r =
+    (kept : Result Kept Refusal) × MayBeKept refine document q answer kept × IsPut at after path write (settle call.Apply strict (doubt_of q)) kept r
 
 -- The same over what was read.
-abbrev pub IsKeepOf : Holding → Option Holding → List ℕ → Bool → Option ℕ → Result Question Refusal → Result Answer Refusal → Outcomes
-IsKeepOf at after path write refine (Err e) answer r = (r ≡ Err e) × (after ≡ Some at)
-IsKeepOf at after path write refine (Ok q) (Err e) r = (r ≡ Err e) × (after ≡ Some at)
-IsKeepOf at after path write refine (Ok q) (Ok answer) r =
-    (document : List ℕ) × (load_of at path max_text ≡ Ok document) × IsKeepWith at after path write refine document q answer r
+abbrev pub IsKeepOf : Holding → Option Holding → List ℕ → Bool → Bool → Option ℕ → Result Question Refusal → Result Answer Refusal → Outcomes
+IsKeepOf at after path write strict refine (Err e) answer r = (r ≡ Err e) × (after ≡ Some at)
+IsKeepOf at after path write strict refine (Ok q) (Err e) r = (r ≡ Err e) × (after ≡ Some at)
+IsKeepOf at after path write strict refine (Ok q) (Ok answer) r =
+    (document : List ℕ) × (load_of at path max_text ≡ Ok document) × IsKeepWith at after path write strict refine document q answer r
 
-unfoldable pub IsKeepReport : Holding → Option Holding → List ℕ → List ℕ → List ℕ → List ℕ → Bool → Option ℕ → Outcomes
-IsKeepReport at after document plan request book write refine r =
-    (question : Result Question Refusal) × IsQuestionAt at document request book question × IsKeepOf at after document write refine question (plan_at at plan) r
+unfoldable pub IsKeepReport : Holding → Option Holding → List ℕ → List ℕ → List ℕ → List ℕ → Bool → Option ℕ → Bool → Outcomes
+IsKeepReport at after document plan request book write refine strict r =
+    (question : Result Question Refusal) × IsQuestionAt at document request book question × IsKeepOf at after document write strict refine question (plan_at at plan) r
 
 -- The files stay as they are; or they are to be written, and the document alone changes.
 abbrev pub LeavesDocument : Option Holding → Option Holding → List ℕ → Bool → Type 0

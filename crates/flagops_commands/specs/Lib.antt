@@ -4,9 +4,11 @@ pub mod Calls
 pub mod Check
 pub mod Commands
 pub mod Completions
+pub mod Doubts
 pub mod Drive
 pub mod Ended
 pub mod Keep
+pub mod Passed
 pub mod Plan
 pub mod Price
 pub mod Resolve
@@ -14,7 +16,6 @@ pub mod Subjects
 pub mod Tallies
 pub mod Telling
 pub mod Totals
-pub mod Unite
 pub mod Unrecorded
 pub mod Valid
 pub mod Verify

@@ -1,6 +1,6 @@
 -- What a person is told. Of a refusal it is the name of what was refused: of each command the files at its paths and its words
 -- stand here, each with the refusals that are of it.
-use Rattle.std.specs.Prelude.{ℕ, Bool, true, false, List, [], ◌∷◌, ◌++◌, map, Ok, Err, codes}
+use Rattle.std.specs.Prelude.{ℕ, Bool, true, false, List, [], ◌∷◌, ◌++◌, Ok, Err, codes}
 use Rattle.flagops_drive.specs.declared.fault.DriveRefusal.{DriveRefusal}
 use Rattle.flagops_drive.specs.declared.fault.DriveRefusal.TheVariants as driving
 use Rattle.flagops_files.specs.Question.{question_subjects}
@@ -14,9 +14,10 @@ use Rattle.flagops_files.specs.declared.refusal.Refusal.{Refusal}
 use Rattle.flagops_files.specs.declared.refusal.Refusal.TheVariants.{Note, Price, Plan, PrintPlanned, Verify, Apply, Keep, Drive}
 use Rattle.flagops_files.specs.Files.{Holding}
 use Rattle.flagops_commands.specs.Check.{TellsBrokenAt}
-use Rattle.flagops_commands.specs.Calls.{loads_request, unites_books}
+use Rattle.flagops_commands.specs.Calls.{loads_request}
+use Rattle.flagops_commands.specs.Doubts.{NamesDoubted, doubt_subjects}
 use Rattle.flagops_remarks.specs.Named.{Names, NamesWord}
-use Rattle.flagops_words.specs.Asked.{Asked, bucket, price, check, resolve, verify, apply, keep, plan, drive, unite, completions}
+use Rattle.flagops_words.specs.Asked.{Asked, bucket, price, check, resolve, verify, apply, keep, plan, drive, completions}
 use Rattle.rollout_checks.specs.declared.verify_fault.VerifyFault.{VerifyFault}
 use Rattle.rollout_checks.specs.declared.verify_fault.VerifyFault.TheVariants as verdict
 
@@ -63,7 +64,7 @@ is_of_answer (Verify (verdict.Check e)) = true
 is_of_answer e = by loads_plan e
 
 abbrev pub verify_subjects : List ℕ → List ℕ → List ℕ → List ℕ → Subjects
-verify_subjects document request book answer = question_subjects document request book ++ (file request, is_of_request) ∷ (file answer, is_of_answer) ∷ []
+verify_subjects document request book answer = question_subjects document request book ++ (file request, is_of_request) ∷ (file answer, is_of_answer) ∷ doubt_subjects request book
 
 -- what is said of an answer that is not verified
 abbrev pub NamesVerified : List ℕ → List ℕ → VerifyFault → List ℕ → Type 0
@@ -73,7 +74,6 @@ NamesVerified request answer (verdict.Check e) lines = Names answer lines
 -- a plan is refused as a file, or where its rule is put
 abbrev pub is_of_plan : Refusal → Bool
 is_of_plan (Apply e) = true
-is_of_plan (Keep e) = true
 is_of_plan e = by loads_plan e
 
 abbrev pub apply_subjects : List ℕ → List ℕ → Subjects
@@ -94,7 +94,7 @@ is_of_kept_document e = by stores_file e
 
 abbrev pub keep_subjects : List ℕ → List ℕ → List ℕ → List ℕ → Subjects
 keep_subjects document answer request book =
-    question_subjects document request book ++ (file request, is_of_kept_request) ∷ (file answer, is_of_kept_answer) ∷ (file document, is_of_kept_document) ∷ []
+    question_subjects document request book ++ (file request, is_of_kept_request) ∷ (file answer, is_of_kept_answer) ∷ (file document, is_of_kept_document) ∷ doubt_subjects request book
 
 -- a plan that is too large to be printed
 abbrev pub is_of_size : Refusal → Bool
@@ -105,7 +105,7 @@ abbrev pub the_plan : List ℕ
 the_plan = codes "the plan"
 
 abbrev pub plan_subjects : List ℕ → List ℕ → List ℕ → Subjects
-plan_subjects document request book = question_subjects document request book ++ (file request, is_of_request) ∷ (word the_plan, is_of_size) ∷ []
+plan_subjects document request book = question_subjects document request book ++ (file request, is_of_request) ∷ (word the_plan, is_of_size) ∷ doubt_subjects request book
 
 -- asks are refused as a file, or for what it holds
 abbrev pub is_of_asks : Refusal → Bool
@@ -138,33 +138,26 @@ driven_subjects asks book = (file asks, is_of_asks) ∷ (word the_workers, is_of
 abbrev pub drive_subjects : List ℕ → List ℕ → List ℕ → Subjects
 drive_subjects document asks book = (file document, by loads_flags) ∷ (file book, by loads_book) ∷ (file book, by stores_file) ∷ driven_subjects asks book
 
--- the books that are read, and the one that is written
-abbrev pub united_subjects : List (List ℕ) → Subjects
-united_subjects paths = map (λ path. (file path, by unites_books)) paths
-
-abbrev pub unite_subjects : List ℕ → List (List ℕ) → Subjects
-unite_subjects out paths = (file out, by stores_file) ∷ united_subjects paths
-
 abbrev pub subjects_of : Asked → Subjects
 subjects_of (bucket rule key) = bucket_subjects rule
 subjects_of (price old new request keys) = price_subjects old new request keys
-subjects_of (check document) = check_subjects document
+subjects_of (check document strict) = check_subjects document
 subjects_of (resolve document key kind default context moment) = resolve_subjects document context
-subjects_of (verify document request book answer refine) = verify_subjects document request book answer
-subjects_of (plan document request book refine) = plan_subjects document request book
+subjects_of (verify document request book answer refine strict) = verify_subjects document request book answer
+subjects_of (plan document request book refine strict explain) = plan_subjects document request book
 subjects_of (apply document answer key site) = apply_subjects document answer
-subjects_of (keep document answer request book write refine) = keep_subjects document answer request book
+subjects_of (keep document answer request book write refine strict) = keep_subjects document answer request book
 subjects_of (drive document asks workers book add) = drive_subjects document asks book
-subjects_of (unite out files) = unite_subjects out files
 subjects_of (completions shell) = []
 
--- what a person is told beside the report of a command that was not refused: which flags are broken, and that the book has
--- no input for the request
+-- what a person is told beside the report of a command that was not refused: which flags are broken, what is
+-- doubted of an answer to a request, and what the asks ended in
 abbrev pub notes_of : Holding → Asked → List ℕ → Type 0
-notes_of at (check document) = TellsBrokenAt at document
-notes_of at (verify document request book answer refine) = Names book
-notes_of at (plan document request book refine) = Names book
-notes_of at (keep document answer request book write refine) = Names book
+notes_of at (check document strict) = TellsBrokenAt at document
+notes_of at (verify document request book answer refine strict) = NamesDoubted request book
+notes_of at (plan document request book refine strict explain) = NamesDoubted request book
+notes_of at (keep document answer request book write refine strict) = NamesDoubted request book
+notes_of at (drive document asks workers book add) = Names asks
 notes_of at asked = λ lines. Unit {0}
 
 -- the remark on what a command comes to

@@ -1,5 +1,5 @@
 -- That a tally stands for the book whose inputs it counts.
-use Rattle.std.specs.Prelude.{◌≢◌, ◌↔◌, ℕ, List, unwrap_or, Option, Result, Ok, Err}
+use Rattle.std.specs.Prelude.{◌≢◌, ◌↔◌, ℕ, Bool, List, unwrap_or, Option, Result, Ok, Err}
 use Rattle.book_core.specs.Book.{Contents, inputs_on}
 use Rattle.flag_documents.specs.Document.{Definitions}
 use Rattle.plan_text.specs.Answer.{Answer}
@@ -23,13 +23,13 @@ over flags request evidence = record { flags = flags; request = request; evidenc
 -- On a book and on the tally of a page of it, which is not refused as another tally, `plan` may report the same.
 abbrev pub TalliesPlanAsBooks : Type 0
 TalliesPlanAsBooks =
-    (refine : Option ℕ) (flags : Definitions) (request : List ℕ) (book : Contents) (tally : PageTally) (r : Result Report Refusal)
+    (strict explain : Bool) (refine : Option ℕ) (flags : Definitions) (request : List ℕ) (book : Contents) (tally : PageTally) (r : Result Report Refusal)
     → IsTallyOf (inputs_on book tally.page) tally → tally_problem_of (Times (unwrap_or refine 1)) flags request tally ≢ Err OtherTally
-    → IsPlanOf refine (Ok (over flags request (Tally tally))) r ↔ IsPlanOf refine (Ok (over flags request (Book book))) r
+    → IsPlanOf strict explain refine (Ok (over flags request (Tally tally))) r ↔ IsPlanOf strict explain refine (Ok (over flags request (Book book))) r
 
 -- and what `verify` tells on the tally it may tell on the book
 abbrev pub TalliesTellAsBooks : Type 0
 TalliesTellAsBooks =
-    (refine : Option ℕ) (flags : Definitions) (request : List ℕ) (book : Contents) (tally : PageTally) (answer : Answer) (r : Result Report Refusal)
+    (strict : Bool) (refine : Option ℕ) (flags : Definitions) (request : List ℕ) (book : Contents) (tally : PageTally) (answer : Answer) (r : Result Report Refusal)
     → IsTallyOf (inputs_on book tally.page) tally → tally_problem_checked refine answer flags request tally ≢ Err OtherTally
-    → IsVerdict refine (Ok (over flags request (Tally tally))) (Ok answer) r → IsVerdict refine (Ok (over flags request (Book book))) (Ok answer) r
+    → IsVerdict strict refine (Ok (over flags request (Tally tally))) (Ok answer) r → IsVerdict strict refine (Ok (over flags request (Book book))) (Ok answer) r

@@ -1,5 +1,5 @@
 -- What `verify` tells of what `plan` printed.
-use Rattle.std.specs.Prelude.{◌≡◌, ℕ, List, true, Option, Some, Result, Ok, Err}
+use Rattle.std.specs.Prelude.{◌≡◌, ℕ, Bool, List, false, true, Option, Some, Result, Ok, Err}
 use Rattle.book_core.specs.Book.{Inputs}
 use Rattle.book_core.specs.Counts.{counts_of}
 use Rattle.plan_text.specs.Answer.{Answer}
@@ -23,7 +23,7 @@ IsValid answer (Err e) = is_want e ≡ true
 pub record IsValidPlan (refine : Option ℕ) (q : Question) (text : List ℕ) : Type 0 where
   pub answer : Answer
   pub holds : Holds answer text
-  pub valid : (at : Holding) (path : List ℕ) (told : Result Report Refusal) → at path ≡ Some text → IsVerdict refine (Ok q) (plan_at at path) told → IsValid answer told
+  pub valid : (at : Holding) (path : List ℕ) (told : Result Report Refusal) → at path ≡ Some text → IsVerdict false refine (Ok q) (plan_at at path) told → IsValid answer told
 
 -- it is the evidence of some inputs: a book is that of its own, and of a tally there are inputs of which so many fall on each point
 abbrev pub IsOfInputs : Evidence → Type 0
@@ -32,4 +32,4 @@ IsOfInputs (Tally tally) = (inputs : Inputs) × (tally.counts ≡ counts_of inpu
 
 -- so it is with each report of `plan`, by the same factor
 abbrev pub PlansAreValid : Type 0
-PlansAreValid = (refine : Option ℕ) (q : Question) (report : Report) → IsOfInputs q.evidence → IsPlanOf refine (Ok q) (Ok report) → IsValidPlan refine q report.text
+PlansAreValid = (strict explain : Bool) (refine : Option ℕ) (q : Question) (report : Report) → IsOfInputs q.evidence → IsPlanOf strict explain refine (Ok q) (Ok report) → IsValidPlan refine q report.text

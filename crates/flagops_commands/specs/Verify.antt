@@ -1,5 +1,5 @@
 -- What the command `verify` answers.
-use Rattle.std.specs.Prelude.{◌≡◌, ℕ, List, ◌++◌, codes, decimal, OnOk, Option, Some, None, Result, Ok, Err}
+use Rattle.std.specs.Prelude.{◌≡◌, ℕ, Bool, List, ◌++◌, codes, decimal, OnOk, Option, Some, None, Result, Ok, Err}
 use Rattle.flag_documents.specs.Document.{Definitions}
 use Rattle.plan_text.specs.Answer.{Answer, emit, none_exists}
 use Rattle.rollout_checks.specs.Refined.{problem_checked}
@@ -14,7 +14,8 @@ use Rattle.flagops_files.specs.Loading.{◌>>=◌, refused_by}
 use Rattle.flagops_files.specs.PlanFile.{plan_at}
 use Rattle.flagops_files.specs.Question.{Question, IsQuestionAt}
 use Rattle.flagops_files.specs.Report.{Outcomes, Report, beside, done}
-use Rattle.flagops_commands.specs.Unrecorded.{is_unrecorded}
+use Rattle.flagops_commands.specs.Doubts.{doubt_of, settle}
+use Rattle.flagops_files.specs.declared.refusal.Call.TheVariants as call
 use Rattle.flagops_files.specs.declared.evidence.Evidence.{Evidence}
 use Rattle.flagops_files.specs.declared.evidence.Evidence.TheVariants.{Book, Tally}
 use Rattle.flagops_files.specs.declared.refusal.Refusal.{Refusal}
@@ -25,9 +26,9 @@ unfoldable pub valid_text : Answer → List ℕ
 valid_text (emit rule c) = codes "valid cost " ++ (decimal c.cost ++ codes "\n")
 valid_text (none_exists kind names) = codes "valid none\n"
 
--- the report of what is told of an answer
-abbrev pub told : Answer → Result (Unit {0}) VerifyFault → Result Report Refusal
-told answer verdict = refused_by Verify verdict >>= λ _. done (valid_text answer)
+-- the report of what is told of an answer, beside which a person is told more, or not
+abbrev pub told : Result Bool Refusal → Answer → Result (Unit {0}) VerifyFault → Result Report Refusal
+told settled answer verdict = refused_by Verify verdict >>= λ _. settled >>= λ noted. beside noted (done (valid_text answer))
 
 -- what an answer is checked against on a tally: the rule refined as on a book
 abbrev pub tally_problem_checked : Option ℕ → Answer → Definitions → List ℕ → PageTally → Result TallyProblem RolloutFault
@@ -51,12 +52,13 @@ pub record MayBeTold (refine : Option ℕ) (q : Question) (answer : Answer) (ver
   -- and where it is right, its rule costs the recorded inputs the least of all that fit, or no rule fits
   pub shown : OnOk verdict (IsShownOn refine answer q.flags q.request q.evidence)
 
--- its report; the answer is asked for where there is a question
-abbrev pub IsVerdict : Option ℕ → Result Question Refusal → Result Answer Refusal → Outcomes
-IsVerdict refine (Err e) answer r = r ≡ Err e
-IsVerdict refine (Ok q) (Err e) r = r ≡ Err e
-IsVerdict refine (Ok q) (Ok answer) r = (verdict : Result (Unit {0}) VerifyFault) × MayBeTold refine q answer verdict × (r ≡ beside (is_unrecorded q) (told answer verdict))
+-- its report, unless it is doubted and `--strict` refuses that; the answer is asked for where there is a question
+abbrev pub IsVerdict : Bool → Option ℕ → Result Question Refusal → Result Answer Refusal → Outcomes
+IsVerdict strict refine (Err e) answer r = r ≡ Err e
+IsVerdict strict refine (Ok q) (Err e) r = r ≡ Err e
+IsVerdict strict refine (Ok q) (Ok answer) r =
+    (verdict : Result (Unit {0}) VerifyFault) × MayBeTold refine q answer verdict × (r ≡ told (settle call.Verify strict (doubt_of q)) answer verdict)
 
-unfoldable pub IsVerifyReport : Holding → List ℕ → List ℕ → List ℕ → List ℕ → Option ℕ → Outcomes
-IsVerifyReport at document request book plan refine r =
-    (question : Result Question Refusal) × IsQuestionAt at document request book question × IsVerdict refine question (plan_at at plan) r
+unfoldable pub IsVerifyReport : Holding → List ℕ → List ℕ → List ℕ → List ℕ → Option ℕ → Bool → Outcomes
+IsVerifyReport at document request book plan refine strict r =
+    (question : Result Question Refusal) × IsQuestionAt at document request book question × IsVerdict strict refine question (plan_at at plan) r

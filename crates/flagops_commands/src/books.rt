@@ -1,4 +1,3 @@
-//! The commands that make a book.
+//! The command that makes a book.
 
 pub mod drive;
-pub mod unite;

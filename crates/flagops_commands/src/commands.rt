@@ -9,7 +9,6 @@ ghost use Rattle.flagops_files.specs.Told.{Says, TellsOfOne};
 ghost use Rattle.flagops_commands.specs.Subjects.{notes_of, subjects_of};
 
 use crate::books::drive::drive;
-use crate::books::unite::unite;
 use crate::completions::completions;
 use crate::flags::check::check;
 use crate::flags::resolve::resolve;
@@ -80,7 +79,7 @@ fn outcome_at_once<R: Threads + Sync, F: FileSet>(
             request,
             keys,
         } => price(rt, alloc, files, old, new, request, keys),
-        Asked::Check { document } => check(alloc, files, document),
+        Asked::Check { document, strict } => check(alloc, files, document, *strict),
         Asked::Resolve {
             document,
             key,
@@ -97,13 +96,20 @@ fn outcome_at_once<R: Threads + Sync, F: FileSet>(
             book,
             plan,
             refine,
-        } => verify(rt, alloc, files, document, request, book, plan, *refine),
+            strict,
+        } => verify(
+            rt, alloc, files, document, request, book, plan, *refine, *strict,
+        ),
         Asked::Plan {
             document,
             request,
             book,
             refine,
-        } => plan(rt, alloc, files, document, request, book, *refine),
+            strict,
+            explain,
+        } => plan(
+            rt, alloc, files, document, request, book, *refine, *strict, *explain,
+        ),
         Asked::Apply {
             document,
             plan,
@@ -117,10 +123,10 @@ fn outcome_at_once<R: Threads + Sync, F: FileSet>(
             book,
             write,
             refine,
+            strict,
         } => keep(
-            rt, alloc, files, document, plan, request, book, *write, *refine,
+            rt, alloc, files, document, plan, request, book, *write, *refine, *strict,
         ),
-        Asked::Unite { out, files: paths } => unite(alloc, files, out, paths.as_slice()),
         Asked::Drive { .. } => unreachable!(),
     }
 }

@@ -1,4 +1,5 @@
 //! What the definitions of the commands amount to.
+ghost use Rattle.flagops_commands.specs.Passed.{UnreadIsPassedOver};
 ghost use Rattle.flagops_commands.specs.Tallies.{TalliesPlanAsBooks, TalliesTellAsBooks};
 ghost use Rattle.flagops_commands.specs.Valid.{PlansAreValid};
 
@@ -8,6 +9,11 @@ use rollout::tallies_plan_as_books;
 /// valid, by the same factor: on a book, and on a tally that some inputs have. A law: it computes nothing.
 pub fn printed_plans_are_valid()
     ensures { PlansAreValid }
+{}
+
+/// A request asks the same without the members that are told as not read. A law: it computes nothing.
+pub fn unread_members_are_passed_over()
+    ensures { UnreadIsPassedOver }
 {}
 
 /// On a book and on the tally of a page of it `plan` may report the same, and what `verify` tells on the tally it may tell on

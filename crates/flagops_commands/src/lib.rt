@@ -30,6 +30,6 @@ mod program;
 mod rollouts;
 mod rules;
 
-pub use laws::{printed_plans_are_valid, tallies_answer_as_books};
+pub use laws::{printed_plans_are_valid, tallies_answer_as_books, unread_members_are_passed_over};
 pub use program::{complain, explain, run};
 pub use rollouts::plan::answer as plan_answer;

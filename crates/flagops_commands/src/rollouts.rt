@@ -1,6 +1,8 @@
 //! The commands on rollouts.
 
 pub mod apply;
+pub mod doubts;
+mod explained;
 pub mod keep;
 mod kept;
 pub mod plan;

@@ -2,3 +2,4 @@ pub mod Asks
 pub mod Driven
 pub mod Fault
 pub mod Lines
+pub mod Tally

@@ -6,11 +6,13 @@ ghost use Rattle.flag_text.specs.Shape.{is_whole, items_are_whole};
 ghost use Rattle.flag_text.specs.View.{items_view, view};
 ghost use Rattle.flagops_drive.specs.Asks.{asks_in, asks_of as asks_of_shape};
 ghost use Rattle.flagops_drive.specs.Driven.{Adds, Drives, IsOutput, IsUnadded, drove_view, reached_view, refusal_of};
+ghost use Rattle.flagops_drive.specs.Tally.{IsTallied};
 ghost use Rattle.flagops_drive.specs.declared.fault.DriveRefusal.{DriveRefusal as Refusal};
 
 use crate::asks::{ask_items, asks_in};
 use crate::fault::DriveRefusal;
 use crate::lines::{Counts, lines};
+use crate::tally::{Endings, Tally, inputs_before};
 use book_core::{Book, print_book};
 use book_share::{DriveFault, Driven, OpenGate, drive};
 use flag_defs::Flags;
@@ -29,6 +31,8 @@ pub struct Drove {
     pub text: Vec<u8>,
     /// The file of the book.
     pub book: Vec<u8>,
+    /// What a person is told.
+    pub tally: Tally,
 }
 
 /// Answers the asks of a file, in their order, by so many workers, and notes what they reach; the book keeps what a book had
@@ -47,6 +51,7 @@ pub fn drive_asks<R: Threads + Wait + Sync>(
 ) -> Result<Drove, DriveRefusal>
     requires { is_whole (view asks.now) ≡ true }
     ensures driven { Drives (flags_view flags.now) (asks_of_shape (view asks.now)) workers before result }
+    ensures tally { IfOk result (IsTallied before) }
     ensures refused { (e : Refusal) → refusal_of (asks_of_shape (view asks.now)) workers ≡ Some e → IsErrOf result e }
 {
     let Some(items) = ask_items(asks) else {
@@ -69,7 +74,8 @@ fn drive_items<R: Threads + Wait + Sync>(
 ) -> Result<Drove, DriveRefusal>
     requires whole { items_are_whole (items_view items.now) ≡ true }
     requires few { length items.now < 2 ^ 32 }
-    ensures { Drives (flags_view flags.now) (asks_in (items_view items.now)) workers before result }
+    ensures driven { Drives (flags_view flags.now) (asks_in (items_view items.now)) workers before result }
+    ensures tally { IfOk result (IsTallied before) }
 {
     let asks = asks_in(alloc, items)?;
     match drive(rt, alloc, flags, asks.as_slice(), workers, &OpenGate) {
@@ -92,8 +98,10 @@ fn fault_of(workers: usize) -> Option<DriveFault>
 }
 
 /// What is printed and what is written of what was driven.
+#[tactic(auto, unfolding(crate::specs::Tally::IsTallied))]
 fn output_of(alloc: Global, driven: Driven, before: Option<Book>) -> Result<Drove, DriveRefusal>
     ensures output { IfOk result (λ d. IsOutput before (reached_view driven) (drove_view d)) }
+    ensures tally { IfOk result (IsTallied before) }
     ensures refused { IfErr result (IsUnadded before driven.book) }
 {
     let Driven {
@@ -104,6 +112,7 @@ fn output_of(alloc: Global, driven: Driven, before: Option<Book>) -> Result<Drov
         full,
         long,
     } = driven;
+    let had = inputs_before(&before);
     let book = added(alloc, before, book)?;
     let counts = Counts {
         inputs: book.inputs(),
@@ -113,8 +122,14 @@ fn output_of(alloc: Global, driven: Driven, before: Option<Book>) -> Result<Drov
         long,
     };
     let text = lines(alloc, answers.as_slice(), &counts)?.into_bytes();
+    let tally = Tally {
+        endings: Endings::of(answers.as_slice()),
+        had,
+        reached: news,
+        inputs: counts.inputs,
+    };
     let book = print_book(alloc, &book)?;
-    Ok(Drove { text, book })
+    Ok(Drove { text, book, tally })
 }
 
 /// The book of what was reached, and of what a book had before.

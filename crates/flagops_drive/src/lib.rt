@@ -1,7 +1,8 @@
 //! The command `drive`: from an asks file to the lines that are printed and the file of the book.
 //!
 //! [`asks_of`] reads the asks of a file's tree; [`drive_asks`] has `book_share::drive` answer them by so many workers, and
-//! gives the whole output of the command, a [`Drove`]: a line for each resolution, five counts, and the file of the book.
+//! gives the whole output of the command, a [`Drove`]: a line for each resolution, five counts, and the file of the book,
+//! with a [`Tally`] of how many asks ended in what.
 //!
 //! ```rust
 //! use flag_defs::read_flags;
@@ -16,8 +17,8 @@
 //! Proved, over the definitions of `specs/`: the asks are those of `Asks.asks_of`, and are refused with BadAsks exactly where
 //! it gives none; the lines are `Lines.drive_text` of what the flags resolve the asks to, in their order; and the file is that
 //! of a book which, where no page was full, has just the inputs that the asks reached, and those that a book had before if
-//! one is given (`Driven.IsDrove`). It is refused with PageFull only where no book holds both. The gate lets each ask start
-//! at once, so Stalled does not come.
+//! one is given (`Driven.IsDrove`). The tally is of the resolutions that are printed (`Tally.IsTallied`). It is refused with
+//! PageFull only where no book holds both. The gate lets each ask start at once, so Stalled does not come.
 #![tactic(auto)]
 
 mod asks;
@@ -26,7 +27,9 @@ mod fault;
 mod lines;
 mod parts;
 mod reading;
+mod tally;
 
 pub use asks::asks_of;
 pub use command::{Drove, drive_asks};
 pub use fault::DriveRefusal;
+pub use tally::{Endings, Tally};

@@ -1,5 +1,6 @@
 -- What the files hold that the program reads and writes.
-use Rattle.std.specs.Prelude.{◌≡◌, ◌≢◌, ℕ, ◌+◌, Bool, true, false, List, take, Option, Some, None, Result, Ok, Err, codes}
+use Rattle.std.specs.Prelude.{◌≡◌, ◌≢◌, ℕ, ◌+◌, Bool, true, false, if◌then◌else◌, List, take, Option, Some, None, Result, Ok, Err, codes}
+use Rattle.flagops_files.specs.Beginning.{may_begin_record}
 use Rattle.flagops_files.specs.declared.files.LoadFault.{LoadFault}
 use Rattle.flagops_files.specs.declared.files.LoadFault.TheVariants as load
 use Rattle.flagops_files.specs.declared.files.StoreFault.{StoreFault}
@@ -17,6 +18,19 @@ front_of limit (Some bytes) = Ok (take (limit + 1) bytes)
 -- what a read gives of the file at a path: enough to tell that it is larger than the limit
 abbrev pub load_of : Holding → List ℕ → ℕ → Result (List ℕ) LoadFault
 load_of at path limit = front_of limit (at path)
+
+-- the piece of a file by which it is judged
+abbrev pub first_piece : List ℕ → List ℕ
+first_piece bytes = take 4096 bytes
+
+-- all of a book file, cut so, and of a file that does not begin as a book or a tally the first piece
+abbrev pub front_of_book : ℕ → Option (List ℕ) → Result (List ℕ) LoadFault
+front_of_book limit None = Err load.Unreadable
+front_of_book limit (Some bytes) = Ok (if may_begin_record (first_piece bytes) then take (limit + 1) bytes else first_piece bytes)
+
+-- what a read gives of the book file at a path
+abbrev pub load_book_of : Holding → List ℕ → ℕ → Result (List ℕ) LoadFault
+load_book_of at path limit = front_of_book limit (at path)
 
 -- the new files have the bytes at the path
 abbrev pub Stores : Option Holding → Option Holding → List ℕ → List ℕ → Type 0

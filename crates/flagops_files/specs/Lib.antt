@@ -1,3 +1,4 @@
+pub mod Beginning
 pub mod Documents
 pub mod Evidence
 pub mod Files

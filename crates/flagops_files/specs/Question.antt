@@ -1,12 +1,13 @@
 -- What a rollout is asked over: the flags, a request, and the inputs that were recorded.
-use Rattle.std.specs.Prelude.{◌≡◌, ℕ, nat_lt, List, [], ◌∷◌, length, if◌then◌else◌, Result, Ok, Err}
+use Rattle.std.specs.Prelude.{◌≡◌, ℕ, nat_lt, List, [], ◌∷◌, length, if◌then◌else◌, Option, Some, None, option_map, Result, Ok, Err}
 use Rattle.book_core.specs.Book.{Contents}
 use Rattle.book_core.specs.Reading.{book_of}
 use Rattle.flag_documents.specs.Document.{Definitions}
 use Rattle.flag_defs.specs.Flags.{flags_view}
 use Rattle.flagops_files.specs.Documents.{IsDocumentAt}
+use Rattle.flagops_files.specs.Beginning.{first_line}
 use Rattle.flagops_files.specs.Evidence.{IsEvidenceOf}
-use Rattle.flagops_files.specs.Files.{Holding, load_of}
+use Rattle.flagops_files.specs.Files.{Holding, first_piece, load_book_of, load_of}
 use Rattle.flagops_files.specs.Loading.{◌>>=◌, max_text, refused_by}
 use Rattle.flagops_files.specs.Refusal.{loads_book, loads_evidence, loads_file, loads_flags}
 use Rattle.flagops_files.specs.Told.{Subjects, by, file}
@@ -43,10 +44,10 @@ max_book = 1099511627776
 abbrev pub if_readable : List ℕ → Result (List ℕ) Refusal
 if_readable bytes = if nat_lt max_book (length bytes) then Err LongBook else Ok bytes
 
--- the bytes of the book file at a path
+-- the bytes of the book file at a path, as many as tell that it is none where it is none
 unfoldable pub book_bytes_at : Holding → List ℕ → Result (List ℕ) Refusal
 book_bytes_at at path = do
-  bytes ← refused_by Load (load_of at path max_book)
+  bytes ← refused_by Load (load_book_of at path max_book)
   if_readable bytes
 
 -- the book of the file at a path
@@ -54,6 +55,19 @@ unfoldable pub book_at : Holding → List ℕ → Result Contents Refusal
 book_at at path = do
   whole ← book_bytes_at at path
   refused_by ReadBook (book_of whole)
+
+-- an empty file, and one with the first line of a book, may become another book
+abbrev pub if_replaceable : List ℕ → Result (Unit {0}) Refusal
+if_replaceable [] = Ok tt
+if_replaceable (b ∷ bs) = refused_by ReadBook (book_of (first_line (b ∷ bs))) >>= λ book. Ok tt
+
+abbrev pub if_there : Option (List ℕ) → Result (Unit {0}) Refusal
+if_there None = Ok tt
+if_there (Some front) = if_replaceable front
+
+-- whether the file at a path may become another book, by the piece that it begins with
+unfoldable pub replaceable_at : Holding → List ℕ → Result (Unit {0}) Refusal
+replaceable_at at path = if_there (option_map first_piece (at path))
 
 -- what the file at a path records, or why it is neither a book nor a tally
 unfoldable pub IsEvidenceAt : Holding → List ℕ → Result Evidence Refusal → Type 0

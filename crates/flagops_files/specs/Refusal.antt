@@ -19,7 +19,9 @@ use Rattle.flagops_files.specs.declared.refusal.Call.{Call}
 use Rattle.flagops_files.specs.declared.refusal.Call.TheVariants as call
 use Rattle.flagops_files.specs.declared.refusal.Refusal.{Refusal}
 use Rattle.flagops_files.specs.declared.refused.Refused.{Refused}
-use Rattle.flagops_files.specs.declared.refusal.Refusal.TheVariants.{WantOfMemory, Load, LongBook, ReadTree, ReadRule, ReadRequest, Note, Price, ReadFlags, ReadBook, ReadTally, FullBook, ReadPlanned, Verify, Apply, Keep, Plan, PrintPlanned, Drive, Store}
+use Rattle.flagops_files.specs.declared.refusal.Refusal.TheVariants.{WantOfMemory, Load, LongBook, ReadTree, ReadRule, ReadRequest, Note, Price, ReadFlags, ReadBook, ReadTally, FullBook, ReadPlanned, Verify, Apply, Keep, Plan, PrintPlanned, Drive, Store, Doubted}
+use Rattle.flagops_files.specs.declared.refusal.Doubt.{Doubt}
+use Rattle.flagops_files.specs.declared.refusal.Doubt.TheVariants.{Unread, Unrecorded}
 use Rattle.flagops_files.specs.declared.refusal.PriceMismatch.{PriceMismatch}
 use Rattle.flagops_files.specs.declared.refusal.PriceMismatch.TheVariants.{Weight, BadKeys}
 
@@ -122,6 +124,7 @@ call_of (Plan e) = call.Plan
 call_of (PrintPlanned e) = call.PrintPlanned
 call_of (Drive e) = call.Drive
 call_of (Store e) = call.Store
+call_of (Doubted c d) = c
 
 -- the number and the name of what the command `price` refuses
 abbrev pub mismatch_number : PriceMismatch → ℕ
@@ -131,6 +134,15 @@ mismatch_number BadKeys = 2
 abbrev pub mismatch_name : PriceMismatch → List ℕ
 mismatch_name Weight = codes "Weight"
 mismatch_name BadKeys = codes "BadKeys"
+
+-- the number and the name of a doubt that is refused: a number that no fault of a call has
+abbrev pub doubt_number : Doubt → ℕ
+doubt_number Unread = 16
+doubt_number Unrecorded = 17
+
+abbrev pub doubt_name : Doubt → List ℕ
+doubt_name Unread = codes "Unread"
+doubt_name Unrecorded = codes "Unrecorded"
 
 -- the number and the name of its fault
 abbrev pub number_of : Refusal → ℕ
@@ -154,6 +166,7 @@ number_of (Plan e) = rollouts.number_of e
 number_of (PrintPlanned e) = plan_files.number_of e
 number_of (Drive e) = drives.number_of e
 number_of (Store e) = store_number e
+number_of (Doubted c d) = doubt_number d
 
 abbrev pub name_of : Refusal → List ℕ
 name_of (WantOfMemory c) = codes "WantOfMemory"
@@ -176,6 +189,7 @@ name_of (Plan e) = rollouts.name_of e
 name_of (PrintPlanned e) = plan_files.name_of e
 name_of (Drive e) = drives.name_of e
 name_of (Store e) = store_name e
+name_of (Doubted c d) = doubt_name d
 
 -- what a fault says beyond its name, each item behind a blank
 abbrev pub payload_of : Refusal → List ℕ

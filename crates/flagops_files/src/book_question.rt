@@ -13,7 +13,7 @@ use crate::loading::{TEXT_LIMIT, load};
 use crate::refusal::Refusal;
 use crate::refused::{Refused, Remark};
 use flag_defs::Flags;
-use flagops_remarks::of_book;
+use flagops_remarks::{Ends, of_book};
 use page_tally::BookFile;
 use rollout_checks::{Refining, read_book_for};
 use std::alloc::Global;
@@ -80,11 +80,12 @@ fn load_book_for<R: Threads, F: FileSet>(
     ensures names { TellsOf (file path.now) result }
 {
     let bytes = load_book_bytes(alloc, files, path)?;
+    let ends = Ends::of(bytes.as_slice());
     match read_book_for(rt, alloc, Refining::Times(factor), flags, request, bytes) {
         Ok(book) => Ok(book),
         Err(fault) => Err(Refused {
             refusal: Refusal::ReadBook(fault),
-            remark: Remark::of(of_book(alloc, path, fault)),
+            remark: Remark::of(of_book(alloc, path, ends, fault)),
         }),
     }
 }

@@ -1,16 +1,17 @@
 //! From the path of a book file to the book.
-ghost use Rattle.std.specs.Prelude.{◌≡◌, ◌||◌, IfSome};
-ghost use Rattle.flagops_files.specs.Question.{book_at, book_bytes_at};
+ghost use Rattle.std.specs.Prelude.{◌≡◌, ◌||◌, false, IfSome, option_map};
+ghost use Rattle.flagops_files.specs.Beginning.{first_line};
+ghost use Rattle.flagops_files.specs.Question.{book_at, book_bytes_at, if_readable, if_replaceable, replaceable_at};
 ghost use Rattle.flagops_files.specs.Refusal.{ComesFrom, GivesUnlessWant, is_file_fault, loads_book, loads_file};
 ghost use Rattle.flagops_files.specs.Told.{TellsOf, file};
 
+use crate::beginning::first_line;
 use crate::files::FileSet;
-use crate::loading::load;
 use crate::refusal::Refusal;
 use crate::refused::{Refused, Remark};
-use book_core::{Book, read_book};
-use flagops_remarks::{of_book, of_unreadable};
-use std::alloc::Global;
+use book_core::{Book, BookFileFault, read_book};
+use flagops_remarks::{Ends, of_book, of_long_book, of_other_file, of_unreadable};
+use std::alloc::{AllocError, Global};
 
 /// The largest book file, in bytes.
 const BOOK_LIMIT: u64 = 1 << 40;
@@ -29,12 +30,13 @@ pub fn load_book<F: FileSet>(alloc: Global, files: &mut F, path: &str) -> Result
         Ok(book) => Ok(book),
         Err(fault) => Err(Refused {
             refusal: Refusal::ReadBook(fault),
-            remark: Remark::of(of_book(alloc, path, fault)),
+            remark: Remark::of(of_book(alloc, path, Ends::of(bytes.as_slice()), fault)),
         }),
     }
 }
 
-/// The bytes of the book file at a path; a file of more than 2^40 counts as unreadable.
+/// The bytes of the book file at a path; a file of more than 2^40 counts as unreadable, and of one that does not begin as a
+/// book there are no more than by which that is seen.
 #[tactic(auto, using(crate::proofs::Told::says), unfolding(crate::specs::Question::book_bytes_at))]
 pub fn load_book_bytes<F: FileSet>(
     alloc: Global,
@@ -47,12 +49,67 @@ pub fn load_book_bytes<F: FileSet>(
     ensures kept { F.holding files.new ≡ F.holding files.old }
     ensures names { TellsOf (file path.now) result }
 {
-    let bytes = load(alloc, files, path, BOOK_LIMIT)?;
+    match files.read_book(alloc, path, BOOK_LIMIT) {
+        Ok(bytes) => if_readable(alloc, path, bytes),
+        Err(fault) => Err(Refused {
+            refusal: Refusal::Load(fault),
+            remark: Remark::of(of_unreadable(alloc, path, files.trouble())),
+        }),
+    }
+}
+
+/// Bytes that were read at a path, unless there are more of them than a book file has.
+#[tactic(auto, using(crate::proofs::Told::says))]
+fn if_readable(alloc: Global, path: &str, bytes: Vec<u8>) -> Result<Vec<u8>, Refused>
+    ensures exact { GivesUnlessWant (λ v. v.items) result (if_readable bytes.items) }
+    ensures calls { ComesFrom loads_file result }
+    ensures read { is_file_fault result ≡ false }
+    ensures names { TellsOf (file path.now) result }
+{
     if bytes.len() as u64 > BOOK_LIMIT {
         return Err(Refused {
             refusal: Refusal::LongBook,
-            remark: Remark::of(of_unreadable(alloc, path)),
+            remark: Remark::of(of_long_book(alloc, path)),
         });
     }
     Ok(bytes)
+}
+
+/// Whether a book may be written at a path: there is no plain file that can be read, or it is empty, or its first line is
+/// that of a book. Any other file is refused, and left as it is.
+#[tactic(auto, unfolding(crate::specs::Question::replaceable_at))]
+pub fn check_replaceable<F: FileSet>(alloc: Global, files: &F, path: &str) -> Result<(), Refused>
+    ensures exact { IfSome (F.holding files.now) (λ at. GivesUnlessWant (λ u. u) result (replaceable_at at path.now)) }
+    ensures calls { ComesFrom loads_book result }
+    ensures read { is_file_fault result ≡ false }
+    ensures names { TellsOf (file path.now) result }
+{
+    match files.front(alloc, path) {
+        Ok(Some(front)) => if_replaceable(alloc, path, front.as_slice()),
+        Ok(None) => Ok(()),
+        Err(AllocError) => Err(Refused {
+            refusal: Refusal::ReadBook(BookFileFault::WantOfMemory),
+            remark: Remark::Short,
+        }),
+    }
+}
+
+/// The same of what a file at the path begins with.
+#[tactic(auto, using(crate::proofs::Told::says))]
+fn if_replaceable(alloc: Global, path: &str, front: &[u8]) -> Result<(), Refused>
+    ensures exact { GivesUnlessWant (λ u. u) result (if_replaceable front.now) }
+    ensures calls { ComesFrom loads_book result }
+    ensures read { is_file_fault result ≡ false }
+    ensures names { TellsOf (file path.now) result }
+{
+    if front.is_empty() {
+        return Ok(());
+    }
+    match read_book(alloc, first_line(front)) {
+        Ok(_book) => Ok(()),
+        Err(fault) => Err(Refused {
+            refusal: Refusal::ReadBook(fault),
+            remark: Remark::of(of_other_file(alloc, path, fault)),
+        }),
+    }
 }

@@ -10,7 +10,7 @@ use crate::files::FileSet;
 use crate::refusal::Refusal;
 use crate::refused::{Refused, Remark};
 use flag_defs::Flags;
-use flagops_remarks::{of_book, of_tally};
+use flagops_remarks::{Ends, of_book, of_tally};
 use page_tally::BookFile;
 use rollout_checks::{Refining, read_book_for};
 use std::alloc::Global;
@@ -72,11 +72,12 @@ fn evidence_in<R: Threads>(
     if begins_tally(bytes.as_slice()) {
         return tally_in(alloc, path, bytes.as_slice());
     }
+    let ends = Ends::of(bytes.as_slice());
     match read_book_for(rt, alloc, Refining::Times(factor), flags, request, bytes) {
         Ok(book) => Ok(Evidence::Book(book)),
         Err(fault) => Err(Refused {
             refusal: Refusal::ReadBook(fault),
-            remark: Remark::of(of_book(alloc, path, fault)),
+            remark: Remark::of(of_book(alloc, path, ends, fault)),
         }),
     }
 }

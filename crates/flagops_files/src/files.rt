@@ -1,10 +1,14 @@
 //! The files that the program reads and writes, as it sees them.
-ghost use Rattle.std.specs.Prelude.{◌≡◌, ◌≤◌, ◌+◌, ℕ, List, Option, Bool, ◌||◌, length, IfOk, IfSome, OnErr, OnOk};
+ghost use Rattle.std.specs.Prelude.{◌≡◌, ◌≤◌, ◌+◌, ℕ, List, Option, Bool, ◌||◌, length, IfOk, IfSome, OnErr, OnOk, option_map};
 ghost use Rattle.flag_text.specs.Outcome.{GivesUnless};
-ghost use Rattle.flagops_files.specs.Files.{Holding, load_of, is_unreadable, is_unwritable, Stores, KeepsOthers, load_number, load_name, store_number, store_name};
+ghost use Rattle.flagops_files.specs.Files.{Holding, first_piece, load_book_of, load_of, is_unreadable, is_unwritable, Stores, KeepsOthers, load_number, load_name, store_number, store_name};
 
-use std::alloc::Global;
+use std::alloc::{AllocError, Global};
+use std::io;
 use thiserror::Error;
+
+/// The bytes of the piece by which a file is judged.
+pub(crate) const FIRST_PIECE: u64 = 4096;
 
 /// Why a file was not read.
 #[derive(Clone, Copy, Debug, PartialEq, Eq, Error)]
@@ -88,6 +92,25 @@ pub trait FileSet {
         ensures most { IfOk result (λ v. length v.items ≤ max + 1) }
         ensures failed { has_failed self.new ≡ (has_failed self.old || is_unreadable result) }
         ensures kept { holding self.new ≡ holding self.old };
+
+    /// The bytes of the book file at the path, cut after `max + 1`. A file that does not begin as a book or a tally is judged by its
+    /// first 4,096 bytes: no more of it is read.
+    fn read_book(&mut self, alloc: Global, path: &str, max: u64) -> Result<Vec<u8>, LoadFault>
+        ensures exact { IfSome (holding self.old) (λ at.
+            GivesUnless LoadFault.WantOfMemory (λ v. v.items) result (load_book_of at path.now max)) }
+        ensures failed { has_failed self.new ≡ (has_failed self.old || is_unreadable result) }
+        ensures kept { holding self.new ≡ holding self.old };
+
+    /// The first 4,096 bytes of the plain file at the path, as far as there is one that can be read: no failure of this call
+    /// counts as one. A pipe, a terminal and their like are not looked at.
+    fn front(&self, alloc: Global, path: &str) -> Result<Option<Vec<u8>>, AllocError>
+        ensures { IfSome (holding self.now) (λ at. IfOk result (λ front. option_map (λ v. v.items) front ≡ option_map first_piece (at path.now))) };
+
+    /// Why the last call that answered `Unreadable` or `Unwritable` did, in the system's words, where they are known. It is
+    /// for people.
+    fn trouble(&self) -> Option<io::Error> {
+        None
+    }
 
     /// Makes the bytes the file at the path. After an `Err` the files are as they were.
     fn write(&mut self, alloc: Global, path: &str, bytes: &[u8]) -> Result<(), StoreFault>

@@ -26,6 +26,7 @@
 //! told where there is one, whatever becomes of the output, and changes neither text nor status.
 #![tactic(auto)]
 
+mod beginning;
 mod book_question;
 mod books;
 mod documents;
@@ -46,8 +47,9 @@ mod storing;
 mod system_files;
 mod tallies;
 
+pub use beginning::may_begin_record;
 pub use book_question::{BookQuestion, load_book_question};
-pub use books::load_book;
+pub use books::{check_replaceable, load_book};
 pub use documents::{Document, load_document, load_flags};
 pub use evidence::Evidence;
 pub use files::{FileSet, LoadFault, StoreFault};
@@ -57,7 +59,7 @@ pub use outcome::{Outcome, Status};
 pub use plan_file::load_planned;
 pub use question::{Question, load_question};
 pub use quoting::quoted;
-pub use refusal::{Call, PriceMismatch, Refusal};
+pub use refusal::{Call, Doubt, PriceMismatch, Refusal};
 pub use refused::{Refused, Remark};
 pub use reports::{report, tell, want};
 pub use storing::store;

@@ -21,6 +21,9 @@ use std::alloc::Global;
 /// The largest rule or plan file, in bytes.
 pub const RULE_LIMIT: u32 = 67_108_864;
 
+/// The most bytes of a rule file of which a tree is made to tell what is wrong: a tree takes some 30 times as many.
+const LOOKED_INTO: usize = 1 << 20;
+
 /// The largest request, key file, document or context, in bytes.
 pub const TEXT_LIMIT: u32 = 4_194_304;
 
@@ -43,7 +46,7 @@ pub fn load<F: FileSet>(
         Ok(bytes) => Ok(bytes),
         Err(fault) => Err(Refused {
             refusal: Refusal::Load(fault),
-            remark: Remark::of(of_unreadable(alloc, path)),
+            remark: Remark::of(of_unreadable(alloc, path, files.trouble())),
         }),
     }
 }
@@ -110,8 +113,11 @@ fn remark_on(alloc: Global, path: &str, bytes: &[u8], fault: RuleTextFault) -> R
     let limit = RULE_LIMIT as usize;
     match fault {
         RuleTextFault::Text(fault) => Remark::of(of_text(alloc, path, bytes, limit, fault)),
+        RuleTextFault::Rule(fault) if bytes.len() > LOOKED_INTO => {
+            Remark::of(of_rule(alloc, path, None, fault))
+        }
         RuleTextFault::Rule(fault) => match read_tree(alloc, bytes, limit) {
-            Ok(tree) => Remark::of(of_rule(alloc, path, &tree, fault)),
+            Ok(tree) => Remark::of(of_rule(alloc, path, Some(&tree), fault)),
             Err(_) => Remark::Short,
         },
     }

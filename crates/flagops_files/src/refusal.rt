@@ -1,6 +1,6 @@
 //! Refusals, and the line that each is written as.
 ghost use Rattle.std.specs.Prelude.{◌≡◌, IfOk, string_bytes};
-ghost use Rattle.flagops_files.specs.Refusal.{call_of, call_name, is_want, number_of, name_of, line_of, mismatch_number, mismatch_name};
+ghost use Rattle.flagops_files.specs.Refusal.{call_of, call_name, doubt_name, doubt_number, is_want, number_of, name_of, line_of, mismatch_number, mismatch_name};
 
 use crate::files::{LoadFault, StoreFault};
 use crate::keeping::KeepRefusal;
@@ -126,6 +126,37 @@ impl PriceMismatch {
     }
 }
 
+/// What is doubted of an answer to a request: that it is the one that was meant.
+#[derive(Clone, Copy, Debug)]
+pub enum Doubt {
+    /// The request has a member that is not read.
+    Unread,
+    /// The book has no input on the page of the request, so no recorded user counts.
+    Unrecorded,
+}
+
+impl Doubt {
+    /// The number that a refusal is written with: one that no fault of a call has.
+    pub fn number(&self) -> u32
+        ensures { result ≡ doubt_number self.now }
+    {
+        match self {
+            Doubt::Unread => 16,
+            Doubt::Unrecorded => 17,
+        }
+    }
+
+    /// The name that a refusal is written with: the variant's.
+    pub fn name(&self) -> &'static str
+        ensures { result.now ≡ doubt_name self.now }
+    {
+        match self {
+            Doubt::Unread => "Unread",
+            Doubt::Unrecorded => "Unrecorded",
+        }
+    }
+}
+
 /// Why a command was refused: the call that refused, with its fault.
 #[derive(Debug, Drop)]
 pub enum Refusal {
@@ -166,6 +197,8 @@ pub enum Refusal {
     Drive(DriveRefusal),
     /// A file was not written.
     Store(StoreFault),
+    /// The answer of this call is doubted, and what is doubted is to be refused.
+    Doubted(Call, Doubt),
 }
 
 impl Refusal {
@@ -174,7 +207,7 @@ impl Refusal {
         ensures { result ≡ call_of self.now }
     {
         match self {
-            Refusal::WantOfMemory(call) => *call,
+            Refusal::WantOfMemory(call) | Refusal::Doubted(call, _) => *call,
             Refusal::Load(_) | Refusal::LongBook => Call::Load,
             Refusal::ReadTree(_) => Call::ReadTree,
             Refusal::ReadRule(_) => Call::ReadRule,
@@ -220,6 +253,7 @@ impl Refusal {
             Refusal::PrintPlanned(fault) => fault.number(),
             Refusal::Drive(fault) => fault.number(),
             Refusal::Store(fault) => fault.number(),
+            Refusal::Doubted(_, doubt) => doubt.number(),
         }
     }
 
@@ -248,6 +282,7 @@ impl Refusal {
             Refusal::PrintPlanned(fault) => fault.name(),
             Refusal::Drive(fault) => fault.name(),
             Refusal::Store(fault) => fault.name(),
+            Refusal::Doubted(_, doubt) => doubt.name(),
         }
     }
 

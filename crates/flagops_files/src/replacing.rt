@@ -22,7 +22,11 @@ pub(crate) fn replace<R: Files>(rt: &R, alloc: Global, path: &str, bytes: &[u8])
 }
 
 /// Where the plain file is, or would be, that a path leads to; `None` where it leads to something else.
-fn plain_file<R: Files>(rt: &R, alloc: Global, path: &str) -> io::Result<Option<PathBuf>> {
+pub(crate) fn plain_file<R: Files>(
+    rt: &R,
+    alloc: Global,
+    path: &str,
+) -> io::Result<Option<PathBuf>> {
     let mut target = PathBuf::from_str(alloc, path)?;
     for _ in 0..MAX_LINKS {
         if is_open_file(target.as_str()) {

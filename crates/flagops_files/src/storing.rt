@@ -30,7 +30,7 @@ pub fn store<F: FileSet>(
         Ok(()) => Ok(()),
         Err(fault) => Err(Refused {
             refusal: Refusal::Store(fault),
-            remark: Remark::of(of_unwritable(alloc, path)),
+            remark: Remark::of(of_unwritable(alloc, path, files.trouble())),
         }),
     }
 }

@@ -1,10 +1,11 @@
 //! The files of the system.
 ghost use Rattle.std.specs.Prelude.{◌≡◌, ◌≤◌, ◌+◌, None, false, length, IfOk};
 
-use crate::files::{FileSet, LoadFault, StoreFault};
-use crate::replacing::replace;
-use std::alloc::Global;
-use std::fs::{File, OpenFile};
+use crate::beginning::may_begin_record;
+use crate::files::{FIRST_PIECE, FileSet, LoadFault, StoreFault};
+use crate::replacing::{plain_file, replace};
+use std::alloc::{AllocError, Global};
+use std::fs::OpenFile;
 use std::io::{ErrorKind, Read};
 use std::rt::Files;
 use std::{fs, io};
@@ -14,6 +15,7 @@ use std::{fs, io};
 pub struct SystemFiles<'a, R> {
     rt: &'a R,
     failed: bool,
+    trouble: Option<io::Error>,
 }
 
 impl<'a, R: Files> SystemFiles<'a, R> {
@@ -21,7 +23,11 @@ impl<'a, R: Files> SystemFiles<'a, R> {
     pub fn new(rt: &'a R) -> SystemFiles<'a, R>
         ensures { ⟦<SystemFiles<'a, R> as FileSet>⟧.has_failed result ≡ false }
     {
-        SystemFiles { rt, failed: false }
+        SystemFiles {
+            rt,
+            failed: false,
+            trouble: None,
+        }
     }
 }
 
@@ -34,19 +40,45 @@ impl<'a, R: Files> FileSet for SystemFiles<'a, R> {
         match read_front(self.rt, alloc, path, max) {
             Ok(bytes) => Ok(bytes),
             Err(e) if e.kind() == ErrorKind::OutOfMemory => Err(LoadFault::WantOfMemory),
-            Err(_) => {
+            Err(e) => {
                 self.failed = true;
+                self.trouble = Some(e);
                 Err(LoadFault::Unreadable)
             }
         }
+    }
+
+    fn read_book(&mut self, alloc: Global, path: &str, max: u64) -> Result<Vec<u8>, LoadFault> {
+        match read_book_front(self.rt, alloc, path, max) {
+            Ok(bytes) => Ok(bytes),
+            Err(e) if e.kind() == ErrorKind::OutOfMemory => Err(LoadFault::WantOfMemory),
+            Err(e) => {
+                self.failed = true;
+                self.trouble = Some(e);
+                Err(LoadFault::Unreadable)
+            }
+        }
+    }
+
+    fn front(&self, alloc: Global, path: &str) -> Result<Option<Vec<u8>>, AllocError> {
+        match front_of_plain(self.rt, alloc, path) {
+            Ok(front) => Ok(front),
+            Err(e) if e.kind() == ErrorKind::OutOfMemory => Err(AllocError),
+            Err(_) => Ok(None),
+        }
+    }
+
+    fn trouble(&self) -> Option<io::Error> {
+        self.trouble
     }
 
     fn write(&mut self, alloc: Global, path: &str, bytes: &[u8]) -> Result<(), StoreFault> {
         match replace(self.rt, alloc, path, bytes) {
             Ok(()) => Ok(()),
             Err(e) if e.kind() == ErrorKind::OutOfMemory => Err(StoreFault::WantOfMemory),
-            Err(_) => {
+            Err(e) => {
                 self.failed = true;
+                self.trouble = Some(e);
                 Err(StoreFault::Unwritable)
             }
         }
@@ -65,4 +97,34 @@ fn read_front<R: Files>(rt: &R, alloc: Global, path: &str, max: u64) -> io::Resu
     // No clause of `read_to_end` says that `take` bounds what it appends.
     bytes.truncate(limit as usize);
     Ok(bytes)
+}
+
+/// The bytes of the book file at the path, cut after `max + 1`, or the first piece of a file that does not begin as a book or a tally.
+fn read_book_front<R: Files>(rt: &R, alloc: Global, path: &str, max: u64) -> io::Result<Vec<u8>> {
+    let file = fs::open(rt, path)?;
+    let limit = max.saturating_add(1);
+    let len = file.metadata()?.len().min(limit);
+    let mut bytes = Vec::with_capacity(alloc, FIRST_PIECE as usize)?;
+    let mut file = file.take(FIRST_PIECE);
+    file.read_to_end(&mut bytes)?;
+    if may_begin_record(bytes.as_slice()) {
+        bytes.reserve(len.saturating_sub(FIRST_PIECE) as usize)?;
+        file.set_limit(limit.saturating_sub(FIRST_PIECE));
+        file.read_to_end(&mut bytes)?;
+        bytes.truncate(limit as usize);
+    }
+    Ok(bytes)
+}
+
+/// The first piece of the plain file at the path, where there is one.
+fn front_of_plain<R: Files>(rt: &R, alloc: Global, path: &str) -> io::Result<Option<Vec<u8>>> {
+    match plain_file(rt, alloc, path)? {
+        Some(target) => {
+            let file = fs::open(rt, target.as_str())?;
+            let mut bytes = Vec::new(alloc);
+            file.take(FIRST_PIECE).read_to_end(&mut bytes)?;
+            Ok(Some(bytes))
+        }
+        None => Ok(None),
+    }
 }

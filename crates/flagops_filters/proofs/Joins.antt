@@ -1,5 +1,6 @@
 -- Files of tallies, read and joined one after another.
-use Rattle.std.proofs.Common.{◌≡◌, ℕ, List, [], ◌∷◌, Vec, Global, Option, None, Some, Result, Ok, Err, refl, ap, subst, sym, inl, inr}
+use Rattle.std.proofs.Common.{◌≡◌, ◌+◌, ◌<◌, ℕ, List, [], ◌∷◌, Vec, Global, Option, None, Some, Result, Ok, Err, add-one, drop, get_or, length, map, refl, ap, subst, sym, inl, inr}
+use Rattle.std.proofs.Math.Seq.{drop-cons}
 use Rattle.std.specs.Prelude.{IfSome}
 use Rattle.flagops_files.specs.Files.{Holding, load_of}
 use Rattle.flagops_files.specs.Loading.{max_rule, refused_by}
@@ -134,3 +135,9 @@ refused_at at paths told joins = λ no_want. (Err told.refusal, joins no_want, r
 pub refused : (holding : Option Holding) (paths : List (List ℕ)) (told : Told) → IfSome holding (λ at. JoinsUnless (Err told) (JoinsAllFiles at paths)) → IfSome holding (λ at. GivesOne (Err told) (IsJoinReport at paths))
 refused None paths told joins = tt
 refused (Some at) paths told joins = refused_at at paths told joins
+
+-- the first of those that are left, and those behind it
+pub first_left : {X : Type 0} (now : X → List ℕ) (xs : List X) (i : ℕ) (z : X) → i < length xs → map now (drop i xs) ≡ now (get_or xs i z) ∷ map now (drop (i + 1) xs)
+first_left now xs i z inside =
+    let left : drop i xs ≡ get_or xs i z ∷ drop (i + 1) xs = rw add-one (drop-cons xs i z inside) in
+    ap (map now) left

@@ -106,7 +106,7 @@ fn tell_unreadable<E: Outlet>(alloc: Global, err: &mut E, path: &str)
     requires { E.is_broken err.old ≡ false }
     ensures { TellsText (E.bytes err.old) (E.bytes err.new) (E.is_broken err.new) }
 {
-    match of_unreadable(alloc, path) {
+    match of_unreadable(alloc, path, None) {
         Ok(text) => tell(err, text.as_str()),
         Err(AllocError) => say_refused(alloc, err, Refusal::Unloaded),
     }

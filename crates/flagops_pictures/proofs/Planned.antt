@@ -37,16 +37,16 @@ module _ (refine : Option ℕ) (q : Question) (book : Contents) (on : q.evidence
   posed = problem_refined (unwrap_or refine 1) q.flags q.request book
 
   -- a plan that is reported reads as an answer that is right
-  planned_there : (report : Report) → IsPlanOf refine (Ok q) (Ok report) → (answer : Answer) × (answer_of report.text ≡ Ok answer) × IsShown posed answer
+  planned_there : (report : Report) → IsPlanOf false false refine (Ok q) (Ok report) → (answer : Answer) × (answer_of report.text ≡ Ok answer) × IsShown posed answer
   planned_there report (Ok p, may, is, reads) = (planned_view p, reads, shown posed p (subst (λ (e : Evidence). IsPlannedOn (unwrap_or refine 1) q.flags q.request e (Ok p)) on may.answers))
   planned_there report (Err f, may, is, reads) = absurd cc
 
-  pub read_right : (report : Report) (answer : Answer) → IsPlanOf refine (Ok q) (Ok report) → answer_of report.text ≡ Ok answer → IsShown posed answer
+  pub read_right : (report : Report) (answer : Answer) → IsPlanOf false false refine (Ok q) (Ok report) → answer_of report.text ≡ Ok answer → IsShown posed answer
   read_right report answer plan read =
       let there = planned_there report plan in
       subst (λ (r : Result Answer PlanFileFault). IfOk r (λ a. IsShown posed a)) (sym there.1 ∙ read) there.2
 
-  pub reads : (report : Report) (e : PlanFileFault) → IsPlanOf refine (Ok q) (Ok report) → answer_of report.text ≡ Err e → ⊥
+  pub reads : (report : Report) (e : PlanFileFault) → IsPlanOf false false refine (Ok q) (Ok report) → answer_of report.text ≡ Err e → ⊥
   reads report e plan unread =
       let there = planned_there report plan in
       subst (λ (r : Result Answer PlanFileFault). IfErr r (λ f. ⊥)) (sym there.1 ∙ unread) tt
@@ -61,7 +61,7 @@ want_alone refusal c is no_want = absurd (let both : true ≡ false = sym (ap is
 
 module _ (path : List ℕ) (refine : Option ℕ) (q : Question) where
   -- it was printed, and its picture written
-  pub planned_with : (old new : Option Holding) (o : Outcome) (bytes : List ℕ) → IsPlanOf refine (Ok q) (Ok (outcome_view o)) → IsPictureOf refine q o.text.items bytes → Stores old new path bytes → KeepsOthers old new path
+  pub planned_with : (old new : Option Holding) (o : Outcome) (bytes : List ℕ) → IsPlanOf false false refine (Ok q) (Ok (outcome_view o)) → IsPictureOf refine q o.text.items bytes → Stores old new path bytes → KeepsOthers old new path
       → IfSome old (λ at. IsPlanWith at new path refine q (Ok (outcome_view o)))
   planned_with None new o bytes plan picture stores others = tt
   planned_with (Some at) new o bytes plan picture stores others = (plan, (bytes, picture, stores, others))
@@ -72,7 +72,7 @@ module _ (path : List ℕ) (refine : Option ℕ) (q : Question) where
   unwritten (Some at) new e r is refusal same = rw is (λ no_want. (inr (refusal no_want), same))
 
   -- nothing was planned
-  pub unplanned : (old new : Option Holding) (e : Refused) (r : Result Outcome Refused) → r ≡ Err e → GivesOne outcome_view (Err e) (IsPlanOf refine (Ok q)) → new ≡ old → IfSome old (λ at. GivesOne outcome_view r (IsPlanWith at new path refine q))
+  pub unplanned : (old new : Option Holding) (e : Refused) (r : Result Outcome Refused) → r ≡ Err e → GivesOne outcome_view (Err e) (IsPlanOf false false refine (Ok q)) → new ≡ old → IfSome old (λ at. GivesOne outcome_view r (IsPlanWith at new path refine q))
   unplanned None new e r is gives same = tt
   unplanned (Some at) new e r is gives same = rw is (λ no_want. (inl (gives no_want), same))
 

@@ -1,5 +1,5 @@
 -- What `plan --picture` answers, and the file that it writes.
-use Rattle.std.specs.Prelude.{◌≡◌, ◌⊎◌, ℕ, Bool, true, List, unwrap_or, Option, Some, None, Result, Ok, Err}
+use Rattle.std.specs.Prelude.{◌≡◌, ◌⊎◌, ℕ, Bool, true, false, List, unwrap_or, Option, Some, None, Result, Ok, Err}
 use Rattle.flag_documents.specs.Document.{Definitions}
 use Rattle.plan_text.specs.Answer.{Answer}
 use Rattle.plan_text.specs.PlanFile.{answer_of}
@@ -40,8 +40,8 @@ HasPicture at after path refine q report = (bytes : List ℕ) × IsPictureOf ref
 
 -- What is reported is what `plan` reports without a picture. Where that is a plan its picture is written, or the file is refused to be; after a refusal all files are as they were.
 abbrev pub IsPlanWith : Holding → Option Holding → List ℕ → Option ℕ → Question → Outcomes
-IsPlanWith at after path refine q (Ok report) = IsPlanOf refine (Ok q) (Ok report) × HasPicture at after path refine q report
-IsPlanWith at after path refine q (Err e) = (IsPlanOf refine (Ok q) (Err e) ⊎ (e ≡ unwritable)) × (after ≡ Some at)
+IsPlanWith at after path refine q (Ok report) = IsPlanOf false false refine (Ok q) (Ok report) × HasPicture at after path refine q report
+IsPlanWith at after path refine q (Err e) = (IsPlanOf false false refine (Ok q) (Err e) ⊎ (e ≡ unwritable)) × (after ≡ Some at)
 
 abbrev pub IsPlanPictured : Holding → Option Holding → List ℕ → Option ℕ → Result BookQuestion Refusal → Outcomes
 IsPlanPictured at after path refine (Err e) r = (r ≡ Err e) × (after ≡ Some at)

@@ -127,7 +127,16 @@ fn planned<R: Threads + Sync, F: FileSet>(
     ensures left { (F.holding files.new ≡ F.holding files.old) ⊎ KeepsOthers (F.holding files.old) (F.holding files.new) asked.now.picture.now }
     ensures kept { OnErr result (F.holding files.new ≡ F.holding files.old) }
 {
-    let outcome = plan_answer(rt, alloc, asked.request, asked.book, question, asked.refine)?;
+    let outcome = plan_answer(
+        rt,
+        alloc,
+        asked.request,
+        asked.book,
+        question,
+        asked.refine,
+        false,
+        false,
+    )?;
     let picture = picture_of(rt, alloc, asked, question, &outcome)?;
     store(alloc, files, asked.picture, picture.as_bytes())?;
     Ok(outcome)
@@ -142,7 +151,7 @@ fn picture_of<R: Threads + Sync>(
     outcome: &Outcome,
 ) -> Result<String, Refused>
     requires book { IsOfBook question.now.evidence }
-    requires plan { IsPlanOf (option_map (λ m. m.number) asked.now.refine) (Ok (question_view question.now)) (Ok (outcome_view outcome.now)) }
+    requires plan { IsPlanOf false false (option_map (λ m. m.number) asked.now.refine) (Ok (question_view question.now)) (Ok (outcome_view outcome.now)) }
     ensures exact { IfOk result (λ s. IsPictureOf (option_map (λ m. m.number) asked.now.refine) (question_view question.now) outcome.now.text.items (string_bytes s)) }
     ensures wants { IfErr result (λ e. e.refusal ≡ Refusal.WantOfMemory Call.Plan) }
 {
@@ -163,7 +172,7 @@ fn picture_drawn<R: Threads + Sync>(
     outcome: &Outcome,
 ) -> Result<String, AllocError>
     requires book { IsOfBook question.now.evidence }
-    requires plan { IsPlanOf (option_map (λ m. m.number) asked.now.refine) (Ok (question_view question.now)) (Ok (outcome_view outcome.now)) }
+    requires plan { IsPlanOf false false (option_map (λ m. m.number) asked.now.refine) (Ok (question_view question.now)) (Ok (outcome_view outcome.now)) }
     ensures { IfOk result (λ s. IsPictureOf (option_map (λ m. m.number) asked.now.refine) (question_view question.now) outcome.now.text.items (string_bytes s)) }
 {
     match &question.evidence {
@@ -182,7 +191,7 @@ fn on_book<R: Threads + Sync>(
     outcome: &Outcome,
 ) -> Result<String, AllocError>
     requires book { question.now.evidence ≡ Evidence.Book book.now }
-    requires plan { IsPlanOf (option_map (λ m. m.number) asked.now.refine) (Ok (question_view question.now)) (Ok (outcome_view outcome.now)) }
+    requires plan { IsPlanOf false false (option_map (λ m. m.number) asked.now.refine) (Ok (question_view question.now)) (Ok (outcome_view outcome.now)) }
     ensures { IfOk result (λ s. IsPictureOf (option_map (λ m. m.number) asked.now.refine) (question_view question.now) outcome.now.text.items (string_bytes s)) }
 {
     let planned = match read_planned(alloc, outcome.text.as_slice()) {

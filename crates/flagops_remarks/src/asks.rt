@@ -1,4 +1,4 @@
-//! What a person is told of an asks file, and of a book that is not written.
+//! What a person is told of an asks file, and of what became of the asks.
 ghost use Rattle.std.specs.Prelude.{IfOk, codes, string_bytes};
 ghost use Rattle.flagops_remarks.specs.Named.{Names, NamesWord};
 
@@ -106,13 +106,60 @@ pub fn of_workers(alloc: Global, workers: usize, fault: &str) -> Result<String, 
     lines.behind_word("WORKERS")
 }
 
-/// Of a path at which no file is written.
-pub fn of_unwritable(alloc: Global, path: &str) -> Result<String, AllocError>
+/// What became of the asks of a file, and of the book that they are noted in.
+#[derive(Clone, Copy)]
+pub struct Drive<'a> {
+    /// How many asks ended so, by OpenFeature's word for the reason or for what went wrong.
+    pub endings: &'a [(&'static str, usize)],
+    /// The inputs that the asks reached, each once.
+    pub reached: u128,
+    /// The inputs of the book before, and as it is written.
+    pub had: u128,
+    pub has: u128,
+}
+
+/// Of asks that were driven.
+pub fn of_driven(alloc: Global, path: &str, drive: Drive<'_>) -> Result<String, AllocError>
     ensures names { IfOk result (λ s. Names path.now (string_bytes s)) }
 {
     let mut lines = Lines::new(alloc);
-    lines.put(
-        " cannot be written\n  its folder is missing, or the path is a folder, or it may not be written\n",
-    );
-    lines.headed(Opening::File, path)
+    lines.put(": ");
+    put_endings(&mut lines, drive.endings);
+    lines.put("\n  they reached ");
+    put_count(&mut lines, drive.reached, "input");
+    lines.put(", ");
+    lines.put_shown(&drive.has.saturating_sub(drive.had));
+    lines.put(" of them new; the book has ");
+    lines.put_shown(&drive.has);
+    lines.put("\n");
+    if drive.reached == 0 {
+        lines.put(
+            "  nothing was recorded: no ask reached a \"fractional\"; check the keys and the contexts\n",
+        );
+    }
+    lines.headed(Opening::Note, path)
+}
+
+/// How many asks there are, and how many of them ended in what.
+fn put_endings(lines: &mut Lines, endings: &[(&'static str, usize)]) {
+    let mut asks: u128 = 0;
+    for (_, count) in endings {
+        asks = asks.saturating_add(*count as u128);
+    }
+    put_count(lines, asks, "ask");
+    for (word, count) in endings {
+        if *count > 0 {
+            lines.put_all(&[", ", word, " "]);
+            lines.put_shown(count);
+        }
+    }
+}
+
+/// A number of things.
+fn put_count(lines: &mut Lines, count: u128, thing: &str) {
+    lines.put_shown(&count);
+    lines.put_all(&[" ", thing]);
+    if count != 1 {
+        lines.put("s");
+    }
 }

@@ -6,17 +6,99 @@ use crate::lines::{Lines, Opening};
 use book_core::{BookFileFault, Page};
 use std::alloc::{AllocError, Global};
 
+/// What some editors write before a text in UTF-8.
+const BYTE_ORDER_MARK: &[u8] = b"\xef\xbb\xbf";
+
 /// The most pages that are listed.
 const MOST_PAGES: usize = 10;
 
+/// What is seen of the bytes of a file at their two ends.
+#[derive(Clone, Copy, Debug)]
+pub enum Ends {
+    /// There are none.
+    Empty,
+    /// A byte order mark stands first.
+    Marked,
+    /// The last line, which has this number from 1, has no line feed.
+    Cut(usize),
+    /// None of these.
+    Whole,
+}
+
+impl Ends {
+    /// Those of the bytes of a file. Cost: one pass where there is no line feed at the end, else none.
+    pub fn of(bytes: &[u8]) -> Ends {
+        if bytes.is_empty() {
+            Ends::Empty
+        } else if bytes.starts_with(BYTE_ORDER_MARK) {
+            Ends::Marked
+        } else if bytes.ends_with(b"\n") {
+            Ends::Whole
+        } else {
+            Ends::Cut(last_line(bytes))
+        }
+    }
+
+    /// Whether the last line has no line feed and is the one at fault.
+    fn is_cut_at(self, fault: BookFileFault) -> bool {
+        match (self, fault) {
+            (Ends::Cut(last), BookFileFault::Line(line)) => last as u128 == u128::from(line),
+            _ => false,
+        }
+    }
+}
+
+/// The number of the last line, from 1.
+fn last_line(bytes: &[u8]) -> usize {
+    let mut line: usize = 1;
+    for byte in bytes {
+        if *byte == b'\n' {
+            line = line.saturating_add(1);
+        }
+    }
+    line
+}
+
 /// Of bytes that are no book.
-pub fn of_book(alloc: Global, path: &str, fault: BookFileFault) -> Result<String, AllocError>
+pub fn of_book(
+    alloc: Global,
+    path: &str,
+    ends: Ends,
+    fault: BookFileFault,
+) -> Result<String, AllocError>
     ensures names { IfOk result (λ s. Names path.now (string_bytes s)) }
 {
     let mut lines = Lines::new(alloc);
-    lines.put(" is no book: ");
+    match ends {
+        Ends::Empty => lines.put(" is empty, and no book"),
+        Ends::Marked => lines.put(
+            " begins with a byte order mark, and is no book\n  save it as UTF-8 without the mark",
+        ),
+        _ if ends.is_cut_at(fault) => {
+            lines.put(" is no book: its last line has no line feed (");
+            lines.put_shown(&fault);
+            lines.put(
+                ")\n  was it cut off? each line of a book has its line end, the last one too",
+            );
+        }
+        _ => {
+            lines.put(" is no book: ");
+            lines.put_shown(&fault);
+            lines.put_all(&["\n  ", taken(fault)]);
+        }
+    }
+    lines.put("\n");
+    lines.headed(Opening::Error, path)
+}
+
+/// Of a path at which a book is to be written, and whose file is none.
+pub fn of_other_file(alloc: Global, path: &str, fault: BookFileFault) -> Result<String, AllocError>
+    ensures names { IfOk result (λ s. Names path.now (string_bytes s)) }
+{
+    let mut lines = Lines::new(alloc);
+    lines.put(" is a file that is no book, and stays as it is: ");
     lines.put_shown(&fault);
-    lines.put_all(&["\n  ", taken(fault), "\n"]);
+    lines.put("\n  give the path of a book, of an empty file, or of no file yet\n");
     lines.headed(Opening::Error, path)
 }
 

@@ -2,6 +2,7 @@
 ghost use Rattle.std.specs.Prelude.{IfOk, string_bytes};
 ghost use Rattle.flagops_remarks.specs.Named.{Names};
 
+use crate::explained::points_of;
 use crate::lines::{Lines, Opening};
 use crate::sites::Place;
 use bucket_core::{Rule, total_weight};
@@ -9,7 +10,7 @@ use flag_defs::Flags;
 use plan_text::Planned;
 use price_core::{Limit, PriceFault, Request};
 use std::alloc::{AllocError, Global};
-use transport_instance::CheckFault;
+use transport_instance::{Certificate, CheckFault};
 
 /// Of the answer of a plan file to a request over a document.
 pub fn of_check(
@@ -26,13 +27,15 @@ pub fn of_check(
     lines.put(" does not answer this request:\n  ");
     match planned {
         Planned::Emit(rule, certificate) => match Request::read(alloc, request) {
-            Ok(asked) => put_rule_fault(&mut lines, flags, &asked, rule, certificate.cost, fault),
+            Ok(asked) => put_rule_fault(&mut lines, flags, &asked, rule, certificate, fault),
             Err(_) => put_numbers_fault(&mut lines, certificate.cost, fault),
         },
         Planned::NoneExists(cut) => {
             lines.put("its set of variants (");
             lines.put_names(cut.names.as_slice());
-            lines.put(") does not show that no rule fits");
+            lines.put(
+                ") does not show that no rule fits\n  the rule of the site or the request is not the one that it was planned on",
+            );
         }
     }
     lines.put("\n  plan again with this document, request and book\n");
@@ -45,7 +48,7 @@ fn put_rule_fault(
     flags: &Flags,
     asked: &Request,
     rule: &Rule,
-    cost: u64,
+    certificate: &Certificate,
     fault: &CheckFault,
 ) {
     let place = Place::of(flags, asked);
@@ -53,8 +56,55 @@ fn put_rule_fault(
         CheckFault::Weight => put_weights(lines, place, rule),
         CheckFault::Totals => put_totals(lines, place, asked, rule),
         CheckFault::Forbidden(point) => put_forbidden(lines, place, rule, *point),
-        _ => put_numbers_fault(lines, cost, fault),
+        _ => put_numbers_fault(lines, certificate.cost, fault),
     }
+    put_moved(lines, place, rule, certificate);
+}
+
+/// That the rule of the site is not the one that was planned on, where that shows: it is the rule of the plan, or it has
+/// other variants than the groups of the plan.
+fn put_moved(lines: &mut Lines, place: Place<'_>, rule: &Rule, certificate: &Certificate) {
+    let entries = place.entries(lines);
+    if entries.as_slice() == rule.entries() {
+        lines.put("\n  the document has moved on: the site has the rule of this plan already");
+        return;
+    }
+    let variants = place.variants(lines);
+    if let Some(name) = moved(
+        variants.as_slice(),
+        entries.as_slice(),
+        certificate.alpha.as_slice(),
+    ) {
+        lines.put("\n  the document has moved on: ");
+        lines.put_name(name);
+        lines.put(
+            " has points in the rule of the site or in the one that was planned on, and not in both",
+        );
+    }
+}
+
+/// The first variant that has points in the entries and is of no group, or the other way round.
+fn moved<'a>(
+    variants: &'a [String],
+    entries: &[(String, u64)],
+    groups: &[(String, u32, i64)],
+) -> Option<&'a str> {
+    for variant in variants {
+        let name = variant.as_str();
+        if (points_of(entries, 1, name) > 0) != has_group(groups, name) {
+            return Some(name);
+        }
+    }
+    None
+}
+
+fn has_group(groups: &[(String, u32, i64)], name: &str) -> bool {
+    for (group, _, _) in groups {
+        if group.as_str() == name {
+            return true;
+        }
+    }
+    false
 }
 
 fn put_weights(lines: &mut Lines, place: Place<'_>, rule: &Rule) {
@@ -147,7 +197,7 @@ fn put_numbers_fault(lines: &mut Lines, cost: u64, fault: &CheckFault) {
             lines.put(", as it says");
         }
         CheckFault::Groups => lines.put(
-            "its numbers are for another book or rule: other groups of points, or other variants",
+            "its numbers are for another book or rule: other groups of points, or other variants\n  the document or the book has moved on since it was planned",
         ),
         _ => lines.put_shown(fault),
     }

@@ -7,23 +7,70 @@ use book_core::BookFault;
 use bucket_core::RuleFault;
 use flag_text::Tree;
 use std::alloc::{AllocError, Global};
+use std::io;
 
-/// Of a path whose file is not read.
-pub fn of_unreadable(alloc: Global, path: &str) -> Result<String, AllocError>
+/// Of a path whose file is not read, and why, as far as the system says.
+pub fn of_unreadable(
+    alloc: Global,
+    path: &str,
+    trouble: Option<io::Error>,
+) -> Result<String, AllocError>
     ensures names { IfOk result (λ s. Names path.now (string_bytes s)) }
 {
     let mut lines = Lines::new(alloc);
-    lines.put(
-        " cannot be read\n  it is missing, is a folder, or may not be read; paths are taken from where the program runs\n",
+    lines.put(" cannot be read");
+    put_trouble(
+        &mut lines,
+        trouble,
+        "  it is missing, is a folder, or may not be read; paths are taken from where the program runs\n",
     );
     lines.headed(Opening::File, path)
 }
 
-/// Of a tree that is no rule.
+/// Of a path at which no file is written, and why, as far as the system says.
+pub fn of_unwritable(
+    alloc: Global,
+    path: &str,
+    trouble: Option<io::Error>,
+) -> Result<String, AllocError>
+    ensures names { IfOk result (λ s. Names path.now (string_bytes s)) }
+{
+    let mut lines = Lines::new(alloc);
+    lines.put(" cannot be written");
+    put_trouble(
+        &mut lines,
+        trouble,
+        "  its folder is missing, or the path is a folder, or it may not be written\n",
+    );
+    lines.headed(Opening::File, path)
+}
+
+/// The system's own words for what went wrong, or else what it may be.
+fn put_trouble(lines: &mut Lines, trouble: Option<io::Error>, else_line: &str) {
+    match trouble {
+        Some(error) => {
+            lines.put(": ");
+            lines.put_shown(&error);
+            lines.put("\n");
+        }
+        None => lines.put_all(&["\n", else_line]),
+    }
+}
+
+/// Of the path of a book that has more bytes than are read.
+pub fn of_long_book(alloc: Global, path: &str) -> Result<String, AllocError>
+    ensures names { IfOk result (λ s. Names path.now (string_bytes s)) }
+{
+    let mut lines = Lines::new(alloc);
+    lines.put(" has more than 2^40 bytes, and counts as one that cannot be read\n");
+    lines.headed(Opening::File, path)
+}
+
+/// Of a text that is no rule, with its tree, unless it is too large to be looked into.
 pub fn of_rule(
     alloc: Global,
     path: &str,
-    tree: &Tree,
+    tree: Option<&Tree>,
     fault: RuleFault,
 ) -> Result<String, AllocError>
     ensures names { IfOk result (λ s. Names path.now (string_bytes s)) }
@@ -39,7 +86,10 @@ pub fn of_rule(
     let mut lines = Lines::new(alloc);
     if fault == RuleFault::BadRule {
         lines.put(" is no rule: ");
-        put_wrong_bucket(&mut lines, tree);
+        match tree {
+            Some(tree) => put_wrong_bucket(&mut lines, tree),
+            None => lines.put("an item is no bucket (the file is too large to say which)"),
+        }
     } else {
         lines.put(": ");
         lines.put_shown(&fault);

@@ -20,11 +20,13 @@
 #![tactic(auto)]
 
 mod asks;
+mod blocked;
 mod books;
 mod breaches;
 mod checks;
 mod documents;
 mod evaluators;
+mod explained;
 mod files;
 mod kept;
 mod lines;
@@ -35,18 +37,23 @@ mod search;
 mod sites;
 mod tallies;
 mod texts;
+mod unread;
 mod way;
 mod wrongs;
 
-pub use asks::{of_asks, of_unwritable, of_workers};
-pub use books::{of_book, of_full_book, of_unrecorded};
+pub use asks::{Drive, of_asks, of_driven, of_workers};
+pub use books::{Ends, of_book, of_full_book, of_other_file, of_unrecorded};
 pub use breaches::of_breaches;
 pub use checks::of_check;
 pub use documents::of_document;
-pub use files::{of_keys, of_noted, of_rule, of_unreadable, of_weights};
+pub use explained::of_planned;
+pub use files::{
+    of_keys, of_long_book, of_noted, of_rule, of_unreadable, of_unwritable, of_weights,
+};
 pub use kept::of_kept;
 pub use plans::{of_large_plan, of_plan_file};
 pub use requests::of_request;
 pub use sites::{of_applied, of_rollout};
 pub use tallies::{of_empty_tally, of_other_tally, of_tally};
 pub use texts::{of_text, of_word};
+pub use unread::of_unread;

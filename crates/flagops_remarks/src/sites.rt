@@ -300,7 +300,7 @@ fn unknown_text<'a>(variants: &[String], parts: &'a [Tree]) -> Option<&'a str> {
     None
 }
 
-fn is_among(variants: &[String], name: &str) -> bool {
+pub(crate) fn is_among(variants: &[String], name: &str) -> bool {
     for variant in variants {
         if variant.as_str() == name {
             return true;

@@ -58,7 +58,7 @@ pub(crate) fn refuse_unloaded<O: Outlet, E: Outlet>(
     ensures { Reports (O.bytes out.old) (O.bytes out.new) (O.is_broken out.new) (E.bytes err.old) (E.bytes err.new) (E.is_broken err.new) result (Err refusal) }
 {
     match refusal {
-        Refusal::Unreadable => tell_made(alloc, err, of_unreadable(alloc, path), refusal),
+        Refusal::Unreadable => tell_made(alloc, err, of_unreadable(alloc, path, None), refusal),
         _ => say_refused(alloc, err, refusal),
     }
     refuse(alloc, out, refusal)

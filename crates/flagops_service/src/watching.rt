@@ -12,8 +12,8 @@ use snap_share::{Publisher, ShareName};
 use source_merge::{SourceFault, Sources};
 use std::alloc::{AllocError, Global};
 use std::sync::Wait;
-use std::thread;
 use std::time::{Clock, Duration};
+use std::{io, thread};
 
 /// Documents by their paths, with what was last read of each.
 #[derive(Drop)]
@@ -107,7 +107,7 @@ impl Watched<'_> {
         match files.read(self.alloc, path, u64::from(TEXT_LIMIT)) {
             Ok(text) => self.take(place, path, text, err),
             Err(LoadFault::Unreadable) => {
-                self.miss(place, path, err);
+                self.miss(place, path, files.trouble(), err);
                 false
             }
             Err(LoadFault::WantOfMemory) => false,
@@ -115,13 +115,19 @@ impl Watched<'_> {
     }
 
     /// A document can't be read, which is told once.
-    fn miss<E: Outlet>(&mut self, place: usize, path: &str, err: &mut E) {
+    fn miss<E: Outlet>(
+        &mut self,
+        place: usize,
+        path: &str,
+        trouble: Option<io::Error>,
+        err: &mut E,
+    ) {
         let bit = bit_of(place);
         if self.missing & bit != 0 {
             return;
         }
         self.missing |= bit;
-        say_kept(err, of_unreadable(self.alloc, path));
+        say_kept(err, of_unreadable(self.alloc, path, trouble));
     }
 
     /// Sets a document where its bytes are others than were read last, and says whether it was accepted.

@@ -3,3 +3,4 @@ pub mod Matched
 pub mod Named
 pub mod Spelled
 pub mod Tabled
+pub mod Unhelped

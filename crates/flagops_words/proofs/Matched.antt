@@ -11,16 +11,16 @@ use Rattle.clap.specs.declared.error.kind.ErrorKind.TheVariants.{InvalidValue, M
 use Rattle.clap.specs.declared.parser.matches.ArgMatches.{ArgMatches}
 use Rattle.flagops_words.specs.Asked.{Asked}
 use Rattle.flagops_words.proofs.Named.{faultless}
-use Rattle.flagops_words.specs.Words.{IsToldBy, applied_in, apply_fault, apply_in, asked_by, asked_of, command_in, faults_of, apply_app, bucket_app, check_app, completions_app, completions_in, drive_app, flag_in, if_any, is_stray, keep_in, kind_fault, kind_fault_in, kind_in, mistake_of, plan_app, price_app, resolve_app, resolve_in, shell_in, site_in, unite_app, unite_in, unless, verify_app, flagops_app}
+use Rattle.flagops_words.specs.Words.{IsToldBy, applied_in, apply_fault, apply_in, asked_by, asked_in, asked_of, faults_of, apply_app, bucket_app, check_app, completions_app, completions_in, drive_app, flag_in, if_any, is_stray, keep_in, kind_fault, kind_fault_in, kind_in, mistake_of, plan_app, price_app, resolve_app, resolve_in, shell_in, site_in, unless, verify_app, flagops_app}
 
 pub ruleset rows = (first_value-rows, raw_values-rows)
 
 is_plain : is_simple flagops_app ≡ true
-unfolding flagops_app bucket_app price_app check_app resolve_app plan_app verify_app apply_app drive_app unite_app completions_app
+unfolding flagops_app bucket_app price_app check_app resolve_app plan_app verify_app apply_app drive_app completions_app
 is_plain = refl
 
 is_free : is_simple_and_free flagops_app ≡ true
-unfolding flagops_app bucket_app price_app check_app resolve_app plan_app verify_app apply_app drive_app unite_app completions_app
+unfolding flagops_app bucket_app price_app check_app resolve_app plan_app verify_app apply_app drive_app completions_app
 is_free = refl
 
 -- a command that is read has a kind of value where it wants one
@@ -57,8 +57,8 @@ no_apply_fault rows a e = go (flag_in (codes "keep") rows) (is_stray rows) e
     go false true h = absurd (none_some h)
     go false false h = rw (some_site (site_in rows) _ a h) refl
 
-no_command_fault : (name : Text) (rows : List Row) (a : Asked) → command_in (name, rows) ≡ Some a → kind_fault_in (name, rows) ≡ []
-no_command_fault name rows a e = go (bytes_eq name (codes "resolve")) (bytes_eq name (codes "completions")) (bytes_eq name (codes "apply")) _ e
+no_fault_in : (name : Text) (rows : List Row) (a : Asked) → asked_in (name, rows) ≡ Some a → kind_fault_in (name, rows) ≡ []
+no_fault_in name rows a e = go (bytes_eq name (codes "resolve")) (bytes_eq name (codes "completions")) (bytes_eq name (codes "apply")) _ e
   where
     go : (b c d : Bool) (other : Option Asked) → cond b (resolve_in rows) (cond c (completions_in rows) (cond d (apply_in rows) other)) ≡ Some a
         → cond b (unless InvalidValue (is_some (kind_in rows))) (cond c (unless InvalidValue (is_some (shell_in rows))) (cond d (apply_fault rows) [])) ≡ []
@@ -69,15 +69,7 @@ no_command_fault name rows a e = go (bytes_eq name (codes "resolve")) (bytes_eq 
 
 no_kind_fault : (named : Option (Text × List Row)) (a : Asked) → asked_of named ≡ Some a → kind_fault named ≡ []
 no_kind_fault None a e = refl
-no_kind_fault (Some (name, rows)) a e = go (bytes_eq name (codes "book")) refl e
-  where
-    -- no mistake of `book` is left for the program to find
-    book_fault : (n : Text) → n ≡ codes "book" → kind_fault_in (n, rows) ≡ []
-    book_fault n is = rw is refl
-
-    go : (b : Bool) → bytes_eq name (codes "book") ≡ b → cond b (unite_in rows) (command_in (name, rows)) ≡ Some a → kind_fault_in (name, rows) ≡ []
-    go true is h = book_fault name ((bytes_eq-Decides name (codes "book")).0 is)
-    go false is h = no_command_fault name rows a h
+no_kind_fault (Some (name, rows)) a e = no_fault_in name rows a e
 
 -- words with which `clap` finds no fault, by what the matches hold
 module _ (words : List Text) (app : App) (m : ArgMatches) (is : app ≡ flagops_app) (no_fault : is_simple_and_free app ≡ true → fault_of app words ≡ []) where

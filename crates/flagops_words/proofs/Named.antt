@@ -1,5 +1,5 @@
 -- Words with which `clap` finds no fault ask for a command, or one of them is a mistake.
-use Rattle.std.proofs.Common.{◌≡◌, ◌&&◌, ◌||◌, ◌⊎◌, inl, inr, ℕ, Bool, cond, true, false, refl, subst, List, [], ◌∷◌, Option, Some, None, not, codes, is_some, option_map}
+use Rattle.std.proofs.Common.{◌≡◌, ◌&&◌, ◌||◌, ◌⊎◌, ◌↔◌, inl, inr, ℕ, Bool, cond, true, false, refl, subst, sym, List, [], ◌∷◌, Option, Some, None, not, codes, is_some, option_map}
 use Rattle.std.specs.Prelude.{option_and_then, slice_get}
 use Rattle.std.specs.List.{find, list_all, list_any}
 use Rattle.std.specs.Option.{option_map_or}
@@ -14,15 +14,16 @@ use Rattle.clap.specs.Simple.{App, Shape, built, entered, label_of, names_of, ro
 use Rattle.clap.specs.Takes.{is_given}
 use Rattle.clap.specs.ValueTests.{is_unsigned_in}
 use Rattle.clap.specs.declared.error.kind.ErrorKind.{ErrorKind}
-use Rattle.flag_resolve.specs.Kind.{kind_named}
 use Rattle.flag_resolve.specs.declared.kind.Kind.{Kind}
 use Rattle.clap.specs.Walk.{Row, Rule, Text, answers_to, first_of, nothing_held, rows_after, settled, walk, walk_from}
-use Rattle.flagops_words.specs.Asked.{Asked, bucket, price, check, resolve, verify, apply, keep, plan, drive, unite, completions}
+use Rattle.flagops_words.specs.Asked.{Asked, bucket, price, check, resolve, verify, apply, keep, plan, drive, completions}
+use Rattle.flagops_words.specs.Kinds.{kind_spelled}
 use Rattle.flagops_words.specs.Shell.{shell_named}
 use Rattle.flagops_words.specs.declared.shell.Shell.{Shell}
 use Rattle.flagops_words.specs.Numbers.{max_16, max_32, max_moment, number_in}
-use Rattle.flagops_words.specs.Words.{apply_app, asked_in, asked_of, bucket_app, check_app, completions_app, drive_app, flag_in, flagops_app, if_any, is_stray, kind_fault, mistake_of, plan_app, price_app, refine_in, resolve_app, texts_at, unite_app, verify_app}
+use Rattle.flagops_words.specs.Words.{apply_app, asked_in, asked_of, bucket_app, check_app, completions_app, drive_app, flag_in, flagops_app, is_stray, is_strict, kind_fault, mistake_of, plan_app, price_app, refine_in, resolve_app, verify_app}
 use Rattle.flagops_words.proofs.Filled.{Each, Filled, IsFull, Stores, filled_level, none_both, stores}
+use Rattle.flagops_words.proofs.Unhelped.{IsNoHelp, no_help}
 
 -- ---- one command
 
@@ -121,7 +122,7 @@ price_asks s name stored given words e =
     let keys = value_given (codes "KEYS") rows full all.3 in
     inl (price old.0 new.0 request.0 keys.0, price_read s.name rows old.0 new.0 request.0 keys.0 name old.1 new.1 request.1 keys.1)
 
-check_read : (name : Text) (rows : List Row) (document : Text) → name ≡ codes "check" → first_of (codes "DOC") rows ≡ Some document → asked_in (name, rows) ≡ Some (check document)
+check_read : (name : Text) (rows : List Row) (document : Text) → name ≡ codes "check" → first_of (codes "DOC") rows ≡ Some document → asked_in (name, rows) ≡ Some (check document (is_strict rows))
 check_read name rows document is document_is = rw (is, document_is) refl
 
 check_asks : (s : Shape) → s.name ≡ codes "check" → list_all stores s.rules ≡ true → ((rows : List Row) → HasGiven s rows → is_given (codes "DOC") rows ≡ true) → Asks s
@@ -129,7 +130,7 @@ check_asks s name stored given words e =
     let rows = rows_after s.rules [] words in
     let full = filled_level Any s [] (any_stored s.rules stored) words false [] e in
     let document = value_given (codes "DOC") rows full (given rows (level_given s words e)) in
-    inl (check document.0, check_read s.name rows document.0 name document.1)
+    inl (check document.0 (is_strict rows), check_read s.name rows document.0 name document.1)
 
 -- each value of this argument is a number within these bounds
 abbrev IsNumber : Text → ℕ → ℕ → Text → Text → Type 0
@@ -147,7 +148,7 @@ Moment = IsNumber (codes "MOMENT") 0 max_moment
 
 resolve_read : (name : Text) (rows : List Row) (document key word default context number : Text) (moment : ℕ) (kind : Option Kind) → name ≡ codes "resolve"
     → first_of (codes "DOC") rows ≡ Some document → first_of (codes "KEY") rows ≡ Some key → first_of (codes "KIND") rows ≡ Some word → first_of (codes "DEFAULT") rows ≡ Some default
-    → first_of (codes "CONTEXT") rows ≡ Some context → first_of (codes "MOMENT") rows ≡ Some number → number_in 0 max_moment number ≡ Some moment → kind_named word ≡ kind → IsRead (Some (name, rows))
+    → first_of (codes "CONTEXT") rows ≡ Some context → first_of (codes "MOMENT") rows ≡ Some number → number_in 0 max_moment number ≡ Some moment → kind_spelled word ≡ kind → IsRead (Some (name, rows))
 resolve_read name rows document key word default context number moment (Some kind) is document_is key_is word_is default_is context_is number_is moment_is kind_is =
     inl (resolve document key kind default context moment, rw (is, document_is, key_is, word_is, kind_is, default_is, context_is, number_is, moment_is) refl)
 resolve_read name rows document key word default context number moment None is document_is key_is word_is default_is context_is number_is moment_is kind_is =
@@ -167,7 +168,7 @@ resolve_asks s name stored given words e =
     let context = value_taken Moment (codes "CONTEXT") rows full all.4 in
     let moment = value_taken Moment (codes "MOMENT") rows full all.5 in
     let number = number_read 0 max_moment moment.0 (moment.2 refl) in
-    resolve_read s.name rows document.0 key.0 kind.0 default.0 context.0 moment.0 number.0 (kind_named kind.0) name document.1 key.1 kind.1 default.1 context.1 moment.1 number.1 refl
+    resolve_read s.name rows document.0 key.0 kind.0 default.0 context.0 moment.0 number.0 (kind_spelled kind.0) name document.1 key.1 kind.1 default.1 context.1 moment.1 number.1 refl
 
 -- an argument that may be left out is not given, or has a value, which is as it has to be
 given_or_not : (P : Text → Text → Type 0) (id : Text) (rows : List Row) → Filled P rows → (first_of id rows ≡ None) ⊎ ((v : Text) × (first_of id rows ≡ Some v) × P id v)
@@ -193,7 +194,7 @@ refine_read rows p = elim (given_or_not Refine (codes "M") rows p) [
 
 verify_read : (name : Text) (rows : List Row) (document request book file : Text) (refine : Option ℕ) → name ≡ codes "verify"
     → first_of (codes "DOC") rows ≡ Some document → first_of (codes "REQUEST") rows ≡ Some request → first_of (codes "BOOK") rows ≡ Some book → first_of (codes "PLAN") rows ≡ Some file
-    → refine_in rows ≡ Some refine → asked_in (name, rows) ≡ Some (verify document request book file refine)
+    → refine_in rows ≡ Some refine → asked_in (name, rows) ≡ Some (verify document request book file refine (is_strict rows))
 verify_read name rows document request book file refine is document_is request_is book_is file_is refine_is =
     rw (is, document_is, request_is, book_is, file_is, refine_is) refl
 
@@ -209,11 +210,11 @@ verify_asks s name stored given words e =
     let book = value_taken Refine (codes "BOOK") rows full all.2 in
     let file = value_taken Refine (codes "PLAN") rows full all.3 in
     let refine = refine_read rows full in
-    inl (verify document.0 request.0 book.0 file.0 refine.0, verify_read s.name rows document.0 request.0 book.0 file.0 refine.0 name document.1 request.1 book.1 file.1 refine.1)
+    inl (verify document.0 request.0 book.0 file.0 refine.0 (is_strict rows), verify_read s.name rows document.0 request.0 book.0 file.0 refine.0 name document.1 request.1 book.1 file.1 refine.1)
 
 plan_read : (name : Text) (rows : List Row) (document request book : Text) (refine : Option ℕ) → name ≡ codes "plan"
     → first_of (codes "DOC") rows ≡ Some document → first_of (codes "REQUEST") rows ≡ Some request → first_of (codes "BOOK") rows ≡ Some book
-    → refine_in rows ≡ Some refine → asked_in (name, rows) ≡ Some (plan document request book refine)
+    → refine_in rows ≡ Some refine → asked_in (name, rows) ≡ Some (plan document request book refine (is_strict rows) (flag_in (codes "explain") rows))
 plan_read name rows document request book refine is document_is request_is book_is refine_is = rw (is, document_is, request_is, book_is, refine_is) refl
 
 plan_asks : (s : Shape) → s.name ≡ codes "plan" → Each (Stores Refine) s.rules
@@ -226,7 +227,7 @@ plan_asks s name stored given words e =
     let request = value_taken Refine (codes "REQUEST") rows full all.1 in
     let book = value_taken Refine (codes "BOOK") rows full all.2 in
     let refine = refine_read rows full in
-    inl (plan document.0 request.0 book.0 refine.0, plan_read s.name rows document.0 request.0 book.0 refine.0 name document.1 request.1 book.1 refine.1)
+    inl (plan document.0 request.0 book.0 refine.0 (is_strict rows) (flag_in (codes "explain") rows), plan_read s.name rows document.0 request.0 book.0 refine.0 name document.1 request.1 book.1 refine.1)
 
 -- the four words of `apply`, in its form with `--keep` and in the other
 apply_read : (name : Text) (rows : List Row) (document file third fourth : Text) (refine site : Option ℕ) (keeps stray : Bool) → name ≡ codes "apply"
@@ -234,7 +235,7 @@ apply_read : (name : Text) (rows : List Row) (document file third fourth : Text)
     → first_of (codes "SITE|BOOK") rows ≡ Some fourth → refine_in rows ≡ Some refine → number_in 0 max_32 fourth ≡ site → flag_in (codes "keep") rows ≡ keeps → is_stray rows ≡ stray
     → IsRead (Some (name, rows))
 apply_read name rows document file third fourth refine site true stray is document_is file_is third_is fourth_is refine_is site_is keeps_is stray_is =
-    inl (keep document file third fourth (flag_in (codes "write") rows) refine, rw (is, keeps_is, document_is, file_is, third_is, fourth_is, refine_is) refl)
+    inl (keep document file third fourth (flag_in (codes "write") rows) refine (is_strict rows), rw (is, keeps_is, document_is, file_is, third_is, fourth_is, refine_is) refl)
 apply_read name rows document file third fourth refine site false true is document_is file_is third_is fourth_is refine_is site_is keeps_is stray_is =
     inr (rw (is, keeps_is, stray_is) refl)
 apply_read name rows document file third fourth refine (Some site) false false is document_is file_is third_is fourth_is refine_is site_is keeps_is stray_is =
@@ -282,40 +283,6 @@ drive_asks s name stored given words e =
       drive_read s.name rows document.0 file.0 word.0 book.0 workers.0 (flag_in (codes "add") rows) name document.1 file.1 word.1 workers.1 book.1 refl,
     )
 
--- what is given has one value or more
-values_given : (id : Text) (rows : List Row) → Filled Any rows → is_given id rows ≡ true → (vs : List Text) × (texts_at id rows ≡ Some vs)
-values_given id [] p e = cc
-values_given id (r ∷ rs) p e = go (bytes_eq r.id id) e (values_given id rs p.1)
-  where
-    values_of : Option Row → Option (List Text)
-    values_of o = option_and_then if_any (option_map (λ (x : Row). x.values) o)
-
-    rest : Option Row
-    rest = find (λ x. bytes_eq x.id id) rs
-
-    full : (vs : List Text) → IsFull vs → (ws : List Text) × (if_any vs ≡ Some ws)
-    full [] h = absurd h
-    full (v ∷ vs) h = (v ∷ vs, refl)
-
-    go : (b : Bool) → option_map_or (λ (x : Row). explicit_source x.source) (cond b (Some r) rest) false ≡ true
-        → (is_given id rs ≡ true → (vs : List Text) × (texts_at id rs ≡ Some vs)) → (vs : List Text) × (values_of (cond b (Some r) rest) ≡ Some vs)
-    go true e more = full r.values p.0.0
-    go false e more = more e
-
-unite_read : (name : Text) (rows : List Row) (out : Text) (files : List Text) → name ≡ codes "book" → first_of (codes "OUT") rows ≡ Some out → texts_at (codes "FILE") rows ≡ Some files
-    → asked_in (name, rows) ≡ Some (unite out files)
-unite_read name rows out files is out_is files_is = rw (is, out_is, files_is) refl
-
-unite_asks : (s : Shape) → s.name ≡ codes "book" → list_all stores s.rules ≡ true
-    → ((rows : List Row) → HasGiven s rows → (is_given (codes "OUT") rows ≡ true) × (is_given (codes "FILE") rows ≡ true)) → Asks s
-unite_asks s name stored given words e =
-    let rows = rows_after s.rules [] words in
-    let full = filled_level Any s [] (any_stored s.rules stored) words false [] e in
-    let both = given rows (level_given s words e) in
-    let out = value_given (codes "OUT") rows full both.0 in
-    let files = values_given (codes "FILE") rows full both.1 in
-    inl (unite out.0 files.0, unite_read s.name rows out.0 files.0 name out.1 files.1)
-
 completions_read : (name : Text) (rows : List Row) (word : Text) (shell : Option Shell) → name ≡ codes "completions" → first_of (codes "SHELL") rows ≡ Some word → shell_named word ≡ shell
     → IsRead (Some (name, rows))
 completions_read name rows word (Some shell) is word_is shell_is = inl (completions shell, rw (is, word_is, shell_is) refl)
@@ -330,24 +297,41 @@ completions_asks s name stored given words e =
 
 -- ---- the program
 
+-- the command that a name other than `help` enters
+abbrev AsksBy : Shape → Type 0
+AsksBy s = (name : Text) → answers_to name (label_of s) ≡ true → bytes_eq name (codes "help") ≡ false → Asks s
+
 abbrev AllAsk : List Shape → Type 0
-AllAsk = Each Asks
+AllAsk = Each AsksBy
+
+-- `clap`'s own command is entered by its name alone
+help_unasked : (s : Shape) (name : Text) → (answers_to name (label_of s) ≡ true → name ≡ codes "help") → answers_to name (label_of s) ≡ true → bytes_eq name (codes "help") ≡ false → Asks s
+help_unasked s name only is other = absurd (go name (only is) other)
+  where
+    go : (n : Text) → n ≡ codes "help" → bytes_eq n (codes "help") ≡ false → ⊥
+    go n same differs =
+        let bad : bytes_eq (codes "help") (codes "help") ≡ false = subst (λ (k : Text). bytes_eq k (codes "help") ≡ false) same differs in
+        cc
+
+alone : {P : Type 0} (b : Bool) → (b || false) ≡ true → (b ≡ true ↔ P) → P
+alone true e decides = decides.0 refl
+alone false e decides = cc
 
 each : AllAsk (built flagops_app).subs
-unfolding flagops_app bucket_app price_app check_app resolve_app plan_app verify_app apply_app drive_app unite_app completions_app
+unfolding flagops_app bucket_app price_app check_app resolve_app plan_app verify_app apply_app drive_app completions_app
 each = (
-  bucket_asks _ refl refl (λ rows e. let rule = needed _ _ e in let key = needed _ _ rule.1 in (rule.0, key.0)),
+  λ _ _ _. bucket_asks _ refl refl (λ rows e. let rule = needed _ _ e in let key = needed _ _ rule.1 in (rule.0, key.0)),
   (
-    price_asks _ refl refl (λ rows e.
+    λ _ _ _. price_asks _ refl refl (λ rows e.
         let old = needed _ _ e in
         let new = needed _ _ old.1 in
         let request = needed _ _ new.1 in
         let keys = needed _ _ request.1 in
         (old.0, new.0, request.0, keys.0)),
     (
-      check_asks _ refl refl (λ rows e. (needed _ _ e).0),
+      λ _ _ _. check_asks _ refl refl (λ rows e. (needed _ _ e).0),
       (
-        resolve_asks _ refl
+        λ _ _ _. resolve_asks _ refl
             ((refl, λ v e h. cc), ((refl, λ v e h. cc), ((refl, λ v e h. cc), ((refl, λ v e h. cc), ((refl, λ v e h. cc), ((refl, λ v e h. passes _ _ e), ((refl, λ v e h. cc), tt)))))))
             (λ rows e.
             let document = needed _ _ e in
@@ -358,16 +342,16 @@ each = (
             let moment = needed _ _ context.1 in
             (document.0, key.0, kind.0, default.0, context.0, moment.0)),
         (
-          plan_asks _ refl
-              ((refl, λ v e h. cc), ((refl, λ v e h. cc), ((refl, λ v e h. cc), ((refl, λ v e h. passes _ _ e), ((refl, λ v e h. cc), tt)))))
+          λ _ _ _. plan_asks _ refl
+              ((refl, λ v e h. cc), ((refl, λ v e h. cc), ((refl, λ v e h. cc), ((refl, λ v e h. passes _ _ e), ((refl, λ v e h. cc), ((refl, λ v e h. cc), ((refl, λ v e h. cc), tt)))))))
               (λ rows e.
               let document = needed _ _ e in
               let request = needed _ _ document.1 in
               let book = needed _ _ request.1 in
               (document.0, request.0, book.0)),
           (
-            verify_asks _ refl
-                ((refl, λ v e h. cc), ((refl, λ v e h. cc), ((refl, λ v e h. cc), ((refl, λ v e h. cc), ((refl, λ v e h. passes _ _ e), ((refl, λ v e h. cc), tt))))))
+            λ _ _ _. verify_asks _ refl
+                ((refl, λ v e h. cc), ((refl, λ v e h. cc), ((refl, λ v e h. cc), ((refl, λ v e h. cc), ((refl, λ v e h. passes _ _ e), ((refl, λ v e h. cc), ((refl, λ v e h. cc), tt)))))))
                 (λ rows e.
                 let document = needed _ _ e in
                 let request = needed _ _ document.1 in
@@ -375,8 +359,8 @@ each = (
                 let file = needed _ _ book.1 in
                 (document.0, request.0, book.0, file.0)),
             (
-              apply_asks _ refl
-                  ((refl, λ v e h. cc), ((refl, λ v e h. cc), ((refl, λ v e h. cc), ((refl, λ v e h. cc), ((refl, λ v e h. cc), ((refl, λ v e h. cc), ((refl, λ v e h. passes _ _ e), ((refl, λ v e h. cc), tt))))))))
+              λ _ _ _. apply_asks _ refl
+                  ((refl, λ v e h. cc), ((refl, λ v e h. cc), ((refl, λ v e h. cc), ((refl, λ v e h. cc), ((refl, λ v e h. cc), ((refl, λ v e h. cc), ((refl, λ v e h. passes _ _ e), ((refl, λ v e h. cc), ((refl, λ v e h. cc), tt)))))))))
                   (λ rows e.
                   let document = needed _ _ e in
                   let file = needed _ _ document.1 in
@@ -384,7 +368,7 @@ each = (
                   let site = needed _ _ key.1 in
                   (document.0, file.0, key.0, site.0)),
               (
-                drive_asks _ refl
+                λ _ _ _. drive_asks _ refl
                     ((refl, λ v e h. cc), ((refl, λ v e h. cc), ((refl, λ v e h. passes _ _ e), ((refl, λ v e h. cc), ((refl, λ v e h. cc), ((refl, λ v e h. cc), tt))))))
                     (λ rows e.
                     let document = needed _ _ e in
@@ -393,8 +377,8 @@ each = (
                     let book = needed _ _ workers.1 in
                     (document.0, file.0, workers.0, book.0)),
                 (
-                  unite_asks _ refl refl (λ rows e. let out = needed _ _ e in let file = needed _ _ out.1 in (out.0, file.0)),
-                  (completions_asks _ refl refl (λ rows e. (needed _ _ e).0), tt),
+                  λ _ _ _. completions_asks _ refl refl (λ rows e. (needed _ _ e).0),
+                  (λ name is other. help_unasked _ name (λ named. sym (alone (bytes_eq (codes "help") name) named (bytes_eq-Decides (codes "help") name))) is other, tt),
                 ),
               ),
             ),
@@ -405,32 +389,33 @@ each = (
   ),
 )
 
-named : (subs : List Shape) (p : Text × List Text) → AllAsk subs → option_map_or (λ s. level_fault s [] nothing_held p.1 false []) (find (λ s. answers_to p.0 (label_of s)) subs) [] ≡ []
+named : (subs : List Shape) (p : Text × List Text) → AllAsk subs → bytes_eq p.0 (codes "help") ≡ false → option_map_or (λ s. level_fault s [] nothing_held p.1 false []) (find (λ s. answers_to p.0 (label_of s)) subs) [] ≡ []
     → (not (is_some (option_map (λ s. rows_at s p.1) (find (λ s. answers_to p.0 (label_of s)) subs))) && true) ≡ false
     → IsRead (option_map (λ s. rows_at s p.1) (find (λ s. answers_to p.0 (label_of s)) subs))
-named [] p asks e has = cc
-named (s ∷ ss) p asks e has = go (answers_to p.0 (label_of s)) e has (named ss p asks.1)
+named [] p asks other e has = cc
+named (s ∷ ss) p asks other e has = go (answers_to p.0 (label_of s)) refl e has (named ss p asks.1 other)
   where
     rest : Option Shape
     rest = find (λ t. answers_to p.0 (label_of t)) ss
 
-    go : (b : Bool) → option_map_or (λ t. level_fault t [] nothing_held p.1 false []) (cond b (Some s) rest) [] ≡ []
+    go : (b : Bool) → answers_to p.0 (label_of s) ≡ b → option_map_or (λ t. level_fault t [] nothing_held p.1 false []) (cond b (Some s) rest) [] ≡ []
         → (not (is_some (option_map (λ t. rows_at t p.1) (cond b (Some s) rest))) && true) ≡ false
         → (option_map_or (λ t. level_fault t [] nothing_held p.1 false []) rest [] ≡ [] → (not (is_some (option_map (λ t. rows_at t p.1) rest)) && true) ≡ false
         → IsRead (option_map (λ t. rows_at t p.1) rest)) → IsRead (option_map (λ t. rows_at t p.1) (cond b (Some s) rest))
-    go true e has more = asks.0 p.1 e
-    go false e has more = more e has
+    go true is e has more = asks.0 p.0 is other p.1 e
+    go false is e has more = more e has
 
-stopped : (a : App) → AllAsk a.subs → (stop : Option (Text × List Text)) → entered_fault a stop ≡ [] → (not (is_some (entered a stop)) && true) ≡ false
+stopped : (a : App) → AllAsk a.subs → (stop : Option (Text × List Text)) → IsNoHelp stop → entered_fault a stop ≡ [] → (not (is_some (entered a stop)) && true) ≡ false
     → IsRead (entered a stop)
-stopped a asks None e has = cc
-stopped a asks (Some p) e has = named a.subs p asks e has
+stopped a asks None other e has = cc
+stopped a asks (Some p) other e has = named a.subs p asks other e has
 
 -- what words that `clap` finds no fault with ask for
 pub faultless : (words : List Text) → fault_of flagops_app words ≡ [] → IsRead (subcommand_of flagops_app words)
-unfolding flagops_app bucket_app price_app check_app resolve_app plan_app verify_app apply_app drive_app unite_app completions_app
+unfolding flagops_app bucket_app price_app check_app resolve_app plan_app verify_app apply_app drive_app completions_app
 faultless words e =
     let app = built flagops_app in
     let stop = (walk app.top.rules (names_of app) nothing_held words).stopped in
     let below = none_both (entered_fault app stop) _ (none_both (walk_fault app.top (names_of app) (walk_from nothing_held) words) _ e).1 in
-    stopped app each stop below.0 (level_checked app.top (names_of app) words (is_some (entered app stop)) (entered_fault app stop) e).0
+    let walked = none_both (walk_fault app.top (names_of app) (walk_from nothing_held) words) _ e in
+    stopped app each stop (no_help app.top (names_of app) refl (walk_from nothing_held) words walked.0 tt) below.0 (level_checked app.top (names_of app) words (is_some (entered app stop)) (entered_fault app stop) e).0

@@ -1,5 +1,5 @@
 -- A command with its words.
-use Rattle.std.specs.Prelude.{Bool, List, ℕ, Option, map, option_map}
+use Rattle.std.specs.Prelude.{Bool, List, ℕ, Option, option_map}
 use Rattle.flag_resolve.specs.declared.kind.Kind.{Kind}
 use Rattle.flagops_words.specs.declared.asked.Asked as declared
 use Rattle.flagops_words.specs.declared.shell.Shell.{Shell}
@@ -10,22 +10,22 @@ pub data Asked : Type 0 where
   bucket : List ℕ → List ℕ → Asked
   -- the old and the new rule file, a request and a key file
   price : List ℕ → List ℕ → List ℕ → List ℕ → Asked
-  -- a document
-  check : List ℕ → Asked
+  -- a document, and whether what is told of it is no success
+  check : List ℕ → Bool → Asked
   -- a document, a key, a kind of value, a default, a context and a moment
   resolve : List ℕ → List ℕ → Kind → List ℕ → List ℕ → ℕ → Asked
-  -- a document, a request, a book and a plan, and the factor of a refinement if there is one
-  verify : List ℕ → List ℕ → List ℕ → List ℕ → Option ℕ → Asked
-  -- a document, a request and a book, and the factor of a refinement if there is one
-  plan : List ℕ → List ℕ → List ℕ → Option ℕ → Asked
+  -- a document, a request, a book and a plan, the factor of a refinement if there is one, and whether what is doubted is refused
+  verify : List ℕ → List ℕ → List ℕ → List ℕ → Option ℕ → Bool → Asked
+  -- a document, a request and a book, the factor of a refinement if there is one, whether what is doubted is refused, and
+  -- whether the plan is told in words
+  plan : List ℕ → List ℕ → List ℕ → Option ℕ → Bool → Bool → Asked
   -- a document, a plan, a flag and a site
   apply : List ℕ → List ℕ → List ℕ → ℕ → Asked
-  -- a document, a plan, a request and a book, whether the document is written over, and the factor of a refinement if there is one
-  keep : List ℕ → List ℕ → List ℕ → List ℕ → Bool → Option ℕ → Asked
+  -- a document, a plan, a request and a book, whether the document is written over, the factor of a refinement if there is one,
+  -- and whether what is doubted is refused
+  keep : List ℕ → List ℕ → List ℕ → List ℕ → Bool → Option ℕ → Bool → Asked
   -- a document, asks, a number of workers and a book, and whether the book keeps what it has
   drive : List ℕ → List ℕ → ℕ → List ℕ → Bool → Asked
-  -- the book that is written, and the books that are read
-  unite : List ℕ → List (List ℕ) → Asked
   -- a shell
   completions : Shell → Asked
 
@@ -33,12 +33,11 @@ pub data Asked : Type 0 where
 abbrev pub asked_view : declared.Asked → Asked
 asked_view (code.Bucket rule key) = bucket rule.now key.now
 asked_view (code.Price old new request keys) = price old.now new.now request.now keys.now
-asked_view (code.Check document) = check document.now
+asked_view (code.Check document strict) = check document.now strict
 asked_view (code.Resolve document key kind default context moment) = resolve document.now key.now kind default.now context.now moment.number
-asked_view (code.Verify document request book file refine) = verify document.now request.now book.now file.now (option_map (λ m. m.number) refine)
+asked_view (code.Verify document request book file refine strict) = verify document.now request.now book.now file.now (option_map (λ m. m.number) refine) strict
 asked_view (code.Apply document file key site) = apply document.now file.now key.now site
-asked_view (code.Keep document file request book write refine) = keep document.now file.now request.now book.now write (option_map (λ m. m.number) refine)
+asked_view (code.Keep document file request book write refine strict) = keep document.now file.now request.now book.now write (option_map (λ m. m.number) refine) strict
 asked_view (code.Drive document file workers book add) = drive document.now file.now workers book.now add
-asked_view (code.Unite out files) = unite out.now (map (λ f. f.now) files.items)
 asked_view (code.Completions shell) = completions shell
-asked_view (code.Plan document request book refine) = plan document.now request.now book.now (option_map (λ m. m.number) refine)
+asked_view (code.Plan document request book refine strict explain) = plan document.now request.now book.now (option_map (λ m. m.number) refine) strict explain

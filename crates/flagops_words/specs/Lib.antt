@@ -1,4 +1,5 @@
 pub mod Asked
+pub mod Kinds
 pub mod Numbers
 pub mod Shell
 pub mod Usage

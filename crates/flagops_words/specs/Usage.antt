@@ -5,13 +5,12 @@ use Rattle.clap.specs.Simple.{App, new_app, with_rule, with_subcommand}
 use Rattle.flagops_words.specs.declared.table.Usage.{Usage}
 use Rattle.flagops_words.specs.declared.table.Word.{Word}
 use Rattle.flagops_words.specs.declared.table.Word.TheVariants as word
-use Rattle.flagops_words.specs.Words.{flag, number, option_number, required, some_words}
+use Rattle.flagops_words.specs.Words.{flag, number, option_number, required}
 
 -- what is read of a word
 abbrev pub rule_for : Word → Rule
 rule_for (word.Text name help) = required name.now
 rule_for (word.Number name help most) = number name.now most
-rule_for (word.Texts name help) = some_words name.now
 rule_for (word.Option name help long least most) = option_number name.now long.now least most
 rule_for (word.Flag name help) = flag name.now
 

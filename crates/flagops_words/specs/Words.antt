@@ -10,9 +10,9 @@ use Rattle.clap.specs.declared.builder.value_parser.ValueParser.TheVariants.{Uns
 use Rattle.clap.specs.declared.error.kind.ErrorKind.{ErrorKind}
 use Rattle.clap.specs.declared.error.kind.ErrorKind.TheVariants.{InvalidValue, MissingRequiredArgument, OutOfMemory, ValueValidation}
 use Rattle.clap.specs.Faults.{fault_of}
-use Rattle.flag_resolve.specs.Kind.{kind_named}
 use Rattle.flag_resolve.specs.declared.kind.Kind.{Kind}
-use Rattle.flagops_words.specs.Asked.{Asked, bucket, price, check, resolve, verify, apply, keep, plan, drive, unite, completions}
+use Rattle.flagops_words.specs.Asked.{Asked, bucket, price, check, resolve, verify, apply, keep, plan, drive, completions}
+use Rattle.flagops_words.specs.Kinds.{kind_spelled}
 use Rattle.flagops_words.specs.Shell.{shell_named}
 use Rattle.flagops_words.specs.declared.shell.Shell.{Shell}
 use Rattle.flagops_words.specs.Numbers.{max_16, max_32, max_moment, moment_in, factor_in, number_in}
@@ -30,9 +30,17 @@ bucket_app = with_rule (with_rule (new_app (codes "bucket")) (required (codes "R
 unfoldable pub price_app : App
 price_app = with_rule (with_rule (with_rule (with_rule (new_app (codes "price")) (required (codes "OLD"))) (required (codes "NEW"))) (required (codes "REQUEST"))) (required (codes "KEYS"))
 
--- `check DOC`
+-- an option without a value, by its long name
+abbrev pub flag : Text → Rule
+flag id = record (new_rule id) { long = Some id; action = Some SetTrue }
+
+-- `--strict`: what is doubted is refused
+abbrev pub strict_flag : Rule
+strict_flag = flag (codes "strict")
+
+-- `check DOC`, with `--strict`
 unfoldable pub check_app : App
-check_app = with_rule (new_app (codes "check")) (required (codes "DOC"))
+check_app = with_rule (with_rule (new_app (codes "check")) (required (codes "DOC"))) strict_flag
 
 -- a number up to a bound that has to be there
 abbrev pub number : Text → ℕ → Rule
@@ -58,26 +66,22 @@ refine_option = option_number (codes "M") (codes "refine") 1 max_32
 abbrev pub with_rollout : App → App
 with_rollout a = with_rule (with_rule (with_rule a (required (codes "DOC"))) (required (codes "REQUEST"))) (required (codes "BOOK"))
 
--- `verify DOC REQUEST BOOK PLAN`, with `--refine M`
+-- `verify DOC REQUEST BOOK PLAN`, with `--refine M` and `--strict`
 unfoldable pub verify_app : App
-verify_app = with_rule (with_rule (with_rollout (new_app (codes "verify"))) (required (codes "PLAN"))) refine_option
+verify_app = with_rule (with_rule (with_rule (with_rollout (new_app (codes "verify"))) (required (codes "PLAN"))) refine_option) strict_flag
 
--- `plan DOC REQUEST BOOK`, with `--refine M`
+-- `plan DOC REQUEST BOOK`, with `--refine M`, `--strict` and `--explain`
 unfoldable pub plan_app : App
-plan_app = with_rule (with_rollout (new_app (codes "plan"))) refine_option
-
--- an option without a value, by its long name
-abbrev pub flag : Text → Rule
-flag id = record (new_rule id) { long = Some id; action = Some SetTrue }
+plan_app = with_rule (with_rule (with_rule (with_rollout (new_app (codes "plan"))) refine_option) strict_flag) (flag (codes "explain"))
 
 -- `apply DOC PLAN FLAG SITE` and `apply --keep DOC PLAN REQUEST BOOK`: the words of both
 abbrev pub apply_begun : App
 apply_begun =
     with_rule (with_rule (with_rule (with_rule (new_app (codes "apply")) (required (codes "DOC"))) (required (codes "PLAN"))) (required (codes "FLAG|REQUEST"))) (required (codes "SITE|BOOK"))
 
--- the same with `--keep`, `--write` and `--refine M`
+-- the same with `--keep`, `--write`, `--refine M` and `--strict`
 unfoldable pub apply_app : App
-apply_app = with_rule (with_rule (with_rule apply_begun (flag (codes "keep"))) (flag (codes "write"))) refine_option
+apply_app = with_rule (with_rule (with_rule (with_rule apply_begun (flag (codes "keep"))) (flag (codes "write"))) refine_option) strict_flag
 
 -- `drive DOC ASKS WORKERS BOOK`, with `--add`
 unfoldable pub drive_app : App
@@ -88,10 +92,6 @@ drive_app =
 abbrev pub some_words : Text → Rule
 some_words id = record (required id) { range = Some (record { start_inclusive = 1; end_inclusive = usize_max }) }
 
--- `book OUT FILE..`
-unfoldable pub unite_app : App
-unite_app = with_rule (with_rule (new_app (codes "book")) (required (codes "OUT"))) (some_words (codes "FILE"))
-
 -- `completions SHELL`
 unfoldable pub completions_app : App
 completions_app = with_rule (new_app (codes "completions")) (required (codes "SHELL"))
@@ -100,7 +100,6 @@ completions_app = with_rule (new_app (codes "completions")) (required (codes "SH
 abbrev pub takes_commands : Shape → Shape
 takes_commands s = record s {
   no_binary_name = true;
-  disable_help_subcommand = true;
   has_version = true;
   arg_required_else_help = true;
   subcommand_required = true;
@@ -109,9 +108,9 @@ takes_commands s = record s {
 -- the program with its commands
 unfoldable pub flagops_app : App
 flagops_app =
-    with_subcommand (with_subcommand (with_subcommand (with_subcommand (with_subcommand (with_subcommand
+    with_subcommand (with_subcommand (with_subcommand (with_subcommand (with_subcommand
     (with_subcommand (with_subcommand (with_subcommand (with_subcommand (on_top takes_commands (new_app (codes "flagops"))) bucket_app.top) price_app.top) check_app.top)
-    resolve_app.top) plan_app.top) verify_app.top) apply_app.top) drive_app.top) unite_app.top) completions_app.top
+    resolve_app.top) plan_app.top) verify_app.top) apply_app.top) drive_app.top) completions_app.top
 
 -- ---- what the words ask for
 
@@ -135,15 +134,10 @@ price_in rows = do
   keys ← first_of (codes "KEYS") rows
   Some (price old new request keys)
 
-abbrev pub check_in : List Row → Option Asked
-check_in rows = do
-  document ← first_of (codes "DOC") rows
-  Some (check document)
-
 abbrev pub kind_in : List Row → Option Kind
 kind_in rows = do
   word ← first_of (codes "KIND") rows
-  kind_named word
+  kind_spelled word
 
 abbrev pub resolve_in : List Row → Option Asked
 resolve_in rows = do
@@ -164,23 +158,6 @@ if_given (Some word) = option_map Some (factor_in word)
 abbrev pub refine_in : List Row → Option (Option ℕ)
 refine_in rows = if_given (first_of (codes "M") rows)
 
-abbrev pub verify_in : List Row → Option Asked
-verify_in rows = do
-  document ← first_of (codes "DOC") rows
-  request ← first_of (codes "REQUEST") rows
-  book ← first_of (codes "BOOK") rows
-  file ← first_of (codes "PLAN") rows
-  factor ← refine_in rows
-  Some (verify document request book file factor)
-
-abbrev pub plan_in : List Row → Option Asked
-plan_in rows = do
-  document ← first_of (codes "DOC") rows
-  request ← first_of (codes "REQUEST") rows
-  book ← first_of (codes "BOOK") rows
-  factor ← refine_in rows
-  Some (plan document request book factor)
-
 abbrev pub is_true : Option Text → Bool
 is_true None = false
 is_true (Some word) = bytes_eq word (codes "true")
@@ -189,9 +166,34 @@ is_true (Some word) = bytes_eq word (codes "true")
 abbrev pub flag_in : Text → List Row → Bool
 flag_in id rows = is_true (first_of id rows)
 
+abbrev pub is_strict : List Row → Bool
+is_strict rows = flag_in (codes "strict") rows
+
+abbrev pub check_in : List Row → Option Asked
+check_in rows = do
+  document ← first_of (codes "DOC") rows
+  Some (check document (is_strict rows))
+
+abbrev pub verify_in : List Row → Option Asked
+verify_in rows = do
+  document ← first_of (codes "DOC") rows
+  request ← first_of (codes "REQUEST") rows
+  book ← first_of (codes "BOOK") rows
+  file ← first_of (codes "PLAN") rows
+  factor ← refine_in rows
+  Some (verify document request book file factor (is_strict rows))
+
+abbrev pub plan_in : List Row → Option Asked
+plan_in rows = do
+  document ← first_of (codes "DOC") rows
+  request ← first_of (codes "REQUEST") rows
+  book ← first_of (codes "BOOK") rows
+  factor ← refine_in rows
+  Some (plan document request book factor (is_strict rows) (flag_in (codes "explain") rows))
+
 -- a word of `--keep` is given
 abbrev pub is_stray : List Row → Bool
-is_stray rows = flag_in (codes "write") rows || is_some (first_of (codes "M") rows)
+is_stray rows = flag_in (codes "write") rows || (is_strict rows || is_some (first_of (codes "M") rows))
 
 abbrev pub site_in : List Row → Option ℕ
 site_in rows = do
@@ -213,9 +215,9 @@ keep_in rows = do
   request ← first_of (codes "FLAG|REQUEST") rows
   book ← first_of (codes "SITE|BOOK") rows
   factor ← refine_in rows
-  Some (keep document file request book (flag_in (codes "write") rows) factor)
+  Some (keep document file request book (flag_in (codes "write") rows) factor (is_strict rows))
 
--- `--write` and `--refine M` go with `--keep` alone
+-- `--write`, `--refine M` and `--strict` go with `--keep` alone
 abbrev pub apply_in : List Row → Option Asked
 apply_in rows = if flag_in (codes "keep") rows then keep_in rows else (if is_stray rows then None else applied_in rows)
 
@@ -238,12 +240,6 @@ texts_at id rows = do
   texts ← all_of id rows
   if_any texts
 
-abbrev pub unite_in : List Row → Option Asked
-unite_in rows = do
-  out ← first_of (codes "OUT") rows
-  files ← texts_at (codes "FILE") rows
-  Some (unite out files)
-
 abbrev pub shell_in : List Row → Option Shell
 shell_in rows = do
   word ← first_of (codes "SHELL") rows
@@ -261,19 +257,15 @@ rollout_in (name, rows) =
     (if bytes_eq name (codes "plan") then plan_in rows else
     (if bytes_eq name (codes "drive") then drive_in rows else None))
 
--- a command whose words are so many
-abbrev pub command_in : Text × List Row → Option Asked
-command_in (name, rows) =
+-- a command by its name, with its words
+abbrev pub asked_in : Text × List Row → Option Asked
+asked_in (name, rows) =
     if bytes_eq name (codes "resolve") then resolve_in rows else
     (if bytes_eq name (codes "completions") then completions_in rows else
     (if bytes_eq name (codes "apply") then apply_in rows else
     (if bytes_eq name (codes "check") then check_in rows else
     (if bytes_eq name (codes "price") then price_in rows else
     (if bytes_eq name (codes "bucket") then bucket_in rows else rollout_in (name, rows))))))
-
--- a command by its name, with its words
-abbrev pub asked_in : Text × List Row → Option Asked
-asked_in (name, rows) = if bytes_eq name (codes "book") then unite_in rows else command_in (name, rows)
 
 -- the same of the subcommand that was met, if one was
 abbrev pub asked_of : Option (Text × List Row) → Option Asked
@@ -288,7 +280,7 @@ apply_fault rows =
     if flag_in (codes "keep") rows then [] else
     (if is_stray rows then MissingRequiredArgument ∷ [] else unless ValueValidation (is_some (site_in rows)))
 
--- a kind of value that is none of the four is a mistake, and so is a shell that is none of the three
+-- a kind of value that is none of the words for the four is a mistake, and so is a shell that is none of the three
 abbrev pub kind_fault_in : Text × List Row → Kinds
 kind_fault_in (name, rows) =
     if bytes_eq name (codes "resolve") then unless InvalidValue (is_some (kind_in rows)) else

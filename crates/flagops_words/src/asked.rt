@@ -20,6 +20,8 @@ pub enum Asked<'a> {
     /// Which flags of a document are good.
     Check {
         document: &'a str,
+        /// Whether a broken flag, or what is doubted, is no success.
+        strict: bool,
     },
     /// What the flag of a key resolves to.
     Resolve {
@@ -37,6 +39,8 @@ pub enum Asked<'a> {
         book: &'a str,
         plan: &'a str,
         refine: Option<Factor>,
+        /// Whether what is doubted is refused, and not only told.
+        strict: bool,
     },
     /// The answer of the planner to a request.
     Plan {
@@ -44,6 +48,10 @@ pub enum Asked<'a> {
         request: &'a str,
         book: &'a str,
         refine: Option<Factor>,
+        /// Whether what is doubted is refused, and not only told.
+        strict: bool,
+        /// Whether the answer is told in words.
+        explain: bool,
     },
     /// The document with the rule of a plan file at a site.
     Apply {
@@ -61,6 +69,8 @@ pub enum Asked<'a> {
         /// Whether the text is written over the document, and not printed.
         write: bool,
         refine: Option<Factor>,
+        /// Whether what is doubted is refused, and not only told.
+        strict: bool,
     },
     /// The resolutions of the asks of a file, and the book of what they reach.
     Drive {
@@ -70,11 +80,6 @@ pub enum Asked<'a> {
         book: &'a str,
         /// Whether the book keeps what it has.
         add: bool,
-    },
-    /// The book of the notes of several books.
-    Unite {
-        out: &'a str,
-        files: Vec<&'a str>,
     },
     /// The script by which a shell completes the words of the program.
     Completions {

@@ -20,6 +20,7 @@
 #![tactic(auto)]
 
 mod asked;
+mod kinds;
 mod numbers;
 mod shell;
 mod table;

@@ -41,24 +41,27 @@ _flagops() {
     local word=${COMP_WORDS[COMP_CWORD]}
     COMPREPLY=()
     if [ "$COMP_CWORD" -eq 1 ]; then
-        COMPREPLY=($(compgen -W "bucket price check resolve plan verify apply drive book ramp verify-ramp picture record tally join ofrep serve follow completions --help --version" -- "$word"))
+        COMPREPLY=($(compgen -W "bucket price check resolve plan verify apply drive book ramp verify-ramp picture record tally join ofrep serve follow completions help --help --version" -- "$word"))
         return
     fi
     case ${COMP_WORDS[1]}:$word in
-        plan:-*) COMPREPLY=($(compgen -W "--refine --picture --help" -- "$word")) ;;
+        check:-*) COMPREPLY=($(compgen -W "--strict --help" -- "$word")) ;;
+        plan:-*) COMPREPLY=($(compgen -W "--refine --strict --explain --picture --help" -- "$word")) ;;
         picture:-*) COMPREPLY=($(compgen -W "--refine --ramp --help" -- "$word")) ;;
-        verify:-* | ramp:-* | verify-ramp:-* | tally:-*) COMPREPLY=($(compgen -W "--refine --help" -- "$word")) ;;
+        verify:-*) COMPREPLY=($(compgen -W "--refine --strict --help" -- "$word")) ;;
+        ramp:-* | verify-ramp:-* | tally:-*) COMPREPLY=($(compgen -W "--refine --help" -- "$word")) ;;
         record:-*) COMPREPLY=($(compgen -W "--moment --workers --help" -- "$word")) ;;
-        apply:-*) COMPREPLY=($(compgen -W "--keep --write --refine --step --help" -- "$word")) ;;
+        apply:-*) COMPREPLY=($(compgen -W "--keep --write --refine --strict --step --help" -- "$word")) ;;
         book:-*) COMPREPLY=($(compgen -W "--torn --help" -- "$word")) ;;
         ofrep:-*) COMPREPLY=($(compgen -W "--listen --log --stream --workers --poll --help" -- "$word")) ;;
         drive:-*) COMPREPLY=($(compgen -W "--add --help" -- "$word")) ;;
         serve:-* | follow:-*) COMPREPLY=($(compgen -W "--wait --help" -- "$word")) ;;
         *:-*) COMPREPLY=($(compgen -W "--help" -- "$word")) ;;
         completions:*) COMPREPLY=($(compgen -W "bash fish zsh" -- "$word")) ;;
+        help:*) COMPREPLY=($(compgen -W "bucket price check resolve plan verify apply drive completions" -- "$word")) ;;
         resolve:*)
             if [ "$COMP_CWORD" -eq 4 ]; then
-                COMPREPLY=($(compgen -W "bool text whole object" -- "$word"))
+                COMPREPLY=($(compgen -W "bool text whole object boolean string integer" -- "$word"))
             else
                 COMPREPLY=($(compgen -f -- "$word"))
             fi
@@ -91,6 +94,9 @@ complete -c flagops -n __fish_use_subcommand -f -a ofrep -d 'Answer evaluations 
 complete -c flagops -n __fish_use_subcommand -f -a serve -d 'Publish documents to subscribers'
 complete -c flagops -n __fish_use_subcommand -f -a follow -d 'Print the snapshots that come'
 complete -c flagops -n __fish_use_subcommand -f -a completions -d 'Print the completion of a shell'
+complete -c flagops -n __fish_use_subcommand -f -a help -d 'Print the help of a command'
+complete -c flagops -n '__fish_seen_subcommand_from check plan verify apply' -l strict -d 'Refuse what is else only told'
+complete -c flagops -n '__fish_seen_subcommand_from plan' -l explain -d 'Tell the plan in words'
 complete -c flagops -n '__fish_seen_subcommand_from plan verify ramp verify-ramp picture tally' -l refine -x -d 'Plan in finer points'
 complete -c flagops -n '__fish_seen_subcommand_from plan' -l picture -r -d 'Write the picture of the plan'
 complete -c flagops -n '__fish_seen_subcommand_from picture' -l ramp -d 'Draw the steps of a rollout'
@@ -135,6 +141,7 @@ _flagops() {
         'serve:publish documents to subscribers'
         'follow:print the snapshots that come'
         'completions:print the completion of a shell'
+        'help:print the help of a command'
     )
     if (( CURRENT == 2 )); then
         _describe command commands
@@ -142,18 +149,22 @@ _flagops() {
         return
     fi
     case $words[2] in
+        check) _arguments '--strict[refuse what is else only told]' '--help[print help]' '*:file:_files' ;;
         plan)
-            _arguments '--refine[plan in finer points]:M:' '--picture[write the picture of the plan]:file:_files' '--help[print help]' '*:file:_files'
+            _arguments '--refine[plan in finer points]:M:' '--strict[refuse what is else only told]' '--explain[tell the plan in words]' \
+                '--picture[write the picture of the plan]:file:_files' '--help[print help]' '*:file:_files'
             ;;
         picture) _arguments '--refine[plan in finer points]:M:' '--ramp[draw the steps of a rollout]' '--help[print help]' '*:file:_files' ;;
-        verify | ramp | verify-ramp | tally) _arguments '--refine[plan in finer points]:M:' '--help[print help]' '*:file:_files' ;;
+        verify) _arguments '--refine[plan in finer points]:M:' '--strict[refuse what is else only told]' '--help[print help]' '*:file:_files' ;;
+        ramp | verify-ramp | tally) _arguments '--refine[plan in finer points]:M:' '--help[print help]' '*:file:_files' ;;
         record)
             _arguments '--moment[the time of the evaluations]:MOMENT:' '--workers[the most threads that evaluate]:WORKERS:' \
                 '--help[print help]' '*:file:_files'
             ;;
         apply)
             _arguments '--keep[verify the plan and keep the rest of the text]' '--write[with --keep\: write over the document]' \
-                '--refine[with --keep\: the factor of the plan]:M:' '--step[the step whose rule is put]:N:' '--help[print help]' '*:file:_files'
+                '--refine[with --keep\: the factor of the plan]:M:' '--strict[with --keep\: refuse what is else only told]' \
+                '--step[the step whose rule is put]:N:' '--help[print help]' '*:file:_files'
             ;;
         book) _arguments '--torn[pass over lines that are no notes]' '--help[print help]' '*:file:_files' ;;
         ofrep)

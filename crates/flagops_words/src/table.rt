@@ -16,8 +16,6 @@ pub enum Word {
     Text(&'static str, &'static str),
     /// A number that has to be there, from 0 to this one.
     Number(&'static str, &'static str, u64),
-    /// One text or more.
-    Texts(&'static str, &'static str),
     /// An option with a number, which may be left out: after what it is, its long name and the bounds.
     Option(&'static str, &'static str, &'static str, u64, u64),
     /// An option without a value, by its long name.
@@ -29,6 +27,16 @@ const DOCUMENT: Word = Word::Text("DOC", "The flag document");
 const REQUEST: Word = Word::Text("REQUEST", "The file of the rollout request");
 
 const BOOK: Word = Word::Text("BOOK", "The book of the hash inputs that were recorded");
+
+const STRICT: Word = Word::Flag(
+    "strict",
+    "End with status 1 where something is else only told: docs/REFUSALS.md has the table",
+);
+
+const EXPLAIN: Word = Word::Flag(
+    "explain",
+    "Tell in words, beside the plan, what it changes, or what stands in the way of any",
+);
 
 const PLAN_FILE: Word = Word::Text("PLAN", "The plan file");
 
@@ -50,7 +58,6 @@ pub const COMMANDS: &[Usage] = &[
     VERIFY,
     APPLY,
     DRIVE,
-    UNITE,
     COMPLETIONS,
 ];
 
@@ -77,7 +84,7 @@ const PRICE: Usage = Usage {
 const CHECK: Usage = Usage {
     name: "check",
     about: "Prints which flags of a document are good and which are broken",
-    words: &[DOCUMENT],
+    words: &[DOCUMENT, STRICT],
 };
 
 const RESOLVE: Usage = Usage {
@@ -100,7 +107,7 @@ const QUESTION: &[Word] = &[
     Word::Text("KEY", "The flag's key"),
     Word::Text(
         "KIND",
-        "bool, text (flagd's string), whole (its integer) or object",
+        "bool, text, whole or object, or flagd's boolean, string or integer",
     ),
     Word::Text(
         "DEFAULT",
@@ -116,14 +123,14 @@ const QUESTION: &[Word] = &[
 
 const PLAN: Usage = Usage {
     name: "plan",
-    about: "Prints the rule that a rollout request asks for and that switches the fewest",
-    words: &[DOCUMENT, REQUEST, BOOK, REFINE],
+    about: "Prints the rule that a rollout request asks for and that switches the fewest; plan --picture FILE draws it, too",
+    words: &[DOCUMENT, REQUEST, BOOK, REFINE, STRICT, EXPLAIN],
 };
 
 const VERIFY: Usage = Usage {
     name: "verify",
     about: "Checks, apart from the planner, that a plan is right and the cheapest for a rollout request",
-    words: &[DOCUMENT, REQUEST, BOOK, PLAN_FILE, REFINE],
+    words: &[DOCUMENT, REQUEST, BOOK, PLAN_FILE, REFINE, STRICT],
 };
 
 const APPLY: Usage = Usage {
@@ -140,7 +147,7 @@ pub const APPLY_ALONE: Usage = Usage {
 };
 
 const APPLIES: &str =
-    "Prints a document with the rule of a plan at a site of a flag; with --keep nothing else of its text is changed";
+    "Prints a document with the rule of a plan at a site of a flag; with --keep nothing else of its text is changed; apply --step N takes a step of a ramp";
 
 const RULE_AND_PLACE: &[Word] = &[
     DOCUMENT,
@@ -168,6 +175,10 @@ const RULE_AND_PLACE: &[Word] = &[
         1,
         LARGEST_32,
     ),
+    Word::Flag(
+        "strict",
+        "With --keep: refuse what is doubted, which is else only told",
+    ),
 ];
 
 const DRIVE: Usage = Usage {
@@ -183,15 +194,6 @@ const DRIVE: Usage = Usage {
         ),
         Word::Text("BOOK", "The book file that is written"),
         Word::Flag("add", "Read BOOK first, and write it with what it had"),
-    ],
-};
-
-const UNITE: Usage = Usage {
-    name: "book",
-    about: "Writes the book of all that is in several books and logs",
-    words: &[
-        Word::Text("OUT", "The book file that is written"),
-        Word::Texts("FILE", "The book files that are read"),
     ],
 };
 

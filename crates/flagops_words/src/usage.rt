@@ -5,7 +5,7 @@ ghost use Rattle.clap.specs.Words.{app_of, kind_of, rule_of};
 ghost use Rattle.clap.specs.declared.builder.command.Command.TheViews.{out-Command};
 ghost use Rattle.clap.specs.declared.error.kind.ErrorKind.TheVariants.{InvalidValue, MissingRequiredArgument, ValueValidation};
 ghost use Rattle.flagops_words.specs.Usage.{app_for, rule_for, with_commands};
-ghost use Rattle.flagops_words.specs.Words.{flag, flagops_app, required, some_words, takes_commands};
+ghost use Rattle.flagops_words.specs.Words.{flag, flagops_app, required, takes_commands};
 
 use crate::table::{APPLY_ALONE, COMMANDS, COMPLETIONS_ALONE, RESOLVE_ALONE, Usage, Word};
 use clap::builder::ValueParser;
@@ -20,13 +20,13 @@ pub fn flagops<'a>(alloc: Global) -> Result<Command<'a>, AllocError>
     with_commands(alloc, program(alloc)?, COMMANDS)
 }
 
-/// The mistake of a kind of value that is none of the four.
+/// The mistake of a word for no kind of value.
 pub fn unknown_kind(alloc: Global) -> Result<Error, AllocError>
     ensures { IfOk result (λ e. kind_of e ≡ InvalidValue) }
 {
     command(alloc, &RESOLVE_ALONE)?.error(
         ErrorKind::InvalidValue,
-        "invalid value for '<KIND>': it is bool, text, whole or object (flagd's string is text, its integer whole)",
+        "invalid value for '<KIND>': it is bool, text, whole or object, or flagd's boolean, string or integer",
     )
 }
 
@@ -56,13 +56,13 @@ pub fn missing_keep(alloc: Global) -> Result<Error, AllocError>
 {
     command(alloc, &APPLY_ALONE)?.error(
         ErrorKind::MissingRequiredArgument,
-        "'--write' and '--refine <M>' go with '--keep', which was not provided",
+        "'--write', '--refine <M>' and '--strict' go with '--keep', which was not provided",
     )
 }
 
 /// What the help of the program ends with: the commands that read their words by themselves, and the statuses.
 const STATUSES: &str =
-    "In steps: 'flagops ramp' plans a rollout of several steps, 'flagops verify-ramp' checks its plans,\n'flagops apply --step N' gives the document after a step.\nDrawn: 'flagops picture' prints a plan as SVG, with --ramp those of several steps;\n'flagops plan --picture FILE' writes the picture of what it plans.\nOf many records: 'flagops record' prints the hash inputs that contexts reach, 'flagops tally' counts them by\ntheir points, 'flagops join' makes one tally of several.\nOn the network: 'flagops ofrep' answers OpenFeature's SDKs over HTTP; 'flagops serve' publishes flag documents\nto subscribers, 'flagops follow' prints what comes.\nEach tells its words with --help, as 'flagops ramp --help'.\n\nStatus: 0 done, 1 refused or the output failed, 2 words that are no command, 3 no rule fits.\nWhat was refused, where, and what to change is told on the error outlet; docs/REFUSALS.md has each line\nthat begins with 'refused', docs/FORMATS.md the files with examples, demo/README.md a first rollout.";
+    "In steps: 'flagops ramp' plans a rollout of several steps, 'flagops verify-ramp' checks its plans,\n'flagops apply --step N' gives the document after a step.\nDrawn: 'flagops picture' prints a plan as SVG, with --ramp those of several steps;\n'flagops plan --picture FILE' writes the picture of what it plans.\nOf records: 'flagops book' writes the book of several books and logs, with --torn past lines that are no notes;\n'flagops record' prints the hash inputs that contexts reach, 'flagops tally' counts them by their points,\n'flagops join' makes one tally of several.\nOn the network: 'flagops ofrep' answers OpenFeature's SDKs over HTTP; 'flagops serve' publishes flag documents\nto subscribers, 'flagops follow' prints what comes.\nEach tells its words with --help, as 'flagops ramp --help'.\n\nStatus: 0 done, 1 refused or the output failed, 2 words that are no command, 3 no rule fits.\nWhat was refused, where, and what to change is told on the error outlet; docs/REFUSALS.md has each line\nthat begins with 'refused', docs/FORMATS.md the files with examples, demo/README.md a first rollout.";
 
 /// The version of the program, and the kit that it is proved with (`rt version`), a line each.
 const VERSION: &str = "0.1.0\nproved with rattle-kit-13b logic dac8208d650f15bf";
@@ -84,7 +84,6 @@ fn taking_commands<'a>(program: Command<'a>) -> Command<'a>
     program
         .version(VERSION)
         .no_binary_name(true)
-        .disable_help_subcommand(true)
         .arg_required_else_help(true)
         .subcommand_required(true)
 }
@@ -126,7 +125,6 @@ fn argument<'a>(alloc: Global, word: &Word) -> Arg<'a>
         Word::Number(name, help, most) => {
             required(alloc, name, help).value_parser(ValueParser::Unsigned(0, most))
         }
-        Word::Texts(name, help) => some_words(alloc, name, help),
         Word::Option(name, help, long, least, most) => Arg::new(alloc, name)
             .long(long)
             .help(help)
@@ -141,14 +139,6 @@ fn required<'a>(alloc: Global, name: &'a str, help: &'a str) -> Arg<'a>
     ensures local { result.global ≡ false }
 {
     Arg::new(alloc, name).required(true).help(help)
-}
-
-/// One word or more.
-fn some_words<'a>(alloc: Global, name: &'a str, help: &'a str) -> Arg<'a>
-    ensures rule { rule_of result ≡ some_words name.entry.now }
-    ensures local { result.global ≡ false }
-{
-    required(alloc, name, help).num_args(1..)
 }
 
 /// A word that may be left out, by its long name.

@@ -1,15 +1,15 @@
 //! What the words of the command line ask for, as `clap` reads them.
-ghost use Rattle.std.specs.Prelude.{◌≡◌, ◌<◌, Some, IfOk, IfErr, IfSome, length, map, option_map};
+ghost use Rattle.std.specs.Prelude.{◌≡◌, Some, IfOk, IfErr, map, option_map};
 ghost use Rattle.clap.specs.Words.{found_of, kind_of, rows_of, subcommand_rows_of};
 ghost use Rattle.flagops_words.specs.Asked.{asked_view};
-ghost use Rattle.flagops_words.specs.Words.{IsToldBy, applied_in, apply_in, asked_by, asked_of, bucket_in, check_in, command_in, completions_in, drive_in, flag_in, is_stray, keep_in, mistake_of, plan_in, price_in, refine_in, resolve_in, rollout_in, texts_at, unite_in, verify_in};
+ghost use Rattle.flagops_words.specs.Words.{IsToldBy, applied_in, apply_in, asked_by, asked_in, asked_of, bucket_in, check_in, completions_in, drive_in, flag_in, is_stray, is_strict, keep_in, mistake_of, plan_in, price_in, refine_in, resolve_in, rollout_in, verify_in};
 
 use crate::asked::Asked;
+use crate::kinds::kind_spelled;
 use crate::numbers::{Factor, Moment, spelled_16, spelled_32};
 use crate::shell::Shell;
 use crate::usage::{flagops, missing_keep, unknown_kind, unknown_shell, unknown_site};
 use clap::{ArgMatches, Error};
-use flag_resolve::Kind;
 use std::alloc::{AllocError, Global};
 use std::convert::AsStr;
 
@@ -20,8 +20,7 @@ pub fn read_words<'a, S: AsStr>(alloc: Global, words: &'a [S]) -> Result<Asked<'
     ensures err { IfErr result (λ e. IsToldBy (map S.text words.entry.now) (kind_of e)) }
 {
     let matches = flagops(alloc)?.try_get_matches_from(words)?;
-    let command = asked_of(alloc, &matches)?;
-    match command {
+    match asked_of(&matches) {
         Some(asked) => Ok(asked),
         // Words that `clap` takes name a command with each of its words. Checked here are a kind, a shell, and the two forms
         // of `apply`.
@@ -41,19 +40,16 @@ fn unknown_word(alloc: Global, matches: &ArgMatches<'_>) -> Result<Error, AllocE
     }
 }
 
-fn asked_of<'a>(alloc: Global, matches: &ArgMatches<'a>) -> Result<Option<Asked<'a>>, AllocError>
-    ensures { IfOk result (λ o. option_map asked_view o ≡ asked_of (subcommand_rows_of matches.now)) }
+fn asked_of<'a>(matches: &ArgMatches<'a>) -> Option<Asked<'a>>
+    ensures { option_map asked_view result ≡ asked_of (subcommand_rows_of matches.now) }
 {
-    match matches.subcommand() {
-        Some(("book", words)) => unite_in(alloc, words),
-        Some((name, words)) => Ok(command_in(name, words)),
-        None => Ok(None),
-    }
+    let (name, words) = matches.subcommand()?;
+    asked_in(name, words)
 }
 
-/// The same of a command whose words are so many.
-fn command_in<'a>(name: &str, words: &ArgMatches<'a>) -> Option<Asked<'a>>
-    ensures { option_map asked_view result ≡ command_in (name.now, rows_of (found_of words.now)) }
+/// The same of a command, by its name.
+fn asked_in<'a>(name: &str, words: &ArgMatches<'a>) -> Option<Asked<'a>>
+    ensures { option_map asked_view result ≡ asked_in (name.now, rows_of (found_of words.now)) }
 {
     match name {
         "resolve" => resolve_in(words),
@@ -108,7 +104,10 @@ fn check_in<'a>(words: &ArgMatches<'a>) -> Option<Asked<'a>>
     ensures { option_map asked_view result ≡ check_in (rows_of (found_of words.now)) }
 {
     let document = words.get_str("DOC")?;
-    Some(Asked::Check { document })
+    Some(Asked::Check {
+        document,
+        strict: is_strict(words),
+    })
 }
 
 #[tactic(auto, using(crate::proofs::Matched::rows))]
@@ -117,7 +116,7 @@ fn resolve_in<'a>(words: &ArgMatches<'a>) -> Option<Asked<'a>>
 {
     let document = words.get_str("DOC")?;
     let key = words.get_str("KEY")?;
-    let kind = Kind::named(words.get_str("KIND")?)?;
+    let kind = kind_spelled(words.get_str("KIND")?)?;
     let default = words.get_str("DEFAULT")?;
     let context = words.get_str("CONTEXT")?;
     let moment = Moment::spelled(words.get_str("MOMENT")?)?;
@@ -146,6 +145,7 @@ fn verify_in<'a>(words: &ArgMatches<'a>) -> Option<Asked<'a>>
         book,
         plan,
         refine,
+        strict: is_strict(words),
     })
 }
 
@@ -162,6 +162,8 @@ fn plan_in<'a>(words: &ArgMatches<'a>) -> Option<Asked<'a>>
         request,
         book,
         refine,
+        strict: is_strict(words),
+        explain: flag_in(words, "explain"),
     })
 }
 
@@ -178,12 +180,19 @@ fn apply_in<'a>(words: &ArgMatches<'a>) -> Option<Asked<'a>>
     }
 }
 
-/// Whether a word of `--keep` is given: `--write` or `--refine`.
+/// Whether a word of `--keep` is given: `--write`, `--strict` or `--refine`.
 #[tactic(auto, using(crate::proofs::Matched::rows))]
 fn is_stray(words: &ArgMatches<'_>) -> bool
     ensures { result ≡ is_stray (rows_of (found_of words.now)) }
 {
-    flag_in(words, "write") || words.get_str("M").is_some()
+    flag_in(words, "write") || is_strict(words) || words.get_str("M").is_some()
+}
+
+/// Whether what is doubted is to be refused.
+fn is_strict(words: &ArgMatches<'_>) -> bool
+    ensures { result ≡ is_strict (rows_of (found_of words.now)) }
+{
+    flag_in(words, "strict")
 }
 
 /// Whether an option without a value is given.
@@ -229,6 +238,7 @@ fn keep_in<'a>(words: &ArgMatches<'a>) -> Option<Asked<'a>>
         book,
         write: flag_in(words, "write"),
         refine,
+        strict: is_strict(words),
     })
 }
 
@@ -247,35 +257,6 @@ fn drive_in<'a>(words: &ArgMatches<'a>) -> Option<Asked<'a>>
         book,
         add: flag_in(words, "add"),
     })
-}
-
-#[tactic(auto, using(crate::proofs::Matched::rows))]
-fn unite_in<'a>(alloc: Global, words: &ArgMatches<'a>) -> Result<Option<Asked<'a>>, AllocError>
-    ensures { IfOk result (λ o. option_map asked_view o ≡ unite_in (rows_of (found_of words.now))) }
-{
-    let Some(out) = words.get_str("OUT") else {
-        return Ok(None);
-    };
-    let Some(files) = texts_at(words, "FILE") else {
-        return Ok(None);
-    };
-    Ok(Some(Asked::Unite {
-        out,
-        files: files.to_vec(alloc)?,
-    }))
-}
-
-/// The texts that are given for an argument, where there are any.
-#[tactic(auto, using(crate::proofs::Matched::rows))]
-fn texts_at<'m, 'a>(matches: &'m ArgMatches<'a>, name: &str) -> Option<&'m [&'a str]>
-    ensures texts { option_map (λ s. map (λ t. t.now) s.now) result ≡ texts_at name.now (rows_of (found_of matches.now)) }
-    ensures some { IfSome result (λ s. 0 < length s.now) }
-{
-    let texts = matches.get_strs(name)?;
-    if texts.is_empty() {
-        return None;
-    }
-    Some(texts)
 }
 
 #[tactic(auto, using(crate::proofs::Matched::rows))]

@@ -1,9 +1,10 @@
 //! Files and an outlet in memory.
-ghost use Rattle.std.specs.Prelude.{◌≡◌, ◌+◌, ◌∷◌, Some, false, option_map, string_bytes, take, IfOk, OnErr};
+ghost use Rattle.std.specs.Prelude.{◌≡◌, ◌+◌, ◌∷◌, Ok, Some, false, option_map, string_bytes, take, IfOk, OnErr};
+ghost use Rattle.flagops_files.specs.Files.{first_piece, front_of_book};
 ghost use Rattle.upper_tests.specs.Memory.{held_in};
 
 use flag_text::Outlet;
-use flagops_files::{FileSet, LoadFault, StoreFault};
+use flagops_files::{FileSet, LoadFault, StoreFault, may_begin_record};
 use std::alloc::{AllocError, Global};
 use std::io;
 
@@ -45,6 +46,26 @@ impl FileSet for MemoryFiles {
         }
     }
 
+    fn read_book(&mut self, alloc: Global, path: &str, max: u64) -> Result<Vec<u8>, LoadFault> {
+        match find(self.files.as_slice(), path) {
+            Some(bytes) => match Vec::from_slice(alloc, front_of_book(bytes, max)) {
+                Ok(front) => Ok(front),
+                Err(AllocError) => Err(LoadFault::WantOfMemory),
+            },
+            None => {
+                self.failed = true;
+                Err(LoadFault::Unreadable)
+            }
+        }
+    }
+
+    fn front(&self, alloc: Global, path: &str) -> Result<Option<Vec<u8>>, AllocError> {
+        match find(self.files.as_slice(), path) {
+            Some(bytes) => Ok(Some(Vec::from_slice(alloc, first_piece(bytes))?)),
+            None => Ok(None),
+        }
+    }
+
     fn write(&mut self, alloc: Global, path: &str, bytes: &[u8]) -> Result<(), StoreFault> {
         if !self.is_writable {
             self.failed = true;
@@ -76,6 +97,23 @@ fn front(bytes: &[u8], max: u64) -> &[u8]
     } else {
         bytes
     }
+}
+
+fn front_of_book(bytes: &[u8], max: u64) -> &[u8]
+    ensures { Ok result.now ≡ front_of_book max (Some bytes.now) }
+{
+    let piece = first_piece(bytes);
+    if may_begin_record(piece) {
+        front(bytes, max)
+    } else {
+        piece
+    }
+}
+
+fn first_piece(bytes: &[u8]) -> &[u8]
+    ensures { result.now ≡ first_piece bytes.now }
+{
+    front(bytes, 4095)
 }
 
 fn put(

@@ -12,24 +12,26 @@ ghost use Rattle.flagops_files.specs.Files.{KeepsOthers};
 ghost use Rattle.flagops_files.specs.Refusal.{ComesFrom, GivesOne, GivesUnlessWant, is_file_fault, loads_book, stores_file};
 ghost use Rattle.flagops_files.specs.Report.{outcome_view};
 ghost use Rattle.flagops_files.specs.declared.refusal.Refusal.TheVariants.{Drive};
-ghost use Rattle.flagops_files.specs.Told.{TellsOf, TellsOfOne, by, file};
+ghost use Rattle.flagops_files.specs.Told.{Says, TellsOf, TellsOfOne, by, file};
+ghost use Rattle.flagops_remarks.specs.Named.{Names};
 ghost use Rattle.flagops_commands.specs.Subjects.{NamesDriven, drive_subjects, driven_subjects};
 
 use book_core::Book;
 use flag_defs::Flags;
 use flag_text::Tree;
-use flagops_drive::{DriveRefusal, Drove, drive_asks};
+use flagops_drive::{DriveRefusal, Drove, Tally, drive_asks};
 use flagops_files::{
-    FileSet, Outcome, Refusal, Refused, Remark, Status, TEXT_LIMIT, load_book, load_flags,
-    load_tree, store,
+    FileSet, Outcome, Refusal, Refused, Remark, Status, TEXT_LIMIT, check_replaceable, load_book,
+    load_flags, load_tree, store,
 };
-use flagops_remarks::{of_asks, of_full_book, of_workers};
+use flagops_remarks::{of_asks, of_driven, of_full_book, of_workers};
 use std::alloc::{AllocError, Global};
 use std::sync::Wait;
 use std::thread::Threads;
 
 /// The resolutions of the asks of a file, in their order, and the counts of the book that they make, a line each. The book
-/// is written first; where it is added to, it keeps what it had.
+/// is written first; where it is added to, it keeps what it had. A person is told how many asks ended in what, and how many
+/// inputs they reached.
 pub fn drive<R: Threads + Wait + Sync, F: FileSet>(
     rt: &R,
     alloc: Global,
@@ -49,15 +51,49 @@ pub fn drive<R: Threads + Wait + Sync, F: FileSet>(
     ensures bad_workers { (e : Reason) → workers_refusal workers ≡ Some e → IsRefusedByName result }
     ensures bad_asks { IfSome (F.holding files.old) (λ at. HasNoAsks at asks.now → IsRefusedByName result) }
     ensures names { TellsOfOne (drive_subjects document.now asks.now book.now) result }
+    ensures notes { IfOk result (λ o. IfSome o.remark (Says (Names asks.now))) }
 {
     let flags = load_flags(alloc, files, document)?;
     let tree = load_tree(alloc, files, asks, TEXT_LIMIT)?;
     let before = book_before(alloc, files, book, add)?;
     let drove = drove(rt, alloc, &flags, asks, &tree, workers, book, before)?;
-    written(alloc, files, book, drove)
+    let remark = Remark::of(lines_on(alloc, asks, drove.tally));
+    written(alloc, files, book, drove, remark)
 }
 
-/// The book that was there before: that of the file at a path where it is added to, and else none.
+/// What a person is told of asks that were driven, by the path of their file.
+fn lines_on(alloc: Global, asks: &str, tally: Tally) -> Result<String, AllocError>
+    ensures { IfOk result (λ s. Names asks.now (string_bytes s)) }
+{
+    let Tally {
+        endings,
+        had,
+        reached,
+        inputs,
+    } = tally;
+    let endings = [
+        ("TARGETING_MATCH", endings.targeting_match),
+        ("DEFAULT", endings.defaults),
+        ("STATIC", endings.fixed),
+        ("DISABLED", endings.disabled),
+        ("PROVIDER_NOT_READY", endings.not_ready),
+        ("INVALID_CONTEXT", endings.invalid_context),
+        ("FLAG_NOT_FOUND", endings.not_found),
+        ("PARSE_ERROR", endings.parse_error),
+        ("GENERAL", endings.general),
+        ("TYPE_MISMATCH", endings.type_mismatch),
+    ];
+    let drive = flagops_remarks::Drive {
+        endings: &endings,
+        reached,
+        had,
+        has: inputs,
+    };
+    of_driven(alloc, asks, drive)
+}
+
+/// The book that was there before: that of the file at a path where it is added to, and else none; then a file that is no
+/// book is not written over.
 #[tactic(auto, unfolding(crate::specs::Drive::before_at))]
 fn book_before<F: FileSet>(
     alloc: Global,
@@ -74,6 +110,7 @@ fn book_before<F: FileSet>(
     if add {
         Ok(Some(load_book(alloc, files, path)?))
     } else {
+        check_replaceable(alloc, files, path)?;
         Ok(None)
     }
 }
@@ -124,12 +161,13 @@ fn of_refusal(
     }
 }
 
-/// The report of a book with what is printed beside it, once it was written.
-pub fn written<F: FileSet>(
+/// The report of a book with what is printed and what is told beside it, once it was written.
+fn written<F: FileSet>(
     alloc: Global,
     files: &mut F,
     book: &str,
     drove: Drove,
+    remark: Remark,
 ) -> Result<Outcome, Refused>
     ensures exact { IfSome (F.holding files.old) (λ at. GivesOne outcome_view result (IsWritten at (F.holding files.new) book.now (Ok (drove_view drove)))) }
     ensures calls { ComesFrom stores_file result }
@@ -137,7 +175,12 @@ pub fn written<F: FileSet>(
     ensures others { KeepsOthers (F.holding files.old) (F.holding files.new) book.now }
     ensures kept { KeepsUnlessDone (F.holding files.old) (F.holding files.new) result }
     ensures names { TellsOfOne ((file book.now, by stores_file) ∷ []) result }
+    ensures remark { IfOk result (λ o. o.remark ≡ Some remark) }
 {
     store(alloc, files, book, drove.book.as_slice())?;
-    Ok(Outcome::plain(drove.text, Status::Done))
+    Ok(Outcome {
+        text: drove.text,
+        status: Status::Done,
+        remark: Some(remark),
+    })
 }

@@ -3,10 +3,10 @@ ghost use Rattle.std.specs.Prelude.{◌≡◌, ◌++◌, ◌||◌, false, drop, 
 ghost use Rattle.flag_documents.specs.Flag.{flag_view};
 ghost use Rattle.flag_defs.specs.Flags.{flags_view};
 ghost use Rattle.flagops_remarks.specs.Broken.{TellsBroken};
-ghost use Rattle.flagops_commands.specs.Check.{IsCheckReport, TellsBrokenAt, check_report, check_text, good_or_broken, has_broken};
+ghost use Rattle.flagops_commands.specs.Check.{IsCheckReport, TellsBrokenAt, check_report, check_status, check_text, good_or_broken, has_broken};
 ghost use Rattle.flagops_commands.specs.Calls.{check_calls, check_itself};
 ghost use Rattle.flagops_files.specs.Refusal.{ComesFrom, GivesOne, GivesUnlessWant, is_file_fault};
-ghost use Rattle.flagops_files.specs.Report.{outcome_view};
+ghost use Rattle.flagops_files.specs.Report.{outcome_view, status_number};
 ghost use Rattle.flagops_files.specs.Told.{Says, TellsOfOne};
 ghost use Rattle.flagops_commands.specs.Subjects.{check_subjects};
 
@@ -17,10 +17,16 @@ use flagops_files::{
 use flagops_remarks::of_breaches;
 use std::alloc::{AllocError, Global};
 
-/// A line for each flag of a document, by key: whether it is good or broken. A person is told why each broken one is.
+/// A line for each flag of a document, by key: whether it is good or broken. A person is told why each broken one is, and
+/// the status is that of a refusal where there is one and `strict` is asked for.
 #[tactic(auto, using(crate::proofs::Noted::read), unfolding(crate::specs::Check::IsCheckReport))]
-pub fn check<F: FileSet>(alloc: Global, files: &mut F, document: &str) -> Result<Outcome, Refused>
-    ensures exact { IfSome (F.holding files.old) (λ at. GivesOne outcome_view result (IsCheckReport at document.now)) }
+pub fn check<F: FileSet>(
+    alloc: Global,
+    files: &mut F,
+    document: &str,
+    strict: bool,
+) -> Result<Outcome, Refused>
+    ensures exact { IfSome (F.holding files.old) (λ at. GivesOne outcome_view result (IsCheckReport at document.now strict)) }
     ensures calls { ComesFrom check_calls result }
     ensures failed { F.has_failed files.new ≡ (F.has_failed files.old || is_file_fault result) }
     ensures kept { F.holding files.new ≡ F.holding files.old }
@@ -28,12 +34,12 @@ pub fn check<F: FileSet>(alloc: Global, files: &mut F, document: &str) -> Result
     ensures notes { IfSome (F.holding files.old) (λ at. IfOk result (λ o. IfSome o.remark (Says (TellsBrokenAt at document.now)))) }
 {
     let Document { bytes, flags } = load_document(alloc, files, document)?;
-    checked(alloc, &flags, bytes.as_slice())
+    checked(alloc, &flags, bytes.as_slice(), strict)
 }
 
 /// The report of flags, which are those of a document.
-fn checked(alloc: Global, flags: &Flags, document: &[u8]) -> Result<Outcome, Refused>
-    ensures exact { GivesUnlessWant outcome_view result (check_report (flags_view flags.now)) }
+fn checked(alloc: Global, flags: &Flags, document: &[u8], strict: bool) -> Result<Outcome, Refused>
+    ensures exact { GivesUnlessWant outcome_view result (check_report strict (flags_view flags.now)) }
     ensures calls { ComesFrom check_itself result }
     ensures read { is_file_fault result ≡ false }
     ensures notes { IfOk result (λ o. IfSome o.remark (Says (TellsBroken document.now))) }
@@ -41,13 +47,24 @@ fn checked(alloc: Global, flags: &Flags, document: &[u8]) -> Result<Outcome, Ref
     match lines(alloc, flags) {
         Ok(text) => Ok(Outcome {
             text: text.into_bytes(),
-            status: Status::Done,
+            status: status_of(strict, has_broken(flags)),
             remark: remark(alloc, flags, document),
         }),
         Err(AllocError) => Err(Refused {
             refusal: Refusal::WantOfMemory(Call::Check),
             remark: Remark::Short,
         }),
+    }
+}
+
+/// With `--strict` a broken flag is no success.
+fn status_of(strict: bool, has_broken: bool) -> Status
+    ensures { status_number result ≡ check_status strict has_broken }
+{
+    if strict && has_broken {
+        Status::Refused
+    } else {
+        Status::Done
     }
 }
 

@@ -1,13 +1,13 @@
 //! The command `apply`: a document with the rule of a plan file at a site.
-ghost use Rattle.std.specs.Prelude.{◌≡◌, ◌||◌, false, Ok, IfOk, IfSome};
+ghost use Rattle.std.specs.Prelude.{◌≡◌, ◌||◌, [], ◌∷◌, false, Ok, IfOk, IfSome};
 ghost use Rattle.flag_defs.specs.Flags.{flags_view};
 ghost use Rattle.plan_text.specs.Answer.{planned_view};
 ghost use Rattle.flagops_commands.specs.Apply.{IsApplyReport, IsLocalReport, applied_report, document_line, none_report};
 ghost use Rattle.flagops_commands.specs.Calls.{apply_calls, apply_itself};
 ghost use Rattle.flagops_files.specs.Refusal.{ComesFrom, GivesOne, GivesUnlessWant, is_file_fault};
 ghost use Rattle.flagops_files.specs.Report.{done, outcome_view};
-ghost use Rattle.flagops_files.specs.Told.{TellsOf, TellsOfOne, file};
-ghost use Rattle.flagops_commands.specs.Subjects.{apply_subjects};
+ghost use Rattle.flagops_files.specs.Told.{TellsOfOne, file};
+ghost use Rattle.flagops_commands.specs.Subjects.{apply_subjects, is_of_plan};
 
 use flag_defs::{Flags, print_flags};
 use flagops_files::{
@@ -52,7 +52,7 @@ fn applied(
     ensures local { IfOk result (λ o. IsLocalReport (flags_view flags.now) key.now site (planned_view planned.now) (outcome_view o)) }
     ensures calls { ComesFrom apply_itself result }
     ensures read { is_file_fault result ≡ false }
-    ensures names { TellsOf (file path.now) result }
+    ensures names { TellsOfOne ((file path.now, is_of_plan) ∷ []) result }
 {
     match planned {
         Planned::Emit(rule, _) => {

@@ -4,9 +4,9 @@ ghost use Rattle.plan_text.specs.Answer.{planned_view};
 ghost use Rattle.flagops_commands.specs.Apply.{none_report};
 ghost use Rattle.flagops_commands.specs.Calls.{apply_itself, keep_calls, puts_document};
 ghost use Rattle.flagops_commands.specs.Drive.{KeepsUnlessDone};
-ghost use Rattle.flagops_commands.specs.Keep.{IsKeepReport, IsKeepWith, IsPut, IsWritten, LeavesDocument, kept_view, written_text};
+ghost use Rattle.flagops_commands.specs.Keep.{IsKeepReport, IsKeepWith, IsKeptPut, IsWritten, LeavesDocument, kept_view, written_text};
 ghost use Rattle.flagops_commands.specs.Subjects.{is_of_kept_answer, is_of_kept_document, is_of_kept_request, keep_subjects};
-ghost use Rattle.flagops_commands.specs.Unrecorded.{is_unrecorded};
+ghost use Rattle.flagops_commands.specs.Doubts.{NamesDoubted, doubt_subjects};
 ghost use Rattle.flagops_files.specs.Files.{KeepsOthers};
 ghost use Rattle.flagops_files.specs.Question.{question_view};
 ghost use Rattle.flagops_files.specs.Refusal.{ComesFrom, GivesOne, GivesUnlessWant, is_file_fault};
@@ -14,11 +14,10 @@ ghost use Rattle.flagops_files.specs.Report.{beside, outcome_view};
 ghost use Rattle.flagops_files.specs.Told.{Says, TellsOfOne, file};
 ghost use Rattle.flagops_files.specs.declared.refusal.Call.TheVariants.{Apply};
 ghost use Rattle.flagops_files.specs.declared.refusal.Refusal.TheVariants.{WantOfMemory};
-ghost use Rattle.flagops_remarks.specs.Named.{Names};
 
+use crate::rollouts::doubts::settled;
 use crate::rollouts::kept::kept;
 use crate::rollouts::plan::factor_of;
-use crate::rollouts::unrecorded::unrecorded;
 use crate::rollouts::verify::Paths;
 use flagops_files::{
     Call, FileSet, Outcome, Question, Refusal, Refused, Remark, Status, load_planned,
@@ -42,14 +41,15 @@ pub fn keep<R: Threads + Sync, F: FileSet>(
     book: &str,
     write: bool,
     refine: Option<Factor>,
+    strict: bool,
 ) -> Result<Outcome, Refused>
-    ensures exact { IfSome (F.holding files.old) (λ at. GivesOne outcome_view result (IsKeepReport at (F.holding files.new) document.now plan.now request.now book.now write (option_map (λ m. m.number) refine))) }
+    ensures exact { IfSome (F.holding files.old) (λ at. GivesOne outcome_view result (IsKeepReport at (F.holding files.new) document.now plan.now request.now book.now write (option_map (λ m. m.number) refine) strict)) }
     ensures calls { ComesFrom keep_calls result }
     ensures failed { F.has_failed files.new ≡ (F.has_failed files.old || is_file_fault result) }
     ensures left { LeavesDocument (F.holding files.old) (F.holding files.new) document.now write }
     ensures kept { KeepsUnlessDone (F.holding files.old) (F.holding files.new) result }
     ensures names { TellsOfOne (keep_subjects document.now plan.now request.now book.now) result }
-    ensures notes { IfOk result (λ o. IfSome o.remark (Says (Names book.now))) }
+    ensures notes { IfOk result (λ o. IfSome o.remark (Says (NamesDoubted request.now book.now))) }
 {
     let question = load_question(rt, alloc, files, document, request, book, factor_of(refine))?;
     let planned = load_planned(alloc, files, plan)?;
@@ -59,7 +59,7 @@ pub fn keep<R: Threads + Sync, F: FileSet>(
         plan,
     };
     answer(
-        rt, alloc, files, document, write, paths, &question, &planned, refine,
+        rt, alloc, files, document, write, paths, &question, &planned, refine, strict,
     )
 }
 
@@ -74,38 +74,20 @@ fn answer<F: FileSet>(
     question: &Question,
     planned: &Planned,
     refine: Option<Factor>,
+    strict: bool,
 ) -> Result<Outcome, Refused>
-    ensures exact { IfSome (F.holding files.old) (λ at. GivesOne outcome_view result (IsKeepWith at (F.holding files.new) document.now write (option_map (λ m. m.number) refine) question.now.document.items (question_view question.now) (planned_view planned.now))) }
+    ensures exact { IfSome (F.holding files.old) (λ at. GivesOne outcome_view result (IsKeepWith at (F.holding files.new) document.now write strict (option_map (λ m. m.number) refine) question.now.document.items (question_view question.now) (planned_view planned.now))) }
     ensures calls { ComesFrom puts_document result }
     ensures failed { F.has_failed files.new ≡ (F.has_failed files.old || is_file_fault result) }
     ensures left { LeavesDocument (F.holding files.old) (F.holding files.new) document.now write }
     ensures kept { KeepsUnlessDone (F.holding files.old) (F.holding files.new) result }
-    ensures names { TellsOfOne ((file paths.entry.request.now, is_of_kept_request) ∷ (file paths.entry.plan.now, is_of_kept_answer) ∷ (file document.now, is_of_kept_document) ∷ []) result }
-    ensures notes { IfOk result (λ o. IfSome o.remark (Says (Names paths.entry.book.now))) }
+    ensures names { TellsOfOne ((file paths.entry.request.now, is_of_kept_request) ∷ (file paths.entry.plan.now, is_of_kept_answer) ∷ (file document.now, is_of_kept_document) ∷ doubt_subjects paths.entry.request.now paths.entry.book.now) result }
+    ensures notes { IfOk result (λ o. IfSome o.remark (Says (NamesDoubted paths.entry.request.now paths.entry.book.now))) }
 {
     let text = kept(rt, alloc, document, paths, question, planned, refine)?;
-    let remark = noted(rt, alloc, paths.book, question)?;
+    let (request, book) = (paths.request, paths.book);
+    let remark = settled(rt, alloc, Call::Apply, request, book, question, strict)?;
     put(alloc, files, document, write, text, remark)
-}
-
-/// What the book has no input for, which a person is told.
-fn noted(
-    rt: &impl Threads,
-    alloc: Global,
-    book: &str,
-    question: &Question,
-) -> Result<Option<Remark>, Refused>
-    ensures told { IfOk result (λ r. is_some r ≡ is_unrecorded (question_view question.now)) }
-    ensures wants { IfErr result (λ r. r.refusal ≡ WantOfMemory Apply) }
-    ensures notes { IfOk result (λ r. IfSome r (Says (Names book.now))) }
-{
-    match unrecorded(rt, alloc, book, question) {
-        Ok(remark) => Ok(remark),
-        Err(AllocError) => Err(Refused {
-            refusal: Refusal::WantOfMemory(Call::Apply),
-            remark: Remark::Short,
-        }),
-    }
 }
 
 /// Puts the text where it goes: to the output, or over the document; `none` where there is no text.
@@ -117,7 +99,7 @@ fn put<F: FileSet>(
     text: Option<Vec<u8>>,
     remark: Option<Remark>,
 ) -> Result<Outcome, Refused>
-    ensures exact { IfSome (F.holding files.old) (λ at. GivesOne outcome_view result (IsPut at (F.holding files.new) document.now write (is_some remark) (Ok (kept_view text)))) }
+    ensures exact { IfSome (F.holding files.old) (λ at. GivesOne outcome_view result (IsKeptPut at (F.holding files.new) document.now write (is_some remark) (kept_view text))) }
     ensures calls { ComesFrom puts_document result }
     ensures failed { F.has_failed files.new ≡ (F.has_failed files.old || is_file_fault result) }
     ensures left { LeavesDocument (F.holding files.old) (F.holding files.new) document.now write }

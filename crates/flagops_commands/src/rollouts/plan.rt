@@ -11,8 +11,10 @@ ghost use Rattle.flagops_files.specs.Report.{beside, outcome_view, status_number
 ghost use Rattle.flagops_remarks.specs.Named.{Names};
 ghost use Rattle.flagops_files.specs.Told.{Says, TellsOfOne, file, word};
 ghost use Rattle.flagops_commands.specs.Subjects.{is_of_request, is_of_size, plan_subjects, the_plan};
+ghost use Rattle.flagops_commands.specs.Doubts.{NamesDoubted, doubt_subjects};
 
-use crate::rollouts::unrecorded::unrecorded;
+use crate::rollouts::doubts::settled;
+use crate::rollouts::explained::told;
 use flag_defs::Flags;
 use flagops_files::{
     Call, Evidence, FileSet, Outcome, Question, Refusal, Refused, Remark, Status, load_question,
@@ -25,7 +27,8 @@ use std::alloc::{AllocError, Global};
 use std::thread::Threads;
 
 /// The plan file of the rule that meets a request and costs the recorded inputs the least, or of a set of names which
-/// shows that no rule meets it, as a line. The status tells which of the two.
+/// shows that no rule meets it, as a line. The status tells which of the two. What is doubted of it is told, or refused
+/// where that is asked for; and with `explain` what the rule changes, or what stands in the way of any.
 #[tactic(auto, unfolding(crate::specs::Plan::IsPlanReport))]
 pub fn plan<R: Threads + Sync, F: FileSet>(
     rt: &R,
@@ -35,20 +38,22 @@ pub fn plan<R: Threads + Sync, F: FileSet>(
     request: &str,
     book: &str,
     refine: Option<Factor>,
+    strict: bool,
+    explain: bool,
 ) -> Result<Outcome, Refused>
-    ensures exact { IfSome (F.holding files.old) (λ at. GivesOne outcome_view result (IsPlanReport at document.now request.now book.now (option_map (λ m. m.number) refine))) }
+    ensures exact { IfSome (F.holding files.old) (λ at. GivesOne outcome_view result (IsPlanReport at document.now request.now book.now (option_map (λ m. m.number) refine) strict explain)) }
     ensures calls { ComesFrom plan_calls result }
     ensures failed { F.has_failed files.new ≡ (F.has_failed files.old || is_file_fault result) }
     ensures kept { F.holding files.new ≡ F.holding files.old }
     ensures names { TellsOfOne (plan_subjects document.now request.now book.now) result }
-    ensures notes { IfOk result (λ o. IfSome o.remark (Says (Names book.now))) }
+    ensures notes { IfOk result (λ o. IfSome o.remark (Says (NamesDoubted request.now book.now))) }
 {
     let question = load_question(rt, alloc, files, document, request, book, factor_of(refine))?;
-    answer(rt, alloc, request, book, &question, refine)
+    answer(rt, alloc, request, book, &question, refine, strict, explain)
 }
 
 /// The report on a question, which was loaded from these paths.
-#[tactic(auto, using(flagops_files::proofs::Told::says))]
+#[tactic(auto, using(flagops_files::proofs::Told::says, crate::proofs::Doubting::plan_doubted, crate::proofs::Doubting::plan_told))]
 pub fn answer(
     rt: &(impl Threads + Sync),
     alloc: Global,
@@ -56,12 +61,14 @@ pub fn answer(
     book: &str,
     question: &Question,
     refine: Option<Factor>,
+    strict: bool,
+    explain: bool,
 ) -> Result<Outcome, Refused>
-    ensures exact { GivesOne outcome_view result (IsPlanOf (option_map (λ m. m.number) refine) (Ok (question_view question.now))) }
+    ensures exact { GivesOne outcome_view result (IsPlanOf strict explain (option_map (λ m. m.number) refine) (Ok (question_view question.now))) }
     ensures calls { ComesFrom prints_plan result }
     ensures read { is_file_fault result ≡ false }
-    ensures names { TellsOfOne ((file request.now, is_of_request) ∷ (word the_plan, is_of_size) ∷ []) result }
-    ensures notes { IfOk result (λ o. IfSome o.remark (Says (Names book.now))) }
+    ensures names { TellsOfOne ((file request.now, is_of_request) ∷ (word the_plan, is_of_size) ∷ doubt_subjects request.now book.now) result }
+    ensures notes { IfOk result (λ o. IfSome o.remark (Says (NamesDoubted request.now book.now))) }
 {
     let planned = match planned(rt, alloc, question, refine) {
         Ok(planned) => planned,
@@ -73,13 +80,11 @@ pub fn answer(
             });
         }
     };
-    match unrecorded(rt, alloc, book, question) {
-        Ok(remark) => printed(alloc, &planned, remark),
-        Err(AllocError) => Err(Refused {
-            refusal: Refusal::WantOfMemory(Call::Plan),
-            remark: Remark::Short,
-        }),
-    }
+    let noted = settled(rt, alloc, Call::Plan, request, book, question, strict)?;
+    let remark = told(
+        rt, alloc, request, book, question, &planned, refine, explain, noted,
+    );
+    printed(alloc, &planned, remark)
 }
 
 /// What is planned, on the site's rule refined by the factor where one is given.

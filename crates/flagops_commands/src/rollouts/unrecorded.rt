@@ -39,7 +39,11 @@ pub fn unrecorded<R: Threads>(
 }
 
 /// The page of a request, where its flag has the site.
-fn page_asked(alloc: Global, flags: &Flags, request: &Request) -> Result<Option<Page>, AllocError>
+pub(crate) fn page_asked(
+    alloc: Global,
+    flags: &Flags,
+    request: &Request,
+) -> Result<Option<Page>, AllocError>
     ensures { IfOk result (λ page. page ≡ page_asked (flags_view flags.now) (Some request.now)) }
 {
     let key = request.flag();

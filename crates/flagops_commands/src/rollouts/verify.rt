@@ -11,9 +11,10 @@ ghost use Rattle.flagops_files.specs.declared.evidence.Evidence.TheVariants.{Boo
 ghost use Rattle.flagops_remarks.specs.Named.{Names};
 ghost use Rattle.flagops_files.specs.Told.{Says, TellsOfOne, file};
 ghost use Rattle.flagops_commands.specs.Subjects.{NamesVerified, is_of_answer, is_of_request, verify_subjects};
+ghost use Rattle.flagops_commands.specs.Doubts.{NamesDoubted, doubt_subjects};
 
+use crate::rollouts::doubts::settled;
 use crate::rollouts::plan::{factor_of, lines_on_request};
-use crate::rollouts::unrecorded::unrecorded;
 use flag_defs::Flags;
 use flagops_files::{
     Call, Evidence, FileSet, Outcome, Question, Refusal, Refused, Remark, Status, load_planned,
@@ -38,13 +39,14 @@ pub fn verify<R: Threads + Sync, F: FileSet>(
     book: &str,
     plan: &str,
     refine: Option<Factor>,
+    strict: bool,
 ) -> Result<Outcome, Refused>
-    ensures exact { IfSome (F.holding files.old) (λ at. GivesOne outcome_view result (IsVerifyReport at document.now request.now book.now plan.now (option_map (λ m. m.number) refine))) }
+    ensures exact { IfSome (F.holding files.old) (λ at. GivesOne outcome_view result (IsVerifyReport at document.now request.now book.now plan.now (option_map (λ m. m.number) refine) strict)) }
     ensures calls { ComesFrom verify_calls result }
     ensures failed { F.has_failed files.new ≡ (F.has_failed files.old || is_file_fault result) }
     ensures kept { F.holding files.new ≡ F.holding files.old }
     ensures names { TellsOfOne (verify_subjects document.now request.now book.now plan.now) result }
-    ensures notes { IfOk result (λ o. IfSome o.remark (Says (Names book.now))) }
+    ensures notes { IfOk result (λ o. IfSome o.remark (Says (NamesDoubted request.now book.now))) }
 {
     let question = load_question(rt, alloc, files, document, request, book, factor_of(refine))?;
     let planned = load_planned(alloc, files, plan)?;
@@ -53,7 +55,7 @@ pub fn verify<R: Threads + Sync, F: FileSet>(
         book,
         plan,
     };
-    verdict(rt, alloc, paths, &question, &planned, refine)
+    verdict(rt, alloc, paths, &question, &planned, refine, strict)
 }
 
 /// Where what is verified was loaded from.
@@ -65,7 +67,7 @@ pub struct Paths<'a> {
 }
 
 /// The line of an answer that is right.
-#[tactic(auto, using(flagops_files::proofs::Told::says))]
+#[tactic(auto, using(flagops_files::proofs::Told::says, crate::proofs::Doubting::verdict_doubted, crate::proofs::Doubting::verdict_told))]
 fn verdict(
     rt: &(impl Threads + Sync),
     alloc: Global,
@@ -73,12 +75,13 @@ fn verdict(
     question: &Question,
     planned: &Planned,
     refine: Option<Factor>,
+    strict: bool,
 ) -> Result<Outcome, Refused>
-    ensures exact { GivesOne outcome_view result (IsVerdict (option_map (λ m. m.number) refine) (Ok (question_view question.now)) (Ok (planned_view planned.now))) }
+    ensures exact { GivesOne outcome_view result (IsVerdict strict (option_map (λ m. m.number) refine) (Ok (question_view question.now)) (Ok (planned_view planned.now))) }
     ensures calls { ComesFrom verify_itself result }
     ensures read { is_file_fault result ≡ false }
-    ensures names { TellsOfOne ((file paths.entry.request.now, is_of_request) ∷ (file paths.entry.plan.now, is_of_answer) ∷ []) result }
-    ensures notes { IfOk result (λ o. IfSome o.remark (Says (Names paths.entry.book.now))) }
+    ensures names { TellsOfOne ((file paths.entry.request.now, is_of_request) ∷ (file paths.entry.plan.now, is_of_answer) ∷ doubt_subjects paths.entry.request.now paths.entry.book.now) result }
+    ensures notes { IfOk result (λ o. IfSome o.remark (Says (NamesDoubted paths.entry.request.now paths.entry.book.now))) }
 {
     if let Err(fault) = verified(rt, alloc, question, planned, refine) {
         let lines = lines_on(alloc, paths, question, planned, refine, &fault);
@@ -87,13 +90,9 @@ fn verdict(
             remark: Remark::of(lines),
         });
     }
-    match unrecorded(rt, alloc, paths.book, question) {
-        Ok(remark) => valid(alloc, planned, remark),
-        Err(AllocError) => Err(Refused {
-            refusal: Refusal::WantOfMemory(Call::Verify),
-            remark: Remark::Short,
-        }),
-    }
+    let (request, book) = (paths.request, paths.book);
+    let remark = settled(rt, alloc, Call::Verify, request, book, question, strict)?;
+    valid(alloc, planned, remark)
 }
 
 /// The report of an answer that is right.

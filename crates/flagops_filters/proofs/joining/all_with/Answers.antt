@@ -2,11 +2,10 @@ use Rattle.std.proofs.Common.{arith, ◌+◌, ◌≡◌, ◌∙◌, IfSome, Resu
 use Rattle.std.proofs.lemmas.List.{drop_all}
 use Rattle.std.proofs.lemmas.Result.{err_from_is_err_and}
 use Rattle.tally_core.specs.Tally.{PageTally}
-use Rattle.flagops_commands.proofs.Uniting.{first_left}
 use Rattle.flagops_filters.specs.Join.{JoinsFiles}
 use Rattle.flagops_filters.specs.Joined.{JoinsUnless}
 use Rattle.flagops_filters.specs.declared.reports.Told.{Told}
-use Rattle.flagops_filters.proofs.Joins.{all_files, leads_all, next_file, no_next}
+use Rattle.flagops_filters.proofs.Joins.{all_files, first_left, leads_all, next_file, no_next}
 use Rattle.flagops_filters.proofs.joining.all_with.Goals as goal
 
 pub loop-path-init : goal.loop-path-init

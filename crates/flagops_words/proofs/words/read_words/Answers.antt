@@ -12,11 +12,11 @@ returns-in_err-matches-clause-err g c =
 pub returns-in-Some-clause-ok : goal.returns-in-Some-clause-ok
 returns-in-Some-clause-ok g c =
     asked_by-read (map g.S.AsStr.text c.args.words.now) _ c.in_ok-matches.matches c.in_ok-flagops.ensures c.in_ok-matches.ensures.kinds _ c.in_ok-matches.ensures.matches
-    (sym (ap (option_map asked_view) c.in-Some.is) ∙ c.in_ok-command.ensures)
+    (sym (ap (option_map asked_view) c.in-Some.is) ∙ c.asked_of.ensures)
 
 pub returns-clause-err : goal.returns-clause-err
 returns-clause-err g c =
     let words = map g.S.AsStr.text c.args.words.now in
     let told = told_by-kind words _ c.in_ok-matches.matches c.in_ok-flagops.ensures c.in_ok-matches.ensures.kinds c.in_ok-matches.ensures.matches
-    (sym (ap (option_map asked_view) c.in-None.is) ∙ c.in_ok-command.ensures) in
+    (sym (ap (option_map asked_view) c.in-None.is) ∙ c.asked_of.ensures) in
     subst (λ (k : ErrorKind). IsToldBy words k) (sym c.in_ok-unknown_word-in-None.ensures) told

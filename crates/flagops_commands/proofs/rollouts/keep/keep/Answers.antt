@@ -8,7 +8,7 @@ use Rattle.flagops_commands.proofs.rollouts.keep.keep.Goals as goal
 pub returns-in_err-question-clause-exact : goal.returns-in_err-question-clause-exact
 returns-in_err-question-clause-exact g c =
     let told =
-    no_question c.args.document.now c.args.plan.now c.args.request.now c.args.book.now c.args.write (option_map (λ m. m.number) c.args.refine) _ _ c.in_err-question.field-0.0 c.load_question.ensures.kept
+    no_question c.args.document.now c.args.plan.now c.args.request.now c.args.book.now c.args.write c.args.strict (option_map (λ m. m.number) c.args.refine) _ _ c.in_err-question.field-0.0 c.load_question.ensures.kept
     c.in_err-question.ensures.exact in
     search rules
 
@@ -21,7 +21,7 @@ returns-in_err-question-clause-kept g c = inl c.load_question.ensures.kept
 pub returns-in_err-planned-clause-exact : goal.returns-in_err-planned-clause-exact
 returns-in_err-planned-clause-exact g c =
     let told =
-    no_plan c.args.document.now c.args.plan.now c.args.request.now c.args.book.now c.args.write (option_map (λ m. m.number) c.args.refine) (question_view c.in_ok-question.question) _ _ _
+    no_plan c.args.document.now c.args.plan.now c.args.request.now c.args.book.now c.args.write c.args.strict (option_map (λ m. m.number) c.args.refine) (question_view c.in_ok-question.question) _ _ _
     c.in_err-planned.field-0.0 c.load_question.ensures.kept c.load_planned.ensures.kept c.in_ok-question.ensures.exact c.in_err-planned.ensures.exact in
     search rules
 
@@ -33,7 +33,7 @@ returns-in_err-planned-clause-kept g c = inl (c.load_planned.ensures.kept ∙ c.
 
 pub returns-clause-exact : goal.returns-clause-exact
 returns-clause-exact g c =
-    kept_whole c.args.document.now c.args.plan.now c.args.request.now c.args.book.now c.args.write (option_map (λ m. m.number) c.args.refine) (question_view c.in_ok-question.question)
+    kept_whole c.args.document.now c.args.plan.now c.args.request.now c.args.book.now c.args.write c.args.strict (option_map (λ m. m.number) c.args.refine) (question_view c.in_ok-question.question)
     c.in_ok-question.question.document.items (planned_view c.in_ok-planned.planned) _ _ _ _ c.answer.result c.load_question.ensures.kept c.load_planned.ensures.kept c.in_ok-question.ensures.exact
     c.in_ok-question.ensures.bytes c.in_ok-planned.ensures.exact c.answer.ensures.exact
 

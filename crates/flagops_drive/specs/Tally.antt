@@ -1,0 +1,41 @@
+-- How many of the asks ended in what, and how many inputs they reached.
+use Rattle.std.specs.Prelude.{◌≡◌, ℕ, List, codes, count_by, Option, Some, None, option_map, unwrap_or}
+use Rattle.std.specs.Str.{bytes_eq}
+use Rattle.book_core.specs.Book.{Contents, input_count}
+use Rattle.flag_resolve.specs.Resolved.{Resolved}
+use Rattle.flag_resolve.specs.Words.{code_word, reason_word}
+use Rattle.flagops_drive.specs.Lines.{drive_text}
+use Rattle.flagops_drive.specs.declared.command.Drove.{Drove}
+use Rattle.flagops_drive.specs.declared.tally.Endings.{Endings}
+
+-- what went wrong with an ask, and else the reason of its value, in OpenFeature's words
+abbrev pub ending_word : Resolved → List ℕ
+ending_word r = unwrap_or (option_map code_word r.code) (reason_word r.reason)
+
+-- how many of these ended so
+abbrev pub ended_in : List ℕ → List Resolved → ℕ
+ended_in word answers = count_by (λ r. bytes_eq (ending_word r) word) answers
+
+-- so many ended in each
+pub record IsEndings (answers : List Resolved) (e : Endings) : Type 0 where
+  pub targeting_match : e.targeting_match ≡ ended_in (codes "TARGETING_MATCH") answers
+  pub defaults : e.defaults ≡ ended_in (codes "DEFAULT") answers
+  pub fixed : e.fixed ≡ ended_in (codes "STATIC") answers
+  pub disabled : e.disabled ≡ ended_in (codes "DISABLED") answers
+  pub not_ready : e.not_ready ≡ ended_in (codes "PROVIDER_NOT_READY") answers
+  pub invalid_context : e.invalid_context ≡ ended_in (codes "INVALID_CONTEXT") answers
+  pub not_found : e.not_found ≡ ended_in (codes "FLAG_NOT_FOUND") answers
+  pub parse_error : e.parse_error ≡ ended_in (codes "PARSE_ERROR") answers
+  pub general : e.general ≡ ended_in (codes "GENERAL") answers
+  pub type_mismatch : e.type_mismatch ≡ ended_in (codes "TYPE_MISMATCH") answers
+
+-- how many inputs a book had before, if there was one
+abbrev pub inputs_before : Option Contents → ℕ
+inputs_before None = 0
+inputs_before (Some book) = input_count book
+
+-- The tally is of the resolutions that are printed, and has the counts that are printed below them: the inputs of the book that is written, and those that the asks reached.
+unfoldable pub IsTallied : Option Contents → Drove → Type 0
+IsTallied before d =
+    (answers : List Resolved) × (calls full long : ℕ) × (d.text.items ≡ drive_text answers d.tally.inputs calls d.tally.reached full long) × IsEndings answers d.tally.endings
+    × (d.tally.had ≡ inputs_before before)

@@ -1,0 +1,121 @@
+"""Files that are no book, cannot be read or take no more bytes, and asks that record nothing: what a person is told.
+
+These tests run the program of this version: they wait for its release."""
+import os
+import subprocess
+import tempfile
+import time
+import unittest
+
+from given import BOOK, EMPTY_BOOK, document
+from program import PROGRAM, ProgramTest, run
+
+REQUEST = '{"plan":1,"flag":"color","totals":{"red":10}}'
+
+# A file that is given as a book, and what is told of it.
+NO_BOOKS = [
+    ("", '"f" is empty, and no book'),
+    ("\ufeff" + BOOK, '"f" begins with a byte order mark, and is no book'),
+    (BOOK[:-1], "its last line has no line feed"),
+    (document(), "a book begins with the line"),
+]
+
+# The words with a file `f` that is not there.
+ABSENT = [
+    ["check", "f"],
+    ["bucket", "f", "key"],
+    ["plan", "d", "r", "f"],
+]
+
+
+def ask(key):
+    """An ask for a flag."""
+    return f'{{"key":"{key}","want":"text","default":"d","context":{{"key":"ann"}},"moment":0}}'
+
+
+def asks(keys):
+    """The asks for these flags."""
+    return "[" + ",".join(ask(key) for key in keys) + "]"
+
+
+class Troubles(ProgramTest):
+    def test_the_system_says_why(self):
+        for words in ABSENT:
+            with self.subTest(words=words):
+                ran = self.assert_ends(words, {"d": document(), "r": REQUEST}, 1, "refused load 1 Unreadable\n")
+                self.assertIn('error: the file "f" cannot be read: No such file or directory', ran.err)
+
+    def test_a_full_disk_is_named(self):
+        files = {"d": document(), "a": "[]"}
+        ran = self.assert_ends(["drive", "d", "a", "1", "/dev/full"], files, 1, "refused store 1 Unwritable\n")
+        self.assertIn('"/dev/full" cannot be written: No space left on device', ran.err)
+
+    def test_a_file_that_is_no_book(self):
+        for text, told in NO_BOOKS:
+            with self.subTest(text=text):
+                ran = run(["plan", "d", "r", "f"], {"d": document(), "r": REQUEST, "f": text})
+                self.assertEqual(ran.status, 1)
+                self.assertIn("refused read_book ", ran.out)
+                self.assertIn(told, ran.err)
+
+    def test_a_device_is_judged_by_what_it_begins_with(self):
+        for device in ["/dev/zero", "/dev/urandom"]:
+            with self.subTest(device=device):
+                start = time.monotonic()
+                files = {"d": document(), "r": REQUEST}
+                self.assert_ends(["plan", "d", "r", device], files, 1, "refused read_book 1 Header\n")
+                self.assertLess(time.monotonic() - start, 10)
+
+    def test_a_book_comes_through_a_pipe(self):
+        """It is opened once: what was judged is not lost."""
+        with tempfile.TemporaryDirectory() as folder:
+            for name, text in {"d": document(), "r": REQUEST}.items():
+                with open(os.path.join(folder, name), "w", encoding="utf-8") as file:
+                    file.write(text)
+            words = [PROGRAM, "plan", "d", "r", "/dev/stdin"]
+            piped = subprocess.run(words, cwd=folder, input=BOOK.encode(), capture_output=True, check=False)
+            plain = run(["plan", "d", "r", "b"], {"d": document(), "r": REQUEST, "b": BOOK})
+            self.assertEqual((piped.returncode, piped.stdout.decode()), (plain.status, plain.out))
+
+
+class Drives(ProgramTest):
+    def test_a_file_that_is_no_book_is_not_written_over(self):
+        for text in [document(), "x", BOOK[:5], '{"book":1}', '{"bananas":1}\n']:
+            with self.subTest(text=text):
+                ran = run(["drive", "d", "a", "1", "b"], {"d": document(), "a": asks(["color"]), "b": text})
+                self.assertEqual(ran.status, 1)
+                self.assertIn("refused read_book ", ran.out)
+                self.assertIn('"b" is a file that is no book, and stays as it is', ran.err)
+                self.assertEqual(ran.files["b"], text)
+
+    def test_a_book_and_an_empty_file_are(self):
+        for text in ["", EMPTY_BOOK, BOOK, EMPTY_BOOK + "rest"]:
+            with self.subTest(text=text):
+                ran = run(["drive", "d", "a", "1", "b"], {"d": document(), "a": "[]", "b": text})
+                self.assertEqual((ran.status, ran.files["b"]), (0, EMPTY_BOOK))
+
+    def test_what_the_asks_ended_in_is_told(self):
+        for keys, told in [
+            ([], ': 0 asks\n  they reached 0 inputs, 0 of them new; the book has 0\n'),
+            (["color"], ": 1 ask, TARGETING_MATCH 1\n  they reached 1 input, 1 of them new; the book has 1\n"),
+            (["colour"] * 3, ": 3 asks, FLAG_NOT_FOUND 3\n  they reached 0 inputs, 0 of them new; the book has 0\n"),
+            (
+                ["color", "colour", "color"],
+                ": 3 asks, TARGETING_MATCH 2, FLAG_NOT_FOUND 1\n  they reached 1 input, 1 of them new; the book has 1\n",
+            ),
+        ]:
+            with self.subTest(keys=keys):
+                ran = run(["drive", "d", "a", "1", "b"], {"d": document(), "a": asks(keys)})
+                self.assertEqual(ran.status, 0)
+                self.assertTrue(ran.err.startswith('note: "a"' + told), ran.err)
+                self.assertEqual("nothing was recorded" in ran.err, '"color"' not in asks(keys))
+
+    def test_what_a_book_had_is_not_new(self):
+        ran = run(["drive", "--add", "d", "a", "1", "b"], {"d": document(), "a": asks(["color"]), "b": BOOK})
+        again = run(["drive", "--add", "d", "a", "1", "b"], {"d": document(), "a": asks(["color"]), "b": ran.files["b"]})
+        self.assertIn("they reached 1 input, 1 of them new; the book has 8\n", ran.err)
+        self.assertIn("they reached 1 input, 0 of them new; the book has 8\n", again.err)
+
+
+if __name__ == "__main__":
+    unittest.main()
