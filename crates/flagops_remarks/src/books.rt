@@ -2,62 +2,13 @@
 ghost use Rattle.std.specs.Prelude.{IfOk, string_bytes};
 ghost use Rattle.flagops_remarks.specs.Named.{Names};
 
+use crate::ends::Ends;
 use crate::lines::{Lines, Opening};
 use book_core::{BookFileFault, Page};
 use std::alloc::{AllocError, Global};
 
-/// What some editors write before a text in UTF-8.
-const BYTE_ORDER_MARK: &[u8] = b"\xef\xbb\xbf";
-
 /// The most pages that are listed.
 const MOST_PAGES: usize = 10;
-
-/// What is seen of the bytes of a file at their two ends.
-#[derive(Clone, Copy, Debug)]
-pub enum Ends {
-    /// There are none.
-    Empty,
-    /// A byte order mark stands first.
-    Marked,
-    /// The last line, which has this number from 1, has no line feed.
-    Cut(usize),
-    /// None of these.
-    Whole,
-}
-
-impl Ends {
-    /// Those of the bytes of a file. Cost: one pass where there is no line feed at the end, else none.
-    pub fn of(bytes: &[u8]) -> Ends {
-        if bytes.is_empty() {
-            Ends::Empty
-        } else if bytes.starts_with(BYTE_ORDER_MARK) {
-            Ends::Marked
-        } else if bytes.ends_with(b"\n") {
-            Ends::Whole
-        } else {
-            Ends::Cut(last_line(bytes))
-        }
-    }
-
-    /// Whether the last line has no line feed and is the one at fault.
-    fn is_cut_at(self, fault: BookFileFault) -> bool {
-        match (self, fault) {
-            (Ends::Cut(last), BookFileFault::Line(line)) => last as u128 == u128::from(line),
-            _ => false,
-        }
-    }
-}
-
-/// The number of the last line, from 1.
-fn last_line(bytes: &[u8]) -> usize {
-    let mut line: usize = 1;
-    for byte in bytes {
-        if *byte == b'\n' {
-            line = line.saturating_add(1);
-        }
-    }
-    line
-}
 
 /// Of bytes that are no book.
 pub fn of_book(

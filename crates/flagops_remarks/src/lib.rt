@@ -25,6 +25,7 @@ mod books;
 mod breaches;
 mod checks;
 mod documents;
+mod ends;
 mod evaluators;
 mod explained;
 mod files;
@@ -42,10 +43,11 @@ mod way;
 mod wrongs;
 
 pub use asks::{Drive, of_asks, of_driven, of_workers};
-pub use books::{Ends, of_book, of_full_book, of_other_file, of_unrecorded};
+pub use books::{of_book, of_full_book, of_other_file, of_unrecorded};
 pub use breaches::of_breaches;
 pub use checks::of_check;
 pub use documents::of_document;
+pub use ends::Ends;
 pub use explained::of_planned;
 pub use files::{
     of_keys, of_long_book, of_noted, of_rule, of_unreadable, of_unwritable, of_weights,

@@ -2,7 +2,6 @@
 use Rattle.std.proofs.Common.{◌≡◌, ◌≢◌, ◌⊎◌, Bool, cond, true, false, is_some, List, [], ◌∷◌, length, map, Option, Some, None, ap, refl, subst, sym, ◌∙◌, inl, inr}
 use Rattle.std.specs.Prelude.{codes, option_and_then}
 use Rattle.std.specs.Str.{bytes_eq}
-use Rattle.std.proofs.lemmas.Slice.Eq.{bytes_eq-Decides}
 use Rattle.clap.proofs.WalkLemmas.{first_value-rows, raw_values-rows}
 use Rattle.clap.specs.Walk.{Row, first_of}
 use Rattle.clap.specs.Words.{App, HasMatchesOf, IsAmong, Kinds, Text, is_simple, is_simple_and_free, fault_of, subcommand_of, subcommand_rows_of}
