@@ -45,6 +45,9 @@ HELP = [
     (["--version"], "flagops 0.1.0\nproved with "),
 ]
 
+# The commands that read their words by themselves, which the help names below its list.
+OTHER_COMMANDS = ["book", "ramp", "verify-ramp", "picture", "record", "tally", "join", "ofrep", "serve", "follow"]
+
 # A word that begins with `-` and is longer follows `--`; `-` alone is a plain word.
 WITH_A_MINUS = [
     ["bucket", "f", "--", "-x"],
@@ -113,7 +116,7 @@ class Words(ProgramTest):
 
 def words_of_help():
     """The commands of the program, and the options of each, as its help lists them."""
-    commands = re.findall(r"^  ([a-z]+)  ", run(["--help"], {}).out, re.M) + ["serve", "follow"]
+    commands = re.findall(r"^  ([a-z]+)  ", run(["--help"], {}).out, re.M) + OTHER_COMMANDS
     options = {word for name in commands for word in re.findall(r"--[a-z]+", run([name, "--help"], {}).out)}
     return commands + sorted(options)
 
