@@ -111,7 +111,7 @@ pub fn of_workers(alloc: Global, workers: usize, fault: &str) -> Result<String, 
 pub struct Drive<'a> {
     /// How many asks ended so, by OpenFeature's word for the reason or for what went wrong.
     pub endings: &'a [(&'static str, usize)],
-    /// The inputs that the asks reached, each once.
+    /// The inputs that were noted of what the asks reached, each once.
     pub reached: u128,
     /// The inputs of the book before, and as it is written.
     pub had: u128,
@@ -134,7 +134,7 @@ pub fn of_driven(alloc: Global, path: &str, drive: Drive<'_>) -> Result<String, 
     lines.put("\n");
     if drive.reached == 0 {
         lines.put(
-            "  nothing was recorded: no ask reached a \"fractional\"; check the keys and the contexts\n",
+            "  nothing was recorded: no ask reached a \"fractional\" with an input of at most 1,024 bytes\n  check the keys and the contexts\n",
         );
     }
     lines.headed(Opening::Note, path)

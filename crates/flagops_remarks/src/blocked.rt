@@ -136,7 +136,7 @@ fn sides_of(
 fn pushed(pushed: Result<(), AllocFailed<String>>) -> Result<(), AllocError> {
     match pushed {
         Ok(()) => Ok(()),
-        Err(_) => Err(AllocError),
+        Err(AllocFailed { .. }) => Err(AllocError),
     }
 }
 

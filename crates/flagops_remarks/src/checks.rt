@@ -66,7 +66,7 @@ fn put_rule_fault(
 fn put_moved(lines: &mut Lines, place: Place<'_>, rule: &Rule, certificate: &Certificate) {
     let entries = place.entries(lines);
     if entries.as_slice() == rule.entries() {
-        lines.put("\n  the document has moved on: the site has the rule of this plan already");
+        lines.put("\n  the site has the rule of this plan already: the document may have moved on");
         return;
     }
     let variants = place.variants(lines);

@@ -48,40 +48,49 @@ pub fn of_planned(
 fn put_changed(lines: &mut Lines, place: Place<'_>, factor: u32, counts: &[u32], rule: &Rule) {
     let entries = place.entries(lines);
     lines.put("switches ");
-    match switched(lines.alloc, entries.as_slice(), factor, counts, rule) {
-        Ok(users) => lines.put_shown(&users),
-        Err(want) => lines.fall_short(want),
-    }
+    lines.put_shown(&switched(entries.as_slice(), factor, counts, rule));
     lines.put(" of ");
     lines.put_shown(&sum(counts));
     lines.put(" recorded users; no rule that fits costs less");
+    put_variants(lines, place, entries.as_slice(), factor, rule);
+}
+
+/// The points before and after of the first variants that get or lose some.
+fn put_variants(
+    lines: &mut Lines,
+    place: Place<'_>,
+    entries: &[(String, u64)],
+    factor: u32,
+    rule: &Rule,
+) {
     let variants = place.variants(lines);
-    for i in 0..variants.len().min(MOST_VARIANTS) {
-        put_points(
-            lines,
-            variants[i].as_str(),
-            entries.as_slice(),
-            factor,
-            rule,
-        );
+    let mut told = 0usize;
+    for variant in &variants {
+        let name = variant.as_str();
+        let old = points_of(entries, factor, name);
+        let new = u128::from(rule.total_of(name));
+        if old != new {
+            if told >= MOST_VARIANTS {
+                lines.put("\n  and more variants");
+                return;
+            }
+            told = told.saturating_add(1);
+            put_points(lines, name, old, new, rule.total());
+        }
     }
 }
 
-/// The points of a variant before and after, where they are not the same.
-fn put_points(lines: &mut Lines, name: &str, entries: &[(String, u64)], factor: u32, rule: &Rule) {
-    let old = points_of(entries, factor, name);
-    let new = rule.total_of(name);
-    if old != u128::from(new) {
-        lines.put("\n  ");
-        lines.put_name(name);
-        lines.put(" goes from ");
-        lines.put_shown(&old);
-        lines.put(" to ");
-        lines.put_shown(&new);
-        lines.put(" of ");
-        lines.put_shown(&rule.total());
-        lines.put(" points");
-    }
+/// The points of a variant before and after, of so many.
+fn put_points(lines: &mut Lines, name: &str, old: u128, new: u128, total: u32) {
+    lines.put("\n  ");
+    lines.put_name(name);
+    lines.put(" goes from ");
+    lines.put_shown(&old);
+    lines.put(" to ");
+    lines.put_shown(&new);
+    lines.put(" of ");
+    lines.put_shown(&total);
+    lines.put(" points");
 }
 
 /// The points of a name, of entries whose weights are taken so many times.
@@ -105,43 +114,61 @@ fn sum(counts: &[u32]) -> u128 {
 }
 
 /// How many of the inputs at the points get another variant by the rule than by the entries.
-fn switched(
-    alloc: Global,
-    entries: &[(String, u64)],
-    factor: u32,
-    counts: &[u32],
-    rule: &Rule,
-) -> Result<u128, AllocError> {
-    let old = names_at(alloc, entries, factor, counts.len())?;
-    let new = names_at(alloc, rule.entries(), 1, counts.len())?;
+fn switched(entries: &[(String, u64)], factor: u32, counts: &[u32], rule: &Rule) -> u128 {
+    let mut old = Runs::new(entries, factor);
+    let mut new = Runs::new(rule.entries(), 1);
     let mut users: u128 = 0;
-    for p in 0..counts.len() {
-        if old.get(p) != new.get(p) {
-            users = users.saturating_add(u128::from(counts[p]));
+    for count in counts {
+        if old.next_name() != new.next_name() {
+            users = users.saturating_add(u128::from(*count));
         }
     }
-    Ok(users)
+    users
 }
 
-/// The names at so many points, by entries whose weights are taken so many times.
-fn names_at<'a>(
-    alloc: Global,
+/// The names at the points, one after the other, by entries whose weights are taken so many times.
+#[derive(Drop)]
+struct Runs<'a> {
     entries: &'a [(String, u64)],
     factor: u32,
-    points: usize,
-) -> Result<Vec<&'a str>, AllocError> {
-    let mut names = Vec::new(alloc);
-    for (name, weight) in entries {
-        let wanted = weight.saturating_mul(u64::from(factor));
-        let left = points.saturating_sub(names.len()) as u64;
-        push_times(&mut names, name.as_str(), wanted.min(left))?;
-    }
-    Ok(names)
+    /// The entries that were entered, the name of the last one, and how many of its points are left.
+    entered: usize,
+    name: Option<&'a str>,
+    left: u64,
 }
 
-fn push_times<'a>(names: &mut Vec<&'a str>, name: &'a str, times: u64) -> Result<(), AllocError> {
-    for _ in 0..times {
-        names.push(name)?;
+impl<'a> Runs<'a> {
+    fn new(entries: &'a [(String, u64)], factor: u32) -> Runs<'a> {
+        Runs {
+            entries,
+            factor,
+            entered: 0,
+            name: None,
+            left: 0,
+        }
     }
-    Ok(())
+
+    /// The name at the next point, where there is one.
+    fn next_name(&mut self) -> Option<&'a str> {
+        if self.left == 0 {
+            self.enter();
+        }
+        self.left = self.left.saturating_sub(1);
+        self.name
+    }
+
+    /// Goes to the next entry that has points.
+    fn enter(&mut self) {
+        self.name = None;
+        let entries = self.entries;
+        for at in self.entered..entries.len() {
+            let (name, weight) = &entries[at];
+            self.entered = at + 1;
+            if *weight > 0 {
+                self.name = Some(name.as_str());
+                self.left = weight.saturating_mul(u64::from(self.factor));
+                return;
+            }
+        }
+    }
 }

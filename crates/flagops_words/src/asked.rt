@@ -20,7 +20,7 @@ pub enum Asked<'a> {
     /// Which flags of a document are good.
     Check {
         document: &'a str,
-        /// Whether a broken flag, or what is doubted, is no success.
+        /// Whether a broken flag is no success.
         strict: bool,
     },
     /// What the flag of a key resolves to.
