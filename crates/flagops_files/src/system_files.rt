@@ -10,7 +10,8 @@ use std::io::{ErrorKind, Read};
 use std::rt::Files;
 use std::{fs, io};
 
-/// The files that a runtime reaches. What they hold is not known.
+/// The files that a runtime reaches. What they hold is not known. `-` is the standard input where it is read, and the standard
+/// output where it is written.
 #[derive(Drop)]
 pub struct SystemFiles<'a, R> {
     rt: &'a R,
@@ -37,7 +38,7 @@ impl<'a, R: Files> FileSet for SystemFiles<'a, R> {
     ghost has_failed = { λ s. s.failed };
 
     fn read(&mut self, alloc: Global, path: &str, max: u64) -> Result<Vec<u8>, LoadFault> {
-        match read_front(self.rt, alloc, path, max) {
+        match read_front(self.rt, alloc, read_from(path), max) {
             Ok(bytes) => Ok(bytes),
             Err(e) if e.kind() == ErrorKind::OutOfMemory => Err(LoadFault::WantOfMemory),
             Err(e) => {
@@ -49,7 +50,7 @@ impl<'a, R: Files> FileSet for SystemFiles<'a, R> {
     }
 
     fn read_book(&mut self, alloc: Global, path: &str, max: u64) -> Result<Vec<u8>, LoadFault> {
-        match read_book_front(self.rt, alloc, path, max) {
+        match read_book_front(self.rt, alloc, read_from(path), max) {
             Ok(bytes) => Ok(bytes),
             Err(e) if e.kind() == ErrorKind::OutOfMemory => Err(LoadFault::WantOfMemory),
             Err(e) => {
@@ -61,7 +62,7 @@ impl<'a, R: Files> FileSet for SystemFiles<'a, R> {
     }
 
     fn front(&self, alloc: Global, path: &str) -> Result<Option<Vec<u8>>, AllocError> {
-        match front_of_plain(self.rt, alloc, path) {
+        match front_of_plain(self.rt, alloc, written_to(path)) {
             Ok(front) => Ok(front),
             Err(e) if e.kind() == ErrorKind::OutOfMemory => Err(AllocError),
             Err(_) => Ok(None),
@@ -73,7 +74,7 @@ impl<'a, R: Files> FileSet for SystemFiles<'a, R> {
     }
 
     fn write(&mut self, alloc: Global, path: &str, bytes: &[u8]) -> Result<(), StoreFault> {
-        match replace(self.rt, alloc, path, bytes) {
+        match replace(self.rt, alloc, written_to(path), bytes) {
             Ok(()) => Ok(()),
             Err(e) if e.kind() == ErrorKind::OutOfMemory => Err(StoreFault::WantOfMemory),
             Err(e) => {
@@ -83,6 +84,16 @@ impl<'a, R: Files> FileSet for SystemFiles<'a, R> {
             }
         }
     }
+}
+
+/// Where the file at a path is read from: `-` is the standard input.
+fn read_from(path: &str) -> &str {
+    if path == "-" { "/dev/stdin" } else { path }
+}
+
+/// Where the file at a path is written to: `-` is the standard output.
+fn written_to(path: &str) -> &str {
+    if path == "-" { "/dev/stdout" } else { path }
 }
 
 /// The bytes of the file at the path, cut after `max + 1`.
