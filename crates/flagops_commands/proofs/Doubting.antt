@@ -8,6 +8,7 @@ use Rattle.flagops_commands.specs.Doubts.{NamesDoubt, NamesDoubted, doubt_of, do
 use Rattle.flagops_commands.specs.Plan.{Holds, IsPlanOf, MayBePlanned, plan_report}
 use Rattle.flagops_commands.specs.Verify.{IsVerdict, MayBeTold, valid_text}
 use Rattle.flagops_commands.proofs.Telling.{told_among}
+use Rattle.flagops_files.proofs.Told.{told_left}
 use Rattle.flagops_files.specs.Question.{Question}
 use Rattle.flagops_files.specs.Refusal.{GivesOne, GivesUnlessWant, is_want}
 use Rattle.flagops_files.specs.Report.{beside, done, outcome_view}
@@ -78,6 +79,9 @@ module _ (strict : Bool) (refine : Option ℕ) (q : Question) where
     verdict_told noted (Err e) may is given = λ wanted. (Ok tt, may, rw is (sym (given wanted)))
 
 -- ---- what is told of one of some is told of one of more
+
+pub tells_left : {X : Type 0} (xs ys : Subjects) (e : Refused) (r : Result X Refused) → r ≡ Err e → (is_want e.refusal ≡ false → NamesOne xs e.refusal e.remark) → TellsOfOne (xs ++ ys) r
+tells_left {X} xs ys e r is told = subst (λ (s : Result X Refused). TellsOfOne (xs ++ ys) s) (sym is) (λ wanted. told_left xs ys e.refusal e.remark (told wanted))
 
 pub tells_among : {X : Type 0} (xs : Subjects) (s : Subject × (Refusal → Bool)) (ys : Subjects) (r : Result X Refused) → TellsOfOne (s ∷ []) r → TellsOfOne (xs ++ (s ∷ ys)) r
 tells_among xs s ys (Ok x) told = tt

@@ -18,7 +18,7 @@ use Rattle.kept_document.specs.declared.fault.KeepFault.TheVariants.{Differs}
 use Rattle.plan_text.specs.Answer.{Answer, emit, none_exists}
 use Rattle.price_core.specs.Request.{Asked, asked_of}
 use Rattle.price_core.specs.declared.fault.PriceFault.{PriceFault}
-use Rattle.rollout_checks.specs.Lawful.{and_then, by_price, place_of, problem_at, problem_of}
+use Rattle.rollout_checks.specs.Lawful.{and_then, by_price, place_of, problem_at}
 use Rattle.rollout_checks.specs.Tallied.{IsTallyOutcome, tally_problem_at}
 use Rattle.rollout_checks.specs.Verified.{IsOutcome, refining_for}
 use Rattle.rollout_checks.specs.declared.fault.RolloutFault.{RolloutFault}
@@ -103,10 +103,14 @@ module _ (refine : Option ℕ) (document : List ℕ) (q : Question) (answer : An
 -- ---- the report
 
 module _ (path : List ℕ) (write strict : Bool) (refine : Option ℕ) (document : List ℕ) (q : Question) (answer : Answer) where
-  pub not_kept : (old after : Option Holding) (e : Refused) → after ≡ old → (is_want e.refusal ≡ false → MayBeKept refine document q answer (Err e.refusal))
+  none_kept : (old after : Option Holding) (e : Refused) → after ≡ old → (is_want e.refusal ≡ false → MayBeKept refine document q answer (Err e.refusal))
       → IfSome old (λ at. GivesOne outcome_view (Err e) (IsKeepWith at after path write strict refine document q answer))
-  not_kept None after e same kept = tt
-  not_kept (Some at) after e same kept = λ wanted. (Err e.refusal, kept wanted, (refl, same))
+  none_kept None after e same kept = tt
+  none_kept (Some at) after e same kept = λ wanted. (Err e.refusal, kept wanted, (refl, same))
+
+  pub not_kept : (old after : Option Holding) (e : Refused) (r : Result Outcome Refused) → r ≡ Err e → after ≡ old → (is_want e.refusal ≡ false → MayBeKept refine document q answer (Err e.refusal))
+      → IfSome old (λ at. GivesOne outcome_view r (IsKeepWith at after path write strict refine document q answer))
+  not_kept old after e r is same kept = subst (λ (x : Result Outcome Refused). IfSome old (λ at. GivesOne outcome_view x (IsKeepWith at after path write strict refine document q answer))) (sym is) (none_kept old after e same kept)
 
   abbrev settled : Result Bool Refusal
   settled = settle call.Apply strict (doubt_of q)

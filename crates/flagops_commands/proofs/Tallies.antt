@@ -1,11 +1,11 @@
 -- What is answered on the tally of a page of a book is answered on the book.
-use Rattle.std.proofs.Common.{◌≡◌, ◌≢◌, ◌∙◌, ℕ, zero, suc, List, [], ◌∷◌, length, Bool, Option, Some, None, unwrap_or, refl, sym, ap, subst}
+use Rattle.std.proofs.Common.{◌≡◌, ◌≢◌, ◌∙◌, ℕ, List, [], ◌∷◌, length, Bool, Option, Some, None, unwrap_or, refl, sym, ap, subst}
 use Rattle.std.proofs.Math.Dec.{eqb-suc-zero}
 use Rattle.std.specs.Prelude.{Result, Ok, Err, OnOk, nat_eq, option_and_then}
 use Rattle.std.specs.Map.{lookup}
 use Rattle.std.specs.Result.{result_ok}
 use Rattle.std.specs.Str.{bytes_eq}
-use Rattle.bucket_core.specs.Rule.{total_weight, Entries}
+use Rattle.bucket_core.specs.Rule.{Entries}
 use Rattle.book_core.specs.Book.{Contents, Inputs, inputs_on}
 use Rattle.book_core.specs.Listing.{has_none}
 use Rattle.book_core.specs.Page.{PageName}
@@ -22,7 +22,7 @@ use Rattle.price_core.specs.Request.{Asked, asked_of}
 use Rattle.price_core.specs.declared.fault.PriceFault.{PriceFault}
 use Rattle.rollout.specs.Planned.{IsPlanned}
 use Rattle.rollout.specs.Tallied.{IsTallyPlanned, PlansAreByCounts, TalliesAskAsBooks}
-use Rattle.rollout_checks.specs.Lawful.{Place, Problem, and_then, by_logic, by_price, factor, or_refuse, place_in, place_of, problem_of}
+use Rattle.rollout_checks.specs.Lawful.{Place, Problem, and_then, by_logic, by_price, or_refuse, place_in, problem_of}
 use Rattle.rollout_checks.specs.Tallied.{AreTallied, IsTallyOutcome, IsTallyShown, TallyProblem, tally_problem_of, with_inputs}
 use Rattle.rollout_checks.specs.Verified.{IsOutcome, IsShown, refining_for}
 use Rattle.rollout_checks.specs.declared.fault.RolloutFault.{RolloutFault}
@@ -37,16 +37,13 @@ use Rattle.tally_core.specs.Tally.{PageTally}
 use Rattle.flagops_commands.proofs.Asked.{asked_is, placed, refused_alike}
 use Rattle.flagops_commands.proofs.Valid.{outcome_over}
 use Rattle.flagops_commands.specs.Doubts.{doubt_of, first_doubt, is_unread, settle}
-use Rattle.flagops_commands.specs.Plan.{IsPlanOf, MayBePlanned, report_planned}
+use Rattle.flagops_commands.specs.Plan.{IsPlanOf, report_planned}
 use Rattle.flagops_commands.specs.Tallies.{TalliesPlanAsBooks, TalliesTellAsBooks, over}
-use Rattle.flagops_commands.specs.Unrecorded.{has_no_input, is_bare, is_unrecorded, page_asked, page_in}
-use Rattle.flagops_commands.specs.Verify.{IsShownOn, IsToldOn, IsVerdict, MayBeTold, tally_problem_checked, told}
-use Rattle.flagops_files.specs.Report.{Report}
+use Rattle.flagops_commands.specs.Unrecorded.{is_bare, is_unrecorded, page_asked, page_in}
+use Rattle.flagops_commands.specs.Verify.{told}
 use Rattle.flagops_files.specs.declared.refusal.Call.TheVariants as call
 use Rattle.flagops_files.specs.declared.refusal.Doubt.{Doubt}
-use Rattle.flagops_files.specs.declared.evidence.Evidence.{Evidence}
 use Rattle.flagops_files.specs.declared.evidence.Evidence.TheVariants.{Book, Tally}
-use Rattle.flagops_files.specs.declared.refusal.Refusal.{Refusal}
 
 refused : {X E : Type 0} {e : E} {x : X} → Err e ≡ Ok x → ⊥
 refused h = cc

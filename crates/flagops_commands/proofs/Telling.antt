@@ -1,5 +1,5 @@
 -- What is told of one thing is told of one of several.
-use Rattle.std.specs.Prelude.{Bool, List, [], ◌∷◌, ◌++◌}
+use Rattle.std.specs.Prelude.{Bool, [], ◌∷◌, ◌++◌}
 use Rattle.flagops_files.specs.Told.{NamesOne, Subject, Subjects}
 use Rattle.flagops_files.specs.declared.refusal.Refusal.{Refusal}
 use Rattle.flagops_files.specs.declared.refused.Remark.{Remark}

@@ -1,5 +1,5 @@
 -- That a member which is told as not read is not read.
-use Rattle.std.specs.Prelude.{◌≡◌, ℕ, List, if◌then◌else◌}
+use Rattle.std.specs.Prelude.{◌≡◌, if◌then◌else◌}
 use Rattle.flag_text.specs.Shape.{Shape, object, Members, no_members, member}
 use Rattle.price_core.specs.Request.{request_of}
 use Rattle.unread_members.specs.Unread.{reads}

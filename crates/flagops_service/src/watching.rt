@@ -8,7 +8,7 @@ use flag_text::Outlet;
 use flagops_files::{FileSet, LoadFault, TEXT_LIMIT};
 use flagops_remarks::{of_document, of_unreadable};
 use ofrep_service::Board;
-use snap_share::{Publisher, ShareName};
+use snap_share::{Publisher, ShareFault, ShareName};
 use source_merge::{SourceFault, Sources};
 use std::alloc::{AllocError, Global};
 use std::sync::Wait;
@@ -39,22 +39,25 @@ pub(crate) fn watch<J: ShareName, R: Clock + Wait, F: FileSet, E: Outlet>(
     if poll == 0 {
         return;
     }
+    let mut waits = false;
     for _turn in 0..u64::MAX {
         thread::sleep(rt, Duration::from_secs(poll));
-        if watched.read_again(files, err) {
-            publish(rt, watched, publisher, board, err);
+        waits |= watched.read_again(files, err);
+        if waits {
+            waits = publish(rt, watched, publisher, board, err);
         }
     }
 }
 
-/// Publishes what the documents make now, unless they are too large together or memory runs out.
+/// Publishes what the documents make now, unless they are too large together or memory runs out. Says whether that was want of
+/// memory, so that it is to be tried again at the next reading.
 fn publish<J: ShareName, R: Wait, E: Outlet>(
     rt: &R,
     watched: &Watched<'_>,
     publisher: &mut Publisher<J>,
     board: &Board,
     err: &mut E,
-)
+) -> bool
     ensures { Publishes (sources_view watched.now.sources) publisher.old publisher.new }
 {
     let flags = match watched.sources.merged(watched.alloc) {
@@ -67,7 +70,7 @@ fn publish<J: ShareName, R: Wait, E: Outlet>(
                     "ofrep: the documents together are refused ({name}); the last snapshot stays\n"
                 ),
             );
-            return;
+            return matches!(fault, SourceFault::WantOfMemory);
         }
     };
     let count = flags.len();
@@ -75,11 +78,15 @@ fn publish<J: ShareName, R: Wait, E: Outlet>(
         Ok(number) => {
             board.publish(number);
             say_published(watched.alloc, err, number, count);
+            false
         }
-        Err(_) => say(
-            err,
-            "ofrep: the documents were not published; the last snapshot stays\n",
-        ),
+        Err(fault) => {
+            say(
+                err,
+                "ofrep: the documents were not published; the last snapshot stays\n",
+            );
+            matches!(fault, ShareFault::WantOfMemory)
+        }
     }
 }
 

@@ -57,11 +57,18 @@ pub fn drive<R: Threads + Wait + Sync, F: FileSet>(
     let tree = load_tree(alloc, files, asks, TEXT_LIMIT)?;
     let before = book_before(alloc, files, book, add)?;
     let drove = drove(rt, alloc, &flags, asks, &tree, workers, book, before)?;
-    let remark = Remark::of(lines_on(alloc, asks, drove.tally));
+    let remark = remark_on(alloc, asks, drove.tally);
     written(alloc, files, book, drove, remark)
 }
 
 /// What a person is told of asks that were driven, by the path of their file.
+#[tactic(auto, using(flagops_files::proofs::Told::says))]
+fn remark_on(alloc: Global, asks: &str, tally: Tally) -> Remark
+    ensures { Says (Names asks.now) result }
+{
+    Remark::of(lines_on(alloc, asks, tally))
+}
+
 fn lines_on(alloc: Global, asks: &str, tally: Tally) -> Result<String, AllocError>
     ensures { IfOk result (λ s. Names asks.now (string_bytes s)) }
 {

@@ -1,23 +1,21 @@
-use Rattle.std.proofs.Common.{is_some, option_map, refl, rules}
-use Rattle.std.specs.Prelude.{[], ◌∷◌}
+use Rattle.std.proofs.Common.{◌≡◌, is_some, option_map, refl, rules}
+use Rattle.std.specs.Prelude.{[], ◌∷◌, Err}
 use Rattle.plan_text.specs.Answer.{planned_view}
 use Rattle.flagops_commands.specs.Keep.{kept_view}
 use Rattle.flagops_files.specs.Question.{question_view}
 use Rattle.flagops_commands.specs.Doubts.{doubt_subjects}
 use Rattle.flagops_commands.specs.Subjects.{is_of_kept_answer, is_of_kept_document, is_of_kept_request}
 use Rattle.flagops_files.specs.Told.{Subjects, file}
-use Rattle.flagops_files.proofs.Told.{told_left}
-use Rattle.flagops_commands.proofs.Doubting.{tells_among}
+use Rattle.flagops_commands.proofs.Doubting.{tells_among, tells_left}
 use Rattle.flagops_commands.proofs.Keeping.{kept_put, not_kept, not_settled}
 use Rattle.flagops_commands.proofs.rollouts.keep.answer.Goals as goal
 
 pub returns-in_err-text-clause-exact : goal.returns-in_err-text-clause-exact
 returns-in_err-text-clause-exact g c =
     let files = g.F.FileSet.holding c.args.files.now in
-    let told =
+    let is : c.from_residual.result ≡ Err c.in_err-text.field-0.0 = search rules in
     not_kept c.args.document.now c.args.write c.args.strict (option_map (λ m. m.number) c.args.refine) c.args.question.now.document.items (question_view c.args.question.now) (planned_view c.args.planned.now)
-    files files c.in_err-text.field-0.0 refl c.in_err-text.ensures.exact in
-    search rules
+    files files c.in_err-text.field-0.0 c.from_residual.result is refl c.in_err-text.ensures.exact
 
 pub returns-in_err-remark-clause-exact : goal.returns-in_err-remark-clause-exact
 returns-in_err-remark-clause-exact g c =
@@ -35,7 +33,8 @@ returns-clause-exact g c =
 pub returns-in_err-text-clause-names : goal.returns-in_err-text-clause-names
 returns-in_err-text-clause-names g c =
     let first : Subjects = (file c.args.paths.request.now, is_of_kept_request) ∷ (file c.args.paths.plan.now, is_of_kept_answer) ∷ (file c.args.document.now, is_of_kept_document) ∷ [] in
-    λ wanted. told_left first (doubt_subjects c.args.paths.request.now c.args.paths.book.now) c.in_err-text.field-0.0.refusal c.in_err-text.field-0.0.remark (c.in_err-text.ensures.names wanted)
+    let is : c.from_residual.result ≡ Err c.in_err-text.field-0.0 = search rules in
+    tells_left first (doubt_subjects c.args.paths.request.now c.args.paths.book.now) c.in_err-text.field-0.0 c.from_residual.result is c.in_err-text.ensures.names
 
 pub returns-clause-names : goal.returns-clause-names
 returns-clause-names g c =
