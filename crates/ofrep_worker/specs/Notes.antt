@@ -8,9 +8,13 @@ use Rattle.book_share.specs.Asked.{page_of, targeting_of}
 use Rattle.note_lines.specs.Note.{Noted}
 use Rattle.ofrep_answers.specs.Answer.{Answered}
 
+-- the note of a site of a flag that was reached: its page, and its hash input
+abbrev pub note_at : List ℕ → Option Expression → Reach → Noted
+note_at key targeting reach = record { page = page_of key targeting reach.site; input = reach.input }
+
 -- of sites of one flag
 abbrev pub notes_at : List ℕ → Option Expression → List Reach → List Noted
-notes_at key targeting sites = map (λ site. record { page = page_of key targeting site.site; input = site.input }) sites
+notes_at key targeting sites = map (note_at key targeting) sites
 
 -- of what the evaluation of one flag reached
 abbrev pub notes_by : Definitions → List ℕ × List Reach → List Noted

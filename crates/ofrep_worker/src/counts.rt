@@ -60,19 +60,17 @@ impl Counts {
 
     /// Counts evaluations that ended with these reasons.
     pub(crate) fn count_evaluations(&self, reasons: Reasons) {
-        self.error.fetch_add(reasons.error, Ordering::Relaxed);
-        self.disabled.fetch_add(reasons.disabled, Ordering::Relaxed);
-        self.fixed.fetch_add(reasons.fixed, Ordering::Relaxed);
-        self.default.fetch_add(reasons.default, Ordering::Relaxed);
-        self.targeting_match
-            .fetch_add(reasons.targeting_match, Ordering::Relaxed);
+        add(&self.error, reasons.error);
+        add(&self.disabled, reasons.disabled);
+        add(&self.fixed, reasons.fixed);
+        add(&self.default, reasons.default);
+        add(&self.targeting_match, reasons.targeting_match);
     }
 
     /// Counts notes that were written, and inputs that were too long for one.
     pub(crate) fn count_notes(&self, notes: u64, inputs_too_long: u64) {
-        self.notes.fetch_add(notes, Ordering::Relaxed);
-        self.inputs_too_long
-            .fetch_add(inputs_too_long, Ordering::Relaxed);
+        add(&self.notes, notes);
+        add(&self.inputs_too_long, inputs_too_long);
     }
 
     /// The text of what is counted, for Prometheus, with the number of the snapshot and how many flags it has.
@@ -108,6 +106,14 @@ impl Counts {
         push_reason(text, "DEFAULT", &self.default)?;
         push_reason(text, "DISABLED", &self.disabled)?;
         push_reason(text, "ERROR", &self.error)
+    }
+}
+
+/// Adds to a number that all workers share, where there is something to add: an addition of nothing would have the processors
+/// hand the number round all the same.
+fn add(count: &AtomicU64, more: u64) {
+    if more > 0 {
+        count.fetch_add(more, Ordering::Relaxed);
     }
 }
 

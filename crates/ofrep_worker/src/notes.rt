@@ -5,7 +5,7 @@ ghost use Rattle.logic_ast.specs.Expr.{view};
 ghost use Rattle.logic_evaluator.specs.Views.{reach_view};
 ghost use Rattle.book_share.specs.Asked.{by_at, page_of, targeting_of};
 ghost use Rattle.ofrep_answers.specs.Answer.{answer_view, reached_view};
-ghost use Rattle.ofrep_worker.specs.Notes.{notes_at, notes_by, notes_in, notes_of};
+ghost use Rattle.ofrep_worker.specs.Notes.{note_at, notes_at, notes_by, notes_in, notes_of};
 
 use book_core::Page;
 use flag_defs::Flags;
@@ -76,11 +76,23 @@ fn push_all(
     ensures { OnOk result (notes.new.items ≡ notes.old.items ++ notes_at key.now (option_map (λ e. view e.now) targeting.entry) (map reach_view reached.now)) }
 {
     for reach in reached {
-        let page = page_at(alloc, key, targeting, reach.site)?;
-        let input = String::from_str(alloc, reach.input.as_str())?;
-        notes.push(Note { page, input })?;
+        notes.push(note_at(alloc, key, targeting, reach)?)?;
     }
     Ok(())
+}
+
+/// The note of a site that was reached: its page, and its hash input.
+fn note_at(
+    alloc: Global,
+    key: &str,
+    targeting: Option<&Expr>,
+    reach: &Reached,
+) -> Result<Note, AllocError>
+    ensures { IfOk result (λ note. note ≡ note_at key.now (option_map (λ e. view e.now) targeting.entry) (reach_view reach.now)) }
+{
+    let page = page_at(alloc, key, targeting, reach.site)?;
+    let input = String::from_str(alloc, reach.input.as_str())?;
+    Ok(Note { page, input })
 }
 
 /// The targeting of the flag of a key.
