@@ -3,3 +3,4 @@ pub mod Counting
 pub mod Ends
 pub mod Exits
 pub mod Parts
+pub mod Running
