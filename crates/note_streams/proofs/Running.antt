@@ -21,6 +21,9 @@ all-append (x ∷ xs) ys = ap (joined x) (all-append xs ys) ∙ sym (joined-asso
 pub runs-append : (xs ys : List code.Recorded) → runs_view (xs ++ ys) ≡ joined (runs_view xs) (runs_view ys)
 runs-append xs ys = ap all_joined (map-append recorded_view xs ys) ∙ all-append (map recorded_view xs) (map recorded_view ys)
 
+pub one_run : (runs : List code.Recorded) (run : code.Recorded) (whole : Recorded) → runs ≡ run ∷ [] → recorded_view run ≡ whole → runs_view runs ≡ whole
+one_run runs run whole one is = ap runs_view one ∙ (joined-last (recorded_view run) ∙ is)
+
 -- the first of the runs that are left
 pub first_run : (runs : List code.Recorded) (i : ℕ) (d : code.Recorded) → i < length runs → runs_view (drop i runs) ≡ joined (recorded_view (get_or runs i d)) (runs_view (drop (i + 1) runs))
 first_run runs i d within =
@@ -81,8 +84,7 @@ module _ (old mid new : Option (List ℕ)) (lines : ℕ) (run left whole : Recor
   -- a line of it is no context
   pub stops : run.refused ≡ true → Appends mid new run.text → (lines + run.lines ≡ whole.lines) × (true ≡ whole.refused) × Appends old new whole.text
   stops bad text =
-      let is : joined under.done run ≡ whole = ap (joined under.done) (sym (joined-refused run left bad)) ∙ under.all in
-      (
+      let is : joined under.done run ≡ whole = ap (joined under.done) (sym (joined-refused run left bad)) ∙ under.all in (
         ap (λ (n : ℕ). n + run.lines) under.number ∙ sym (open_lines under.done run under.good) ∙ ap (λ (r : Recorded). r.lines) is,
         sym bad ∙ sym (open_refused under.done run under.good) ∙ ap (λ (r : Recorded). r.refused) is,
         subst (Appends old new) (sym (open_text under.done run under.good) ∙ ap (λ (r : Recorded). r.text) is) (Appends-trans old mid new under.done.text run.text under.text text),
@@ -98,8 +100,7 @@ module _ (old mid new : Option (List ℕ)) (lines : ℕ) (run left whole : Recor
 -- all is written
 pub ended : (old new : Option (List ℕ)) (lines : ℕ) (left whole : Recorded) → left ≡ nothing → (under : Underway old new lines left whole) → (lines ≡ whole.lines) × (false ≡ whole.refused) × Appends old new whole.text
 ended old new lines left whole none under =
-    let is : under.done ≡ whole = sym (joined-last under.done) ∙ ap (joined under.done) (sym none) ∙ under.all in
-    (
+    let is : under.done ≡ whole = sym (joined-last under.done) ∙ ap (joined under.done) (sym none) ∙ under.all in (
       under.number ∙ ap (λ (r : Recorded). r.lines) is,
       sym under.good ∙ ap (λ (r : Recorded). r.refused) is,
       subst (Appends old new) (ap (λ (r : Recorded). r.text) is) under.text,

@@ -55,10 +55,7 @@ pub(crate) fn record_runs<R: Threads + Sync>(
 }
 
 /// These runs, and then those.
-fn followed(
-    mut runs: Vec<Recorded>,
-    mut later: Vec<Recorded>,
-) -> Result<Vec<Recorded>, AllocError>
+fn followed(mut runs: Vec<Recorded>, mut later: Vec<Recorded>) -> Result<Vec<Recorded>, AllocError>
     ensures { IfOk result (λ all. all.items ≡ runs.items ++ later.items) }
 {
     runs.append(&mut later)?;
