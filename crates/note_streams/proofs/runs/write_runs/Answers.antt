@@ -1,8 +1,7 @@
-use Rattle.std.proofs.Common.{◌≡◌, ◌+◌, ◌∙◌, false, true, drop, ap, sym, subst, arith, rules}
-use Rattle.record_lines.specs.Record.{Recorded}
+use Rattle.std.proofs.Common.{◌+◌, drop, arith, rules}
 use Rattle.record_lines.specs.View.{recorded_view}
 use Rattle.note_streams.specs.Runs.{runs_view}
-use Rattle.note_streams.proofs.Running.{Underway, at_run, begun, breaks, ended, fits, next, no_run, stops}
+use Rattle.note_streams.proofs.Running.{at_run, begun, breaks, ended, fits, next, no_run, stops}
 use Rattle.note_streams.proofs.runs.write_runs.Goals as goal
 
 pub loop-run-init : goal.loop-run-init
