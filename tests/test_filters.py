@@ -46,6 +46,60 @@ def tally(lines, *more, document=DOCUMENT, key="color", site="0"):
     return run(["tally", "d", key, site, *more], {"d": document}, input=lines)
 
 
+WORKERS = ("1", "2", "3", "4", "64")
+
+
+class WorkersTest(ProgramTest):
+    """`record` by any number of workers, each of which takes some lines of a batch that lie side by side."""
+
+    def assert_same(self, lines, count, refused=None):
+        """By any number of workers these lines give the notes of the first of them, and the line of the refusal."""
+        expected = "".join(note(f"user{n}") for n in range(count)) + (f"refused record 1 Line {refused}\n" if refused else "")
+        ran = [record(lines, "--workers", n) for n in WORKERS]
+        told = {each.err for each in ran}
+        self.assertEqual([(each.out == expected, each.status) for each in ran], [(True, 1 if refused else 0)] * len(ran))
+        self.assertEqual(len(told), 1, told)
+        return told.pop()
+
+    def test_one_batch(self):
+        """A line that is no context stands at each place of a batch, alone and before another one: first and last of a worker's
+        lines, and within them."""
+        filler = "f" * 32_768
+        good = [compact({"filler": filler, "key": f"user{n}"}) + "\n" for n in range(16)]
+        self.assertEqual(self.assert_same("".join(good), 16), "")
+        for bad in range(16):
+            for also in (None, 15, (bad + 5) % 16):
+                with self.subTest(bad=bad, also=also):
+                    lines = list(good)
+                    for at in {bad} if also is None else {bad, also}:
+                        lines[at] = "[]\n"
+                    first = bad if also is None else min(bad, also)
+                    self.assertIn(f"line {first + 1} ", self.assert_same("".join(lines), first, first + 1))
+
+    def test_batches(self):
+        """Several batches, with a line that is no context at the first, the last and some other places."""
+        filler = "f" * 4_096
+        good = [compact({"filler": filler, "key": f"user{n}"}) + "\n" for n in range(6_000)]
+        self.assertEqual(self.assert_same("".join(good), 6_000), "")
+        for bad in (0, 1_000, 2_040, 3_000, 4_096, 5_999):
+            with self.subTest(bad=bad):
+                self.assert_same("".join([*good[:bad], "{\n", *good[bad + 1 :]]), bad, bad + 1)
+
+    def test_unequal_lines(self):
+        """Fewer lines than workers, blank ones, a long line among short ones, and a last line without its end."""
+        long = compact({"filler": "f" * 4_000_000, "key": "user0"}) + "\n"
+        short = [compact({"key": f"user{n}"}) + "\n" for n in range(1, 4)]
+        self.assertEqual(self.assert_same(long, 1), "")
+        self.assertEqual(self.assert_same(long + "".join(short), 4), "")
+        self.assertEqual(self.assert_same(long + "\n" * 100_000 + "".join(short), 4), "")
+        self.assertIn("no end", self.assert_same(long + "".join(short) + "{", 4))
+
+    def test_long_inputs(self):
+        """Inputs above 1,024 bytes are counted over all workers."""
+        lines = "".join(context("k" * 1025) + context(f"user{n}") for n in range(1_000))
+        self.assertIn("1000 inputs", self.assert_same(lines, 1_000))
+
+
 class FiltersTest(ProgramTest):
     """The filters on small inputs."""
 
@@ -155,6 +209,12 @@ class FiltersTest(ProgramTest):
 
     def test_closed_pipe(self):
         """A pipe that is closed early ends `record` quietly, with status 1."""
+        for workers in WORKERS:
+            with self.subTest(workers=workers):
+                self.assert_breaks_off(workers)
+
+    def assert_breaks_off(self, workers):
+        """It does so by this number of workers."""
         with tempfile.TemporaryDirectory() as folder:
             with open(os.path.join(folder, "d"), "w", encoding="utf-8") as file:
                 file.write(DOCUMENT)
@@ -162,7 +222,7 @@ class FiltersTest(ProgramTest):
                 file.writelines(context(f"user{n}") for n in range(600_000))
             with open(os.path.join(folder, "c"), "rb") as contexts:
                 running = subprocess.Popen(
-                    [PROGRAM, "record", "d", "color"],
+                    [PROGRAM, "record", "d", "color", "--workers", workers],
                     cwd=folder,
                     stdin=contexts,
                     stdout=subprocess.PIPE,

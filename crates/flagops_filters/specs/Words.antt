@@ -6,17 +6,18 @@ use Rattle.clap.specs.Simple.{App, matches_of, new_app, with_rule}
 use Rattle.clap.specs.Walk.{Row, Text, first_of}
 use Rattle.clap.specs.declared.error.kind.ErrorKind.{ErrorKind}
 use Rattle.clap.specs.declared.error.kind.ErrorKind.TheVariants.{InvalidValue, OutOfMemory}
-use Rattle.flagops_words.specs.Numbers.{max_32, max_moment, moment_in}
+use Rattle.flagops_words.specs.Numbers.{max_32, max_moment, moment_in, number_in}
 use Rattle.flagops_words.specs.Words.{◌>>=◌, if_faultless, number, option_number, refine_in, refine_option, required, some_words, texts_at}
 use Rattle.flagops_filters.specs.declared.asked.Recording as code_record
 use Rattle.flagops_filters.specs.declared.asked.Tallying as code_tally
 use Rattle.flagops_filters.specs.declared.asked.Joining as code_join
 
--- the path of a document, the key of a flag, and the moment of the evaluation
+-- the path of a document, the key of a flag, the moment of the evaluation, and how many workers evaluate
 pub record Recording : Type 0 where
   pub document : Text
   pub key : Text
   pub moment : Option ℕ
+  pub workers : ℕ
 
 -- the path of a document, the key of a flag, the number of a site, and the factor of its rule
 pub record Tallying : Type 0 where
@@ -30,7 +31,7 @@ pub record Joining : Type 0 where
   pub tallies : List Text
 
 abbrev pub recording_view : code_record.Recording → Recording
-recording_view r = record { document = r.document.now; key = r.key.now; moment = option_map (λ m. m.number) r.moment }
+recording_view r = record { document = r.document.now; key = r.key.now; moment = option_map (λ m. m.number) r.moment; workers = r.workers }
 
 abbrev pub tallying_view : code_tally.Tallying → Tallying
 tallying_view t = record { document = t.document.now; key = t.key.now; site = t.site; refine = option_map (λ m. m.number) t.refine }
@@ -38,10 +39,14 @@ tallying_view t = record { document = t.document.now; key = t.key.now; site = t.
 abbrev pub joining_view : code_join.Joining → Joining
 joining_view j = record { tallies = j.first.now ∷ map (λ t. t.now) j.others.items }
 
--- `record DOC KEY`, with `--moment MOMENT` and `--workers WORKERS`, on which nothing depends
+-- the most workers
+abbrev pub max_workers : ℕ
+max_workers = 64
+
+-- `record DOC KEY`, with `--moment MOMENT` and `--workers WORKERS`, on which no output depends
 unfoldable pub record_app : App
 record_app =
-    with_rule (with_rule (with_rule (with_rule (new_app (codes "record")) (required (codes "DOC"))) (required (codes "KEY"))) (option_number (codes "MOMENT") (codes "moment") 0 max_moment)) (option_number (codes "WORKERS") (codes "workers") 1 64)
+    with_rule (with_rule (with_rule (with_rule (new_app (codes "record")) (required (codes "DOC"))) (required (codes "KEY"))) (option_number (codes "MOMENT") (codes "moment") 0 max_moment)) (option_number (codes "WORKERS") (codes "workers") 1 max_workers)
 
 -- `tally DOC FLAG SITE`, with `--refine M`
 unfoldable pub tally_app : App
@@ -58,12 +63,18 @@ abbrev pub if_moment : Option Text → Option (Option ℕ)
 if_moment None = Some None
 if_moment (Some word) = option_map Some (moment_in word)
 
+-- a number of workers, and 4 where none is given
+abbrev pub workers_in : Option Text → Option ℕ
+workers_in None = Some 4
+workers_in (Some word) = number_in 1 max_workers word
+
 abbrev pub record_in : List Row → Option Recording
 record_in rows = do
   document ← first_of (codes "DOC") rows
   key ← first_of (codes "KEY") rows
   moment ← if_moment (first_of (codes "MOMENT") rows)
-  Some (record { document = document; key = key; moment = moment })
+  workers ← workers_in (first_of (codes "WORKERS") rows)
+  Some (record { document = document; key = key; moment = moment; workers = workers })
 
 -- a number of 32 bits
 abbrev pub of_32 : ℕ → Option ℕ

@@ -1,12 +1,14 @@
 //! The filters with their words.
 use flagops_words::{Factor, Moment};
 
-/// What `record` is asked for: the note lines of what a flag's evaluation reaches in each context of the standard input.
+/// What `record` is asked for: the note lines of what a flag's evaluation reaches in each context of the standard input, by so
+/// many workers.
 #[derive(Clone, Copy, Debug)]
 pub struct Recording<'a> {
     pub document: &'a str,
     pub key: &'a str,
     pub moment: Option<Moment>,
+    pub workers: usize,
 }
 
 /// What `tally` is asked for: the tally of the note lines of the standard input, at a site of a flag.

@@ -28,6 +28,7 @@ use record_lines::{RecordFault, Recorder};
 use rollout_checks::RolloutFault;
 use std::alloc::{AllocError, Global};
 use std::convert::AsStr;
+use std::thread::Threads;
 
 /// Does what the words after the program's name ask of `record`, which is the first of them, and gives the status to end with.
 /// It prints the note lines of what the evaluation of a flag reaches in each context of the standard input, and behind them the
@@ -41,7 +42,7 @@ pub fn record<R, S, I, F, O, E>(
     err: &mut E,
 ) -> u8
 where
-    R: AllocGlobal,
+    R: AllocGlobal + Threads + Sync,
     S: AsStr,
     I: Inlet,
     F: FileSet,
@@ -57,13 +58,14 @@ where
 {
     let alloc = rt.alloc();
     match read_record(alloc, words) {
-        Ok(asked) => recorded(alloc, &asked, input, files, out, err),
+        Ok(asked) => recorded(rt, alloc, &asked, input, files, out, err),
         Err(error) => explain(alloc, &error, out, err),
     }
 }
 
 /// The note lines of what is asked for.
-fn recorded<I: Inlet, F: FileSet, O: Outlet, E: Outlet>(
+fn recorded<R: Threads + Sync, I: Inlet, F: FileSet, O: Outlet, E: Outlet>(
+    rt: &R,
     alloc: Global,
     asked: &Recording<'_>,
     input: &mut I,
@@ -79,13 +81,14 @@ fn recorded<I: Inlet, F: FileSet, O: Outlet, E: Outlet>(
     ensures kept { F.holding files.new ≡ F.holding files.old }
 {
     match load_flags(alloc, files, asked.document) {
-        Ok(flags) => over(alloc, asked, &flags, input, out, err),
+        Ok(flags) => over(rt, alloc, asked, &flags, input, out, err),
         Err(unread) => refused(alloc, Told::of(unread), out, err),
     }
 }
 
 /// The note lines of a flag of a document.
-fn over<I: Inlet, O: Outlet, E: Outlet>(
+fn over<R: Threads + Sync, I: Inlet, O: Outlet, E: Outlet>(
+    rt: &R,
     alloc: Global,
     asked: &Recording<'_>,
     flags: &Flags,
@@ -99,15 +102,17 @@ fn over<I: Inlet, O: Outlet, E: Outlet>(
     ensures { IfSome (I.bytes input.old) (λ bytes. RecordOver (O.bytes out.old) (O.bytes out.new) (O.is_broken out.new) (E.bytes err.old) (E.bytes err.new) (E.is_broken err.new) result (flags_view flags.now) asked.now.key.now (unwrap_or (option_map (λ m. m.number) asked.now.moment) 0) bytes (I.is_broken input.new)) }
 {
     match Recorder::new(alloc, flags, asked.key, moment_of(asked.moment)) {
-        Ok(recorder) => stream(alloc, &recorder, input, out, err),
+        Ok(recorder) => stream(rt, alloc, &recorder, asked.workers, input, out, err),
         Err(fault) => refused(alloc, unrecorded(alloc, asked, fault), out, err),
     }
 }
 
-/// The note lines of a recorder.
-fn stream<I: Inlet, O: Outlet, E: Outlet>(
+/// The note lines of a recorder, by so many workers.
+fn stream<R: Threads + Sync, I: Inlet, O: Outlet, E: Outlet>(
+    rt: &R,
     alloc: Global,
     recorder: &Recorder<'_>,
+    workers: usize,
     input: &mut I,
     out: &mut O,
     err: &mut E,
@@ -117,7 +122,7 @@ fn stream<I: Inlet, O: Outlet, E: Outlet>(
     requires err_whole { E.is_broken err.old ≡ false }
     ensures { IfSome (I.bytes input.old) (λ bytes. RecordEnds (O.bytes out.old) (O.bytes out.new) (O.is_broken out.new) (E.bytes err.old) (E.bytes err.new) (E.is_broken err.new) result (recorded_of (scene_of recorder.now) bytes) (length bytes) (I.is_broken input.new)) }
 {
-    match record_stream(alloc, recorder, input, out) {
+    match record_stream(rt, alloc, recorder, workers, input, out) {
         Ok(counted) => {
             tell_counted(alloc, counted, err);
             0

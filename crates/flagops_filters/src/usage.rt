@@ -5,7 +5,7 @@ ghost use Rattle.clap.specs.Words.{app_of, kind_of, rule_of};
 ghost use Rattle.clap.specs.declared.error.kind.ErrorKind.TheVariants.{InvalidValue};
 ghost use Rattle.flagops_words.specs.Numbers.{max_32, max_moment};
 ghost use Rattle.flagops_words.specs.Words.{number, option_number, refine_option, required, some_words};
-ghost use Rattle.flagops_filters.specs.Words.{join_app, record_app, tally_app};
+ghost use Rattle.flagops_filters.specs.Words.{join_app, max_workers, record_app, tally_app};
 
 use clap::builder::ValueParser;
 use clap::error::ErrorKind;
@@ -18,8 +18,8 @@ const LARGEST_32: u64 = 4_294_967_295;
 /// The latest moment, 2^53-1.
 const LATEST_MOMENT: u64 = 9_007_199_254_740_991;
 
-/// The most threads.
-const MOST_WORKERS: u64 = 64;
+/// The most workers.
+pub const MOST_WORKERS: u64 = 64;
 
 /// The command `record`. Its name is the first of the words, as a program's.
 #[tactic(auto, unfolding(crate::specs::Words::record_app))]
@@ -124,15 +124,15 @@ fn moment<'a>(alloc: Global) -> Arg<'a>
         .value_parser(ValueParser::Unsigned(0, LATEST_MOMENT))
 }
 
-/// The most threads that evaluate the contexts.
+/// The workers that evaluate the contexts.
 fn workers<'a>(alloc: Global) -> Arg<'a>
-    ensures rule { rule_of result ≡ option_number (codes "WORKERS") (codes "workers") 1 64 }
+    ensures rule { rule_of result ≡ option_number (codes "WORKERS") (codes "workers") 1 max_workers }
     ensures local { result.global ≡ false }
 {
     Arg::new(alloc, "WORKERS")
         .long("workers")
         .help(
-            "The most threads that evaluate the contexts, from 1 to 64; the output is the same for any number",
+            "The most threads that evaluate the contexts, from 1 to 64, else 4; the output is the same for any number",
         )
         .value_parser(ValueParser::Unsigned(1, MOST_WORKERS))
 }

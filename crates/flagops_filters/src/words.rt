@@ -1,12 +1,13 @@
 //! What the words of `record`, `tally` and `join` ask for, as `clap` reads them.
-ghost use Rattle.std.specs.Prelude.{◌≡◌, ◌∷◌, IfErr, IfOk, Some, codes, map, option_map};
+ghost use Rattle.std.specs.Prelude.{◌≡◌, ◌&&◌, ◌∷◌, nat_le, None, if◌then◌else◌, IfErr, IfOk, Some, codes, map, option_map};
 ghost use Rattle.clap.specs.Walk.{first_of};
 ghost use Rattle.clap.specs.Words.{found_of, kind_of, rows_of};
+ghost use Rattle.flagops_words.specs.Numbers.{number_in};
 ghost use Rattle.flagops_words.specs.Words.{refine_in, texts_at};
-ghost use Rattle.flagops_filters.specs.Words.{IsToldBy, if_moment, join_by, join_faults, join_in, joining_view, of_32, record_by, record_faults, record_in, recording_view, site_in, tally_by, tally_faults, tally_in, tallying_view};
+ghost use Rattle.flagops_filters.specs.Words.{IsToldBy, if_moment, join_by, join_faults, join_in, joining_view, max_workers, of_32, record_by, record_faults, record_in, recording_view, site_in, tally_by, tally_faults, tally_in, tallying_view, workers_in};
 
 use crate::asked::{Joining, Recording, Tallying};
-use crate::usage::{join, missing_value, record, tally};
+use crate::usage::{MOST_WORKERS, join, missing_value, record, tally};
 use clap::{ArgMatches, Error};
 use flagops_words::{Factor, Moment};
 use std::alloc::{AllocError, Global};
@@ -14,6 +15,9 @@ use std::convert::AsStr;
 
 /// The largest number of a site.
 const LARGEST_32: u64 = 4_294_967_295;
+
+/// The workers where their number is left out.
+const WORKERS: usize = 4;
 
 /// What the words after the program's name ask of `record`, which is the first of them.
 #[tactic(auto, unfolding(crate::specs::Words::record_by, crate::specs::Words::record_faults))]
@@ -49,10 +53,12 @@ fn recording_in<'a>(matches: &ArgMatches<'a>) -> Option<Recording<'a>>
     let document = matches.get_str("DOC")?;
     let key = matches.get_str("KEY")?;
     let moment = moment_in(matches)?;
+    let workers = workers_in(matches)?;
     Some(Recording {
         document,
         key,
         moment,
+        workers,
     })
 }
 
@@ -64,6 +70,37 @@ fn moment_in(matches: &ArgMatches<'_>) -> Option<Option<Moment>>
     match matches.get_str("MOMENT") {
         Some(word) => Some(Some(Moment::spelled(word)?)),
         None => Some(None),
+    }
+}
+
+/// The number of workers, 4 where it is left out; `None` where the word is no such number.
+#[tactic(auto, using(crate::proofs::Matched::values))]
+fn workers_in(matches: &ArgMatches<'_>) -> Option<usize>
+    ensures { result ≡ workers_in (first_of (codes "WORKERS") (rows_of (found_of matches.now))) }
+{
+    match matches.get_str("WORKERS") {
+        Some(word) => number_of_workers(word),
+        None => Some(WORKERS),
+    }
+}
+
+/// The number from 1 to 64 that a word spells in decimal digits, perhaps after a plus.
+fn number_of_workers(word: &str) -> Option<usize>
+    ensures { result ≡ number_in 1 max_workers word.now }
+{
+    match word.parse::<u64>() {
+        Ok(number) => within(number),
+        Err(_) => None,
+    }
+}
+
+fn within(number: u64) -> Option<usize>
+    ensures { result ≡ (if nat_le 1 number && nat_le number max_workers then Some number else None) }
+{
+    if 1 <= number && number <= MOST_WORKERS {
+        Some(number as usize)
+    } else {
+        None
     }
 }
 

@@ -63,15 +63,15 @@ module _ (s : Scene) where
 
 -- ---- what is recorded of two parts
 
-open_text : (one other : Recorded) → one.refused ≡ false → (joined one other).text ≡ one.text ++ other.text
+pub open_text : (one other : Recorded) → one.refused ≡ false → (joined one other).text ≡ one.text ++ other.text
 unfolding joined
 open_text one other good = rw good refl
 
-open_lines : (one other : Recorded) → one.refused ≡ false → (joined one other).lines ≡ one.lines + other.lines
+pub open_lines : (one other : Recorded) → one.refused ≡ false → (joined one other).lines ≡ one.lines + other.lines
 unfolding joined
 open_lines one other good = rw good refl
 
-open_refused : (one other : Recorded) → one.refused ≡ false → (joined one other).refused ≡ other.refused
+pub open_refused : (one other : Recorded) → one.refused ≡ false → (joined one other).refused ≡ other.refused
 unfolding joined
 open_refused one other good = rw good refl
 
@@ -80,7 +80,7 @@ unfolding joined
 begins_parts t n true r = ([], sym (append-nil t))
 begins_parts t n false r = (r.text, refl)
 
-begins_with : (one other : Recorded) → (t : List ℕ) × ((joined one other).text ≡ one.text ++ t)
+pub begins_with : (one other : Recorded) → (t : List ℕ) × ((joined one other).text ≡ one.text ++ t)
 begins_with one other = begins_parts one.text one.lines one.refused other
 
 -- ---- fronts
@@ -90,7 +90,7 @@ front old new a c is =
     let low : length a ≤ length (a ++ c) = omega (arith, length-append a c) in
     (length a, low, subst (Appends old new) (sym (take-append_seam a c)) is)
 
-fronts : (old mid new : Option (List ℕ)) (a b c : List ℕ) → Appends old mid a → AppendsPart mid new b → AppendsPart old new (a ++ (b ++ c))
+pub fronts : (old mid new : Option (List ℕ)) (a b c : List ℕ) → Appends old mid a → AppendsPart mid new b → AppendsPart old new (a ++ (b ++ c))
 fronts old mid new a b c is part =
     let n = part.0 in
     let all : take (length a + n) (a ++ (b ++ c)) ≡ a ++ take n b = take-append-add a (b ++ c) n ∙ ap (λ (t : List ℕ). a ++ t) (take-append-le n b c part.1) in

@@ -1,5 +1,7 @@
 pub mod Batches
 pub mod Counting
+pub mod Crossings
 pub mod Ends
 pub mod Exits
 pub mod Parts
+pub mod Running

@@ -7,5 +7,6 @@ pub use Rattle.tally_filters.specs.Filter
 pub mod Batch
 pub mod Law
 pub mod Recorded
+pub mod Runs
 pub mod Stop
 pub mod Tallied

@@ -11,6 +11,7 @@
 
 mod laws;
 mod recording;
+mod runs;
 mod stop;
 mod tallying;
 

@@ -5,17 +5,22 @@ ghost use Rattle.note_streams.specs.Batch.{RecordsBatch};
 ghost use Rattle.note_streams.specs.Recorded.{RecordsStream, recorded_of};
 ghost use Rattle.note_streams.specs.Stop.{is_output_fault};
 
+use crate::runs::{record_runs, write_runs};
 use crate::stop::RecordStop;
-use flag_text::{Outlet, write_whole};
+use flag_text::Outlet;
 use line_batches::{Inlet, cut_lines, fill};
-use record_lines::{Recorder, record_lines};
+use record_lines::Recorder;
 use std::alloc::Global;
+use std::thread::Threads;
 
 /// The bytes that one read is asked for.
 pub(crate) const PIECE: usize = 1_048_576;
 
 /// The bytes that a batch is filled to: more than a line has.
 pub(crate) const BATCH: usize = 8_388_608;
+
+/// The bytes of a batch from which on several workers record it.
+const SHARED: usize = 65_536;
 
 /// The most bytes that a line has.
 pub(crate) const MOST_LINE: usize = 4_194_304;
@@ -40,13 +45,16 @@ struct Totals {
 }
 
 /// Writes the note lines of what the evaluation of the recorder's flag reaches in each context of a stream, one context a line,
-/// in their order. A last line without its end is passed over.
+/// in their order. A last line without its end is passed over. So many workers record the lines of a batch side by side, this
+/// thread among them; what is written is the same for any number.
 ///
 /// Refusals, of the first line that is no context: `Line`. What is written before stays. At `Unreadable` a read failed, at
 /// `TooLong` the stream has more than 2^60 bytes, and at `Broken` a write failed; then a front of the lines is written.
-pub fn record_stream<I: Inlet, O: Outlet>(
+pub fn record_stream<R: Threads + Sync, I: Inlet, O: Outlet>(
+    rt: &R,
     alloc: Global,
     recorder: &Recorder<'_>,
+    workers: usize,
     input: &mut I,
     out: &mut O,
 ) -> Result<Counted, RecordStop>
@@ -63,7 +71,15 @@ pub fn record_stream<I: Inlet, O: Outlet>(
         let had = held.len();
         let ended = fill(&mut held, input, piece.as_mut_slice(), BATCH)?;
         taken += (held.len() - had) as u64;
-        let rest = record_batch(alloc, recorder, held.as_slice(), &mut totals, out)?;
+        let rest = record_batch(
+            rt,
+            alloc,
+            recorder,
+            workers,
+            held.as_slice(),
+            &mut totals,
+            out,
+        )?;
         if ended {
             return Ok(Counted {
                 long: totals.long,
@@ -76,9 +92,11 @@ pub fn record_stream<I: Inlet, O: Outlet>(
 }
 
 /// Writes the note lines of the lines that ended in a batch, and gives what stands behind them.
-fn record_batch<'a, O: Outlet>(
+fn record_batch<'a, R: Threads + Sync, O: Outlet>(
+    rt: &R,
     alloc: Global,
     recorder: &Recorder<'_>,
+    workers: usize,
     bytes: &'a [u8],
     totals: &mut Totals,
     out: &mut O,
@@ -89,13 +107,14 @@ fn record_batch<'a, O: Outlet>(
     ensures broken { O.is_broken out.new ≡ is_output_fault result }
 {
     let (lines, rest) = cut_lines(alloc, bytes)?;
-    let recorded = record_lines(alloc, recorder, lines.as_slice())?;
-    if !write_whole(out, recorded.text.as_slice()) {
+    let workers = if bytes.len() < SHARED { 1 } else { workers };
+    let runs = record_runs(rt, alloc, recorder, lines.as_slice(), workers)?;
+    let Some(written) = write_runs(runs.as_slice(), out) else {
         return Err(RecordStop::Broken);
-    }
-    totals.lines += recorded.lines;
-    totals.long = totals.long.saturating_add(recorded.long);
-    if recorded.refused {
+    };
+    totals.lines += written.lines;
+    totals.long = totals.long.saturating_add(written.long);
+    if written.refused {
         return Err(RecordStop::Line(totals.lines));
     }
     if rest.len() > MOST_LINE {

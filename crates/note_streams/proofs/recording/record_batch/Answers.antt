@@ -1,44 +1,50 @@
-use denote.Ref.{Bor}
-use Rattle.std.proofs.Common.{◌≡◌, ◌+◌, ◌∙◌, ℕ, List, ap, refl, arith, rules}
-use Rattle.line_batches.specs.Lines.{lines_view}
-use Rattle.record_lines.specs.Record.{record_of}
+use Rattle.std.proofs.Common.{◌+◌, ◌∙◌, ℕ, ap, sym, arith}
 use Rattle.record_lines.specs.Scene.{scene_of}
-use Rattle.record_lines.specs.View.{recorded_view}
+use Rattle.note_streams.specs.Runs.{runs_view}
 use Rattle.note_streams.proofs.Batches.{few_recorded}
 use Rattle.note_streams.proofs.Parts.{fronts, leaves}
+use Rattle.note_streams.proofs.Running.{recorded_of_cut}
 use Rattle.note_streams.proofs.recording.record_batch.Goals as goal
 
-pub returns-then-not-write_whole-clause-exact : goal.returns-then-not-write_whole-clause-exact
-returns-then-not-write_whole-clause-exact g c =
+pub write_runs-requires-clause-room : goal.write_runs-requires-clause-room
+write_runs-requires-clause-room g c =
     let s = scene_of c.args.recorder.now in
     let lines = c.in_ok-lines.lines.items in
-    let same : c.as_slice.result.now ≡ lines = search rules in
-    let is = c.in_ok-recorded.ensures ∙ ap (λ (ls : List (Bor (List ℕ))). record_of s (lines_view ls)) same in
-    fronts s c.args.bytes.now c.in_ok-lines.rest.now lines (recorded_view c.in_ok-recorded.recorded) is c.in_ok-lines.ensures.cut (g.O.Outlet.bytes c.args.out.now) (g.O.Outlet.bytes c.write_whole.new.out) (search rules)
+    let runs = c.as_slice-2.result.now in
+    let is = recorded_of_cut s lines c.as_slice.result.now c.in_ok-runs.runs.items runs c.as_slice.ensures.value c.as_slice-2.ensures.value c.in_ok-runs.ensures in
+    omega (arith, few_recorded s lines (runs_view runs) is, c.in_ok-lines.ensures.fewer, c.requires.room)
+
+pub returns-in_default-clause-exact : goal.returns-in_default-clause-exact
+returns-in_default-clause-exact g c =
+    let s = scene_of c.args.recorder.now in
+    let lines = c.in_ok-lines.lines.items in
+    let runs = c.as_slice-2.result.now in
+    let is = recorded_of_cut s lines c.as_slice.result.now c.in_ok-runs.runs.items runs c.as_slice.ensures.value c.as_slice-2.ensures.value c.in_ok-runs.ensures in
+    fronts s c.args.bytes.now c.in_ok-lines.rest.now lines (runs_view runs) is c.in_ok-lines.ensures.cut (g.O.Outlet.bytes c.args.out.now) (g.O.Outlet.bytes c.write_runs.new.out) c.in_default.ensures.exact
 
 pub overflow_add-totals : goal.overflow_add-totals
 overflow_add-totals g c =
     let s = scene_of c.args.recorder.now in
     let lines = c.in_ok-lines.lines.items in
-    let same : c.as_slice.result.now ≡ lines = search rules in
-    let is = c.in_ok-recorded.ensures ∙ ap (λ (ls : List (Bor (List ℕ))). record_of s (lines_view ls)) same in
-    omega (arith, few_recorded s lines (recorded_view c.in_ok-recorded.recorded) is, c.in_ok-lines.ensures.fewer, c.requires.room)
+    let runs = c.as_slice-2.result.now in
+    let is = recorded_of_cut s lines c.as_slice.result.now c.in_ok-runs.runs.items runs c.as_slice.ensures.value c.as_slice-2.ensures.value c.in_ok-runs.ensures in
+    omega (arith, few_recorded s lines (runs_view runs) is, c.in-Some.ensures.exact.0, c.in_ok-lines.ensures.fewer, c.requires.room)
 
 pub overflow_add-result : goal.overflow_add-result
 overflow_add-result g c =
     let s = scene_of c.args.recorder.now in
     let lines = c.in_ok-lines.lines.items in
-    let same : c.as_slice.result.now ≡ lines = search rules in
-    let is = c.in_ok-recorded.ensures ∙ ap (λ (ls : List (Bor (List ℕ))). record_of s (lines_view ls)) same in
-    omega (arith, few_recorded s lines (recorded_view c.in_ok-recorded.recorded) is, c.in_ok-lines.ensures.fewer, c.requires.room)
+    let runs = c.as_slice-2.result.now in
+    let is = recorded_of_cut s lines c.as_slice.result.now c.in_ok-runs.runs.items runs c.as_slice.ensures.value c.as_slice-2.ensures.value c.in_ok-runs.ensures in
+    omega (arith, few_recorded s lines (runs_view runs) is, c.in-Some.ensures.exact.0, c.in_ok-lines.ensures.fewer, c.requires.room)
 
 pub returns-clause-exact : goal.returns-clause-exact
 returns-clause-exact g c =
     let s = scene_of c.args.recorder.now in
     let before = c.args.totals.now.lines in
-    let r = recorded_view c.in_ok-recorded.recorded in
     let lines = c.in_ok-lines.lines.items in
-    let same : c.as_slice.result.now ≡ lines = search rules in
-    let is = c.in_ok-recorded.ensures ∙ ap (λ (ls : List (Bor (List ℕ))). record_of s (lines_view ls)) same in
-    leaves s c.args.bytes.now c.in_ok-lines.rest.now lines r is c.in_ok-lines.ensures.cut c.in_ok-lines.ensures.rest before (before + r.lines) (g.O.Outlet.bytes c.args.out.now) (g.O.Outlet.bytes c.write_whole.new.out)
-    (search rules) c.if-recorded.false c.if-rest-gt-MOST_LINE.false refl c.in_ok-lines.ensures.fewer
+    let runs = c.as_slice-2.result.now in
+    let is = recorded_of_cut s lines c.as_slice.result.now c.in_ok-runs.runs.items runs c.as_slice.ensures.value c.as_slice-2.ensures.value c.in_ok-runs.ensures in
+    let exact = c.in-Some.ensures.exact in
+    leaves s c.args.bytes.now c.in_ok-lines.rest.now lines (runs_view runs) is c.in_ok-lines.ensures.cut c.in_ok-lines.ensures.rest before (before + c.in-Some.written.lines) (g.O.Outlet.bytes c.args.out.now) (g.O.Outlet.bytes c.write_runs.new.out)
+    exact.2 (sym exact.1 ∙ c.if-written.false) c.if-rest-gt-MOST_LINE.false (ap (λ (n : ℕ). before + n) exact.0) c.in_ok-lines.ensures.fewer

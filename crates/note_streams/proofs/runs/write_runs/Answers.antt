@@ -1,0 +1,55 @@
+use Rattle.std.proofs.Common.{◌+◌, drop, arith, rules}
+use Rattle.record_lines.specs.View.{recorded_view}
+use Rattle.note_streams.specs.Runs.{runs_view}
+use Rattle.note_streams.proofs.Running.{at_run, begun, breaks, ended, fits, next, no_run, stops}
+use Rattle.note_streams.proofs.runs.write_runs.Goals as goal
+
+pub loop-run-init : goal.loop-run-init
+loop-run-init g c = record { whole = c.requires.whole; under = begun (g.O.Outlet.bytes c.args.out.now) (runs_view c.args.runs.now) }
+
+pub returns-then-not-write_whole-clause-exact : goal.returns-then-not-write_whole-clause-exact
+returns-then-not-write_whole-clause-exact g c =
+    let runs = c.args.runs.now in
+    let i = c.loop-run.run-index in
+    let run = recorded_view c.run-item.result in
+    let left = runs_view (drop (i + 1) runs) in
+    let old = g.O.Outlet.bytes c.args.out.now in
+    let mid = g.O.Outlet.bytes c.loop-run.out in
+    let under = at_run old mid c.loop-run.lines runs i c.run-item.result (omega arith) c.run-item.is c.loop-run.invariant.under in
+    breaks old mid (g.O.Outlet.bytes c.write_whole.new.out) c.loop-run.lines run left (runs_view runs) under (search rules)
+
+pub overflow_add-lines : goal.overflow_add-lines
+overflow_add-lines g c =
+    let runs = c.args.runs.now in
+    let i = c.loop-run.run-index in
+    let old = g.O.Outlet.bytes c.args.out.now in
+    let mid = g.O.Outlet.bytes c.loop-run.out in
+    let under = at_run old mid c.loop-run.lines runs i c.run-item.result (omega arith) c.run-item.is c.loop-run.invariant.under in
+    omega (arith, fits old mid mid c.loop-run.lines (recorded_view c.run-item.result) (runs_view (drop (i + 1) runs)) (runs_view runs) under, c.requires.room)
+
+pub returns-then-run-clause-exact : goal.returns-then-run-clause-exact
+returns-then-run-clause-exact g c =
+    let runs = c.args.runs.now in
+    let i = c.loop-run.run-index in
+    let old = g.O.Outlet.bytes c.args.out.now in
+    let mid = g.O.Outlet.bytes c.loop-run.out in
+    let under = at_run old mid c.loop-run.lines runs i c.run-item.result (omega arith) c.run-item.is c.loop-run.invariant.under in
+    stops old mid (g.O.Outlet.bytes c.write_whole.new.out) c.loop-run.lines (recorded_view c.run-item.result) (runs_view (drop (i + 1) runs)) (runs_view runs) under c.if-run.true (search rules)
+
+pub loop-run-preserved : goal.loop-run-preserved
+loop-run-preserved g c =
+    let runs = c.args.runs.now in
+    let i = c.loop-run.run-index in
+    let old = g.O.Outlet.bytes c.args.out.now in
+    let mid = g.O.Outlet.bytes c.loop-run.out in
+    let under = at_run old mid c.loop-run.lines runs i c.run-item.result (omega arith) c.run-item.is c.loop-run.invariant.under in
+    record {
+      whole = search rules;
+      under = next old mid (g.O.Outlet.bytes c.write_whole.new.out) c.loop-run.lines (recorded_view c.run-item.result) (runs_view (drop (i + 1) runs)) (runs_view runs) under c.if-run.false (search rules);
+    }
+
+pub returns-clause-exact : goal.returns-clause-exact
+returns-clause-exact g c =
+    let runs = c.args.runs.now in
+    let i = c.loop-run.run-index in
+    ended (g.O.Outlet.bytes c.args.out.now) (g.O.Outlet.bytes c.loop-run.out) c.loop-run.lines (runs_view (drop i runs)) (runs_view runs) (no_run runs i (omega arith)) c.loop-run.invariant.under

@@ -1,0 +1,94 @@
+//! The lines of a batch, in runs that are recorded side by side.
+ghost use Rattle.std.specs.Prelude.{◌≡◌, ◌++◌, ◌<◌, ◌^◌, IfOk, is_none, false};
+ghost use Rattle.record_lines.specs.Lines.{lines_view};
+ghost use Rattle.record_lines.specs.Record.{record_of};
+ghost use Rattle.record_lines.specs.Scene.{scene_of};
+ghost use Rattle.note_streams.specs.Runs.{WritesRuns, runs_view};
+ghost use denote.Param.Send.{IsSync};
+
+use flag_text::{Outlet, write_whole};
+use record_lines::{Recorded, Recorder, record_lines};
+use std::alloc::{AllocError, Global};
+use std::thread::{Threads, join};
+
+/// What was written of runs.
+#[derive(Drop)]
+pub(crate) struct Written {
+    /// The number of lines, with the one that is no context.
+    pub(crate) lines: u64,
+    /// The number of inputs that were not noted.
+    pub(crate) long: u64,
+    /// Whether the last of the lines is no context.
+    pub(crate) refused: bool,
+}
+
+/// What is recorded of lines, in runs of about the same number of lines, as many as there are workers, and no more than there are
+/// lines: those of the first half in a thread of its own, where one can be made, and the others here, each likewise.
+#[cycle(runs)]
+pub(crate) fn record_runs<R: Threads + Sync>(
+    rt: &R,
+    alloc: Global,
+    recorder: &Recorder<'_>,
+    lines: &[&[u8]],
+    workers: usize,
+) -> Result<Vec<Recorded>, AllocError>
+    ensures { IfOk result (λ runs. runs_view runs.items ≡ record_of (scene_of recorder.now) (lines_view lines.now)) }
+{
+    let workers = workers.min(lines.len());
+    if workers < 2 {
+        let run = record_lines(alloc, recorder, lines)?;
+        return Ok(vec![in alloc; run]?);
+    }
+    let half = workers / 2;
+    let others = workers - half;
+    let (front, behind) = lines.split_at(lines.len() / workers * half);
+    let there = move || -> Result<Vec<Recorded>, AllocError>
+        requires { IsSync R.row }
+        ensures { IfOk result (λ runs. runs_view runs.items ≡ record_of (scene_of recorder.entry.now) (lines_view front.entry.now)) }
+    { record_runs(rt, alloc, recorder, front, half) };
+    let here = move || -> Result<Vec<Recorded>, AllocError>
+        requires { IsSync R.row }
+        ensures { IfOk result (λ runs. runs_view runs.items ≡ record_of (scene_of recorder.entry.now) (lines_view behind.entry.now)) }
+    { record_runs(rt, alloc, recorder, behind, others) };
+    let (runs, later) = join(rt, there, here);
+    followed(runs?, later?)
+}
+
+/// These runs, and then those.
+fn followed(mut runs: Vec<Recorded>, mut later: Vec<Recorded>) -> Result<Vec<Recorded>, AllocError>
+    ensures { IfOk result (λ all. all.items ≡ runs.items ++ later.items) }
+{
+    runs.append(&mut later)?;
+    Ok(runs)
+}
+
+/// Writes the note lines of runs, one after another, up to the first of them in which a line is no context, and counts their
+/// lines. It gives none where a write failed; then a front of the note lines is written.
+pub(crate) fn write_runs<O: Outlet>(runs: &[Recorded], out: &mut O) -> Option<Written>
+    requires whole { O.is_broken out.old ≡ false }
+    requires room { (runs_view runs.now).lines < 2 ^ 64 }
+    ensures exact { WritesRuns (runs_view runs.now) (O.bytes out.old) (O.bytes out.new) result }
+    ensures broken { O.is_broken out.new ≡ is_none result }
+{
+    let mut lines = 0;
+    let mut long = 0u64;
+    for run in runs {
+        if !write_whole(out, run.text.as_slice()) {
+            return None;
+        }
+        lines += run.lines;
+        long = long.saturating_add(run.long);
+        if run.refused {
+            return Some(Written {
+                lines,
+                long,
+                refused: true,
+            });
+        }
+    }
+    Some(Written {
+        lines,
+        long,
+        refused: false,
+    })
+}
