@@ -1,4 +1,4 @@
-"""The options `--strict`, by which what is told in a note is refused, and `--explain`. These tests wait for the release that has them."""
+"""The options `--strict`, by which what is told in a note is refused, and `--explain`."""
 import unittest
 
 from given import BOOK, CHEAPEST, EMPTY_BOOK, FIVES, RED_3, document, plan_of, request

@@ -1,6 +1,4 @@
-"""Files that are no book, cannot be read or take no more bytes, and asks that record nothing: what a person is told.
-
-These tests run the program of this version: they wait for its release."""
+"""Files that are no book, cannot be read or take no more bytes, and asks that record nothing: what a person is told."""
 import os
 import subprocess
 import tempfile
