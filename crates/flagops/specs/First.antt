@@ -1,5 +1,5 @@
 -- The family of a command, by the first of its words and for some by an option among the others.
-use Rattle.std.specs.Prelude.{Bool, false, List, [], ◌∷◌, ◌&&◌, ◌||◌, codes, nat_eq, if◌then◌else◌}
+use Rattle.std.specs.Prelude.{Bool, true, false, List, [], ◌∷◌, ◌&&◌, ◌||◌, codes, nat_eq, if◌then◌else◌, Option, Some, None}
 use Rattle.std.specs.List.{starts_with}
 use Rattle.std.specs.Str.{bytes_eq}
 use Rattle.clap.specs.Walk.{Text}
@@ -35,3 +35,35 @@ family_with first words =
 abbrev pub family_of : List Text → Family
 family_of [] = Files
 family_of (first ∷ words) = family_with first (first ∷ words)
+
+-- a command that reads its words by itself, and not one over files alone
+abbrev pub reads_its_words : Family → Bool
+reads_its_words Files = false
+reads_its_words Serve = true
+reads_its_words Follow = true
+reads_its_words Ramp = true
+reads_its_words VerifyRamp = true
+reads_its_words Picture = true
+reads_its_words PictureRamp = true
+reads_its_words PlanPicture = true
+reads_its_words ApplyStep = true
+reads_its_words Ofrep = true
+reads_its_words Record = true
+reads_its_words Tally = true
+reads_its_words Join = true
+reads_its_words Book = true
+
+-- the name of such a command, where the words ask for its help by `help NAME`
+abbrev pub help_for : List Text → Option Text
+help_for [] = None
+help_for (first ∷ []) = None
+help_for (first ∷ (name ∷ [])) = if bytes_eq first (codes "help") && reads_its_words (family_named name) then Some name else None
+help_for (first ∷ (name ∷ (more ∷ words))) = None
+
+abbrev pub helped_by : Option Text → List Text → List Text
+helped_by None words = words
+helped_by (Some name) words = name ∷ codes "--help" ∷ []
+
+-- `help NAME` of such a command is `NAME --help`; all other words are as they are
+abbrev pub helped : List Text → List Text
+helped words = helped_by (help_for words) words

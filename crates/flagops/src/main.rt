@@ -18,7 +18,7 @@ ghost use Rattle.flagops_commands.specs.Ended.{ComplainsAt};
 mod family;
 mod outputs;
 
-use family::{Family, family_of};
+use family::{Family, family_of, helped};
 use flag_text::{Outlet, WriteOutlet};
 use flagops_books::book;
 use flagops_commands::{complain, run};
@@ -48,7 +48,7 @@ const STACK: usize = 4 * 1024 * 1024;
 
 fn main(rt: HostRuntime) -> ExitCode {
     let _are_open = open_standard(&rt);
-    let words = behind_name(rt.alloc(), env::args(&rt));
+    let words = asked_words(rt.alloc(), env::args(&rt));
     let input = ReadInlet::new(PersistentInput::new(rt.stdin()));
     let out = WriteOutlet::new(Persistent::new(rt.stdout()));
     let err = WriteOutlet::new(Persistent::new(rt.stderr()));
@@ -121,6 +121,11 @@ fn spawned<R: Threads + Wait, C: FnOnce() -> ExitCode + Send + Drop>(
             }
         },
     )
+}
+
+/// The words that are asked, behind the program's name.
+fn asked_words(alloc: Global, words: io::Result<Args>) -> io::Result<Vec<String>> {
+    helped(alloc, behind_name(alloc, words)?)
 }
 
 /// The words behind the first, which is the program's name.

@@ -22,12 +22,14 @@ use std::sync::Wait;
 use std::thread::Threads;
 
 /// Does what the words after the program's name ask for, and gives the status to end with: 0
-/// done, 1 refused or the output failed, 2 words that ask for nothing, 3 no rule fits.
+/// done, 1 refused, a broken flag at `check --strict`, or the output failed, 2 words that ask for
+/// nothing, 3 no rule fits.
 ///
 /// The report goes to `out`, made whole before its first byte is written. `err` gets the text of
-/// `clap` on words that it refuses, and what a person is told: of a refusal, of broken flags, and
-/// of a book without an input for the request. What becomes of `err` changes neither the report nor
-/// the status. Help and the version, where they are asked for, go to `out` with status 0.
+/// `clap` on words that it refuses, and what a person is told: of a refusal, of broken flags, of
+/// what is doubted of an answer, of a plan in words where that is asked for, and of what the asks
+/// of `drive` ended in. What becomes of `err` changes neither the report nor the status. Help and
+/// the version, where they are asked for, go to `out` with status 0.
 #[tactic(auto, using(crate::proofs::Leaving::left_alone, crate::proofs::Leaving::left_by, crate::proofs::Wants::done_reported))]
 pub fn run<R: AllocGlobal + Threads + Wait + Sync, S: AsStr, F: FileSet, O: Outlet, E: Outlet>(
     rt: &R,

@@ -1,7 +1,7 @@
 //! The commands on rollouts.
 
 pub mod apply;
-pub mod doubts;
+mod doubts;
 mod explained;
 pub mod keep;
 mod kept;
