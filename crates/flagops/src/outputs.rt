@@ -1,9 +1,9 @@
-//! The standard input and outputs as the program reads and writes them.
+//! The standard outputs as the program writes them.
 ghost use Rattle.std.specs.Prelude.{◌≡◌};
 
-use std::io::{self, ErrorKind, Read, Write};
+use std::io::{self, ErrorKind, Write};
 
-/// How often a read or a write is made again that signals interrupt one after the other.
+/// How often a write is made again that signals interrupt one after the other.
 const MOST_INTERRUPTIONS: u32 = 1_000_000;
 
 /// A writer whose writes are made again where a signal interrupts them: an interrupted write has written nothing.
@@ -18,35 +18,6 @@ impl<W: Write> Persistent<W> {
         ensures { ⟦<Persistent<W> as Write>⟧.contents result ≡ W.contents writer }
     {
         Persistent { writer }
-    }
-}
-
-/// A reader whose reads are made again where a signal interrupts them: an interrupted read has read nothing.
-#[derive(Drop)]
-pub struct PersistentInput<R> {
-    reader: R,
-}
-
-impl<R: Read> PersistentInput<R> {
-    /// It has the bytes left that the reader has left.
-    pub fn new(reader: R) -> PersistentInput<R>
-        ensures { ⟦<PersistentInput<R> as Read>⟧.remaining result ≡ R.remaining reader }
-    {
-        PersistentInput { reader }
-    }
-}
-
-impl<R: Read> Read for PersistentInput<R> {
-    ghost remaining = { λ p. R.remaining p.reader };
-
-    fn read(&mut self, buf: &mut [u8]) -> io::Result<usize> {
-        for _ in 0..MOST_INTERRUPTIONS {
-            match self.reader.read(buf) {
-                Err(e) if e.kind() == ErrorKind::Interrupted => {}
-                outcome => return outcome,
-            }
-        }
-        self.reader.read(buf)
     }
 }
 

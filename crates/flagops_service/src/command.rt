@@ -14,7 +14,7 @@ use crate::preparing::{Prepared, Unready, prepare};
 use crate::reporting::{
     refuse_and_tell, refuse_document, refuse_log, refuse_unloaded, serving_line,
 };
-use crate::telling::{say_listening, say_published};
+use crate::telling::{say_ended, say_listening, say_published};
 use crate::watching::{Watched, watch};
 use crate::words::read_ofrep;
 use flag_defs::Flags;
@@ -262,9 +262,10 @@ where
     board.publish(1);
     let poll = answering.poll;
     let mut watched = watched;
-    let _ended = work_beside(rt, alloc, keys, &board, seats, posts, others, streams, || {
+    let ended = work_beside(rt, alloc, keys, &board, seats, posts, others, streams, || {
         watch(rt, &mut watched, publisher, &board, poll, files, err)
     });
+    say_ended(err, ended.is_some());
     status
 }
 

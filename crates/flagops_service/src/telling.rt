@@ -56,6 +56,21 @@ fn say_recording<E: Outlet>(alloc: Global, err: &mut E, log: Option<&str>) {
     }
 }
 
+/// Why the service has ended: its workers have, where they had begun, or no thread could be made for one of them.
+pub(crate) fn say_ended<E: Outlet>(err: &mut E, had_begun: bool) {
+    if had_begun {
+        say(
+            err,
+            "ofrep: the workers have ended, for want of memory or by the system\n",
+        );
+    } else {
+        say(
+            err,
+            "ofrep: no thread could be made for a worker, for want of memory or by the system; the service has ended\n",
+        );
+    }
+}
+
 /// What was published.
 pub(crate) fn say_published<E: Outlet>(alloc: Global, err: &mut E, number: u64, flags: usize) {
     say_made(

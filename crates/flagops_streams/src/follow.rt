@@ -8,6 +8,7 @@ ghost use Rattle.sync_server.specs.Reads.{ReadUpTo};
 ghost use Rattle.flagops_streams.specs.Printed.{Follows, Printed, last_line, snapshot_line, start_of, status_of, word_of};
 ghost use Rattle.flagops_streams.specs.Report.{FindsNobody, Writes};
 
+use crate::persistent::PersistentInput;
 use crate::refusal::Refusal;
 use crate::remark::say_unreachable;
 use crate::report::{refuse, write_three};
@@ -50,7 +51,8 @@ pub fn follow_port<R: AllocGlobal + Net + Clock, O: Outlet, E: Outlet>(
                 ensures { Follows (O.bytes out) (O.bytes result.0) (O.is_broken result.0) result.1 }
             {
                 let (alloc, stream, turns) = given;
-                follow_lines(alloc, &mut ReadInlet::new(stream), out, turns)
+                let mut inlet = ReadInlet::new(PersistentInput::new(stream));
+                follow_lines(alloc, &mut inlet, out, turns)
             },
         ),
         None => {

@@ -31,6 +31,7 @@ mod board;
 mod documents;
 mod follow;
 mod parting;
+mod persistent;
 mod refusal;
 mod remark;
 mod report;
@@ -40,6 +41,7 @@ mod timed;
 
 pub use documents::{Documents, merge_next};
 pub use follow::{follow_lines, follow_port};
+pub use persistent::PersistentInput;
 pub use refusal::Refusal;
 pub use remark::{Remarks, say_refused};
 pub use report::{refuse, write_line};

@@ -1,5 +1,5 @@
 use Rattle.std.specs.Io.KnownBytes.{Keeps}
-use Rattle.flagops.proofs.outputs.PersistentInputRead.read.Given as goal
+use Rattle.flagops_streams.proofs.persistent.PersistentInputRead.read.Given as goal
 
 -- interrupted reads have read nothing
 abbrev pub invariant-loop : goal.invariant-loop
