@@ -68,7 +68,7 @@ class WorkersTest(ProgramTest):
         good = [compact({"filler": filler, "key": f"user{n}"}) + "\n" for n in range(16)]
         self.assertEqual(self.assert_same("".join(good), 16), "")
         for bad in range(16):
-            for also in (None, 15, (bad + 5) % 16):
+            for also in (None, (bad + 5) % 16):
                 with self.subTest(bad=bad, also=also):
                     lines = list(good)
                     for at in {bad} if also is None else {bad, also}:
@@ -79,9 +79,9 @@ class WorkersTest(ProgramTest):
     def test_batches(self):
         """Several batches, with a line that is no context at the first, the last and some other places."""
         filler = "f" * 4_096
-        good = [compact({"filler": filler, "key": f"user{n}"}) + "\n" for n in range(6_000)]
-        self.assertEqual(self.assert_same("".join(good), 6_000), "")
-        for bad in (0, 1_000, 2_040, 3_000, 4_096, 5_999):
+        good = [compact({"filler": filler, "key": f"user{n}"}) + "\n" for n in range(4_500)]
+        self.assertEqual(self.assert_same("".join(good), 4_500), "")
+        for bad in (0, 1_018, 2_036, 4_499):
             with self.subTest(bad=bad):
                 self.assert_same("".join([*good[:bad], "{\n", *good[bad + 1 :]]), bad, bad + 1)
 
