@@ -18,12 +18,32 @@ NO_BOOKS = [
     (document(), "a book begins with the line"),
 ]
 
+# First lines of a book, written in other ways than the program writes them; some are longer than the 4,096 bytes by which a file
+# is judged.
+FIRST_LINES = [
+    ' {"book":1}',
+    '\t{ "book" : 1 }\r',
+    '{"\\u0062ook":1}',
+    '{"book":2,"book":1}',
+    '{"book":1' + " " * 5000 + "}",
+    " " * 5000 + '{"book":1}',
+]
+
+# First lines of no book: by their first bytes, and only behind those.
+OTHER_LINES = ["", "x", '["book",1]', '{"nook":1}', '{"book":2}', '{"book":1,"by":1}', "{" + " " * 5000 + '"cook":1}']
+
 # The words with a file `f` that is not there.
 ABSENT = [
     ["check", "f"],
     ["bucket", "f", "key"],
     ["plan", "d", "r", "f"],
 ]
+
+
+def long_book(first):
+    """A book of more than 4,096 bytes, with this first line."""
+    page = BOOK.split("\n")[1]
+    return "\n".join([first, page, *(f'"{number:05}"' for number in range(1000)), ""])
 
 
 def ask(key):
@@ -55,6 +75,21 @@ class Troubles(ProgramTest):
                 self.assertEqual(ran.status, 1)
                 self.assertIn("refused read_book ", ran.out)
                 self.assertIn(told, ran.err)
+
+    def test_a_book_may_begin_in_other_ways(self):
+        """A long book is judged by its first bytes: it is planned on as the one that the program writes."""
+        plain = run(["plan", "d", "r", "f"], {"d": document(), "r": REQUEST, "f": long_book('{"book":1}')})
+        self.assertEqual(plain.status, 0)
+        for first in FIRST_LINES:
+            with self.subTest(first=first[:20]):
+                ran = run(["plan", "d", "r", "f"], {"d": document(), "r": REQUEST, "f": long_book(first)})
+                self.assertEqual((ran.status, ran.out), (0, plain.out))
+
+    def test_what_begins_as_no_book_is_refused_for_its_first_line(self):
+        for first in OTHER_LINES:
+            with self.subTest(first=first[:20]):
+                files = {"d": document(), "r": REQUEST, "f": long_book(first)}
+                self.assert_ends(["plan", "d", "r", "f"], files, 1, "refused read_book 1 Header\n")
 
     def test_a_device_is_judged_by_what_it_begins_with(self):
         for device in ["/dev/zero", "/dev/urandom"]:

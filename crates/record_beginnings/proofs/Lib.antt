@@ -1,0 +1,8 @@
+mod Blanks
+mod Books
+mod Lexed
+mod Members
+mod Pieces
+mod Tallies
+mod Tokens
+mod Wholes

@@ -1,0 +1,11 @@
+//! Why a file that is judged by its first piece is judged as all of its bytes are.
+//!
+//! A book may be of any size, so a file is read up to its first 4,096 bytes, and no further where these may begin neither a
+//! book nor a tally (`flagops_files`). That this refuses no file which its whole would not, and none for another reason, is
+//! proved here over the definitions that the commands answer by: [`records_are_told_by_their_first_piece`] of the bytes, and
+//! [`files_are_read_whole`] of the book and the evidence of a file at a path.
+#![tactic(auto)]
+
+mod laws;
+
+pub use laws::{files_are_read_whole, records_are_told_by_their_first_piece};
