@@ -85,8 +85,9 @@ def driven(program, document, asks, count):
     """What `drive` answers to the asks of a file."""
     with tempfile.TemporaryDirectory() as folder:
         words = [program, "drive", document, asks, "1", os.path.join(folder, "book")]
-        ran = subprocess.run(words, stdout=subprocess.PIPE, encoding="utf-8", check=False)
+        ran = subprocess.run(words, stdout=subprocess.PIPE, stderr=subprocess.PIPE, encoding="utf-8", check=False)
     if ran.returncode:
+        sys.stderr.write(ran.stderr)
         raise ValueError(ran.stdout.strip() or f"{program} ended with status {ran.returncode}")
     resolutions = [json.loads(line) for line in ran.stdout.split("\n")[:count]]
     return [Answer(*(resolution[name] for name in Answer._fields)) for resolution in resolutions]
