@@ -20,8 +20,10 @@ import time
 from collections import Counter
 
 from network import flags, frame, last_of, taken
-from preload import PROGRAM, SECONDS, built, write
+from forks import PROGRAM, built
+from rows import write
 
+SECONDS = 10
 DOCUMENTS = [flags(1), flags(10)]
 SENT = b"".join(frame(number, document) for number, document in enumerate(DOCUMENTS, 1))
 REFUSED = re.compile(rb"refused ([\w:]+ 0 WantOfMemory|spawn 1 NoThread|serve 1 Unserved 1)\n|(snapshot 1 flags 1\n)?(snapshot 2 flags 10\n)?stopped WantOfMemory\n")
