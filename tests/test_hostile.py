@@ -11,7 +11,7 @@ FOLDER = os.path.join(ROOT, "bench", "hostile")
 LAST = r"\n[1-9]\d* cases, \d+ bad\n$"
 
 
-class Hostile(unittest.TestCase):
+class Script(unittest.TestCase):
     def last(self, script, *given):
         """What a script tells in all of these words, once it went to its end."""
         words = [sys.executable, os.path.join(FOLDER, script), *map(str, given)]
@@ -20,23 +20,50 @@ class Hostile(unittest.TestCase):
         self.assertEqual(ended.stderr, "")
         return ended.stdout.splitlines()[-1]
 
-    @unittest.skipUnless(shutil.which("cc"), "no compiler of C is here")
-    def test_refused_requests_for_memory(self):
-        self.assertEqual(self.last("memory.py", 2), "66 cases, 0 bad")
-        self.assertEqual(self.last("streams.py", 2), "8 cases, 0 bad")
+    def none_bad(self, script, *given):
+        """None of a script's cases are bad."""
+        self.assertRegex(self.last(script, *given), "cases, 0 bad$")
 
-    @unittest.skipUnless(shutil.which("cc"), "no compiler of C is here")
-    def test_failing_devices(self):
-        self.last("devices.py", 1)
 
+class Hostile(Script):
     def test_bad_peers(self):
         self.last("network.py", 1)
 
-    def test_costly_documents(self):
-        self.assertEqual(self.last("costly.py", "levels"), "2 cases, 0 bad")
-
     def test_many_at_once(self):
         self.assertEqual(self.last("many.py", 4, 1), "5 cases, 0 bad")
+
+    def test_for_long(self):
+        self.none_bad("long.py", 1)
+
+
+@unittest.skipUnless(shutil.which("cc"), "no compiler of C is here")
+class Libraries(Script):
+    def test_refused_requests_for_memory(self):
+        self.none_bad("memory.py", 2)
+        self.assertEqual(self.last("streams.py", 2), "8 cases, 0 bad")
+
+    def test_failing_devices(self):
+        self.none_bad("devices.py", 1, "check")
+        self.none_bad("devices.py", 1, "record")
+        self.last("devices.py", 1, "drive")
+
+    def test_mutated_files(self):
+        self.assertEqual(self.last("mutate.py", 20, 1), "280 cases, 0 bad")
+        self.none_bad("mutate.py", 20, 0, "tally", "frames", "other files, cut")
+
+    def test_costly_documents(self):
+        self.assertEqual(self.last("costly.py", "evaluation", "levels"), "2 cases, 0 bad")
+
+    def test_a_service_that_lacks_something(self):
+        self.none_bad("ofrep.py", 1)
+
+    @unittest.skipUnless(shutil.which("valgrind"), "no valgrind is here")
+    def test_races(self):
+        self.none_bad("races.py", "drd", "record")
+
+    @unittest.skipUnless(shutil.which("afl-fuzz") and shutil.which("objdump"), "no AFL++ is here")
+    def test_fuzzers(self):
+        self.none_bad("fuzz.py", "verify", 3)
 
 
 if __name__ == "__main__":

@@ -1,23 +1,22 @@
 #!/usr/bin/env python3
 """Runs the shipped program on documents that are small and costly: for each limit one just within it and one just beyond.
 
-    bench/hostile/costly.py
+    bench/hostile/costly.py [GROUP [WORD]]
 
+Those of a GROUP (targeting, evaluation, documents, records, rules, evaluations, plans) whose names hold a WORD, or all.
 A run is bad where it is ended by a signal, answers another than the row's, or takes more than a second of a processor and one for each
 megabyte of what it read and printed, or more than 60 MB and 60 bytes for each byte read or printed. Prints a row for each: what it
 is, the bytes read and printed, the answer, the time and the memory. The last line is 'N cases, M bad'; ends with 1 where M is
 not 0."""
 import json
 import os
-import resource
-import subprocess
 import sys
 import tempfile
 from typing import NamedTuple
 
-TOP = os.path.join(os.path.dirname(os.path.abspath(__file__)), "..", "..")
-PROGRAM = os.environ.get("FLAGOPS", os.path.join(TOP, "release", "x86_64-linux", "flagops"))
-SECONDS, MOST, MEGABYTES, PER_BYTE = 1.0, 60, 60, 60
+from forks import Forks
+
+SECONDS, MEGABYTES, PER_BYTE = 1.0, 60, 60
 
 FLAG = {"state": "ENABLED", "variants": {"on": True, "off": False}, "defaultVariant": "off"}
 
@@ -91,42 +90,127 @@ def split(buckets, by=None):
     return {"fractional": ([by] if by else []) + [["on" if at % 2 else "off", 1] for at in range(buckets)]}
 
 
-def rows():
-    """All rows."""
-    yield from limits_of_targeting()
-    yield from limits_of_documents()
-    yield from costly_evaluations()
-    yield from costly_plans()
-
-
 def limits_of_targeting():
-    """Levels, nodes, references."""
-    yield resolved("levels, at the limit", {"if": [nested(47, True), "on", "off"]})
-    yield resolved("levels, twice the limit", {"if": [nested(100, True), "on", "off"]})
-    yield resolved("nodes, near the limit", {"if": [wide(9_900), "on", "off"]})
-    yield resolved("nodes, beyond", {"if": [wide(10_100), "on", "off"]})
-    yield resolved("a chain of 40 references", {"if": [{"$ref": "e0"}, "on", "off"]}, evaluators=chain(40))
-    yield checked("a chain of 20,000 references", document({"a": flag({"if": [{"$ref": "e0"}, "on", "off"]})}, chain(20_000)))
-    yield checked("1,000 flags on a chain of 20,000", document({f"f{n}": flag({"if": [{"$ref": "e0"}, "on", "off"]}) for n in range(1000)}, chain(20_000)))
+    """Levels, nodes, references, buckets, units, texts: each just within, and just beyond."""
+    within, beyond = '"a" good', '"a" broken'
+    for count, begins in ((49, within), (50, beyond)):
+        yield checked(f"{count} operations one in the other", document({"a": flag({"if": [nested(count, True), "on", "off"]})}), begins)
+    for count, begins in ((9_992, within), (9_993, beyond)):
+        yield checked(f"a list of {count:,} nodes", document({"a": flag({"if": [wide(count), "on", "off"]})}), begins)
+    for name, count, made, begins in (
+        ("a chain of 48 references", 48, chain(48), within),
+        ("a chain of 49 references", 49, chain(49), beyond),
+        ("a chain of 20,000 references", 1, chain(20_000), beyond),
+        ("a fan of 2,498 references to one", 1, {"e0": {"and": [{"$ref": "e1"}] * 2_498}, "e1": {"==": [1, 1]}}, within),
+        ("a fan of 2,499 references to one", 1, {"e0": {"and": [{"$ref": "e1"}] * 2_499}, "e1": {"==": [1, 1]}}, beyond),
+        ("a fan of 2^10 references", 10, fan(10, 2), within),
+        ("a fan of 2^11 references", 11, fan(11, 2), beyond),
+        ("a fan of 2^40 references", 40, fan(40, 2), beyond),
+        ("a ring of 1 reference", 1, ring(1), beyond),
+        ("a ring of 10,000 references", 1, ring(10_000), beyond),
+    ):
+        yield checked(name, document({"a": flag({"if": [{"$ref": "e0"}, "on", "off"]})}, made), begins)
+    for name, made in (("on a chain of 20,000", chain(20_000)), ("on a fan of 5,000 nodes", fan(4, 8))):
+        yield checked(f"1,000 flags {name}", document({f"f{n}": flag({"if": [{"$ref": "e0"}, "on", "off"]}) for n in range(1000)}, made))
     yield checked("1,000 flags along a chain of 20,000", document({f"f{n}": flag({"if": [{"$ref": f"e{n * 20}"}, "on", "off"]}) for n in range(1000)}, chain(20_000)))
-    yield checked("a fan of 2^40 references", document({"a": flag({"if": [{"$ref": "e0"}, "on", "off"]})}, fan(40, 2)))
-    yield checked("a ring of 10,000 references", document({"a": flag({"if": [{"$ref": "e0"}, "on", "off"]})}, ring(10_000)))
-    yield checked("1,000 flags on a fan of 5,000 nodes", document({f"f{n}": flag({"if": [{"$ref": "e0"}, "on", "off"]}) for n in range(1000)}, fan(4, 8)))
+
+
+def limits_of_evaluation():
+    """Weights, buckets, units, made texts, keys, levels of a context."""
+    right, wrong = '{"code":null', '{"code":"PARSE_ERROR"'
+    key = json.dumps({"targetingKey": "k"})
+    for weight, begins in ((2_147_483_646, right), (2_147_483_647, wrong)):
+        yield resolved(f"weights of {weight + 1:,}", {"fractional": [["on", weight], ["off", 1]]}, key, begins)
+    yield resolved("200,000 buckets", split(200_000), key, right)
+    mapped = {"if": [{"in": [0, {"map": [{"var": "xs"}, {"var": ""}]}]}, "on", "off"]}
+    for count, begins in ((24_997, right), (25_001, wrong)):
+        yield resolved(f"a map of {count:,} values: 100,000 units", mapped, json.dumps({"xs": list(range(count))}), begins)
+    made = {"if": [{"in": ["z", {"cat": [{"var": "t"}, "x"]}]}, "on", "off"]}
+    for count, begins in ((65_535, right), (65_536, wrong)):
+        yield resolved(f"a text of {count + 1:,} bytes is made", made, json.dumps({"t": "y" * count}), begins)
+        yield resolved(f"a hash input of {count + 1:,} bytes", {"fractional": [["on", 1]]}, json.dumps({"targetingKey": "y" * count}), begins)
+    for levels, begins in ((120, right), (121, "refused read_tree 4 TooDeep")):
+        yield resolved(f"a context of {levels} levels", {"if": [True, "on", "off"]}, '{"a":' * levels + "1" + "}" * levels, begins)
 
 
 def limits_of_documents():
     """Flags, variants, bytes, names."""
-    yield checked("10,000 flags", document({f"f{n}": FLAG for n in range(10_000)}))
+    yield checked("10,000 flags", document({f"f{n}": FLAG for n in range(10_000)}), '"f0" good')
     yield checked("10,001 flags", document({f"f{n}": FLAG for n in range(10_001)}), "refused read_flags 3 TooLarge")
-    yield checked("64 variants in each of 1,000 flags", document({f"f{n}": {**FLAG, "variants": {f"v{k}": True for k in range(64)}, "defaultVariant": "v0"} for n in range(1000)}))
-    yield checked("65 variants", document({"a": {**FLAG, "variants": {f"v{k}": True for k in range(65)}, "defaultVariant": "v0"}}))
+    yield checked("64 variants in each of 1,000 flags", document({f"f{n}": {**FLAG, "variants": {f"v{k}": True for k in range(64)}, "defaultVariant": "v0"} for n in range(1000)}), '"f0" good')
+    yield checked("65 variants", document({"a": {**FLAG, "variants": {f"v{k}": True for k in range(65)}, "defaultVariant": "v0"}}), '"a" broken')
+    for levels, begins in ((99, '"a" good'), (100, '"a" broken')):
+        variants = '{"x":' + '{"a":' * levels + "1" + "}" * levels + "}"
+        yield checked(f"variants of {levels + 1} levels", '{"flags":{"a":{"state":"ENABLED","defaultVariant":"x","variants":' + variants + "}}}", begins)
+    for length, begins in ((4_194_304, '"a" good'), (4_194_305, "refused read_flags 3 TooLarge")):
+        text = document({"a": FLAG})
+        yield checked(f"a document of {length:,} bytes", text + " " * (length - len(text)), begins)
     yield checked("a flag's member 100,000 times", '{"flags":{"a":{' + ",".join(['"state":"ENABLED"'] * 100_000) + ',"variants":{"on":true},"defaultVariant":"on"}}}')
     yield checked("one flag 50,000 times", '{"flags":{' + ",".join(['"a":{"state":"ENABLED","variants":{"on":true},"defaultVariant":"on"}'] * 50_000) + "}}")
     yield checked("a name of 4 MB", document({"a" * 4_000_000: FLAG}))
     yield checked("an unread member of 4 MB", document({"a": {**FLAG, "metadata": {"x": "y" * 4_000_000}}}))
-    yield checked("lists in lists, 127 deep", '{"flags":' + "[" * 126 + "]" * 126 + "}")
-    yield checked("lists in lists, 2,000,000 deep", '{"flags":' + "[" * 2_000_000 + "]" * 2_000_000 + "}", "refused read_flags 1 NotJson")
+    for depth, begins in ((127, "refused read_flags 2 NoFlags"), (128, "refused read_flags 1 NotJson"), (2_000_000, "refused read_flags 1 NotJson")):
+        yield checked(f"lists in lists, {depth:,} deep", '{"flags":' + "[" * (depth - 1) + "]" * (depth - 1) + "}", begins)
     yield checked("4 MB of blanks", " " * 4_190_000 + "{}", "refused read_flags 2 NoFlags")
+
+
+def colliding(count):
+    """Texts of 8 letters that all have one hash: a first half, and the second one that leads it back to one state."""
+    mask = (1 << 32) - 1
+    turn = lambda word, by: (word << by | word >> (32 - by)) & mask
+    after = lambda state, word: (turn(state ^ turn(word * 0xCC9E2D51 & mask, 15) * 0x1B873593 & mask, 13) * 5 + 0xE6546B64) & mask
+    back, half, whole = pow(5, -1, 1 << 32), pow(0x1B873593, -1, 1 << 32), pow(0xCC9E2D51, -1, 1 << 32)
+    wanted = after(after(0, int.from_bytes(b"aaaa", "little")), int.from_bytes(b"aaaa", "little"))
+    found, number = [], 0
+    while len(found) < count:
+        number += 1
+        first = bytes(33 + number // 94**place % 94 for place in range(4))
+        state = after(0, int.from_bytes(first, "little"))
+        word = turn((turn((wanted - 0xE6546B64) * back & mask, 19) ^ state) * half & mask, 17) * whole & mask
+        text = first + word.to_bytes(4, "little")
+        if all(32 < byte < 127 and byte not in b'"\\' for byte in text):
+            found.append(text.decode())
+    return found
+
+
+def limits_of_records():
+    """Inputs of a page, their bytes, keys of one hash, points, steps, inputs of a tally."""
+    doc = document({"a": flag({"fractional": [{"var": "k"}, ["on", 1], ["off", 1]]})})
+    front = '{"book":1}\n' + json.dumps({"by": '{"var":["k"]}', "flag": "a", "site": 0}, separators=(",", ":")) + "\n"
+    asked = lambda points: json.dumps({"plan": 1, "flag": "a", "totals": {"on": points, "off": points}})
+    request = asked(1)
+    planned = lambda name, book, begins, ask=request, more=(): Row(name, ["plan", "doc", "request", "book", *more], {"doc": doc, "request": ask, "book": book}, begins)
+    for count, begins in ((1_000_000, '{"alpha"'), (1_000_001, "refused read_book 5 PageFull")):
+        yield planned(f"{count:,} inputs on a page", front + "".join(f'"{n:07}"\n' for n in range(count)), begins)
+    for count, begins in ((1024, '{"alpha"'), (1025, "refused read_book 4 InputTooLong")):
+        yield planned(f"an input of {count:,} bytes", front + '"' + "i" * count + '"\n', begins)
+    keys = sorted(colliding(3000))
+    yield planned("3,000 inputs of one hash", front + "".join(f'"{key}"\n' for key in keys), '{"alpha"')
+    page = {"by": '{"var":["k"]}', "first": '["a",0,"{\\"var\\":[\\"k\\"]}","0"]', "flag": "a", "inputs": 0, "last": '["a",0,"{\\"var\\":[\\"k\\"]}","9"]', "site": 0, "total": 2}
+    for count, begins in ((67_108_864, '{"alpha"'), (67_108_865, "refused read_tally 5 Inputs")):
+        yield planned(f"a tally of {count:,} inputs on a point", '{"tally":1}\n' + json.dumps({**page, "inputs": count}, separators=(",", ":")) + f"\n[0,{count}]\n", begins)
+    for factor, begins in ((500_000, '{"alpha"'), (500_001, "refused plan 7")):
+        yield planned(f"a rule of {2 * factor:,} points", front + '"x"\n', begins, asked(factor), ["--refine", str(factor)])
+    for count, begins in ((100, '{"plan"'), (101, "refused ramp 1 Request")):
+        steps = json.dumps({"plan": 1, "flag": "a", "steps": [{"on": n % 3, "off": 2 - n % 3} for n in range(count)]})
+        yield Row(f"{count} steps", ["ramp", "doc", "steps", "book"], {"doc": doc, "steps": steps, "book": front + '"x"\n'}, begins)
+
+
+def limits_of_rules():
+    """Weights and keys of rules, and files that are none."""
+    for weight, begins in ((2_147_483_646, "hash "), (2_147_483_647, "refused read_rule 2 TooHeavy")):
+        yield Row(f"a rule of the weight {weight + 1:,}", ["bucket", "rule", "k"], {"rule": f'[["a",{weight}],["b",1]]'}, begins)
+    for name, text in (("lists", "[" + "[]," * 1_000_000 + "1]"), ("numbers", "[" + "1," * 1_000_000 + "1]"), ("brackets", "[" * 3_000_000)):
+        yield Row(f"a rule of {name} by the million", ["bucket", "rule", "k"], {"rule": text}, "refused read_")
+    priced = {"old": '[["a",1]]', "new": '[["b",1]]', "request": '{"plan":1,"flag":"a","totals":{},"price":1}'}
+    for name, keys, begins in (
+        ("a key of 1,024 bytes", ["k" * 1024], "total"),
+        ("a key of 1,025 bytes", ["k" * 1025], "refused note 2 InputTooLong"),
+        ("300,000 keys", [f"{n}" for n in range(300_000)], "total"),
+        ("one key 1,000,000 times", [""] * 1_000_000, "total"),
+        ("3,000 keys of one hash", colliding(3000), "total"),
+    ):
+        yield Row(name, ["price", "old", "new", "request", "keys"], {**priced, "keys": json.dumps(keys, separators=(",", ":"))}, begins)
 
 
 def costly_evaluations():
@@ -140,6 +224,8 @@ def costly_evaluations():
     names = [{"k": "n" * 100}] * 300
     mapped = {"map": [list(range(2000)), names[:1]]}
     yield resolved("literals copied by map", {"if": [{"in": [0, mapped]}, "on", "off"]})
+    named = {"map": [{"var": "xs"}, {"a" + "x" * 30_000: 1, "b" + "x" * 30_000: 1}]}
+    yield resolved("names of literal objects copied by map", {"if": [{"in": [0, named]}, "on", "off"]}, json.dumps({"xs": list(range(10_000))}))
     kept = {"reduce": [list(range(3000)), {"cat": [{"var": "accumulator"}, "x" * 50]}, ""]}
     yield resolved("a text made by reduce", {"if": [{"==": [kept, "x"]}, "on", "off"]})
     yield resolved("a fractional of 4,900 buckets", {"if": [True, split(4900)]}, json.dumps({"targetingKey": "k"}))
@@ -176,33 +262,37 @@ def costly_plans():
     yield Row("64 names, all but a ring forbidden", ["plan", "doc", "request", "book"], {"doc": wide_doc, "request": json.dumps({**ask, "totals": totals, "forbid": forbid}), "book": book})
 
 
-def run(row, folder):
+def run(forks, row, folder):
     """How a run ended: its status, the front of its first line, the bytes that it printed and told, the seconds of a processor, and
     the megabytes that it took at most."""
     for name, text in row.files.items():
         with open(os.path.join(folder, name), "w", encoding="utf-8") as file:
             file.write(text)
-    outlets = [os.path.join(folder, name) for name in ("out", "err")]
-    with open(outlets[0], "wb") as out, open(outlets[1], "wb") as err:
-        child = subprocess.Popen([PROGRAM, *row.words], cwd=folder, stdout=out, stderr=err, preexec_fn=lambda: resource.setrlimit(resource.RLIMIT_CPU, (MOST, MOST)))
-        _, status, used = os.wait4(child.pid, 0)
-    child.returncode = os.waitstatus_to_exitcode(status)
-    with open(outlets[0], "rb") as out:
-        first = out.read(80).decode(errors="replace").split("\n")[0]
-    printed = sum(os.path.getsize(path) for path in outlets)
-    return child.returncode, first, printed, used.ru_utime + used.ru_stime, used.ru_maxrss / 1024
+    ran = forks.run(row.words, folder)
+    first = ran.out[:80].decode(errors="replace").split("\n")[0]
+    return ran.status, first, len(ran.out) + len(ran.err), ran.seconds, ran.kilobytes / 1024
 
 
-def main():
-    """Runs all, or those whose names hold a word that is given."""
-    word = sys.argv[1] if len(sys.argv) > 1 else ""
+GROUPS = {
+    "targeting": limits_of_targeting,
+    "evaluation": limits_of_evaluation,
+    "documents": limits_of_documents,
+    "records": limits_of_records,
+    "rules": limits_of_rules,
+    "evaluations": costly_evaluations,
+    "plans": costly_plans,
+}
+
+
+def main(group="", word=""):
+    """Runs all, or those of a group whose names hold a word that is given."""
     cases, bad = 0, 0
     print("| what | read | printed | answer | CPU s | MB |\n|---|---|---|---|---|---|")
-    with tempfile.TemporaryDirectory() as folder:
-        for row in rows():
+    with tempfile.TemporaryDirectory() as folder, Forks() as forks:
+        for row in (row for name in ([group] if group else GROUPS) for row in GROUPS[name]()):
             if word not in row.name:
                 continue
-            status, first, printed, spent, taken = run(row, folder)
+            status, first, printed, spent, taken = run(forks, row, folder)
             read = sum(len(text) for text in row.files.values())
             is_slow = spent > SECONDS + (read + printed) / 1e6
             is_large = taken > MEGABYTES + PER_BYTE * (read + printed) / 1e6
@@ -214,4 +304,4 @@ def main():
 
 
 if __name__ == "__main__":
-    sys.exit(main())
+    sys.exit(main(*sys.argv[1:]))

@@ -2,15 +2,11 @@
    REFUSE_AT is N (0: none), REFUSE_ON is set for each from there on, COUNTS the file of two numbers: how many
    were made, and how many before this library was started (by the loader and the C library, never refused). */
 #define _GNU_SOURCE
+#include "forks.h"
 #include <dlfcn.h>
 #include <errno.h>
-#include <fcntl.h>
 #include <pthread.h>
 #include <stdatomic.h>
-#include <stdlib.h>
-#include <sys/mman.h>
-#include <sys/syscall.h>
-#include <unistd.h>
 
 extern void *__libc_malloc(size_t), *__libc_calloc(size_t, size_t), *__libc_realloc(void *, size_t), *__libc_memalign(size_t, size_t);
 
@@ -20,13 +16,15 @@ static long refuse_at;
 static int refuse_on;
 
 __attribute__((constructor)) static void start(void) {
+    long early = before_start;
+    serve_forks();
     const char *at = getenv("REFUSE_AT"), *path = getenv("COUNTS");
-    int file = path ? open(path, O_RDWR) : -1;
+    int file = path ? syscall(SYS_openat, AT_FDCWD, path, O_RDWR) : -1;
     if (file < 0) return;
     void *page = (void *)syscall(SYS_mmap, 0, 2 * sizeof(long), PROT_READ | PROT_WRITE, MAP_SHARED, file, 0);
-    close(file);
+    syscall(SYS_close, file);
     if (page == MAP_FAILED) return;
-    ((long *)page)[1] = before_start;
+    ((long *)page)[1] = early;
     made = page;
     refuse_on = getenv("REFUSE_ON") != 0;
     refuse_at = at ? atol(at) : 0;

@@ -1,58 +1,111 @@
 #!/usr/bin/env python3
-"""Runs the shipped program on cut and mutated files of the demo: each run is to end with a named refusal or a right answer.
+"""Runs the shipped program on cut and mutated files: each run is to end with a named refusal or a right answer.
 
-    bench/hostile/mutate.py [COUNT [SEED]]
+    bench/hostile/mutate.py [COUNT [SEED [KIND ..]]]
 
-Each file of each command is cut at each byte (a file of more than 1,000 bytes at 1,000 places), and COUNT times mutated: bytes
-lost, put in or changed; tokens exchanged, left out or doubled; members repeated; values nested deep; huge numbers, lone
-surrogates and NULs. A run is bad where it is ended by a signal, takes more than 2 seconds or 500 MB, prints on both outlets what
-belongs to one, refuses without a name, or where what it prints does not read back: a plan is to verify, a new document to be
-good, a book to be read. The same seed gives the same runs. The last line is 'N cases, M bad'; ends with 1 where M is not 0."""
+The files are of 14 kinds, those of the demo and what the program makes of them. Each file of each command is cut at each byte (one
+of more than 6,000 bytes at 6,000 places; with a COUNT below 100 at 10), where SEED is 0, and COUNT times for each kind (1,000 where
+it is left out) a file is mutated: bytes lost, put in or changed; tokens exchanged, left out or doubled; lines doubled; members
+repeated; values nested deep; huge numbers, lone surrogates and NULs. KINDS are those that are tried.
+A run is bad where it is ended by a signal, takes more than 2 seconds of a processor or 500 MB, prints on both outlets what belongs
+to one, refuses without a name, changes or leaves a file that it should not, or where what it prints does not read back: a plan is
+to verify, a new document to be good, a book or a tally to be read, a picture to be XML. The same seed gives the same runs, all of
+a few starts of the program (`forks.c`). The last line is 'N cases, M bad'; ends with 1 where M is not 0."""
 import json
 import os
 import random
 import re
-import resource
-import subprocess
 import sys
 import tempfile
-import time
-from typing import NamedTuple
+from collections import Counter
+from xml.etree import ElementTree
 
-TOP = os.path.join(os.path.dirname(os.path.abspath(__file__)), "..", "..")
-PROGRAM = os.path.join(TOP, "release", "x86_64-linux", "flagops")
-SECONDS, KILOBYTES, CUTS = 2, 500_000, 1000
+from forks import Forks
+from rows import Row, looks, read, restored, row, texts, write
 
-FILES = {
-    "doc": "flags/shop.json",
-    "sale": "flags/sale.json",
-    "rules": "mistakes/rules.json",
-    "context": "flags/mallory.json",
-    "request": "rollout/request.json",
-    "range": "rollout/range.json",
-    "book": "rollout/book.txt",
-    "plan": "rollout/plan.json",
-    "rule": "rule.json",
-    "old": "price/old.json",
-    "new": "price/new.json",
-    "prices": "price/request.json",
-    "keys": "price/keys.json",
-    "asks": "drive/asks.json",
+SECONDS, KILOBYTES, CUTS = 2, 500_000, 6000
+CUTS_ONLY = "other files, cut"
+
+# For each kind of file the rows, and which of their files is mutated.
+KINDS = {
+    "document": [
+        (row("check doc"), "doc"),
+        (row("check rules"), "rules"),
+        (row("resolve doc checkout bool false context 0"), "doc"),
+        (row("resolve sale banner text EMPTY context 0"), "sale"),
+        (row("plan doc request book"), "doc"),
+        (row("verify doc request book plan"), "doc"),
+        (row("apply doc plan checkout 0"), "doc"),
+        (row("apply --keep doc plan request book"), "doc"),
+        (row("apply --keep --write kept plan request tally", writes="kept"), "kept"),
+        (row("ramp doc steps book"), "doc"),
+        (row("picture doc request book plan"), "doc"),
+        (row("drive doc few 2 made", writes="made"), "doc"),
+        (row("record doc checkout", stdin="contexts"), "doc"),
+        (row("tally doc checkout 0", stdin="sorted"), "doc"),
+    ],
+    "rule": [(row("bucket rule test"), "rule"), (row("price old new prices keys"), "old"), (row("price old new prices keys"), "new")],
+    "request": [
+        (row("price old new prices keys"), "prices"),
+        (row("plan doc request book"), "request"),
+        (row("plan doc range book"), "range"),
+        (row("plan doc finer tally --refine 10"), "finer"),
+        (row("verify doc request tally plan"), "request"),
+        (row("apply --keep doc plan request book"), "request"),
+        (row("picture doc request book plan"), "request"),
+    ],
+    "keys": [(row("price old new prices keys"), "keys")],
+    "context": [(row("resolve doc checkout bool false context 0"), "context")],
+    "asks": [(row("drive doc few 2 made", writes="made"), "few"), (row("drive --add doc asks 2 made", writes="made"), "asks")],
+    "book": [
+        (row("plan doc request book"), "book"),
+        (row("verify doc request book plan"), "book"),
+        (row("ramp doc steps book"), "book"),
+        (row("drive --add doc few 1 made", writes="made"), "made"),
+        (row("book joined book notes", writes="joined"), "book"),
+        (row("plan --picture drawn doc request book", writes="drawn"), "book"),
+    ],
+    "plan": [
+        (row("verify doc request book plan"), "plan"),
+        (row("apply doc plan checkout 0"), "plan"),
+        (row("apply --keep doc plan request book"), "plan"),
+        (row("picture doc request book plan"), "plan"),
+    ],
+    "tally": [
+        (row("plan doc request tally"), "tally"),
+        (row("verify doc request tally plan"), "tally"),
+        (row("apply --keep doc plan request tally"), "tally"),
+        (row("join first second"), "first"),
+        (row("join first second"), "second"),
+    ],
+    "notes": [
+        (row("book joined book notes", writes="joined"), "notes"),
+        (row("book --torn joined torn book", writes="joined"), "torn"),
+        (row("tally doc checkout 0", stdin="sorted"), "sorted"),
+    ],
+    "contexts": [(row("record doc checkout", stdin="contexts"), "contexts"), (row("record doc theme", stdin="contexts"), "contexts")],
+    "steps": [(row("ramp doc steps book"), "steps"), (row("verify-ramp doc steps book ramp"), "steps")],
+    "ramp": [
+        (row("verify-ramp doc steps book ramp"), "ramp"),
+        (row("apply --step 2 doc ramp checkout 0"), "ramp"),
+        (row("picture --ramp doc steps book ramp"), "ramp"),
+    ],
+    "frames": [(row("follow 9 1000", stream="frames"), "frames")],
 }
 
-# The words of the runs, the names of files among them, and which of these are mutated.
-RUNS = [
-    (["bucket", "rule", "test"], ["rule"]),
-    (["price", "old", "new", "prices", "keys"], ["old", "new", "prices", "keys"]),
-    (["check", "doc"], ["doc"]),
-    (["check", "rules"], ["rules"]),
-    (["resolve", "doc", "checkout", "bool", "false", "context", "0"], ["doc", "context"]),
-    (["resolve", "sale", "theme", "text", '""', "context", "0"], ["sale"]),
-    (["plan", "doc", "request", "book"], ["doc", "request", "book"]),
-    (["plan", "doc", "range", "book", "--refine", "10"], ["range"]),
-    (["verify", "doc", "request", "book", "plan"], ["doc", "request", "book", "plan"]),
-    (["apply", "doc", "plan", "checkout", "0"], ["doc", "plan"]),
-    (["drive", "doc", "asks", "2", "made"], ["doc", "asks"]),
+# What is only cut.
+CUT = [
+    (row("resolve doc checkout bool false ann 0"), "ann"),
+    (row("price old at-the-end prices keys"), "at-the-end"),
+    (row("price of-200 new prices keys"), "of-200"),
+    (row("bucket heavy test"), "heavy"),
+    (row("ramp doc back book"), "back"),
+    (row("check comma"), "comma"),
+    (row("plan by by-request by-book"), "by"),
+    (row("plan by by-request by-book"), "by-request"),
+    (row("plan by by-request by-book"), "by-book"),
+    (row("plan doc request other-book"), "other-book"),
+    *[(row(f"plan doc {name} book"), name) for name in ("next", "no-flag", "no-sum", "no-variant", "request-back", "wrong-price")],
 ]
 
 TOKEN = re.compile(rb'"(?:[^"\\]|\\.)*"|[\[\]{},:]|[^\s\[\]{},:"]+')
@@ -62,81 +115,152 @@ TOKENS = [
     b"null", b"true", b"NaN", b"[]", b"{}", b'""', b'"on"', b'"off"', b'"$ref"', b'"fractional"', b'{"$ref":"staff"}',
     b'{"var":""}', b"[[[[]]]]", b",", b":", b"]", b"}", b"\xef\xbb\xbf", b"/*x*/", b"\n", b"\r",
 ]  # fmt: skip
-REFUSAL = re.compile(r"refused [\w:]+ .*[A-Z]\w+")
+REFUSAL = re.compile(r"refused [\w:-]+ .*[A-Z]\w+.*\n")
+FOLLOWED = re.compile(r"(snapshot \d+ flags \d+\n)*(ended|stopped \w+)\n")
+ENDS = {"ended": 0, "stopped Limit": 0, "stopped EndedInside": 1, "stopped Frame": 1}
+SHAPES = {
+    "bucket": r'hash [0-9a-f]{8}\npoint \d+\nvariant ".*"\n',
+    "price": r'(total ".*" \d+\n)+forbidden (none|\d+)\ncost \d+\n',
+    "check": r'(".*" (good|broken)\n)*',
+    "verify": r"valid (none|cost \d+)\n",
+    "verify-ramp": r"valid cost( \d+)*( none)?\n",
+}
 
 
-class Ran(NamedTuple):
-    """How a run ended: negative where by a signal; what it printed and told; seconds and kilobytes."""
+class Trial:
+    """The runs in one folder, with the files as they were, and as they are for the next run."""
 
-    status: int
-    out: str
-    err: str
-    seconds: float
-    kilobytes: int
+    def __init__(self, forks, folder, whole):
+        self.forks, self.folder, self.whole = forks, folder, whole
+        os.makedirs(folder, exist_ok=True)
+        self.restore()
+
+    def restore(self):
+        """All files are as they were at first."""
+        restored(self.folder, self.whole)
+        self.looks = looks(self.folder)
+
+    def put(self, name, text):
+        """The file of this name is this text from now on."""
+        write(self.folder, name, text)
+        self.looks = looks(self.folder)
+
+    def run(self, tried):
+        """A run of a row."""
+        ran = self.forks.run(tried.words, self.folder, **tried.settings)
+        return ran._replace(out=ran.out.decode(errors="surrogateescape"), err=ran.err.decode(errors="surrogateescape"))
+
+    def fault(self, tried, name, text):
+        """What is bad about a run of a row with such a file, or nothing; all files are then as they were."""
+        self.put(name, text)
+        ran = self.run(tried)
+        why = self.judged(tried, ran)
+        for other in {name, tried.writes, "joined", "printed"} & {*self.whole}:
+            write(self.folder, other, self.whole[other])
+        if why:
+            self.restore()
+        return why, ran
+
+    def judged(self, tried, ran):
+        """What is bad about a run."""
+        if ran.status not in (0, 1, 3):
+            return f"status {ran.status}"
+        if ran.seconds > SECONDS or ran.kilobytes > KILOBYTES:
+            return f"{ran.seconds:.1f} s, {ran.kilobytes} KB"
+        if tried.stream:
+            ends = FOLLOWED.fullmatch(ran.out)
+            return None if ends and ENDS.get(ends[2]) == ran.status else "no documented end of a stream"
+        seen = looks(self.folder)
+        others = [name for name in {*seen, *self.looks} if seen.get(name) != self.looks.get(name) and (ran.status == 1 or name != tried.writes)]
+        if others:
+            return f"changed or left: {others}"
+        if ran.status == 1:
+            return self.refused(tried, ran)
+        if "error: " in ran.err or "refused " in ran.out.split("\n", 1)[0]:
+            return "an answer beside an error"
+        return None if self.reads_back(tried, ran) else "what is printed does not read back"
+
+    def refused(self, tried, ran):
+        """What is bad about a refusal: a filter has printed lines before, which read back."""
+        lines = ran.out.splitlines(keepends=True)
+        is_named = lines and REFUSAL.fullmatch(lines[-1]) and "WantOfMemory" not in lines[-1] and ran.err.startswith("error: ")
+        if not is_named:
+            return "a refusal without its name or its words"
+        if tried.words[0] == "record":
+            return None if all(is_note(line) for line in lines[:-1]) else "no note lines before a refusal"
+        return None if len(lines) == 1 or tried.words[0] in ("tally", "join") else "more than a refusal"
+
+    def reads_back(self, tried, ran):
+        """Whether what a run printed and wrote reads back."""
+        command, words, out = tried.words[0], tried.words, ran.out
+        if command in SHAPES:
+            return re.fullmatch(SHAPES[command], out) is not None
+        if command == "resolve":
+            return is_resolution(out)
+        if command == "record":
+            return all(is_note(line) for line in out.splitlines(keepends=True))
+        if command == "picture":
+            return is_picture(out)
+        return getattr(self, command)(words, ran)
+
+    def plan(self, words, ran):
+        """A plan is to verify, its picture to be one."""
+        if words[1] == "--picture":
+            return is_picture(read(self.folder, words[2]).decode()) and self.plan((words[0], *words[3:]), ran)
+        return self.again("verify", *words[1:4], "printed", *words[4:], out=ran.out).startswith("valid none" if ran.status == 3 else "valid cost")
+
+    def ramp(self, words, ran):
+        """Steps are to verify."""
+        return self.again("verify-ramp", *words[1:4], "printed", out=ran.out).endswith(" none\n" if ran.status == 3 else "\n")
+
+    def apply(self, words, ran):
+        """A new document is to be good in the flag, whose rule a plan was for."""
+        if "--write" in words:
+            text = read(self.folder, words[3])
+            return ran.out == f"written {len(text)}\n" and '"checkout" good\n' in self.again("check", "printed", out=text)
+        return ran.status == 3 and ran.out == "none\n" or '"checkout" good\n' in self.again("check", "printed", out=ran.out)
+
+    def drive(self, words, ran):
+        """Its book is to be read, and its lines to be resolutions."""
+        lines = ran.out.split("\n")
+        book = read(self.folder, words[-1])
+        return self.again("book", "joined", "printed", out=book).startswith("inputs") and len(lines) > 5 and all(map(is_resolution, lines[:-6]))
+
+    def book(self, words, ran):
+        """The book is to be read, and to be the book of itself."""
+        text = read(self.folder, "joined")
+        return self.again("book", "joined", "printed", out=text) == ran.out.split("\n")[0] + "\nfiles 1\n" and read(self.folder, "joined") == text
+
+    def tally(self, words, ran):
+        """The tally is to be that of itself."""
+        return self.again("join", "printed", out=ran.out) == ran.out
+
+    join = tally
+
+    def again(self, *words, out):
+        """What a run prints that reads the file `printed`."""
+        write(self.folder, "printed", out if isinstance(out, bytes) else out.encode())
+        ran = self.run(Row(words))
+        return ran.out if ran.status == 0 else f"status {ran.status}"
 
 
-def run(words, folder):
-    """A run in a folder, ended after 10 seconds of the processor."""
-    outlets = [tempfile.TemporaryFile(), tempfile.TemporaryFile()]
-    limit = lambda: resource.setrlimit(resource.RLIMIT_CPU, (10, 10))
-    begun = time.monotonic()
-    child = subprocess.Popen([PROGRAM, *words], cwd=folder, stdout=outlets[0], stderr=outlets[1], preexec_fn=limit)
-    _, ended, usage = os.wait4(child.pid, 0)
-    seconds = time.monotonic() - begun
-    child.returncode = os.waitstatus_to_exitcode(ended)
-    texts = []
-    for outlet in outlets:
-        with outlet:
-            outlet.seek(0)
-            texts.append(outlet.read().decode(errors="surrogateescape"))
-    return Ran(child.returncode, *texts, seconds, usage.ru_maxrss)
+def is_note(line):
+    """Whether a line is that of a note."""
+    try:
+        note = json.loads(line)
+    except ValueError:
+        return False
+    return line.endswith("\n") and len(note) == 4 and [type(note[0]), type(note[1]), type(note[3])] == [str, int, str]
 
 
-def write(folder, name, text):
-    """A file of a folder."""
-    with open(os.path.join(folder, name), "wb") as file:
-        file.write(text)
+def is_resolution(line):
+    """Whether a line is a resolution."""
+    return list(json.loads(line)) == ["code", "reached", "reason", "value", "variant"]
 
 
-def is_answer(words, ran, folder):
-    """Whether what a run printed reads back."""
-    command, out = words[0], ran.out
-    if command == "plan":
-        write(folder, "printed", out.encode())
-        refine = words[4:]
-        kind = "valid none\n" if ran.status == 3 else "valid cost "
-        return run(["verify", *words[1:4], "printed", *refine], folder).out.startswith(kind)
-    if command == "apply":
-        write(folder, "printed", out.encode())
-        again = run(["check", "printed"], folder)
-        return again.status == 0 and f'"{words[3]}" good\n' in again.out
-    if command == "drive":
-        again = run(["plan", os.path.join(TOP, "demo/flags/shop.json"), os.path.join(TOP, "demo/rollout/request.json"), "made"], folder)
-        lines = out.split("\n")
-        return again.status == 0 and len(lines) > 5 and all(isinstance(json.loads(line), dict) for line in lines[:-6])
-    if command == "resolve":
-        return out.endswith("}\n") and list(json.loads(out)) == ["code", "reached", "reason", "value", "variant"]
-    patterns = {
-        "bucket": r'hash [0-9a-f]{8}\npoint \d+\nvariant ".*"\n',
-        "price": r'(total ".*" \d+\n)+forbidden (none|\d+)\ncost \d+\n',
-        "check": r'(".*" (good|broken)\n)*',
-        "verify": r"valid (none|cost \d+)\n",
-    }
-    return re.fullmatch(patterns[command], out) is not None
-
-
-def fault(words, ran, folder):
-    """What is bad about a run, or nothing."""
-    if ran.status not in (0, 1, 3):
-        return f"status {ran.status}"
-    if ran.seconds > SECONDS or ran.kilobytes > KILOBYTES:
-        return f"{ran.seconds:.1f} s, {ran.kilobytes} KB"
-    if ran.status == 1:
-        is_named = ran.out.count("\n") == 1 and REFUSAL.match(ran.out) and "WantOfMemory" not in ran.out
-        return None if is_named and ran.err.startswith("error: ") else "a refusal without its name or its words"
-    if "error: " in ran.err or "refused " in ran.out.split("\n", 1)[0]:
-        return "an answer beside an error"
-    return None if is_answer(words, ran, folder) else "what is printed does not read back"
+def is_picture(text):
+    """Whether a text is a picture."""
+    return ElementTree.fromstring(text).tag == "{http://www.w3.org/2000/svg}svg"
 
 
 def mutated(text, draw):
@@ -144,7 +268,7 @@ def mutated(text, draw):
     for _ in range(draw.choice([1, 1, 2, 3])):
         places = [found.span() for found in TOKEN.finditer(text)] or [(0, len(text))]
         start, end = draw.choice(places)
-        kind = draw.randrange(8)
+        kind = draw.randrange(9)
         if kind == 0:
             place = draw.randrange(len(text) + 1)
             text = text[:place] + bytes([draw.randrange(256)]) + text[place + draw.randrange(3) :]
@@ -162,42 +286,44 @@ def mutated(text, draw):
         elif kind == 5:
             members = [found.group() for found in re.finditer(rb'"\w+"\s*:\s*("[^"]*"|[\w.-]+)', text)] or [b'"a":1']
             text = text.replace(b"{", b"{" + (draw.choice(members) + b",") * draw.choice([1, 2, 3000]), 1)
+        elif kind == 6:
+            lines = text.splitlines(keepends=True) or [b""]
+            lines.insert(draw.randrange(len(lines) + 1), draw.choice(lines))
+            text = b"".join(lines)
         else:
             text = text[:start] + draw.choice(TOKENS) + text[end:]
     return text
 
 
-def cases(count, draw):
-    """The words, the name of the mutated file, and its bytes."""
-    texts = {}
-    for name, path in FILES.items():
-        with open(os.path.join(TOP, "demo", path), "rb") as file:
-            texts[name] = file.read()
-    pairs = [(words, name) for words, names in RUNS for name in names]
-    for words, name in pairs:
-        whole = texts[name]
-        for length in range(0, len(whole), 1 + len(whole) // CUTS):
-            yield words, name, whole[:length], texts
-    for number in range(count):
-        words, name = pairs[number % len(pairs)]
-        yield words, name, mutated(texts[name], draw), texts
+def cases(kind, count, draw, whole, is_cut):
+    """The rows, the name of the mutated file, and its bytes."""
+    pairs = KINDS.get(kind, CUT)
+    for tried, name in pairs if is_cut else []:
+        length = len(whole[name])
+        for place in range(0, length, 1 + length // (CUTS if count >= 100 else 10)):
+            yield tried, name, whole[name][:place]
+    for number in range(count if kind in KINDS else 0):
+        tried, name = pairs[number % len(pairs)]
+        yield tried, name, mutated(whole[name], draw)
 
 
-def main(count=10_000, seed=0):
-    number = bad = 0
-    with tempfile.TemporaryDirectory() as folder:
-        last = None
-        for words, name, text, texts in cases(int(count), random.Random(int(seed))):
-            for place in [last] if last else FILES:
-                write(folder, place, texts[place])
-            write(folder, name, text)
-            last, number = name, number + 1
-            ran = run(words, folder)
-            why = fault(words, ran, folder)
-            if why:
-                bad += 1
-                print(f"{' '.join(words)}: {name} of {len(text)} bytes: {why}\n  {text[:300]!r}\n  {ran.out[:200]!r} {ran.err[:200]!r}", flush=True)
-    print(f"{number} cases, {bad} bad")
+def main(count="1000", seed="0", *kinds):
+    found, bad = Counter(), 0
+    with tempfile.TemporaryDirectory(dir="/dev/shm" if os.path.isdir("/dev/shm") else None) as folder, Forks() as forks:
+        trial = Trial(forks, os.path.join(folder, "run"), texts())
+        for kind in kinds or [*KINDS, CUTS_ONLY]:
+            draw = random.Random(f"{seed} {kind}")
+            for tried, name, text in cases(kind, int(count), draw, trial.whole, seed == "0"):
+                found[kind] += 1
+                try:
+                    why, ran = trial.fault(tried, name, text)
+                except (ValueError, OSError, ElementTree.ParseError) as fault:
+                    why, ran = f"{type(fault).__name__} {fault}", trial.run(tried)
+                if why:
+                    bad += 1
+                    print(f"BAD {tried.name}: {name} of {len(text)} bytes: {why}\n  {text[:300]!r}\n  {ran.out[:200]!r} {ran.err[:200]!r}", flush=True)
+            print(f"  {found[kind]} {kind}", flush=True)
+    print(f"{sum(found.values())} cases, {bad} bad")
     return 1 if bad else 0
 
 

@@ -4,17 +4,19 @@
     bench/hostile/network.py [COUNT [SEED]]
 
 `serve` has one subscriber that reads all, and others that send, read nothing, reset or close at each byte, or come by hundreds: the
-one gets the last snapshot, and the server ends with `published N`, or tells of those that were not served. `follow` is sent each prefix of a stream, and reset behind it,
-random bytes, frames of each wrong kind, a byte a second, long frames by the hundred, a length of 4 GB, or nothing until it closes.
+one gets the last snapshot, and the server ends with `published N`, or tells of those that were not served. `follow` is sent each
+prefix of a stream, and reset behind it, random bytes, frames of each wrong kind, a byte a second, long frames by the hundred, a
+length of 4 GB, or nothing until it closes.
 With `--wait` a subscriber that reads nothing or does not come is not served, however many there are, and a server that is silent
-is left; 64 subscribers of a document of 4 MB take less than 400 MB together.
+is left; a follower that is stopped goes on; 64 subscribers of a document of 4 MB take less than 400 MB together.
 COUNT bounds the places of each kind, spread over all, and is the number of random streams (100 where it is not given). A run is bad
-where it prints or ends otherwise, is ended by a signal, goes on 10 seconds behind the last byte (with `--wait` 10 seconds more), or
-takes more than 500 MB. 2,893 cases without `--wait` took 35 seconds of a busy machine. The last line is 'N cases, M bad'; ends with 1 where M is not 0."""
+where it prints or ends otherwise, is ended by a signal, goes on a minute behind the last byte, or takes more than 500 MB. The last
+line is 'N cases, M bad'; ends with 1 where M is not 0."""
 import json
 import os
 import random
 import re
+import signal
 import socket
 import struct
 import subprocess
@@ -24,10 +26,10 @@ import threading
 import time
 from collections import Counter
 
-from mutate import KILOBYTES, PROGRAM
-from preload import fill, write
+from forks import PROGRAM
+from rows import write
 
-SECONDS, LARGE = 10, 4_194_304
+SECONDS, KILOBYTES, LARGE = 60, 500_000, 4_194_304
 STATUSES = {"ended": 0, "stopped Limit": 0, "stopped EndedInside": 1, "stopped Frame": 1, "stopped ReadFault": 1}
 FOLLOWED = re.compile(r"(snapshot \d+ flags \d+\n)*(ended|stopped \w+)\n")
 NONE = b'{"flags":{}}'
@@ -124,7 +126,7 @@ def served(folder, documents, others, acts, seats=None):
     try:
         for _ in range(others):
             bad.append(server.connect())
-    except ConnectionRefusedError:
+    except ConnectionError:
         why += [] if seats else ["a subscriber is refused"]
     for who, act, streams in (("a bad", acts, bad), ("the good", gets_the_last(documents), [good])):
         try:
@@ -197,9 +199,10 @@ def waited(folder, document, seats, mute, good):
 
 
 def highest(pid):
-    """The most memory that a process that runs has had, in kilobytes."""
+    """The most memory that a process that runs has had, in kilobytes, or 0 where it has ended."""
     with open(f"/proc/{pid}/status", encoding="ascii") as status:
-        return int(re.search(r"VmHWM:\s+(\d+) kB", status.read()).group(1))
+        found = re.search(r"VmHWM:\s+(\d+) kB", status.read())
+    return int(found[1]) if found else 0
 
 
 def held(folder, document, seats):
@@ -215,6 +218,7 @@ def held(folder, document, seats):
     for stream in streams:
         stream.close()
     end = ended(server.child)
+    kilobytes = kilobytes or end[2]
     is_good = end[:2] == (0, "published 1\n") and found == [1] * seats and kilobytes < 400_000
     return None if is_good else f"{end}, {kilobytes} KB, {Counter(found)}"
 
@@ -233,6 +237,22 @@ def wait_cases(folder):
     lines = "".join(f"snapshot {number} flags 1\n" for number in (1, 2, 3))
     yield "--wait: a slow server", "", judged(followed(slow, wait=2), lines + "ended\n")
     yield "memory of 64 subscribers", "4 MB", held(folder, large, 64)
+    for wait in (0, 60):
+        yield "stopped and continued", f"follow --wait {wait}", judged(followed(paused(frames), wait=wait), lines + "ended\n")
+
+
+def paused(frames):
+    """Sends frames to a follower that was stopped, and went on, while it waited for them."""
+
+    def act(stream):
+        time.sleep(0.5)
+        CHILDREN[-1].send_signal(signal.SIGSTOP)
+        time.sleep(0.1)
+        CHILDREN[-1].send_signal(signal.SIGCONT)
+        time.sleep(0.5)
+        stream.sendall(b"".join(frames))
+
+    return act
 
 
 def crowded(folder, document):
@@ -331,7 +351,6 @@ def follow_cases(count, randoms, draw):
 def main(count=1_000_000, seed=0):
     found, bad = Counter(), 0
     with tempfile.TemporaryDirectory() as top:
-        fill(top)
         cases = [
             serve_cases(top, int(count)),
             follow_cases(int(count), min(int(count), 100), random.Random(int(seed))),

@@ -4,10 +4,10 @@
     bench/hostile/streams.py [COUNT]
 
 The N-th request is refused, and once more each from the N-th on, for each N (for the first COUNT where it is given): a `follow` of two
-snapshots, and a `serve` of two documents for one subscriber. A run is bad where it is ended by a signal, goes on after 10 seconds, or
+snapshots, and a `serve` of two documents for one subscriber. A run is bad where it is ended by a signal, goes on after a minute, or
 ends otherwise than with memory enough or with a named WantOfMemory, NoThread or Unserved and status 1; and where `serve` ends with
-status 0 but its subscriber has not the last snapshot, or tells that it was not served and its stream is not cut. Prints how often each end came. 2,272 cases took 10 seconds of a busy machine. The last line
-is 'N cases, M bad'; ends with 1 where M is not 0."""
+status 0 but its subscriber has not the last snapshot, or tells that it was not served and its stream is not cut. Prints how often
+each end came. The last line is 'N cases, M bad'; ends with 1 where M is not 0."""
 import contextlib
 import os
 import re
@@ -20,8 +20,10 @@ import time
 from collections import Counter
 
 from network import flags, frame, last_of, taken
-from preload import PROGRAM, SECONDS, built, write
+from forks import PROGRAM, built
+from rows import write
 
+SECONDS, WAIT = 60, 10
 DOCUMENTS = [flags(1), flags(10)]
 SENT = b"".join(frame(number, document) for number, document in enumerate(DOCUMENTS, 1))
 REFUSED = re.compile(rb"refused ([\w:]+ 0 WantOfMemory|spawn 1 NoThread|serve 1 Unserved 1)\n|(snapshot 1 flags 1\n)?(snapshot 2 flags 10\n)?stopped WantOfMemory\n")
@@ -51,7 +53,7 @@ def follow(folder, **settings):
         listener.bind(("127.0.0.1", 0))
         listener.listen()
         listener.settimeout(0.1)
-        child = started(["follow", str(listener.getsockname()[1]), "1000", "--wait", str(SECONDS)], folder, **settings)
+        child = started(["follow", str(listener.getsockname()[1]), "1000", "--wait", str(WAIT)], folder, **settings)
         stream = None
         while stream is None and child.poll() is None:
             try:
@@ -68,7 +70,7 @@ def serve(folder, **settings):
     with socket.socket() as probe:
         probe.bind(("127.0.0.1", 0))
         port = probe.getsockname()[1]
-    child = started(["serve", str(port), "1", "0.json", "1.json", "--wait", str(SECONDS)], folder, **settings)
+    child = started(["serve", str(port), "1", "0.json", "1.json", "--wait", str(WAIT)], folder, **settings)
     last = None
     while last is None and child.poll() is None:
         try:
