@@ -207,7 +207,7 @@ def highest(pid):
 
 def held(folder, document, seats):
     """What is bad about the memory of a `serve` of a document to so many subscribers that all read it, or nothing."""
-    server = Server(folder, seats, [document], 60)
+    server = Server(folder, seats, [document], 600)
     streams, found = [server.connect() for _ in range(seats)], []
     readers = [threading.Thread(target=lambda stream=stream: found.append(last_of(taken(stream)))) for stream in streams]
     for reader in readers:
