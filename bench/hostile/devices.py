@@ -104,13 +104,19 @@ def endless(trial):
 
 
 def reads(trial):
-    """Each read and each open of what is loaded fails, is interrupted or is short."""
+    """Each read and each open of what is loaded fails, is interrupted or is short. A book that is replaced and can't be read
+    counts as none."""
+    looks = trial.tried.name.startswith("drive ") and "--add" not in trial.tried.name
     for number in range(1, 1 + len(trial.tried.loads(trial.before))):
         trial.judge_refused("an open without right", number, trial.run(CALL="open", CALL_AT=number, CALL_HOW="fail"), UNREADABLE)
         trial.judge_same("an open interrupted", number, trial.run(CALL="open", CALL_AT=number, CALL_HOW="interrupt"))
     for call, shape in (("read", UNREAD_LINES if trial.tried.stdin else UNREADABLE), ("recv", READ_FAULT)):
         for number in trial.places(trial.made(call)):
-            trial.judge_refused(f"a {call} fails", number, trial.run(CALL=call, CALL_AT=number, CALL_HOW="fail"), shape)
+            ran = trial.run(CALL=call, CALL_AT=number, CALL_HOW="fail")
+            if looks and call == "read" and ran.status == 0:
+                trial.judge_same("a read of the book that is replaced fails, done without", number, ran)
+            else:
+                trial.judge_refused(f"a {call} fails", number, ran, shape)
             for how in ("interrupt", "short"):
                 trial.judge_same(f"a {call} {how}", number, trial.run(CALL=call, CALL_AT=number, CALL_HOW=how))
 

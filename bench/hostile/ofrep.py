@@ -77,7 +77,8 @@ class Service:
         how = {"LD_PRELOAD": library, "COUNTS": os.path.join(folder, "counts")} if library else {}
         how |= {name: str(value) for name, value in settings.items()}
         words = ["ofrep", "--listen", f"127.0.0.1:{self.port}", "--log", "log", "--stream", str(self.stream), "--workers", "2", "--poll", "0", "doc"]
-        self.child = subprocess.Popen([PROGRAM, *words], cwd=folder, env=how, stdout=subprocess.PIPE, stderr=subprocess.DEVNULL)
+        with open(os.path.join(folder, "err"), "wb") as err:
+            self.child = subprocess.Popen([PROGRAM, *words], cwd=folder, env=how, stdout=subprocess.PIPE, stderr=err)
         select.select([self.child.stdout], [], [], SECONDS)
         self.told = self.child.stdout.readline()
         self.starting = self.counted()
@@ -120,6 +121,13 @@ class Service:
         """The most memory that it has had."""
         with open(f"/proc/{self.child.pid}/status", encoding="ascii") as status:
             return int(re.search(r"VmHWM:\s+(\d+) kB", status.read()).group(1))
+
+    def has_told_its_end(self):
+        """Whether it has ended and said why on the error outlet."""
+        if self.child.poll() != 1 or not read(self.folder, "err").endswith((b"the service has ended\n", b"or by the system\n")):
+            return False
+        self.ended(False)
+        return True
 
     def ended(self, is_serving=True):
         """Ends it where it serves: the status, and the lines of its log."""
@@ -172,7 +180,13 @@ class Trial:
         first, _, last = service.answers(1), service.snapshot(), service.answers(2) if is_over else []
         if all(got == (None, b"") for got, _ in first):
             time.sleep(1)  # it may be ending
+            if service.has_told_its_end():
+                return None, "a thread could not be made, which it tells, and ends"
         has_snapshot = not is_over or service.snapshot()
+        if any(got == (None, b"") for got, _ in last):
+            time.sleep(1)
+            if service.has_told_its_end():
+                return None, "a worker could not begin, which it tells, and ends"
         kilobytes = service.kilobytes() if service.child.poll() is None else 0
         status, lines = service.ended()
         whys = [differs(got, right, noted, lines) for (got, noted), right in zip(first + last, self.right * 2)]
