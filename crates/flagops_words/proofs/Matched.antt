@@ -10,16 +10,16 @@ use Rattle.clap.specs.declared.error.kind.ErrorKind.TheVariants.{InvalidValue, M
 use Rattle.clap.specs.declared.parser.matches.ArgMatches.{ArgMatches}
 use Rattle.flagops_words.specs.Asked.{Asked}
 use Rattle.flagops_words.proofs.Named.{faultless}
-use Rattle.flagops_words.specs.Words.{IsToldBy, applied_in, apply_fault, apply_in, asked_by, asked_in, asked_of, faults_of, apply_app, bucket_app, check_app, completions_app, completions_in, drive_app, flag_in, if_any, is_stray, keep_in, kind_fault, kind_fault_in, kind_in, mistake_of, plan_app, price_app, resolve_app, resolve_in, shell_in, site_in, unless, verify_app, flagops_app}
+use Rattle.flagops_words.specs.Words.{IsToldBy, applied_in, apply_fault, apply_in, asked_by, asked_in, asked_of, faults_of, apply_app, bucket_app, completions_app, completions_in, drive_app, flag_in, if_any, is_stray, keep_in, kind_fault, kind_fault_in, kind_in, mistake_of, plan_app, price_app, resolve_app, resolve_in, shell_in, site_in, unless, verify_app, flagops_app}
 
 pub ruleset rows = (first_value-rows, raw_values-rows)
 
 is_plain : is_simple flagops_app ≡ true
-unfolding flagops_app bucket_app price_app check_app resolve_app plan_app verify_app apply_app drive_app completions_app
+unfolding flagops_app bucket_app price_app resolve_app plan_app verify_app apply_app drive_app completions_app
 is_plain = refl
 
 is_free : is_simple_and_free flagops_app ≡ true
-unfolding flagops_app bucket_app price_app check_app resolve_app plan_app verify_app apply_app drive_app completions_app
+unfolding flagops_app bucket_app price_app resolve_app plan_app verify_app apply_app drive_app completions_app
 is_free = refl
 
 -- a command that is read has a kind of value where it wants one

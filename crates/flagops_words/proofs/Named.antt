@@ -16,12 +16,12 @@ use Rattle.clap.specs.ValueTests.{is_unsigned_in}
 use Rattle.clap.specs.declared.error.kind.ErrorKind.{ErrorKind}
 use Rattle.flag_resolve.specs.declared.kind.Kind.{Kind}
 use Rattle.clap.specs.Walk.{Row, Rule, Text, answers_to, first_of, nothing_held, rows_after, settled, walk, walk_from}
-use Rattle.flagops_words.specs.Asked.{Asked, bucket, price, check, resolve, verify, apply, keep, plan, drive, completions}
+use Rattle.flagops_words.specs.Asked.{Asked, bucket, price, resolve, verify, apply, keep, plan, drive, completions}
 use Rattle.flagops_words.specs.Kinds.{kind_spelled}
 use Rattle.flagops_words.specs.Shell.{shell_named}
 use Rattle.flagops_words.specs.declared.shell.Shell.{Shell}
 use Rattle.flagops_words.specs.Numbers.{max_16, max_32, max_moment, number_in}
-use Rattle.flagops_words.specs.Words.{apply_app, asked_in, asked_of, bucket_app, check_app, completions_app, drive_app, flag_in, flagops_app, is_stray, is_strict, kind_fault, mistake_of, plan_app, price_app, refine_in, resolve_app, verify_app}
+use Rattle.flagops_words.specs.Words.{apply_app, asked_in, asked_of, bucket_app, completions_app, drive_app, flag_in, flagops_app, is_json, is_stray, is_strict, kind_fault, mistake_of, plan_app, price_app, refine_in, resolve_app, verify_app}
 use Rattle.flagops_words.proofs.Filled.{Each, Filled, IsFull, Stores, filled_level, none_both, stores}
 use Rattle.flagops_words.proofs.Unhelped.{IsNoHelp, no_help}
 
@@ -93,7 +93,7 @@ abbrev Asks : Shape → Type 0
 Asks s = (words : List Text) → level_fault s [] nothing_held words false [] ≡ [] → IsRead (Some (rows_at s words))
 
 bucket_read : (name : Text) (rows : List Row) (rule key : Text) → name ≡ codes "bucket" → first_of (codes "RULE") rows ≡ Some rule → first_of (codes "KEY") rows ≡ Some key
-    → asked_in (name, rows) ≡ Some (bucket rule key)
+    → asked_in (name, rows) ≡ Some (bucket rule key (is_json rows))
 bucket_read name rows rule key is rule_is key_is = rw (is, rule_is, key_is) refl
 
 bucket_asks : (s : Shape) → s.name ≡ codes "bucket" → list_all stores s.rules ≡ true
@@ -104,10 +104,10 @@ bucket_asks s name stored given words e =
     let both = given rows (level_given s words e) in
     let rule = value_given (codes "RULE") rows full both.0 in
     let key = value_given (codes "KEY") rows full both.1 in
-    inl (bucket rule.0 key.0, bucket_read s.name rows rule.0 key.0 name rule.1 key.1)
+    inl (bucket rule.0 key.0 (is_json rows), bucket_read s.name rows rule.0 key.0 name rule.1 key.1)
 
 price_read : (name : Text) (rows : List Row) (old new request keys : Text) → name ≡ codes "price" → first_of (codes "OLD") rows ≡ Some old → first_of (codes "NEW") rows ≡ Some new
-    → first_of (codes "REQUEST") rows ≡ Some request → first_of (codes "KEYS") rows ≡ Some keys → asked_in (name, rows) ≡ Some (price old new request keys)
+    → first_of (codes "REQUEST") rows ≡ Some request → first_of (codes "KEYS") rows ≡ Some keys → asked_in (name, rows) ≡ Some (price old new request keys (is_json rows))
 price_read name rows old new request keys is old_is new_is request_is keys_is = rw (is, old_is, new_is, request_is, keys_is) refl
 
 price_asks : (s : Shape) → s.name ≡ codes "price" → list_all stores s.rules ≡ true
@@ -120,17 +120,7 @@ price_asks s name stored given words e =
     let new = value_given (codes "NEW") rows full all.1 in
     let request = value_given (codes "REQUEST") rows full all.2 in
     let keys = value_given (codes "KEYS") rows full all.3 in
-    inl (price old.0 new.0 request.0 keys.0, price_read s.name rows old.0 new.0 request.0 keys.0 name old.1 new.1 request.1 keys.1)
-
-check_read : (name : Text) (rows : List Row) (document : Text) → name ≡ codes "check" → first_of (codes "DOC") rows ≡ Some document → asked_in (name, rows) ≡ Some (check document (is_strict rows))
-check_read name rows document is document_is = rw (is, document_is) refl
-
-check_asks : (s : Shape) → s.name ≡ codes "check" → list_all stores s.rules ≡ true → ((rows : List Row) → HasGiven s rows → is_given (codes "DOC") rows ≡ true) → Asks s
-check_asks s name stored given words e =
-    let rows = rows_after s.rules [] words in
-    let full = filled_level Any s [] (any_stored s.rules stored) words false [] e in
-    let document = value_given (codes "DOC") rows full (given rows (level_given s words e)) in
-    inl (check document.0 (is_strict rows), check_read s.name rows document.0 name document.1)
+    inl (price old.0 new.0 request.0 keys.0 (is_json rows), price_read s.name rows old.0 new.0 request.0 keys.0 name old.1 new.1 request.1 keys.1)
 
 -- each value of this argument is a number within these bounds
 abbrev IsNumber : Text → ℕ → ℕ → Text → Text → Type 0
@@ -194,7 +184,7 @@ refine_read rows p = elim (given_or_not Refine (codes "M") rows p) [
 
 verify_read : (name : Text) (rows : List Row) (document request book file : Text) (refine : Option ℕ) → name ≡ codes "verify"
     → first_of (codes "DOC") rows ≡ Some document → first_of (codes "REQUEST") rows ≡ Some request → first_of (codes "BOOK") rows ≡ Some book → first_of (codes "PLAN") rows ≡ Some file
-    → refine_in rows ≡ Some refine → asked_in (name, rows) ≡ Some (verify document request book file refine (is_strict rows))
+    → refine_in rows ≡ Some refine → asked_in (name, rows) ≡ Some (verify document request book file refine (is_strict rows) (is_json rows))
 verify_read name rows document request book file refine is document_is request_is book_is file_is refine_is =
     rw (is, document_is, request_is, book_is, file_is, refine_is) refl
 
@@ -210,7 +200,7 @@ verify_asks s name stored given words e =
     let book = value_taken Refine (codes "BOOK") rows full all.2 in
     let file = value_taken Refine (codes "PLAN") rows full all.3 in
     let refine = refine_read rows full in
-    inl (verify document.0 request.0 book.0 file.0 refine.0 (is_strict rows), verify_read s.name rows document.0 request.0 book.0 file.0 refine.0 name document.1 request.1 book.1 file.1 refine.1)
+    inl (verify document.0 request.0 book.0 file.0 refine.0 (is_strict rows) (is_json rows), verify_read s.name rows document.0 request.0 book.0 file.0 refine.0 name document.1 request.1 book.1 file.1 refine.1)
 
 plan_read : (name : Text) (rows : List Row) (document request book : Text) (refine : Option ℕ) → name ≡ codes "plan"
     → first_of (codes "DOC") rows ≡ Some document → first_of (codes "REQUEST") rows ≡ Some request → first_of (codes "BOOK") rows ≡ Some book
@@ -262,7 +252,7 @@ Workers = IsNumber (codes "WORKERS") 0 max_16
 
 drive_read : (name : Text) (rows : List Row) (document file number book : Text) (workers : ℕ) (add : Bool) → name ≡ codes "drive" → first_of (codes "DOC") rows ≡ Some document
     → first_of (codes "ASKS") rows ≡ Some file → first_of (codes "WORKERS") rows ≡ Some number → number_in 0 max_16 number ≡ Some workers → first_of (codes "BOOK") rows ≡ Some book
-    → flag_in (codes "add") rows ≡ add → asked_in (name, rows) ≡ Some (drive document file workers book add)
+    → flag_in (codes "add") rows ≡ add → asked_in (name, rows) ≡ Some (drive document file workers book add (is_strict rows) (is_json rows))
 drive_read name rows document file number book workers add is document_is file_is number_is workers_is book_is add_is =
     rw (is, document_is, file_is, number_is, workers_is, book_is, add_is) refl
 
@@ -279,7 +269,7 @@ drive_asks s name stored given words e =
     let book = value_taken Workers (codes "BOOK") rows full all.3 in
     let workers = number_read 0 max_16 word.0 (word.2 refl) in
     inl (
-      drive document.0 file.0 workers.0 book.0 (flag_in (codes "add") rows),
+      drive document.0 file.0 workers.0 book.0 (flag_in (codes "add") rows) (is_strict rows) (is_json rows),
       drive_read s.name rows document.0 file.0 word.0 book.0 workers.0 (flag_in (codes "add") rows) name document.1 file.1 word.1 workers.1 book.1 refl,
     )
 
@@ -318,7 +308,7 @@ alone true e decides = decides.0 refl
 alone false e decides = cc
 
 each : AllAsk (built flagops_app).subs
-unfolding flagops_app bucket_app price_app check_app resolve_app plan_app verify_app apply_app drive_app completions_app
+unfolding flagops_app bucket_app price_app resolve_app plan_app verify_app apply_app drive_app completions_app
 each = (
   λ _ _ _. bucket_asks _ refl refl (λ rows e. let rule = needed _ _ e in let key = needed _ _ rule.1 in (rule.0, key.0)),
   (
@@ -329,57 +319,54 @@ each = (
         let keys = needed _ _ request.1 in
         (old.0, new.0, request.0, keys.0)),
     (
-      λ _ _ _. check_asks _ refl refl (λ rows e. (needed _ _ e).0),
+      λ _ _ _. resolve_asks _ refl
+          ((refl, λ v e h. cc), ((refl, λ v e h. cc), ((refl, λ v e h. cc), ((refl, λ v e h. cc), ((refl, λ v e h. cc), ((refl, λ v e h. passes _ _ e), ((refl, λ v e h. cc), tt)))))))
+          (λ rows e.
+          let document = needed _ _ e in
+          let key = needed _ _ document.1 in
+          let kind = needed _ _ key.1 in
+          let default = needed _ _ kind.1 in
+          let context = needed _ _ default.1 in
+          let moment = needed _ _ context.1 in
+          (document.0, key.0, kind.0, default.0, context.0, moment.0)),
       (
-        λ _ _ _. resolve_asks _ refl
-            ((refl, λ v e h. cc), ((refl, λ v e h. cc), ((refl, λ v e h. cc), ((refl, λ v e h. cc), ((refl, λ v e h. cc), ((refl, λ v e h. passes _ _ e), ((refl, λ v e h. cc), tt)))))))
+        λ _ _ _. plan_asks _ refl
+            ((refl, λ v e h. cc), ((refl, λ v e h. cc), ((refl, λ v e h. cc), ((refl, λ v e h. passes _ _ e), ((refl, λ v e h. cc), ((refl, λ v e h. cc), ((refl, λ v e h. cc), tt)))))))
             (λ rows e.
             let document = needed _ _ e in
-            let key = needed _ _ document.1 in
-            let kind = needed _ _ key.1 in
-            let default = needed _ _ kind.1 in
-            let context = needed _ _ default.1 in
-            let moment = needed _ _ context.1 in
-            (document.0, key.0, kind.0, default.0, context.0, moment.0)),
+            let request = needed _ _ document.1 in
+            let book = needed _ _ request.1 in
+            (document.0, request.0, book.0)),
         (
-          λ _ _ _. plan_asks _ refl
-              ((refl, λ v e h. cc), ((refl, λ v e h. cc), ((refl, λ v e h. cc), ((refl, λ v e h. passes _ _ e), ((refl, λ v e h. cc), ((refl, λ v e h. cc), ((refl, λ v e h. cc), tt)))))))
+          λ _ _ _. verify_asks _ refl
+              ((refl, λ v e h. cc), ((refl, λ v e h. cc), ((refl, λ v e h. cc), ((refl, λ v e h. cc), ((refl, λ v e h. passes _ _ e), ((refl, λ v e h. cc), ((refl, λ v e h. cc), ((refl, λ v e h. cc), tt))))))))
               (λ rows e.
               let document = needed _ _ e in
               let request = needed _ _ document.1 in
               let book = needed _ _ request.1 in
-              (document.0, request.0, book.0)),
+              let file = needed _ _ book.1 in
+              (document.0, request.0, book.0, file.0)),
           (
-            λ _ _ _. verify_asks _ refl
-                ((refl, λ v e h. cc), ((refl, λ v e h. cc), ((refl, λ v e h. cc), ((refl, λ v e h. cc), ((refl, λ v e h. passes _ _ e), ((refl, λ v e h. cc), ((refl, λ v e h. cc), tt)))))))
+            λ _ _ _. apply_asks _ refl
+                ((refl, λ v e h. cc), ((refl, λ v e h. cc), ((refl, λ v e h. cc), ((refl, λ v e h. cc), ((refl, λ v e h. cc), ((refl, λ v e h. cc), ((refl, λ v e h. passes _ _ e), ((refl, λ v e h. cc), ((refl, λ v e h. cc), tt)))))))))
                 (λ rows e.
                 let document = needed _ _ e in
-                let request = needed _ _ document.1 in
-                let book = needed _ _ request.1 in
-                let file = needed _ _ book.1 in
-                (document.0, request.0, book.0, file.0)),
+                let file = needed _ _ document.1 in
+                let key = needed _ _ file.1 in
+                let site = needed _ _ key.1 in
+                (document.0, file.0, key.0, site.0)),
             (
-              λ _ _ _. apply_asks _ refl
-                  ((refl, λ v e h. cc), ((refl, λ v e h. cc), ((refl, λ v e h. cc), ((refl, λ v e h. cc), ((refl, λ v e h. cc), ((refl, λ v e h. cc), ((refl, λ v e h. passes _ _ e), ((refl, λ v e h. cc), ((refl, λ v e h. cc), tt)))))))))
+              λ _ _ _. drive_asks _ refl
+                  ((refl, λ v e h. cc), ((refl, λ v e h. cc), ((refl, λ v e h. passes _ _ e), ((refl, λ v e h. cc), ((refl, λ v e h. cc), ((refl, λ v e h. cc), ((refl, λ v e h. cc), ((refl, λ v e h. cc), tt))))))))
                   (λ rows e.
                   let document = needed _ _ e in
                   let file = needed _ _ document.1 in
-                  let key = needed _ _ file.1 in
-                  let site = needed _ _ key.1 in
-                  (document.0, file.0, key.0, site.0)),
+                  let workers = needed _ _ file.1 in
+                  let book = needed _ _ workers.1 in
+                  (document.0, file.0, workers.0, book.0)),
               (
-                λ _ _ _. drive_asks _ refl
-                    ((refl, λ v e h. cc), ((refl, λ v e h. cc), ((refl, λ v e h. passes _ _ e), ((refl, λ v e h. cc), ((refl, λ v e h. cc), ((refl, λ v e h. cc), tt))))))
-                    (λ rows e.
-                    let document = needed _ _ e in
-                    let file = needed _ _ document.1 in
-                    let workers = needed _ _ file.1 in
-                    let book = needed _ _ workers.1 in
-                    (document.0, file.0, workers.0, book.0)),
-                (
-                  λ _ _ _. completions_asks _ refl refl (λ rows e. (needed _ _ e).0),
-                  (λ name is other. help_unasked _ name (λ named. sym (alone (bytes_eq (codes "help") name) named (bytes_eq-Decides (codes "help") name))) is other, tt),
-                ),
+                λ _ _ _. completions_asks _ refl refl (λ rows e. (needed _ _ e).0),
+                (λ name is other. help_unasked _ name (λ named. sym (alone (bytes_eq (codes "help") name) named (bytes_eq-Decides (codes "help") name))) is other, tt),
               ),
             ),
           ),
@@ -412,7 +399,7 @@ stopped a asks (Some p) other e has = named a.subs p asks other e has
 
 -- what words that `clap` finds no fault with ask for
 pub faultless : (words : List Text) → fault_of flagops_app words ≡ [] → IsRead (subcommand_of flagops_app words)
-unfolding flagops_app bucket_app price_app check_app resolve_app plan_app verify_app apply_app drive_app completions_app
+unfolding flagops_app bucket_app price_app resolve_app plan_app verify_app apply_app drive_app completions_app
 faultless words e =
     let app = built flagops_app in
     let stop = (walk app.top.rules (names_of app) nothing_held words).stopped in

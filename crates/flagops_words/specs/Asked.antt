@@ -6,16 +6,15 @@ use Rattle.flagops_words.specs.declared.shell.Shell.{Shell}
 use Rattle.flagops_words.specs.declared.asked.Asked.TheVariants as code
 
 pub data Asked : Type 0 where
-  -- a rule file and a key
-  bucket : List ℕ → List ℕ → Asked
-  -- the old and the new rule file, a request and a key file
-  price : List ℕ → List ℕ → List ℕ → List ℕ → Asked
-  -- a document, and whether what is told of it is no success
-  check : List ℕ → Bool → Asked
+  -- a rule file and a key, and whether the answer is printed as JSON
+  bucket : List ℕ → List ℕ → Bool → Asked
+  -- the old and the new rule file, a request and a key file, and whether the answer is printed as JSON
+  price : List ℕ → List ℕ → List ℕ → List ℕ → Bool → Asked
   -- a document, a key, a kind of value, a default, a context and a moment
   resolve : List ℕ → List ℕ → Kind → List ℕ → List ℕ → ℕ → Asked
-  -- a document, a request, a book and a plan, the factor of a refinement if there is one, and whether what is doubted is refused
-  verify : List ℕ → List ℕ → List ℕ → List ℕ → Option ℕ → Bool → Asked
+  -- a document, a request, a book and a plan, the factor of a refinement if there is one, whether what is doubted is refused, and
+  -- whether the answer is printed as JSON
+  verify : List ℕ → List ℕ → List ℕ → List ℕ → Option ℕ → Bool → Bool → Asked
   -- a document, a request and a book, the factor of a refinement if there is one, whether what is doubted is refused, and
   -- whether the plan is told in words
   plan : List ℕ → List ℕ → List ℕ → Option ℕ → Bool → Bool → Asked
@@ -24,20 +23,20 @@ pub data Asked : Type 0 where
   -- a document, a plan, a request and a book, whether the document is written over, the factor of a refinement if there is one,
   -- and whether what is doubted is refused
   keep : List ℕ → List ℕ → List ℕ → List ℕ → Bool → Option ℕ → Bool → Asked
-  -- a document, asks, a number of workers and a book, and whether the book keeps what it has
-  drive : List ℕ → List ℕ → ℕ → List ℕ → Bool → Asked
+  -- a document, asks, a number of workers and a book, whether the book keeps what it has, whether what is doubted is refused, and
+  -- whether the answer is printed as JSON
+  drive : List ℕ → List ℕ → ℕ → List ℕ → Bool → Bool → Bool → Asked
   -- a shell
   completions : Shell → Asked
 
 -- the same, without where the words lie in memory
 abbrev pub asked_view : declared.Asked → Asked
-asked_view (code.Bucket rule key) = bucket rule.now key.now
-asked_view (code.Price old new request keys) = price old.now new.now request.now keys.now
-asked_view (code.Check document strict) = check document.now strict
+asked_view (code.Bucket rule key json) = bucket rule.now key.now json
+asked_view (code.Price old new request keys json) = price old.now new.now request.now keys.now json
 asked_view (code.Resolve document key kind default context moment) = resolve document.now key.now kind default.now context.now moment.number
-asked_view (code.Verify document request book file refine strict) = verify document.now request.now book.now file.now (option_map (λ m. m.number) refine) strict
+asked_view (code.Verify document request book file refine strict json) = verify document.now request.now book.now file.now (option_map (λ m. m.number) refine) strict json
 asked_view (code.Apply document file key site) = apply document.now file.now key.now site
 asked_view (code.Keep document file request book write refine strict) = keep document.now file.now request.now book.now write (option_map (λ m. m.number) refine) strict
-asked_view (code.Drive document file workers book add) = drive document.now file.now workers book.now add
+asked_view (code.Drive document file workers book add strict json) = drive document.now file.now workers book.now add strict json
 asked_view (code.Completions shell) = completions shell
 asked_view (code.Plan document request book refine strict explain) = plan document.now request.now book.now (option_map (λ m. m.number) refine) strict explain

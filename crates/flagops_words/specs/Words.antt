@@ -11,7 +11,7 @@ use Rattle.clap.specs.declared.error.kind.ErrorKind.{ErrorKind}
 use Rattle.clap.specs.declared.error.kind.ErrorKind.TheVariants.{InvalidValue, MissingRequiredArgument, OutOfMemory, ValueValidation}
 use Rattle.clap.specs.Faults.{fault_of}
 use Rattle.flag_resolve.specs.declared.kind.Kind.{Kind}
-use Rattle.flagops_words.specs.Asked.{Asked, bucket, price, check, resolve, verify, apply, keep, plan, drive, completions}
+use Rattle.flagops_words.specs.Asked.{Asked, bucket, price, resolve, verify, apply, keep, plan, drive, completions}
 use Rattle.flagops_words.specs.Kinds.{kind_spelled}
 use Rattle.flagops_words.specs.Shell.{shell_named}
 use Rattle.flagops_words.specs.declared.shell.Shell.{Shell}
@@ -23,24 +23,26 @@ use Rattle.flagops_words.specs.Numbers.{max_16, max_32, max_moment, moment_in, f
 abbrev pub required : Text → Rule
 required id = record (new_rule id) { required = true }
 
--- `bucket RULE KEY`
-unfoldable pub bucket_app : App
-bucket_app = with_rule (with_rule (new_app (codes "bucket")) (required (codes "RULE"))) (required (codes "KEY"))
-
-unfoldable pub price_app : App
-price_app = with_rule (with_rule (with_rule (with_rule (new_app (codes "price")) (required (codes "OLD"))) (required (codes "NEW"))) (required (codes "REQUEST"))) (required (codes "KEYS"))
-
 -- an option without a value, by its long name
 abbrev pub flag : Text → Rule
 flag id = record (new_rule id) { long = Some id; action = Some SetTrue }
 
+-- `--json`: the answer is printed as JSON
+abbrev pub json_flag : Rule
+json_flag = flag (codes "json")
+
+-- `bucket RULE KEY`, with `--json`
+unfoldable pub bucket_app : App
+bucket_app = with_rule (with_rule (with_rule (new_app (codes "bucket")) (required (codes "RULE"))) (required (codes "KEY"))) json_flag
+
+-- `price OLD NEW REQUEST KEYS`, with `--json`
+unfoldable pub price_app : App
+price_app =
+    with_rule (with_rule (with_rule (with_rule (with_rule (new_app (codes "price")) (required (codes "OLD"))) (required (codes "NEW"))) (required (codes "REQUEST"))) (required (codes "KEYS"))) json_flag
+
 -- `--strict`: what is doubted is refused
 abbrev pub strict_flag : Rule
 strict_flag = flag (codes "strict")
-
--- `check DOC`, with `--strict`
-unfoldable pub check_app : App
-check_app = with_rule (with_rule (new_app (codes "check")) (required (codes "DOC"))) strict_flag
 
 -- a number up to a bound that has to be there
 abbrev pub number : Text → ℕ → Rule
@@ -66,9 +68,9 @@ refine_option = option_number (codes "M") (codes "refine") 1 max_32
 abbrev pub with_rollout : App → App
 with_rollout a = with_rule (with_rule (with_rule a (required (codes "DOC"))) (required (codes "REQUEST"))) (required (codes "BOOK"))
 
--- `verify DOC REQUEST BOOK PLAN`, with `--refine M` and `--strict`
+-- `verify DOC REQUEST BOOK PLAN`, with `--refine M`, `--strict` and `--json`
 unfoldable pub verify_app : App
-verify_app = with_rule (with_rule (with_rule (with_rollout (new_app (codes "verify"))) (required (codes "PLAN"))) refine_option) strict_flag
+verify_app = with_rule (with_rule (with_rule (with_rule (with_rollout (new_app (codes "verify"))) (required (codes "PLAN"))) refine_option) strict_flag) json_flag
 
 -- `plan DOC REQUEST BOOK`, with `--refine M`, `--strict` and `--explain`
 unfoldable pub plan_app : App
@@ -83,10 +85,13 @@ apply_begun =
 unfoldable pub apply_app : App
 apply_app = with_rule (with_rule (with_rule (with_rule apply_begun (flag (codes "keep"))) (flag (codes "write"))) refine_option) strict_flag
 
--- `drive DOC ASKS WORKERS BOOK`, with `--add`
+-- `drive DOC ASKS WORKERS BOOK`
+abbrev pub drive_begun : App
+drive_begun = with_rule (with_rule (with_rule (with_rule (new_app (codes "drive")) (required (codes "DOC"))) (required (codes "ASKS"))) (number (codes "WORKERS") max_16)) (required (codes "BOOK"))
+
+-- the same with `--add`, `--strict` and `--json`
 unfoldable pub drive_app : App
-drive_app =
-    with_rule (with_rule (with_rule (with_rule (with_rule (new_app (codes "drive")) (required (codes "DOC"))) (required (codes "ASKS"))) (number (codes "WORKERS") max_16)) (required (codes "BOOK"))) (flag (codes "add"))
+drive_app = with_rule (with_rule (with_rule drive_begun (flag (codes "add"))) strict_flag) json_flag
 
 -- one word or more
 abbrev pub some_words : Text → Rule
@@ -109,7 +114,7 @@ takes_commands s = record s {
 unfoldable pub flagops_app : App
 flagops_app =
     with_subcommand (with_subcommand (with_subcommand (with_subcommand (with_subcommand
-    (with_subcommand (with_subcommand (with_subcommand (with_subcommand (on_top takes_commands (new_app (codes "flagops"))) bucket_app.top) price_app.top) check_app.top)
+    (with_subcommand (with_subcommand (with_subcommand (on_top takes_commands (new_app (codes "flagops"))) bucket_app.top) price_app.top)
     resolve_app.top) plan_app.top) verify_app.top) apply_app.top) drive_app.top) completions_app.top
 
 -- ---- what the words ask for
@@ -119,12 +124,26 @@ infixl 10 ◌>>=◌
 abbrev pub ◌>>=◌ : {X Y : Type 0} → Option X → (X → Option Y) → Option Y
 o >>= next = option_and_then next o
 
+abbrev pub is_true : Option Text → Bool
+is_true None = false
+is_true (Some word) = bytes_eq word (codes "true")
+
+-- an option without a value is given; `clap` stores "true", and "false" where it is left out
+abbrev pub flag_in : Text → List Row → Bool
+flag_in id rows = is_true (first_of id rows)
+
+abbrev pub is_strict : List Row → Bool
+is_strict rows = flag_in (codes "strict") rows
+
+abbrev pub is_json : List Row → Bool
+is_json rows = flag_in (codes "json") rows
+
 -- the words of `bucket`: the first value of each argument
 abbrev pub bucket_in : List Row → Option Asked
 bucket_in rows = do
   rule ← first_of (codes "RULE") rows
   key ← first_of (codes "KEY") rows
-  Some (bucket rule key)
+  Some (bucket rule key (is_json rows))
 
 abbrev pub price_in : List Row → Option Asked
 price_in rows = do
@@ -132,7 +151,7 @@ price_in rows = do
   new ← first_of (codes "NEW") rows
   request ← first_of (codes "REQUEST") rows
   keys ← first_of (codes "KEYS") rows
-  Some (price old new request keys)
+  Some (price old new request keys (is_json rows))
 
 abbrev pub kind_in : List Row → Option Kind
 kind_in rows = do
@@ -158,22 +177,6 @@ if_given (Some word) = option_map Some (factor_in word)
 abbrev pub refine_in : List Row → Option (Option ℕ)
 refine_in rows = if_given (first_of (codes "M") rows)
 
-abbrev pub is_true : Option Text → Bool
-is_true None = false
-is_true (Some word) = bytes_eq word (codes "true")
-
--- an option without a value is given; `clap` stores "true", and "false" where it is left out
-abbrev pub flag_in : Text → List Row → Bool
-flag_in id rows = is_true (first_of id rows)
-
-abbrev pub is_strict : List Row → Bool
-is_strict rows = flag_in (codes "strict") rows
-
-abbrev pub check_in : List Row → Option Asked
-check_in rows = do
-  document ← first_of (codes "DOC") rows
-  Some (check document (is_strict rows))
-
 abbrev pub verify_in : List Row → Option Asked
 verify_in rows = do
   document ← first_of (codes "DOC") rows
@@ -181,7 +184,7 @@ verify_in rows = do
   book ← first_of (codes "BOOK") rows
   file ← first_of (codes "PLAN") rows
   factor ← refine_in rows
-  Some (verify document request book file factor (is_strict rows))
+  Some (verify document request book file factor (is_strict rows) (is_json rows))
 
 abbrev pub plan_in : List Row → Option Asked
 plan_in rows = do
@@ -228,7 +231,7 @@ drive_in rows = do
   word ← first_of (codes "WORKERS") rows
   workers ← number_in 0 max_16 word
   book ← first_of (codes "BOOK") rows
-  Some (drive document file workers book (flag_in (codes "add") rows))
+  Some (drive document file workers book (flag_in (codes "add") rows) (is_strict rows) (is_json rows))
 
 -- texts, where there are any
 abbrev pub if_any : List Text → Option (List Text)
@@ -263,9 +266,8 @@ asked_in (name, rows) =
     if bytes_eq name (codes "resolve") then resolve_in rows else
     (if bytes_eq name (codes "completions") then completions_in rows else
     (if bytes_eq name (codes "apply") then apply_in rows else
-    (if bytes_eq name (codes "check") then check_in rows else
     (if bytes_eq name (codes "price") then price_in rows else
-    (if bytes_eq name (codes "bucket") then bucket_in rows else rollout_in (name, rows))))))
+    (if bytes_eq name (codes "bucket") then bucket_in rows else rollout_in (name, rows)))))
 
 -- the same of the subcommand that was met, if one was
 abbrev pub asked_of : Option (Text × List Row) → Option Asked

@@ -9,6 +9,8 @@ pub enum Asked<'a> {
     Bucket {
         rule: &'a str,
         key: &'a str,
+        /// Whether the answer is printed as JSON.
+        json: bool,
     },
     /// What a new rule costs the keys of a file.
     Price {
@@ -16,12 +18,8 @@ pub enum Asked<'a> {
         new: &'a str,
         request: &'a str,
         keys: &'a str,
-    },
-    /// Which flags of a document are good.
-    Check {
-        document: &'a str,
-        /// Whether a broken flag is no success.
-        strict: bool,
+        /// Whether the answer is printed as JSON.
+        json: bool,
     },
     /// What the flag of a key resolves to.
     Resolve {
@@ -41,6 +39,8 @@ pub enum Asked<'a> {
         refine: Option<Factor>,
         /// Whether what is doubted is refused, and not only told.
         strict: bool,
+        /// Whether the answer is printed as JSON.
+        json: bool,
     },
     /// The answer of the planner to a request.
     Plan {
@@ -80,6 +80,10 @@ pub enum Asked<'a> {
         book: &'a str,
         /// Whether the book keeps what it has.
         add: bool,
+        /// Whether what is doubted is refused, and not only told.
+        strict: bool,
+        /// Whether the answer is printed as JSON.
+        json: bool,
     },
     /// The script by which a shell completes the words of the program.
     Completions {

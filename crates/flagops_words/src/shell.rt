@@ -45,20 +45,21 @@ _flagops() {
         return
     fi
     case ${COMP_WORDS[1]}:$word in
-        check:-*) COMPREPLY=($(compgen -W "--strict --help" -- "$word")) ;;
+        check:-*) COMPREPLY=($(compgen -W "--strict --json --help" -- "$word")) ;;
+        bucket:-* | price:-*) COMPREPLY=($(compgen -W "--json --help" -- "$word")) ;;
         plan:-*) COMPREPLY=($(compgen -W "--refine --strict --explain --picture --help" -- "$word")) ;;
         picture:-*) COMPREPLY=($(compgen -W "--refine --ramp --help" -- "$word")) ;;
-        verify:-*) COMPREPLY=($(compgen -W "--refine --strict --help" -- "$word")) ;;
+        verify:-*) COMPREPLY=($(compgen -W "--refine --strict --json --help" -- "$word")) ;;
         ramp:-* | verify-ramp:-* | tally:-*) COMPREPLY=($(compgen -W "--refine --help" -- "$word")) ;;
         record:-*) COMPREPLY=($(compgen -W "--moment --workers --help" -- "$word")) ;;
         apply:-*) COMPREPLY=($(compgen -W "--keep --write --refine --strict --step --help" -- "$word")) ;;
         book:-*) COMPREPLY=($(compgen -W "--torn --help" -- "$word")) ;;
         ofrep:-*) COMPREPLY=($(compgen -W "--listen --log --stream --workers --poll --help" -- "$word")) ;;
-        drive:-*) COMPREPLY=($(compgen -W "--add --help" -- "$word")) ;;
+        drive:-*) COMPREPLY=($(compgen -W "--add --strict --json --help" -- "$word")) ;;
         serve:-* | follow:-*) COMPREPLY=($(compgen -W "--wait --help" -- "$word")) ;;
         *:-*) COMPREPLY=($(compgen -W "--help" -- "$word")) ;;
         completions:*) COMPREPLY=($(compgen -W "bash fish zsh" -- "$word")) ;;
-        help:*) COMPREPLY=($(compgen -W "bucket price check resolve plan verify apply drive completions" -- "$word")) ;;
+        help:*) COMPREPLY=($(compgen -W "bucket price check resolve plan verify apply drive book ramp verify-ramp picture record tally join ofrep serve follow completions" -- "$word")) ;;
         resolve:*)
             if [ "$COMP_CWORD" -eq 4 ]; then
                 COMPREPLY=($(compgen -W "bool text whole object boolean string integer" -- "$word"))
@@ -95,7 +96,8 @@ complete -c flagops -n __fish_use_subcommand -f -a serve -d 'Publish documents t
 complete -c flagops -n __fish_use_subcommand -f -a follow -d 'Print the snapshots that come'
 complete -c flagops -n __fish_use_subcommand -f -a completions -d 'Print the completion of a shell'
 complete -c flagops -n __fish_use_subcommand -f -a help -d 'Print the help of a command'
-complete -c flagops -n '__fish_seen_subcommand_from check plan verify apply' -l strict -d 'Refuse what is else only told'
+complete -c flagops -n '__fish_seen_subcommand_from bucket price check verify drive' -l json -d 'Print the answer as JSON'
+complete -c flagops -n '__fish_seen_subcommand_from check plan verify apply drive' -l strict -d 'Refuse what is else only told'
 complete -c flagops -n '__fish_seen_subcommand_from plan' -l explain -d 'Tell the plan in words'
 complete -c flagops -n '__fish_seen_subcommand_from plan verify ramp verify-ramp picture tally' -l refine -x -d 'Plan in finer points'
 complete -c flagops -n '__fish_seen_subcommand_from plan' -l picture -r -d 'Write the picture of the plan'
@@ -149,13 +151,19 @@ _flagops() {
         return
     fi
     case $words[2] in
-        check) _arguments '--strict[refuse what is else only told]' '--help[print help]' '*:file:_files' ;;
+        bucket | price) _arguments '--json[print the answer as JSON]' '--help[print help]' '*:file:_files' ;;
+        check)
+            _arguments '--strict[refuse what is else only told]' '--json[print the answer as JSON]' '--help[print help]' '*:file:_files'
+            ;;
         plan)
             _arguments '--refine[plan in finer points]:M:' '--strict[refuse what is else only told]' '--explain[tell the plan in words]' \
                 '--picture[write the picture of the plan]:file:_files' '--help[print help]' '*:file:_files'
             ;;
         picture) _arguments '--refine[plan in finer points]:M:' '--ramp[draw the steps of a rollout]' '--help[print help]' '*:file:_files' ;;
-        verify) _arguments '--refine[plan in finer points]:M:' '--strict[refuse what is else only told]' '--help[print help]' '*:file:_files' ;;
+        verify)
+            _arguments '--refine[plan in finer points]:M:' '--strict[refuse what is else only told]' '--json[print the answer as JSON]' \
+                '--help[print help]' '*:file:_files'
+            ;;
         ramp | verify-ramp | tally) _arguments '--refine[plan in finer points]:M:' '--help[print help]' '*:file:_files' ;;
         record)
             _arguments '--moment[the time of the evaluations]:MOMENT:' '--workers[the most threads that evaluate]:WORKERS:' \
@@ -173,7 +181,10 @@ _flagops() {
                 '--workers[the threads that answer]:N:' '--poll[the seconds between two readings of the documents]:SECONDS:' \
                 '--help[print help]' '*:file:_files'
             ;;
-        drive) _arguments '--add[keep what the book has]' '--help[print help]' '*:file:_files' ;;
+        drive)
+            _arguments '--add[keep what the book has]' '--strict[refuse what is else only told]' '--json[print the answer as JSON]' \
+                '--help[print help]' '*:file:_files'
+            ;;
         serve | follow) _arguments '--wait[the most seconds to wait]:S:' '--help[print help]' '*:file:_files' ;;
         completions) _values shell bash fish zsh ;;
         *) _arguments '--help[print help]' '*:file:_files' ;;

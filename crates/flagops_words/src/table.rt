@@ -33,6 +33,8 @@ const STRICT: Word = Word::Flag(
     "End with status 1 where something is else only told: docs/REFUSALS.md has the table",
 );
 
+const JSON: Word = Word::Flag("json", "Print the answer as JSON, a text a line");
+
 const EXPLAIN: Word = Word::Flag(
     "explain",
     "Tell in words, beside the plan, what it changes, or what stands in the way of any",
@@ -52,7 +54,6 @@ const REFINE: Word = Word::Option(
 pub const COMMANDS: &[Usage] = &[
     BUCKET,
     PRICE,
-    CHECK,
     RESOLVE,
     PLAN,
     VERIFY,
@@ -67,6 +68,7 @@ const BUCKET: Usage = Usage {
     words: &[
         Word::Text("RULE", "The rule file, as [[\"red\",50],[\"blue\",50]]"),
         Word::Text("KEY", "The hash input, as a targeting key"),
+        JSON,
     ],
 };
 
@@ -78,13 +80,8 @@ const PRICE: Usage = Usage {
         Word::Text("NEW", "The file of the new rule, of the same total"),
         Word::Text("REQUEST", "The file of prices and prohibitions"),
         Word::Text("KEYS", "The file of hash inputs, a list of texts"),
+        JSON,
     ],
-};
-
-const CHECK: Usage = Usage {
-    name: "check",
-    about: "Prints which flags of a document are good and which are broken",
-    words: &[DOCUMENT, STRICT],
 };
 
 const RESOLVE: Usage = Usage {
@@ -130,7 +127,7 @@ const PLAN: Usage = Usage {
 const VERIFY: Usage = Usage {
     name: "verify",
     about: "Checks, apart from the planner, that a plan is right and the cheapest for a rollout request",
-    words: &[DOCUMENT, REQUEST, BOOK, PLAN_FILE, REFINE, STRICT],
+    words: &[DOCUMENT, REQUEST, BOOK, PLAN_FILE, REFINE, STRICT, JSON],
 };
 
 const APPLY: Usage = Usage {
@@ -194,6 +191,8 @@ const DRIVE: Usage = Usage {
         ),
         Word::Text("BOOK", "The book file that is written"),
         Word::Flag("add", "Read BOOK first, and write it with what it had"),
+        STRICT,
+        JSON,
     ],
 };
 

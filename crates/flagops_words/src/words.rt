@@ -2,7 +2,7 @@
 ghost use Rattle.std.specs.Prelude.{◌≡◌, Some, IfOk, IfErr, map, option_map};
 ghost use Rattle.clap.specs.Words.{found_of, kind_of, rows_of, subcommand_rows_of};
 ghost use Rattle.flagops_words.specs.Asked.{asked_view};
-ghost use Rattle.flagops_words.specs.Words.{IsToldBy, applied_in, apply_in, asked_by, asked_in, asked_of, bucket_in, check_in, completions_in, drive_in, flag_in, is_stray, is_strict, keep_in, mistake_of, plan_in, price_in, refine_in, resolve_in, rollout_in, verify_in};
+ghost use Rattle.flagops_words.specs.Words.{IsToldBy, applied_in, apply_in, asked_by, asked_in, asked_of, bucket_in, completions_in, drive_in, flag_in, is_json, is_stray, is_strict, keep_in, mistake_of, plan_in, price_in, refine_in, resolve_in, rollout_in, verify_in};
 
 use crate::asked::Asked;
 use crate::kinds::kind_spelled;
@@ -55,7 +55,6 @@ fn asked_in<'a>(name: &str, words: &ArgMatches<'a>) -> Option<Asked<'a>>
         "resolve" => resolve_in(words),
         "completions" => completions_in(words),
         "apply" => apply_in(words),
-        "check" => check_in(words),
         "price" => price_in(words),
         "bucket" => bucket_in(words),
         _ => rollout_in(name, words),
@@ -80,7 +79,11 @@ fn bucket_in<'a>(words: &ArgMatches<'a>) -> Option<Asked<'a>>
 {
     let rule = words.get_str("RULE")?;
     let key = words.get_str("KEY")?;
-    Some(Asked::Bucket { rule, key })
+    Some(Asked::Bucket {
+        rule,
+        key,
+        json: is_json(words),
+    })
 }
 
 #[tactic(auto, using(crate::proofs::Matched::rows))]
@@ -96,17 +99,7 @@ fn price_in<'a>(words: &ArgMatches<'a>) -> Option<Asked<'a>>
         new,
         request,
         keys,
-    })
-}
-
-#[tactic(auto, using(crate::proofs::Matched::rows))]
-fn check_in<'a>(words: &ArgMatches<'a>) -> Option<Asked<'a>>
-    ensures { option_map asked_view result ≡ check_in (rows_of (found_of words.now)) }
-{
-    let document = words.get_str("DOC")?;
-    Some(Asked::Check {
-        document,
-        strict: is_strict(words),
+        json: is_json(words),
     })
 }
 
@@ -146,6 +139,7 @@ fn verify_in<'a>(words: &ArgMatches<'a>) -> Option<Asked<'a>>
         plan,
         refine,
         strict: is_strict(words),
+        json: is_json(words),
     })
 }
 
@@ -193,6 +187,13 @@ fn is_strict(words: &ArgMatches<'_>) -> bool
     ensures { result ≡ is_strict (rows_of (found_of words.now)) }
 {
     flag_in(words, "strict")
+}
+
+/// Whether the answer is to be printed as JSON.
+fn is_json(words: &ArgMatches<'_>) -> bool
+    ensures { result ≡ is_json (rows_of (found_of words.now)) }
+{
+    flag_in(words, "json")
 }
 
 /// Whether an option without a value is given.
@@ -256,6 +257,8 @@ fn drive_in<'a>(words: &ArgMatches<'a>) -> Option<Asked<'a>>
         workers,
         book,
         add: flag_in(words, "add"),
+        strict: is_strict(words),
+        json: is_json(words),
     })
 }
 
