@@ -45,9 +45,9 @@ book_refused (Some at) new book d e fault same = λ wanted. inr (rw (fault wante
 pub at_first : {A : Type 0} (old mid : Option A) (P : A → Type 0) → mid ≡ old → IfSome mid P → IfSome old P
 at_first old mid P same h = subst (λ o. IfSome o P) same h
 
-module _ (path asks : List ℕ) (workers : ℕ) (book : List ℕ) (add : Bool) where
+module _ (path asks : List ℕ) (workers : ℕ) (book : List ℕ) (add strict json : Bool) where
   abbrev Is : Option Holding → Option Holding → Result Outcome Refused → Type 0
-  Is old after r = IfSome old (λ at. GivesOne outcome_view r (IsDriveReport at after path asks workers book add))
+  Is old after r = IfSome old (λ at. GivesOne outcome_view r (IsDriveReport at after path asks workers book add strict json))
 
   pub no_document : (old after : Option Holding) (e : Refused) → after ≡ old → IfSome old (λ at. is_want e.refusal ≡ false → IsDocumentAt at path (Err e.refusal)) → Is old after (Err e)
   unfolding IsDriveReport

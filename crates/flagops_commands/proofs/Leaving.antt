@@ -1,7 +1,7 @@
 -- What the commands leave of the files, and which refusals a file that failed or changed is told by.
 use Rattle.std.proofs.Common.{◌≡◌, ◌∙◌, ◌||◌, Option, Some, None, Bool, true, false, IfSome, IfOk, IfErr, inl, inr, refl, sym, ap, subst}
 use Rattle.std.specs.Prelude.{Result, Ok, Err}
-use Rattle.flagops_words.specs.Asked.{Asked, bucket, price, check, resolve, verify, apply, keep, plan, drive, completions}
+use Rattle.flagops_words.specs.Asked.{Asked, bucket, price, resolve, verify, apply, keep, plan, drive, completions}
 use Rattle.flagops_commands.specs.Commands.{calls_of, IsOutcome, IsRunOutcome, Leaves, LeavesAsked}
 use Rattle.flagops_commands.specs.Drive.{KeepsUnlessDone}
 use Rattle.flagops_files.specs.Files.{Holding}
@@ -20,16 +20,15 @@ use Rattle.flagops_files.specs.declared.refused.Refused.{Refused}
 
 -- files that stay are left by each command
 leaves_same : (asked : Asked) (h : Option Holding) → Leaves asked h h
-leaves_same (bucket rule key) h = refl
-leaves_same (price old new request keys) h = refl
-leaves_same (check document strict) h = refl
+leaves_same (bucket rule key json) h = refl
+leaves_same (price old new request keys json) h = refl
 leaves_same (resolve document key kind default context moment) h = refl
-leaves_same (verify document request book file refine strict) h = refl
+leaves_same (verify document request book file refine strict json) h = refl
 leaves_same (apply document file key site) h = refl
 leaves_same (keep document file request book write refine strict) h = inl refl
 leaves_same (plan document request book refine strict explain) h = refl
 leaves_same (completions shell) h = refl
-leaves_same (drive document file workers book add) h = inl refl
+leaves_same (drive document file workers book add strict json) h = inl refl
 
 pub left_alone : (o : Option Asked) (h : Option Holding) → LeavesAsked o h h
 left_alone None h = refl
@@ -82,24 +81,24 @@ not_of_file r (inl e) = cc
 not_of_file r (inr e) = cc
 
 module _ (files after : Option Holding) (failed : Bool) (asked : Asked) where
-  pub done : (o : Outcome) → IfSome files (λ at. IsOutcome at after asked (Ok (outcome_view o))) → IfSome files (λ at. IfSome o.remark (Says (notes_of at asked)))
-      → IfSome files (λ at. RemarksOrWants (calls_of asked) (remark_of at asked) (Ok o) (IsRunOutcome at after failed asked))
+  pub done : (o : Outcome) → IfSome files (λ at. IsOutcome at after asked (Ok (outcome_view o))) → IfSome o.remark (Says (notes_of asked))
+      → IfSome files (λ at. RemarksOrWants (calls_of asked) (remark_of asked) (Ok o) (IsRunOutcome at after failed asked))
   done o is noted = go files is noted
     where
-      go : (h : Option Holding) → IfSome h (λ at. IsOutcome at after asked (Ok (outcome_view o))) → IfSome h (λ at. IfSome o.remark (Says (notes_of at asked)))
-          → IfSome h (λ at. RemarksOrWants (calls_of asked) (remark_of at asked) (Ok o) (IsRunOutcome at after failed asked))
+      go : (h : Option Holding) → IfSome h (λ at. IsOutcome at after asked (Ok (outcome_view o))) → IfSome o.remark (Says (notes_of asked))
+          → IfSome h (λ at. RemarksOrWants (calls_of asked) (remark_of asked) (Ok o) (IsRunOutcome at after failed asked))
       go None is noted = tt
       go (Some at) is noted = (Ok (outcome_view o), (is, not_of_file (outcome_view o)), refl, noted)
 
   pub refused : (was : Bool) (e : Refused) (r : Result Outcome Call) → IfSome files (λ at. is_want e.refusal ≡ false → IsOutcome at after asked (Err e.refusal)) → calls_of asked (call_of e.refusal) ≡ true
       → failed ≡ (was || is_unread e.refusal) → (is_want e.refusal ≡ false → NamesOne (subjects_of asked) e.refusal e.remark)
       → IfOk r (λ o. (is_want e.refusal ≡ false) × (outcome_view o ≡ report_of (Err e.refusal))) → IfErr r (λ c. c ≡ call_of e.refusal) → IfOk r (λ o. o.remark ≡ Some e.remark)
-      → IfSome files (λ at. RemarksOrWants (calls_of asked) (remark_of at asked) r (IsRunOutcome at after failed asked))
+      → IfSome files (λ at. RemarksOrWants (calls_of asked) (remark_of asked) r (IsRunOutcome at after failed asked))
   refused was e r is calls fails told line named kept = go files r is line named kept
     where
       go : (h : Option Holding) (r : Result Outcome Call) → IfSome h (λ at. is_want e.refusal ≡ false → IsOutcome at after asked (Err e.refusal))
           → IfOk r (λ o. (is_want e.refusal ≡ false) × (outcome_view o ≡ report_of (Err e.refusal))) → IfErr r (λ c. c ≡ call_of e.refusal) → IfOk r (λ o. o.remark ≡ Some e.remark)
-          → IfSome h (λ at. RemarksOrWants (calls_of asked) (remark_of at asked) r (IsRunOutcome at after failed asked))
+          → IfSome h (λ at. RemarksOrWants (calls_of asked) (remark_of asked) r (IsRunOutcome at after failed asked))
       go None r is line named kept = tt
       go (Some at) (Ok o) is line named kept =
           (Err e.refusal, (is line.0, has_failed was failed e.refusal fails), line.1, subst (λ (m : Option Remark). IfSome m (NamesOne (subjects_of asked) e.refusal)) (sym kept) (told line.0))

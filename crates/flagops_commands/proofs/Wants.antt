@@ -40,11 +40,11 @@ may_want asked call.Store e = e
 -- the words ask for a command that makes the call, whose want of memory is reported
 pub wanted : (words : Option Asked) (asked : Asked) (files after : Option Holding) (failed : Bool) (c : Call) (out out_after : Option (List ℕ)) (is_broken : Bool) (err err_after : Option (List ℕ)) (is_err_broken : Bool) (status : ℕ) → words ≡ Some asked
     → IfSome files (λ at. calls_of asked c ≡ true) → ReportsAll out out_after is_broken err err_after is_err_broken status (want_report c)
-    → IfSome words (λ a. IfSome files (λ at. AnswersTold (can_want a) (remark_of at a) out out_after is_broken err err_after is_err_broken status (IsRunOutcome at after failed a)))
+    → IfSome words (λ a. IfSome files (λ at. AnswersTold (can_want a) (remark_of a) out out_after is_broken err err_after is_err_broken status (IsRunOutcome at after failed a)))
 wanted words asked files after failed c out out_after is_broken err err_after is_err_broken status is calls reports =
-    subst (λ (o : Option Asked). IfSome o (λ a. IfSome files (λ at. AnswersTold (can_want a) (remark_of at a) out out_after is_broken err err_after is_err_broken status (IsRunOutcome at after failed a)))) (sym is) (go files calls)
+    subst (λ (o : Option Asked). IfSome o (λ a. IfSome files (λ at. AnswersTold (can_want a) (remark_of a) out out_after is_broken err err_after is_err_broken status (IsRunOutcome at after failed a)))) (sym is) (go files calls)
   where
-    go : (h : Option Holding) → IfSome h (λ at. calls_of asked c ≡ true) → IfSome h (λ at. AnswersTold (can_want asked) (remark_of at asked) out out_after is_broken err err_after is_err_broken status (IsRunOutcome at after failed asked))
+    go : (h : Option Holding) → IfSome h (λ at. calls_of asked c ≡ true) → IfSome h (λ at. AnswersTold (can_want asked) (remark_of asked) out out_after is_broken err err_after is_err_broken status (IsRunOutcome at after failed asked))
     go None e = tt
     go (Some at) e = inr (c, may_want asked c e, reports)
 
@@ -65,15 +65,15 @@ module _ (out out_after : Option (List ℕ)) (is_broken : Bool) (err err_after :
       go (Some remark) some has puts = (remark, has, puts)
 
   pub reported : (words : Option Asked) (asked : Asked) (files after : Option Holding) (failed : Bool) (o : Outcome) → words ≡ Some asked
-      → IfSome files (λ at. RemarksOrWants (calls_of asked) (remark_of at asked) (Ok o) (IsRunOutcome at after failed asked)) → Writes (outcome_view o)
-      → PutsRemark err err_after is_err_broken o.remark → IfSome words (λ a. IfSome files (λ at. AnswersTold (can_want a) (remark_of at a) out out_after is_broken err err_after is_err_broken status (IsRunOutcome at after failed a)))
+      → IfSome files (λ at. RemarksOrWants (calls_of asked) (remark_of asked) (Ok o) (IsRunOutcome at after failed asked)) → Writes (outcome_view o)
+      → PutsRemark err err_after is_err_broken o.remark → IfSome words (λ a. IfSome files (λ at. AnswersTold (can_want a) (remark_of a) out out_after is_broken err err_after is_err_broken status (IsRunOutcome at after failed a)))
   reported words asked files after failed o is told writes puts =
-      subst (λ (w : Option Asked). IfSome w (λ a. IfSome files (λ at. AnswersTold (can_want a) (remark_of at a) out out_after is_broken err err_after is_err_broken status (IsRunOutcome at after failed a)))) (sym is) (go files told)
+      subst (λ (w : Option Asked). IfSome w (λ a. IfSome files (λ at. AnswersTold (can_want a) (remark_of a) out out_after is_broken err err_after is_err_broken status (IsRunOutcome at after failed a)))) (sym is) (go files told)
     where
-      go : (h : Option Holding) → IfSome h (λ at. RemarksOrWants (calls_of asked) (remark_of at asked) (Ok o) (IsRunOutcome at after failed asked))
-          → IfSome h (λ at. AnswersTold (can_want asked) (remark_of at asked) out out_after is_broken err err_after is_err_broken status (IsRunOutcome at after failed asked))
+      go : (h : Option Holding) → IfSome h (λ at. RemarksOrWants (calls_of asked) (remark_of asked) (Ok o) (IsRunOutcome at after failed asked))
+          → IfSome h (λ at. AnswersTold (can_want asked) (remark_of asked) out out_after is_broken err err_after is_err_broken status (IsRunOutcome at after failed asked))
       go None told = tt
-      go (Some at) told = inl (told.0, told.1, subst Writes told.2 writes, remarked (remark_of at asked) told.0 o told.3 told.2 puts)
+      go (Some at) told = inl (told.0, told.1, subst Writes told.2 writes, remarked (remark_of asked) told.0 o told.3 told.2 puts)
 
   -- a file has changed
   abbrev IsDone : Type 0

@@ -1,5 +1,5 @@
 -- What the command `bucket` answers.
-use Rattle.std.specs.Prelude.{ℕ, zero, suc, ◌/◌, ◌%◌, List, [], ◌∷◌, ◌++◌, false, codes, decimal, unwrap_or, Result}
+use Rattle.std.specs.Prelude.{ℕ, zero, suc, ◌/◌, ◌%◌, List, [], ◌∷◌, ◌++◌, Bool, false, codes, decimal, unwrap_or, Result}
 use Rattle.std.specs.Fmt.{digit_glyph}
 use Rattle.murmur_core.specs.Murmur.{hash}
 use Rattle.flag_text.specs.Shape.{text}
@@ -32,7 +32,7 @@ unfoldable pub bucket_text : Entries → List ℕ → List ℕ
 bucket_text r key = three_lines (eight_hex_digits (hash key 0)) (decimal (point_of (total_weight r) key)) (text_of (text (chosen r key)))
 
 -- the same three lines, of the rule of a rule file
-unfoldable pub bucket_report : Holding → List ℕ → List ℕ → Result Report Refusal
-bucket_report at rule key = do
+unfoldable pub bucket_report : Holding → List ℕ → List ℕ → Bool → Result Report Refusal
+bucket_report at rule key json = do
   r ← rule_at at rule
   done (bucket_text r key)

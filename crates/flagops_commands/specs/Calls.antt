@@ -48,16 +48,6 @@ price_calls call.ReadRequest = true
 price_calls call.Note = true
 price_calls c = loads_rule c
 
--- the call of the command `check` itself
-abbrev pub check_itself : Call → Bool
-check_itself call.Check = true
-check_itself c = false
-
--- the calls that the command `check` makes
-abbrev pub check_calls : Call → Bool
-check_calls call.Check = true
-check_calls c = loads_flags c
-
 -- the calls that the command `resolve` makes
 abbrev pub resolve_calls : Call → Bool
 resolve_calls call.Resolve = true

@@ -2,38 +2,36 @@
 use Rattle.std.specs.Prelude.{◌≡◌, Bool, true, false, Option, Some}
 use Rattle.flagops_commands.specs.Apply.{IsApplyReport}
 use Rattle.flagops_commands.specs.Bucket.{bucket_report}
-use Rattle.flagops_commands.specs.Check.{IsCheckReport}
 use Rattle.flagops_commands.specs.Completions.{completions_report}
 use Rattle.flagops_commands.specs.Drive.{IsDriveReport, LeavesBook}
 use Rattle.flagops_files.specs.Files.{Holding}
 use Rattle.flagops_commands.specs.Keep.{IsKeepReport, LeavesDocument}
 use Rattle.flagops_commands.specs.Plan.{IsPlanReport}
 use Rattle.flagops_commands.specs.Price.{price_report}
-use Rattle.flagops_commands.specs.Calls.{bucket_calls, completions_calls, price_calls, check_calls, resolve_calls, verify_calls, apply_calls, keep_calls, plan_calls, drive_calls}
+use Rattle.flagops_commands.specs.Calls.{bucket_calls, completions_calls, price_calls, resolve_calls, verify_calls, apply_calls, keep_calls, plan_calls, drive_calls}
 use Rattle.flagops_files.specs.Report.{IsFileRefusal, Outcomes}
 use Rattle.flagops_commands.specs.Resolve.{IsResolveReport}
 use Rattle.flagops_commands.specs.Verify.{IsVerifyReport}
 use Rattle.flagops_files.specs.declared.refusal.Call.{Call}
 use Rattle.flagops_files.specs.declared.refusal.Call.TheVariants as call
-use Rattle.flagops_words.specs.Asked.{Asked, bucket, price, check, resolve, verify, apply, keep, plan, drive, completions}
+use Rattle.flagops_words.specs.Asked.{Asked, bucket, price, resolve, verify, apply, keep, plan, drive, completions}
 
 -- the command waits for others: `drive` for its workers, and no other command
 abbrev pub waits : Asked → Bool
-waits (drive document file workers book add) = true
+waits (drive document file workers book add strict json) = true
 waits asked = false
 
 -- what each command comes to over the files, and over those that it leaves
 abbrev pub IsOutcome : Holding → Option Holding → Asked → Outcomes
-IsOutcome at after (bucket rule key) r = bucket_report at rule key ≡ r
-IsOutcome at after (price old new request keys) r = price_report at old new request keys ≡ r
-IsOutcome at after (check document strict) r = IsCheckReport at document strict r
+IsOutcome at after (bucket rule key json) r = bucket_report at rule key json ≡ r
+IsOutcome at after (price old new request keys json) r = price_report at old new request keys json ≡ r
 IsOutcome at after (resolve document key kind default context moment) r = IsResolveReport at document key kind default context moment r
-IsOutcome at after (verify document request book file refine strict) r = IsVerifyReport at document request book file refine strict r
+IsOutcome at after (verify document request book file refine strict json) r = IsVerifyReport at document request book file refine strict json r
 IsOutcome at after (apply document file key site) r = IsApplyReport at document file key site r
 IsOutcome at after (keep document file request book write refine strict) r = IsKeepReport at after document file request book write refine strict r
 IsOutcome at after (plan document request book refine strict explain) r = IsPlanReport at document request book refine strict explain r
 IsOutcome at after (completions shell) r = completions_report shell ≡ r
-IsOutcome at after (drive document file workers book add) r = IsDriveReport at after document file workers book add r
+IsOutcome at after (drive document file workers book add strict json) r = IsDriveReport at after document file workers book add strict json r
 
 -- the same; and that a file cannot be read or written is told only where one has failed
 abbrev pub IsRunOutcome : Holding → Option Holding → Bool → Asked → Outcomes
@@ -42,7 +40,7 @@ IsRunOutcome at after has_failed asked r = IsOutcome at after asked r × (IsFile
 -- a command leaves the files as they are; `drive` and `apply --keep --write` change the one file that they write, and only where there is something to write
 abbrev pub Leaves : Asked → Option Holding → Option Holding → Type 0
 Leaves (keep document file request book write refine strict) old new = LeavesDocument old new document write
-Leaves (drive document file workers book add) old new = LeavesBook old new document file workers book add
+Leaves (drive document file workers book add strict json) old new = LeavesBook old new document file workers book add
 Leaves asked old new = new ≡ old
 
 -- words that ask for no command leave them
@@ -52,16 +50,15 @@ LeavesAsked o old new = new ≡ old
 
 -- the calls that each command makes
 abbrev pub calls_of : Asked → Call → Bool
-calls_of (bucket rule key) c = bucket_calls c
-calls_of (price old new request keys) c = price_calls c
-calls_of (check document strict) c = check_calls c
+calls_of (bucket rule key json) c = bucket_calls c
+calls_of (price old new request keys json) c = price_calls c
 calls_of (resolve document key kind default context moment) c = resolve_calls c
-calls_of (verify document request book file refine strict) c = verify_calls c
+calls_of (verify document request book file refine strict json) c = verify_calls c
 calls_of (apply document file key site) c = apply_calls c
 calls_of (keep document file request book write refine strict) c = keep_calls c
 calls_of (plan document request book refine strict explain) c = plan_calls c
 calls_of (completions shell) c = completions_calls c
-calls_of (drive document file workers book add) c = drive_calls c
+calls_of (drive document file workers book add strict json) c = drive_calls c
 
 -- the calls that may run out of memory: those of the command, and reading the words
 abbrev pub can_want : Asked → Call → Bool

@@ -35,8 +35,8 @@ abbrev pub IsWritten : Holding → Option Holding → List ℕ → Result Drove 
 IsWritten at after book (Err e) r = (r ≡ Err e) × (after ≡ Some at)
 IsWritten at after book (Ok d) r = ((r ≡ beside true (done d.text)) × Stores (Some at) after book d.book × KeepsOthers (Some at) after book) ⊎ ((r ≡ Err unwritable) × (after ≡ Some at))
 
-unfoldable pub IsDriveReport : Holding → Option Holding → List ℕ → List ℕ → ℕ → List ℕ → Bool → Outcomes
-IsDriveReport at after path asks workers book add r =
+unfoldable pub IsDriveReport : Holding → Option Holding → List ℕ → List ℕ → ℕ → List ℕ → Bool → Bool → Bool → Outcomes
+IsDriveReport at after path asks workers book add strict json r =
     (document : Result Definitions Refusal) × IsDocumentAt at path document × (d : Result Drove Refusal) × IsDroveOf document (tree_at at asks max_text) (before_at at book add) workers d × IsWritten at after book d r
 
 -- the document and the asks of these files were read, and the book that is added to

@@ -33,10 +33,10 @@ module _ {O E : Type 0} (bytes : O → Option (List ℕ)) (is_broken : O → Boo
   TellsUnasked words = asked_by words ≡ None → TellsWords (bytes out) (bytes out') (is_broken out') (told err) (told err') (is_mute err') status words
 
   module _ {F : Type 0} (holding : F → Option Holding) (has_failed : F → Bool) (files files' : F) where
-    -- over files whose bytes are known, the report of what the command comes to; a person is told what was refused, by its name, or which flags are broken
+    -- over files whose bytes are known, the report of what the command comes to; a person is told what was refused, by its name
     abbrev pub AnswersAsked : List Text → Type 0
     AnswersAsked words = IfSome (asked_by words) (λ asked. IfSome (holding files) (λ at.
-        AnswersTold (can_want asked) (remark_of at asked) (bytes out) (bytes out') (is_broken out') (told err) (told err') (is_mute err') status
+        AnswersTold (can_want asked) (remark_of asked) (bytes out) (bytes out') (is_broken out') (told err) (told err') (is_mute err') status
         (IsRunOutcome at (holding files') (has_failed files') asked)))
 
     -- whatever the files hold, a read or a write that failed is what is reported

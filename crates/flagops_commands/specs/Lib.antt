@@ -1,7 +1,6 @@
 pub mod Apply
 pub mod Bucket
 pub mod Calls
-pub mod Check
 pub mod Commands
 pub mod Completions
 pub mod Doubts

@@ -104,8 +104,8 @@ abbrev pub weighed_keys : Entries → Entries → Pricing → Inputs → Result 
 weighed_keys old new pricing keys = exposed keys >>= λ inputs. weighed old new pricing inputs
 
 -- what the command reports, its files read in the order of the words
-unfoldable pub price_report : Holding → List ℕ → List ℕ → List ℕ → List ℕ → Result Report Refusal
-price_report at old new request keys = do
+unfoldable pub price_report : Holding → List ℕ → List ℕ → List ℕ → List ℕ → Bool → Result Report Refusal
+price_report at old new request keys json = do
   o ← rule_at at old
   n ← rule_at at new
   a ← request_at at request

@@ -12,12 +12,10 @@ use Rattle.flagops_files.specs.declared.refusal.Call.TheVariants as call
 use Rattle.flagops_files.specs.declared.refusal.PriceMismatch.TheVariants.{Weight, BadKeys}
 use Rattle.flagops_files.specs.declared.refusal.Refusal.{Refusal}
 use Rattle.flagops_files.specs.declared.refusal.Refusal.TheVariants.{Note, Price, Plan, PrintPlanned, Verify, Apply, Keep, Drive}
-use Rattle.flagops_files.specs.Files.{Holding}
-use Rattle.flagops_commands.specs.Check.{TellsBrokenAt}
 use Rattle.flagops_commands.specs.Calls.{loads_request}
 use Rattle.flagops_commands.specs.Doubts.{NamesDoubted, doubt_subjects}
 use Rattle.flagops_remarks.specs.Named.{Names, NamesWord}
-use Rattle.flagops_words.specs.Asked.{Asked, bucket, price, check, resolve, verify, apply, keep, plan, drive, completions}
+use Rattle.flagops_words.specs.Asked.{Asked, bucket, price, resolve, verify, apply, keep, plan, drive, completions}
 use Rattle.rollout_checks.specs.declared.verify_fault.VerifyFault.{VerifyFault}
 use Rattle.rollout_checks.specs.declared.verify_fault.VerifyFault.TheVariants as verdict
 
@@ -41,9 +39,6 @@ old_weights = codes "the weights of OLD"
 abbrev pub price_subjects : List ℕ → List ℕ → List ℕ → List ℕ → Subjects
 price_subjects old new request keys =
     (file old, by loads_rule) ∷ (file new, by loads_rule) ∷ (file request, by loads_request) ∷ (file keys, is_of_keys) ∷ (word old_weights, is_of_rules) ∷ []
-
-abbrev pub check_subjects : List ℕ → Subjects
-check_subjects document = (file document, by loads_flags) ∷ []
 
 -- a word is read as a file's text is
 abbrev pub reads_tree : Call → Bool
@@ -139,28 +134,26 @@ abbrev pub drive_subjects : List ℕ → List ℕ → List ℕ → Subjects
 drive_subjects document asks book = (file document, by loads_flags) ∷ (file book, by loads_book) ∷ (file book, by stores_file) ∷ driven_subjects asks book
 
 abbrev pub subjects_of : Asked → Subjects
-subjects_of (bucket rule key) = bucket_subjects rule
-subjects_of (price old new request keys) = price_subjects old new request keys
-subjects_of (check document strict) = check_subjects document
+subjects_of (bucket rule key json) = bucket_subjects rule
+subjects_of (price old new request keys json) = price_subjects old new request keys
 subjects_of (resolve document key kind default context moment) = resolve_subjects document context
-subjects_of (verify document request book answer refine strict) = verify_subjects document request book answer
+subjects_of (verify document request book answer refine strict json) = verify_subjects document request book answer
 subjects_of (plan document request book refine strict explain) = plan_subjects document request book
 subjects_of (apply document answer key site) = apply_subjects document answer
 subjects_of (keep document answer request book write refine strict) = keep_subjects document answer request book
-subjects_of (drive document asks workers book add) = drive_subjects document asks book
+subjects_of (drive document asks workers book add strict json) = drive_subjects document asks book
 subjects_of (completions shell) = []
 
--- what a person is told beside the report of a command that was not refused: which flags are broken, what is
--- doubted of an answer to a request, and what the asks ended in
-abbrev pub notes_of : Holding → Asked → List ℕ → Type 0
-notes_of at (check document strict) = TellsBrokenAt at document
-notes_of at (verify document request book answer refine strict) = NamesDoubted request book
-notes_of at (plan document request book refine strict explain) = NamesDoubted request book
-notes_of at (keep document answer request book write refine strict) = NamesDoubted request book
-notes_of at (drive document asks workers book add) = Names asks
-notes_of at asked = λ lines. Unit {0}
+-- what a person is told beside the report of a command that was not refused: what is doubted of an
+-- answer to a request, and what the asks ended in
+abbrev pub notes_of : Asked → List ℕ → Type 0
+notes_of (verify document request book answer refine strict json) = NamesDoubted request book
+notes_of (plan document request book refine strict explain) = NamesDoubted request book
+notes_of (keep document answer request book write refine strict) = NamesDoubted request book
+notes_of (drive document asks workers book add strict json) = Names asks
+notes_of asked = λ lines. Unit {0}
 
 -- the remark on what a command comes to
-abbrev pub remark_of : Holding → Asked → Remarks
-remark_of at asked (Ok report) remark = Says (notes_of at asked) remark
-remark_of at asked (Err e) remark = NamesOne (subjects_of asked) e remark
+abbrev pub remark_of : Asked → Remarks
+remark_of asked (Ok report) remark = Says (notes_of asked) remark
+remark_of asked (Err e) remark = NamesOne (subjects_of asked) e remark

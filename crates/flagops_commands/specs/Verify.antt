@@ -59,6 +59,6 @@ IsVerdict strict refine (Ok q) (Err e) r = r ≡ Err e
 IsVerdict strict refine (Ok q) (Ok answer) r =
     (verdict : Result (Unit {0}) VerifyFault) × MayBeTold refine q answer verdict × (r ≡ told (settle call.Verify strict (doubt_of q)) answer verdict)
 
-unfoldable pub IsVerifyReport : Holding → List ℕ → List ℕ → List ℕ → List ℕ → Option ℕ → Bool → Outcomes
-IsVerifyReport at document request book plan refine strict r =
+unfoldable pub IsVerifyReport : Holding → List ℕ → List ℕ → List ℕ → List ℕ → Option ℕ → Bool → Bool → Outcomes
+IsVerifyReport at document request book plan refine strict json r =
     (question : Result Question Refusal) × IsQuestionAt at document request book question × IsVerdict strict refine question (plan_at at plan) r

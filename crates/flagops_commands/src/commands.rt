@@ -10,7 +10,6 @@ ghost use Rattle.flagops_commands.specs.Subjects.{notes_of, subjects_of};
 
 use crate::books::drive::drive;
 use crate::completions::completions;
-use crate::flags::check::check;
 use crate::flags::resolve::resolve;
 use crate::rollouts::apply::apply;
 use crate::rollouts::keep::keep;
@@ -26,7 +25,7 @@ use std::thread::Threads;
 
 /// What the command answers, or why it is refused. `drive` waits for its workers; each other command is done without a
 /// handle to wait by, so it returns.
-#[tactic(auto, using(crate::proofs::Noted::nothing, crate::proofs::Noted::anyway, crate::proofs::Refusing::all_kept))]
+#[tactic(auto, using(crate::proofs::Noted::nothing, crate::proofs::Refusing::all_kept))]
 pub fn outcome<R: Threads + Wait + Sync, F: FileSet>(
     rt: &R,
     alloc: Global,
@@ -39,7 +38,7 @@ pub fn outcome<R: Threads + Wait + Sync, F: FileSet>(
     ensures left { Leaves (asked_view asked.now) (F.holding files.old) (F.holding files.new) }
     ensures kept { KeepsUnlessDone (F.holding files.old) (F.holding files.new) result }
     ensures names { TellsOfOne (subjects_of (asked_view asked.now)) result }
-    ensures notes { IfSome (F.holding files.old) (λ at. IfOk result (λ o. IfSome o.remark (Says (notes_of at (asked_view asked.now))))) }
+    ensures notes { IfOk result (λ o. IfSome o.remark (Says (notes_of (asked_view asked.now)))) }
 {
     match asked {
         Asked::Drive {
@@ -48,13 +47,17 @@ pub fn outcome<R: Threads + Wait + Sync, F: FileSet>(
             workers,
             book,
             add,
-        } => drive(rt, alloc, files, document, asks, *workers, book, *add),
+            strict,
+            json,
+        } => drive(
+            rt, alloc, files, document, asks, *workers, book, *add, *strict, *json,
+        ),
         _ => outcome_at_once(rt, alloc, files, asked),
     }
 }
 
 /// The same of a command that waits for nobody.
-#[tactic(auto, using(crate::proofs::Noted::nothing, crate::proofs::Noted::anyway, crate::proofs::Refusing::all_kept))]
+#[tactic(auto, using(crate::proofs::Noted::nothing, crate::proofs::Refusing::all_kept))]
 fn outcome_at_once<R: Threads + Sync, F: FileSet>(
     rt: &R,
     alloc: Global,
@@ -68,18 +71,18 @@ fn outcome_at_once<R: Threads + Sync, F: FileSet>(
     ensures left { Leaves (asked_view asked.now) (F.holding files.old) (F.holding files.new) }
     ensures kept { KeepsUnlessDone (F.holding files.old) (F.holding files.new) result }
     ensures names { TellsOfOne (subjects_of (asked_view asked.now)) result }
-    ensures notes { IfSome (F.holding files.old) (λ at. IfOk result (λ o. IfSome o.remark (Says (notes_of at (asked_view asked.now))))) }
+    ensures notes { IfOk result (λ o. IfSome o.remark (Says (notes_of (asked_view asked.now)))) }
 {
     match asked {
-        Asked::Bucket { rule, key } => bucket(alloc, files, rule, key),
+        Asked::Bucket { rule, key, json } => bucket(alloc, files, rule, key, *json),
         Asked::Completions { shell } => completions(alloc, *shell),
         Asked::Price {
             old,
             new,
             request,
             keys,
-        } => price(rt, alloc, files, old, new, request, keys),
-        Asked::Check { document, strict } => check(alloc, files, document, *strict),
+            json,
+        } => price(rt, alloc, files, old, new, request, keys, *json),
         Asked::Resolve {
             document,
             key,
@@ -97,8 +100,9 @@ fn outcome_at_once<R: Threads + Sync, F: FileSet>(
             plan,
             refine,
             strict,
+            json,
         } => verify(
-            rt, alloc, files, document, request, book, plan, *refine, *strict,
+            rt, alloc, files, document, request, book, plan, *refine, *strict, *json,
         ),
         Asked::Plan {
             document,

@@ -1,4 +1,3 @@
 //! The commands on flag documents.
 
-pub mod check;
 pub mod resolve;

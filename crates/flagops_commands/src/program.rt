@@ -22,11 +22,10 @@ use std::sync::Wait;
 use std::thread::Threads;
 
 /// Does what the words after the program's name ask for, and gives the status to end with: 0
-/// done, 1 refused, a broken flag at `check --strict`, or the output failed, 2 words that ask for
-/// nothing, 3 no rule fits.
+/// done, 1 refused or the output failed, 2 words that ask for nothing, 3 no rule fits.
 ///
 /// The report goes to `out`, made whole before its first byte is written. `err` gets the text of
-/// `clap` on words that it refuses, and what a person is told: of a refusal, of broken flags, of
+/// `clap` on words that it refuses, and what a person is told: of a refusal, of
 /// what is doubted of an answer, of a plan in words where that is asked for, and of what the asks
 /// of `drive` ended in. What becomes of `err` changes neither the report nor the status. Help and
 /// the version, where they are asked for, go to `out` with status 0.
@@ -69,7 +68,7 @@ fn answer<R: Threads + Wait + Sync, F: FileSet>(
     files: &mut F,
     asked: &Asked<'_>,
 ) -> Result<Outcome, Call>
-    ensures exact { IfSome (F.holding files.old) (λ at. RemarksOrWants (calls_of (asked_view asked.now)) (remark_of at (asked_view asked.now)) result (IsRunOutcome at (F.holding files.new) (F.has_failed files.new) (asked_view asked.now))) }
+    ensures exact { IfSome (F.holding files.old) (λ at. RemarksOrWants (calls_of (asked_view asked.now)) (remark_of (asked_view asked.now)) result (IsRunOutcome at (F.holding files.new) (F.has_failed files.new) (asked_view asked.now))) }
     ensures unread { F.has_failed files.old ≡ false → F.has_failed files.new ≡ true → AnswersOrWants is_of_file result IsFileRefusal }
     ensures left { Leaves (asked_view asked.now) (F.holding files.old) (F.holding files.new) }
     ensures kept { KeepsUnlessDone (F.holding files.old) (F.holding files.new) result }

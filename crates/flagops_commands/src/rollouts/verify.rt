@@ -40,8 +40,9 @@ pub fn verify<R: Threads + Sync, F: FileSet>(
     plan: &str,
     refine: Option<Factor>,
     strict: bool,
+    json: bool,
 ) -> Result<Outcome, Refused>
-    ensures exact { IfSome (F.holding files.old) (λ at. GivesOne outcome_view result (IsVerifyReport at document.now request.now book.now plan.now (option_map (λ m. m.number) refine) strict)) }
+    ensures exact { IfSome (F.holding files.old) (λ at. GivesOne outcome_view result (IsVerifyReport at document.now request.now book.now plan.now (option_map (λ m. m.number) refine) strict json)) }
     ensures calls { ComesFrom verify_calls result }
     ensures failed { F.has_failed files.new ≡ (F.has_failed files.old || is_file_fault result) }
     ensures kept { F.holding files.new ≡ F.holding files.old }

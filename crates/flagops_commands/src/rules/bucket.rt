@@ -19,8 +19,9 @@ pub fn bucket<F: FileSet>(
     files: &mut F,
     rule: &str,
     key: &str,
+    json: bool,
 ) -> Result<Outcome, Refused>
-    ensures exact { IfSome (F.holding files.old) (λ at. GivesUnlessWant outcome_view result (bucket_report at rule.now key.now)) }
+    ensures exact { IfSome (F.holding files.old) (λ at. GivesUnlessWant outcome_view result (bucket_report at rule.now key.now json)) }
     ensures calls { ComesFrom bucket_calls result }
     ensures failed { F.has_failed files.new ≡ (F.has_failed files.old || is_file_fault result) }
     ensures kept { F.holding files.new ≡ F.holding files.old }

@@ -35,8 +35,9 @@ pub fn price<R: Threads + Sync, F: FileSet>(
     new: &str,
     request: &str,
     keys: &str,
+    json: bool,
 ) -> Result<Outcome, Refused>
-    ensures exact { IfSome (F.holding files.old) (λ at. GivesUnlessWant outcome_view result (price_report at old.now new.now request.now keys.now)) }
+    ensures exact { IfSome (F.holding files.old) (λ at. GivesUnlessWant outcome_view result (price_report at old.now new.now request.now keys.now json)) }
     ensures calls { ComesFrom price_calls result }
     ensures failed { F.has_failed files.new ≡ (F.has_failed files.old || is_file_fault result) }
     ensures kept { F.holding files.new ≡ F.holding files.old }

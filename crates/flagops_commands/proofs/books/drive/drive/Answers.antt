@@ -10,7 +10,7 @@ use Rattle.flagops_commands.proofs.books.drive.drive.Goals as goal
 
 pub returns-in_err-flags-clause-exact : goal.returns-in_err-flags-clause-exact
 returns-in_err-flags-clause-exact g c =
-    let told = no_document c.args.document.now c.args.asks.now c.args.workers c.args.book.now c.args.add _ _ c.in_err-flags.field-0.0 c.load_flags.ensures.kept c.in_err-flags.ensures.exact in search rules
+    let told = no_document c.args.document.now c.args.asks.now c.args.workers c.args.book.now c.args.add c.args.strict c.args.json _ _ c.in_err-flags.field-0.0 c.load_flags.ensures.kept c.in_err-flags.ensures.exact in search rules
 
 pub returns-in_err-flags-clause-left : goal.returns-in_err-flags-clause-left
 returns-in_err-flags-clause-left g c = inl c.load_flags.ensures.kept
@@ -29,7 +29,7 @@ returns-in_err-flags-clause-bad_asks g c =
 pub returns-in_err-tree-clause-exact : goal.returns-in_err-tree-clause-exact
 returns-in_err-tree-clause-exact g c =
     let told =
-    no_asks c.args.document.now c.args.asks.now c.args.workers c.args.book.now c.args.add (flags_view c.in_ok-flags.flags) _ _ c.in_err-tree.field-0.0 (c.load_tree.ensures.kept ∙ c.load_flags.ensures.kept) c.in_ok-flags.ensures.exact
+    no_asks c.args.document.now c.args.asks.now c.args.workers c.args.book.now c.args.add c.args.strict c.args.json (flags_view c.in_ok-flags.flags) _ _ c.in_err-tree.field-0.0 (c.load_tree.ensures.kept ∙ c.load_flags.ensures.kept) c.in_ok-flags.ensures.exact
     (at_first _ _ _ c.load_flags.ensures.kept c.in_err-tree.ensures.exact) in
     search rules
 
@@ -50,7 +50,7 @@ returns-in_err-tree-clause-bad_asks g c =
 pub returns-in_err-before-clause-exact : goal.returns-in_err-before-clause-exact
 returns-in_err-before-clause-exact g c =
     let told =
-    no_book c.args.document.now c.args.asks.now c.args.workers c.args.book.now c.args.add (flags_view c.in_ok-flags.flags) (view c.in_ok-tree.tree) _ _ c.in_err-before.field-0.0 (c.book_before.ensures.kept ∙ (c.load_tree.ensures.kept ∙ c.load_flags.ensures.kept))
+    no_book c.args.document.now c.args.asks.now c.args.workers c.args.book.now c.args.add c.args.strict c.args.json (flags_view c.in_ok-flags.flags) (view c.in_ok-tree.tree) _ _ c.in_err-before.field-0.0 (c.book_before.ensures.kept ∙ (c.load_tree.ensures.kept ∙ c.load_flags.ensures.kept))
     c.in_ok-flags.ensures.exact (at_first _ _ _ c.load_flags.ensures.kept c.in_ok-tree.ensures.exact) (at_first _ _ _ (c.load_tree.ensures.kept ∙ c.load_flags.ensures.kept) c.in_err-before.ensures.exact) in
     search rules
 
@@ -71,7 +71,7 @@ returns-in_err-before-clause-bad_asks g c =
 pub returns-in_err-drove-clause-exact : goal.returns-in_err-drove-clause-exact
 returns-in_err-drove-clause-exact g c =
     let told =
-    not_driven c.args.document.now c.args.asks.now c.args.workers c.args.book.now c.args.add (flags_view c.in_ok-flags.flags) (view c.in_ok-tree.tree) c.in_ok-before.before _ _ c.in_err-drove.field-0.0 (c.book_before.ensures.kept ∙ (c.load_tree.ensures.kept ∙ c.load_flags.ensures.kept))
+    not_driven c.args.document.now c.args.asks.now c.args.workers c.args.book.now c.args.add c.args.strict c.args.json c.args.strict c.args.json (flags_view c.in_ok-flags.flags) (view c.in_ok-tree.tree) c.in_ok-before.before _ _ c.in_err-drove.field-0.0 (c.book_before.ensures.kept ∙ (c.load_tree.ensures.kept ∙ c.load_flags.ensures.kept))
     c.in_ok-flags.ensures.exact (at_first _ _ _ c.load_flags.ensures.kept c.in_ok-tree.ensures.exact) (at_first _ _ _ (c.load_tree.ensures.kept ∙ c.load_flags.ensures.kept) c.in_ok-before.ensures.exact) c.in_err-drove.ensures.exact in
     search rules
 
@@ -92,7 +92,7 @@ returns-in_err-drove-clause-bad_asks g c =
 
 pub returns-clause-exact : goal.returns-clause-exact
 returns-clause-exact g c =
-    driven c.args.document.now c.args.asks.now c.args.workers c.args.book.now c.args.add (flags_view c.in_ok-flags.flags) (view c.in_ok-tree.tree) c.in_ok-before.before _ _ (drove_view c.in_ok-drove.drove) _
+    driven c.args.document.now c.args.asks.now c.args.workers c.args.book.now c.args.add c.args.strict c.args.json (flags_view c.in_ok-flags.flags) (view c.in_ok-tree.tree) c.in_ok-before.before _ _ (drove_view c.in_ok-drove.drove) _
     c.in_ok-flags.ensures.exact (at_first _ _ _ c.load_flags.ensures.kept c.in_ok-tree.ensures.exact) (at_first _ _ _ (c.load_tree.ensures.kept ∙ c.load_flags.ensures.kept) c.in_ok-before.ensures.exact) c.in_ok-drove.ensures.exact (at_first _ _ _ (c.book_before.ensures.kept ∙ (c.load_tree.ensures.kept ∙ c.load_flags.ensures.kept)) c.written.ensures.exact)
 
 pub returns-clause-left : goal.returns-clause-left
