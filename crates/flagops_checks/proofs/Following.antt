@@ -1,8 +1,7 @@
 -- Documents that are checked one after the other.
-use Rattle.std.proofs.Common.{◌≡◌, ◌+◌, arith, inl, inr, suc, zero, ◌<◌, ◌∙◌, ◌||◌, ℕ, Bool, true, false, List, [], ◌∷◌, ◌++◌, Option, Some, None, IfOk, IfSome, add-one, ap, append-nil, append_assoc, drop, drop-cons, flat_map, get_or, length, map, refl, subst, sym, string_bytes, String, Global}
+use Rattle.std.proofs.Common.{◌≡◌, ◌+◌, arith, inl, inr, suc, zero, ◌<◌, ◌∙◌, ◌||◌, ℕ, Bool, true, false, List, [], ◌∷◌, ◌++◌, Option, Some, None, IfSome, add-one, ap, append-nil, append_assoc, drop, drop-cons, get_or, length, map, refl, subst, sym, string_bytes}
 use Rattle.std.proofs.lemmas.Grind.{flat_map-append}
 use Rattle.std.proofs.lemmas.List.Folds.{list_any-append}
-use Rattle.std.specs.List.{list_any}
 use Rattle.std.specs.Prelude.{Result, Ok, Err}
 use Rattle.flag_documents.specs.Document.{Definitions}
 use Rattle.flagops_checks.specs.Judged.{Checked, are_wrong, checked, has_broken, has_doubted}

@@ -1,6 +1,5 @@
 -- The lines of doubts, one behind the other.
-use Rattle.std.proofs.Common.{◌≡◌, ◌+◌, ◌<◌, ◌∙◌, ℕ, List, [], ◌∷◌, ◌++◌, add-one, ap, append-nil, append_assoc, drop, drop-cons, get_or, map, refl, subst, sym}
-use Rattle.std.proofs.lemmas.List.{drop_all}
+use Rattle.std.proofs.Common.{◌≡◌, ◌∙◌, ℕ, List, [], ◌∷◌, ◌++◌, ap, append-nil, append_assoc, refl, subst, sym}
 use Rattle.flagops_checks.specs.Judged.{Judged}
 use Rattle.flagops_checks.specs.Told.{DoubtLines, FlagLines}
 

@@ -1,5 +1,5 @@
 -- What is found of the flags of a document.
-use Rattle.std.specs.Prelude.{◌≡◌, ◌||◌, ℕ, Bool, false, is_some, List, map, Option, Some, None, Result, Ok, Err}
+use Rattle.std.specs.Prelude.{◌||◌, ℕ, Bool, false, is_some, List, map, Option, Some, None, Result, Ok, Err}
 use Rattle.std.specs.List.{list_any}
 use Rattle.flag_documents.specs.Definition.{Definition}
 use Rattle.flag_documents.specs.Document.{Definitions, flags_in, max_bytes, or_no_members}

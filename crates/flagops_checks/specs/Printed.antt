@@ -1,5 +1,5 @@
 -- What `check` prints of documents.
-use Rattle.std.specs.Prelude.{ℕ, Bool, not, List, [], ◌∷◌, ◌++◌, codes, flat_map, length, map, nat_eq, if◌then◌else◌}
+use Rattle.std.specs.Prelude.{ℕ, Bool, not, List, ◌++◌, codes, flat_map, length, map, nat_eq, if◌then◌else◌}
 use Rattle.std.specs.List.{filter}
 use Rattle.flag_text.specs.Printing.{text_of}
 use Rattle.flag_text.specs.Shape.{Shape, text, list, object, no_members, member}

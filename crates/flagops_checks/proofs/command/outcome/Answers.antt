@@ -1,14 +1,8 @@
-use Rattle.std.proofs.Common.{◌≡◌, ◌∙◌, Err, IfSome, Ok, ap, map, subst, sym, Bor, List, ℕ}
+use Rattle.std.proofs.Common.{◌≡◌, ◌∙◌, Err, IfSome, Ok, ap, subst, sym}
 use Rattle.std.proofs.lemmas.Result.{err_from_is_err_and}
 use Rattle.std.specs.Prelude.{Result}
-use Rattle.flagops_checks.specs.Documents.{AreChecked}
-use Rattle.flagops_checks.specs.Printed.{form_of}
 use Rattle.flagops_checks.specs.Report.{IsCheckReport}
-use Rattle.flagops_checks.specs.Step.{GivesAll}
 use Rattle.flagops_checks.specs.Words.{checking_view}
-use Rattle.flagops_checks.specs.declared.form.Form.{Form}
-use Rattle.flagops_checks.specs.declared.gathering.Gathered.{Gathered}
-use Rattle.flagops_files.specs.Files.{Holding}
 use Rattle.flagops_files.specs.Refusal.{GivesOne}
 use Rattle.flagops_files.specs.Report.{outcome_view}
 use Rattle.flagops_files.specs.declared.outcome.Outcome.{Outcome}
