@@ -1,0 +1,31 @@
+-- The keys that stand more than once among the flags of a document (RFC 8259, section 4: the names within an object should
+-- be unique), of which the tree of the document keeps the last alone.
+use Rattle.std.specs.Prelude.{ℕ, List, [], ◌∷◌, codes, Bool, nat_lt, count_by, if◌then◌else◌, Option, Some, None, option_and_then}
+use Rattle.std.specs.Str.{bytes_eq, is_utf8}
+use Rattle.json.specs.Find.{get}
+use Rattle.json.specs.Json.{Json, object, Members, no_members, member, document}
+
+abbrev pub member_names : Members → List (List ℕ)
+member_names no_members = []
+member_names (member k j ms) = k ∷ member_names ms
+
+-- the names of an object's members, in the order of the text; what is no object has none
+abbrev pub names_in : Option Json → List (List ℕ)
+names_in (Some (object ms)) = member_names ms
+names_in o = []
+
+-- the value of the bytes, where they are a JSON text
+abbrev pub json_of : List ℕ → Option Json
+json_of bytes = if is_utf8 bytes then document bytes else None
+
+-- the keys of a document's flags, with each that is repeated
+abbrev pub flag_keys : List ℕ → List (List ℕ)
+flag_keys bytes = names_in (option_and_then (get (codes "flags")) (json_of bytes))
+
+-- how often a key is among these
+abbrev pub count_of : List ℕ → List (List ℕ) → ℕ
+count_of key names = count_by (λ name. bytes_eq name key) names
+
+-- the key stands more than once
+abbrev pub is_doubled : List ℕ → List ℕ → Bool
+is_doubled bytes key = nat_lt 1 (count_of key (flag_keys bytes))
