@@ -8,7 +8,7 @@ use Rattle.http.specs.declared.request.Request.{Request}
 use Rattle.http_server.specs.declared.response.Response.{Response}
 use Rattle.note_lines.specs.Note.{Noted, note_line}
 use Rattle.note_log.specs.Line.{HasLine}
-use Rattle.note_log.specs.Log.{Logged, Records, Wants}
+use Rattle.note_log.specs.Log.{Logged, Records}
 use Rattle.note_log.proofs.Lines.{has_more, not_in}
 use Rattle.ofrep_answers.specs.Answer.{answer_of}
 use Rattle.snap_core.specs.Hub.{Numbered}

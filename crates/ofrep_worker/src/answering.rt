@@ -47,13 +47,7 @@ pub(crate) fn answer_from<R: Clock, O: Outlet>(
 {
     let moment = moment_of(with.rt);
     let answer = with.answer_at(moment, request)?;
-    fill(with.alloc, &answer, response)?;
-    if let Content::Counts = answer.content {
-        let number = with.snapshot.number();
-        let flags = with.snapshot.flags().len();
-        let text = with.counts.text(with.alloc, number, flags)?;
-        response.body.put_slice(text.as_bytes())?;
-    }
+    with.tell(&answer, response)?;
     let recorded = record_answer(with.alloc, log, with.snapshot.flags(), &answer)?;
     give(recorded, response);
     with.counts.count_evaluations(answer.reasons);
@@ -74,5 +68,20 @@ impl<R> Answering<'_, R> {
             body: request.body().as_slice(),
         };
         answer_to(self.alloc, self.snapshot.flags(), moment, &asked)
+    }
+
+    /// Fills a response with an answer, and with what is counted where that is asked for.
+    fn tell(&self, answer: &Answer, response: &mut Response) -> Result<(), AllocError>
+        requires { IsBlank response.old }
+        ensures { OnOk result (Sends (answer_view answer.now) response.new) }
+    {
+        fill(self.alloc, answer, response)?;
+        if let Content::Counts = answer.content {
+            let number = self.snapshot.number();
+            let flags = self.snapshot.flags().len();
+            let text = self.counts.text(self.alloc, number, flags)?;
+            response.body.put_slice(text.as_bytes())?;
+        }
+        Ok(())
     }
 }
