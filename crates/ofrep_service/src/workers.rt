@@ -109,7 +109,10 @@ fn answer<J: ShareName, R: Net + Clock>(
     post: Post,
 ) -> io::Result<()> {
     let Post { listener, journal } = post;
-    let log = NoteLog::new(alloc, keys, WriteOutlet::new(journal))?;
+    let log = match journal {
+        Some(journal) => Some(NoteLog::new(alloc, keys, WriteOutlet::new(journal))?),
+        None => None,
+    };
     let mut worker = OfrepWorker::new(rt, alloc, seat, log, &board.counts);
     let config = Config {
         max_body_len: MOST_BODY,
