@@ -1,5 +1,5 @@
 -- What was driven and what was refused, as what the command comes to.
-use Rattle.std.proofs.Common.{◌≡◌, ◌≢◌, ◌∙◌, ℕ, List, Option, Some, None, true, map, refl, sym, ap, subst}
+use Rattle.std.proofs.Common.{◌≡◌, ◌≢◌, ◌∙◌, ℕ, Bool, List, Option, Some, None, true, map, refl, sym, ap, subst}
 use Rattle.std.specs.Prelude.{IfErr, IfOk, Result, Ok, Err}
 use Rattle.flag_documents.specs.Document.{Definitions}
 use Rattle.book_core.specs.Book.{Contents}
@@ -34,17 +34,17 @@ reached_of flags asks given items r read same answered noted counted =
     record { given = given; same = ap (map ask_view) same ∙ read; answers = answered; noted = noted; long = counted }
 
 -- the whole output, of asks that were driven
-drove_of : (flags : Definitions) (o : Option (List Ask)) (asks : List Ask) (workers : ℕ) (before : Option Contents) (r : Reached) (d : Drove) → if_asks o ≡ Ok asks
-    → ((e : DriveFault) → workers_fault workers ≡ Some e → ⊥) → IsReached flags asks r → IsOutput before r d → IsDriveOf flags o workers before (Ok d)
-drove_of flags o asks workers before r d read workers_fit reached output =
-    subst (λ (p : Option (List Ask)). IsDriveOf flags p workers before (Ok d)) (sym (there o asks read))
+drove_of : (flags : Definitions) (o : Option (List Ask)) (asks : List Ask) (workers : ℕ) (before : Option Contents) (json : Bool) (r : Reached) (d : Drove) → if_asks o ≡ Ok asks
+    → ((e : DriveFault) → workers_fault workers ≡ Some e → ⊥) → IsReached flags asks r → IsOutput before json r d → IsDriveOf flags o workers before json (Ok d)
+drove_of flags o asks workers before json r d read workers_fit reached output =
+    subst (λ (p : Option (List Ask)). IsDriveOf flags p workers before json (Ok d)) (sym (there o asks read))
     (no_fault (workers_fault workers) workers_fit, record { reached = r; is_reached = reached; output = output })
 
 -- what was driven and not added to the book from before
-unadded_of : (flags : Definitions) (o : Option (List Ask)) (asks : List Ask) (workers : ℕ) (before : Option Contents) (r : Reached) (e : DriveRefusal) → if_asks o ≡ Ok asks
-    → ((e : DriveFault) → workers_fault workers ≡ Some e → ⊥) → IsReached flags asks r → IsUnadded before r.book e → e ≢ want → IsDriveOf flags o workers before (Err e)
-unadded_of flags o asks workers before r e read workers_fit reached unadded wanted =
-    subst (λ (p : Option (List Ask)). IsDriveOf flags p workers before (Err e)) (sym (there o asks read)) (go e unadded wanted)
+unadded_of : (flags : Definitions) (o : Option (List Ask)) (asks : List Ask) (workers : ℕ) (before : Option Contents) (json : Bool) (r : Reached) (e : DriveRefusal) → if_asks o ≡ Ok asks
+    → ((e : DriveFault) → workers_fault workers ≡ Some e → ⊥) → IsReached flags asks r → IsUnadded before r.book e → e ≢ want → IsDriveOf flags o workers before json (Err e)
+unadded_of flags o asks workers before json r e read workers_fit reached unadded wanted =
+    subst (λ (p : Option (List Ask)). IsDriveOf flags p workers before json (Err e)) (sym (there o asks read)) (go e unadded wanted)
   where
     go : (e : DriveRefusal) → IsUnadded before r.book e → e ≢ want → IsRefused flags asks workers before e
     go (Drive f) is wants = absurd (wants (ap Drive is))
@@ -52,11 +52,11 @@ unadded_of flags o asks workers before r e read workers_fit reached unadded want
     go BadAsks is wants = absurd is
 
 -- what was driven, as what the command comes to
-pub output_is : (flags : Definitions) (o : Option (List Ask)) (asks : List Ask) (workers : ℕ) (before : Option Contents) (r : Reached) (result : Result program_drove.Drove DriveRefusal) → if_asks o ≡ Ok asks
-    → ((e : DriveFault) → workers_fault workers ≡ Some e → ⊥) → IsReached flags asks r → IfOk result (λ d. IsOutput before r (drove_view d)) → IfErr result (IsUnadded before r.book)
-    → Drives flags o workers before result
-output_is flags o asks workers before r (Ok d) read workers_fit reached output unadded = drove_of flags o asks workers before r (drove_view d) read workers_fit reached output
-output_is flags o asks workers before r (Err e) read workers_fit reached output unadded = λ wanted. unadded_of flags o asks workers before r e read workers_fit reached unadded wanted
+pub output_is : (flags : Definitions) (o : Option (List Ask)) (asks : List Ask) (workers : ℕ) (before : Option Contents) (json : Bool) (r : Reached) (result : Result program_drove.Drove DriveRefusal) → if_asks o ≡ Ok asks
+    → ((e : DriveFault) → workers_fault workers ≡ Some e → ⊥) → IsReached flags asks r → IfOk result (λ d. IsOutput before json r (drove_view d)) → IfErr result (IsUnadded before r.book)
+    → Drives flags o workers before json result
+output_is flags o asks workers before json r (Ok d) read workers_fit reached output unadded = drove_of flags o asks workers before json r (drove_view d) read workers_fit reached output
+output_is flags o asks workers before json r (Err e) read workers_fit reached output unadded = λ wanted. unadded_of flags o asks workers before json r e read workers_fit reached unadded wanted
 
 -- the refusals of asks that were read
 refused_so : (flags : Definitions) (asks : List Ask) (workers : ℕ) (before : Option Contents) (e : DriveFault) → (is_of_workers e ≡ true → workers_fault workers ≡ Some e) → e ≢ Stalled → Drive e ≢ want
@@ -66,10 +66,10 @@ refused_so flags asks workers before NoWorkers number stalls wanted = number ref
 refused_so flags asks workers before TooManyWorkers number stalls wanted = number refl
 refused_so flags asks workers before Stalled number stalls wanted = absurd (stalls refl)
 
-pub refused_of : (flags : Definitions) (o : Option (List Ask)) (asks : List Ask) (workers : ℕ) (before : Option Contents) (e : DriveFault) → if_asks o ≡ Ok asks
-    → (is_of_workers e ≡ true → workers_fault workers ≡ Some e) → e ≢ Stalled → Drive e ≢ want → IsDriveOf flags o workers before (Err (Drive e))
-refused_of flags o asks workers before e read number stalls wanted =
-    subst (λ (p : Option (List Ask)). IsDriveOf flags p workers before (Err (Drive e))) (sym (there o asks read)) (refused_so flags asks workers before e number stalls wanted)
+pub refused_of : (flags : Definitions) (o : Option (List Ask)) (asks : List Ask) (workers : ℕ) (before : Option Contents) (json : Bool) (e : DriveFault) → if_asks o ≡ Ok asks
+    → (is_of_workers e ≡ true → workers_fault workers ≡ Some e) → e ≢ Stalled → Drive e ≢ want → IsDriveOf flags o workers before json (Err (Drive e))
+refused_of flags o asks workers before json e read number stalls wanted =
+    subst (λ (p : Option (List Ask)). IsDriveOf flags p workers before json (Err (Drive e))) (sym (there o asks read)) (refused_so flags asks workers before e number stalls wanted)
 
 -- a union that is refused, as why what was reached is not written
 pub unadded_by : (before reached : Contents) (f : BookFault) (e : DriveRefusal) → Unites before reached (Err f) → e ≡ of_union f → IsUnadded (Some before) reached e

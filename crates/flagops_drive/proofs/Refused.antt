@@ -1,5 +1,5 @@
 -- The refusals of a drive that take no memory.
-use Rattle.std.proofs.Common.{◌≡◌, ◌∙◌, ℕ, List, Option, Some, None, true, false, is_some, refl, sym, ap, subst}
+use Rattle.std.proofs.Common.{◌≡◌, ◌∙◌, ℕ, Bool, List, Option, Some, None, true, false, is_some, refl, sym, ap, subst}
 use Rattle.std.specs.Prelude.{Result, Err, option_map}
 use Rattle.flag_documents.specs.Document.{Definitions}
 use Rattle.book_core.specs.Book.{Contents}
@@ -13,9 +13,9 @@ use Rattle.flagops_drive.specs.declared.fault.DriveRefusal.TheVariants.{Drive, B
 
 -- ---- no asks
 
-pub bad_asks : (flags : Definitions) (o : Option (List Ask)) (workers : ℕ) (before : Option Contents) → false ≡ is_some o → IsDriveOf flags o workers before (Err BadAsks)
-bad_asks flags None workers before h = refl
-bad_asks flags (Some asks) workers before h = cc
+pub bad_asks : (flags : Definitions) (o : Option (List Ask)) (workers : ℕ) (before : Option Contents) (json : Bool) → false ≡ is_some o → IsDriveOf flags o workers before json (Err BadAsks)
+bad_asks flags None workers before json h = refl
+bad_asks flags (Some asks) workers before json h = cc
 
 pub bad_asks_first : (o : Option (List Ask)) (workers : ℕ) (e : DriveRefusal) → false ≡ is_some o → refusal_of o workers ≡ Some e → BadAsks ≡ e
 bad_asks_first None workers e h is = cc
@@ -23,9 +23,9 @@ bad_asks_first (Some asks) workers e h is = cc
 
 -- ---- a wrong number of workers
 
-pub bad_workers : (flags : Definitions) (o : Option (List Ask)) (workers : ℕ) (before : Option Contents) (fault : DriveFault) → true ≡ is_some o → Some fault ≡ workers_fault workers → IsDriveOf flags o workers before (Err (Drive fault))
-bad_workers flags None workers before fault h is = cc
-bad_workers flags (Some asks) workers before fault h is = sym is
+pub bad_workers : (flags : Definitions) (o : Option (List Ask)) (workers : ℕ) (before : Option Contents) (json : Bool) (fault : DriveFault) → true ≡ is_some o → Some fault ≡ workers_fault workers → IsDriveOf flags o workers before json (Err (Drive fault))
+bad_workers flags None workers before json fault h is = cc
+bad_workers flags (Some asks) workers before json fault h is = sym is
 
 pub bad_workers_first : (o : Option (List Ask)) (workers : ℕ) (fault : DriveFault) (e : DriveRefusal) → true ≡ is_some o → Some fault ≡ workers_fault workers → refusal_of o workers ≡ Some e → Drive fault ≡ e
 bad_workers_first None workers fault e h is first = cc
@@ -37,5 +37,5 @@ pub none_first : {X : Type 0} (o : Option (List Ask)) (workers : ℕ) (e : Drive
 none_first None workers e h is first = cc
 none_first (Some asks) workers e h is first = let same : None ≡ Some e = ap (option_map Drive) is ∙ first in cc
 
-pub same_asks : (flags : Definitions) (items o : Option (List Ask)) (workers : ℕ) (before : Option Contents) (r : Result program_drove.Drove DriveRefusal) → items ≡ o → Drives flags items workers before r → Drives flags o workers before r
-same_asks flags items o workers before r is h = subst (λ (asks : Option (List Ask)). Drives flags asks workers before r) is h
+pub same_asks : (flags : Definitions) (items o : Option (List Ask)) (workers : ℕ) (before : Option Contents) (json : Bool) (r : Result program_drove.Drove DriveRefusal) → items ≡ o → Drives flags items workers before json r → Drives flags o workers before json r
+same_asks flags items o workers before json r is h = subst (λ (asks : Option (List Ask)). Drives flags asks workers before json r) is h

@@ -1,5 +1,5 @@
 -- What the command `drive` comes to.
-use Rattle.std.specs.Prelude.{◌≡◌, ◌≢◌, ℕ, List, map, Option, Some, None, option_map, Result, Ok, Err}
+use Rattle.std.specs.Prelude.{◌≡◌, ◌≢◌, ℕ, Bool, List, map, Option, Some, None, option_map, Result, Ok, Err}
 use Rattle.flag_resolve.specs.Resolved.{Resolved}
 use Rattle.flag_resolve.specs.Views.{resolution_view}
 use Rattle.flag_documents.specs.Document.{Definitions}
@@ -20,13 +20,14 @@ use Rattle.flagops_drive.specs.declared.command.Drove as program_drove
 use Rattle.flagops_drive.specs.declared.fault.DriveRefusal.{DriveRefusal}
 use Rattle.flagops_drive.specs.declared.fault.DriveRefusal.TheVariants.{Drive, BadAsks, PageFull}
 
--- the lines that are printed, and the file of the book
+-- the lines that are printed, the file of the book, and how many inputs the asks reached
 pub record Drove : Type 0 where
   pub text : List ℕ
   pub book : List ℕ
+  pub reached : ℕ
 
 abbrev pub drove_view : program_drove.Drove → Drove
-drove_view d = record { text = d.text.items; book = d.book.items }
+drove_view d = record { text = d.text.items; book = d.book.items; reached = d.tally.reached }
 
 -- what asks resolve to, the book in which was noted what they reached, and the counts of the notes
 pub record Reached : Type 0 where
@@ -59,19 +60,20 @@ abbrev pub HaveNoSum : Option Contents → Contents → Type 0
 HaveNoSum None reached = ⊥
 HaveNoSum (Some before) reached = HaveNoUnion before reached
 
--- the lines of what was reached, with the number of inputs of the book that is written, and its file
-pub record IsOutput (before : Option Contents) (r : Reached) (d : Drove) : Type 0 where
+-- the lines of what was reached, with the number of inputs of the book that is written, and its file; each input that was reached counts once
+pub record IsOutput (before : Option Contents) (json : Bool) (r : Reached) (d : Drove) : Type 0 where
   pub book : Contents
   pub adds : Adds before r.book book
-  pub text : d.text ≡ drive_text r.answers (input_count book) r.calls r.news r.full r.long
+  pub text : d.text ≡ drive_text json r.answers (input_count book) r.calls r.news r.full r.long
   pub file : d.book ≡ book_text book
   pub reads_back : book_of d.book ≡ Ok book
+  pub reached : d.reached ≡ r.news
 
 -- the output of these asks, whose book keeps what a book had before
-pub record IsDrove (flags : Definitions) (asks : List Ask) (before : Option Contents) (d : Drove) : Type 0 where
+pub record IsDrove (flags : Definitions) (asks : List Ask) (before : Option Contents) (json : Bool) (d : Drove) : Type 0 where
   pub reached : Reached
   pub is_reached : IsReached flags asks reached
-  pub output : IsOutput before reached d
+  pub output : IsOutput before json reached d
 
 -- what these asks reached is too much for the book that was there before
 pub record IsOverfull (flags : Definitions) (asks : List Ask) (before : Option Contents) : Type 0 where
@@ -101,12 +103,12 @@ IsRefused flags asks workers before PageFull = (workers_fault workers ≡ None) 
 IsRefused flags asks workers before BadAsks = ⊥
 
 -- what comes of these asks, if there are any, by so many workers, beside a book that was there before; want of memory is no part of it
-abbrev pub IsDriveOf : Definitions → Option (List Ask) → ℕ → Option Contents → Result Drove DriveRefusal → Type 0
-IsDriveOf flags None workers before r = r ≡ Err BadAsks
-IsDriveOf flags (Some asks) workers before (Ok d) = (workers_fault workers ≡ None) × IsDrove flags asks before d
-IsDriveOf flags (Some asks) workers before (Err e) = IsRefused flags asks workers before e
+abbrev pub IsDriveOf : Definitions → Option (List Ask) → ℕ → Option Contents → Bool → Result Drove DriveRefusal → Type 0
+IsDriveOf flags None workers before json r = r ≡ Err BadAsks
+IsDriveOf flags (Some asks) workers before json (Ok d) = (workers_fault workers ≡ None) × IsDrove flags asks before json d
+IsDriveOf flags (Some asks) workers before json (Err e) = IsRefused flags asks workers before e
 
 -- what was returned is so, unless memory ran out
-abbrev pub Drives : Definitions → Option (List Ask) → ℕ → Option Contents → Result program_drove.Drove DriveRefusal → Type 0
-Drives flags asks workers before (Ok d) = IsDriveOf flags asks workers before (Ok (drove_view d))
-Drives flags asks workers before (Err e) = e ≢ want → IsDriveOf flags asks workers before (Err e)
+abbrev pub Drives : Definitions → Option (List Ask) → ℕ → Option Contents → Bool → Result program_drove.Drove DriveRefusal → Type 0
+Drives flags asks workers before json (Ok d) = IsDriveOf flags asks workers before json (Ok (drove_view d))
+Drives flags asks workers before json (Err e) = e ≢ want → IsDriveOf flags asks workers before json (Err e)

@@ -3,3 +3,4 @@ pub mod Driven
 pub mod Fault
 pub mod Lines
 pub mod Tally
+pub mod Unread

@@ -1,5 +1,5 @@
 -- How many of the asks ended in what, and how many inputs they reached.
-use Rattle.std.specs.Prelude.{◌≡◌, ℕ, List, codes, count_by, Option, Some, None, option_map, unwrap_or}
+use Rattle.std.specs.Prelude.{◌≡◌, ℕ, Bool, List, codes, count_by, Option, Some, None, option_map, unwrap_or}
 use Rattle.std.specs.Str.{bytes_eq}
 use Rattle.book_core.specs.Book.{Contents, input_count}
 use Rattle.flag_resolve.specs.Resolved.{Resolved}
@@ -35,7 +35,7 @@ inputs_before None = 0
 inputs_before (Some book) = input_count book
 
 -- The tally is of the resolutions that are printed, and has the counts that are printed below them: the inputs of the book that is written, and those that the asks reached.
-unfoldable pub IsTallied : Option Contents → Drove → Type 0
-IsTallied before d =
-    (answers : List Resolved) × (calls full long : ℕ) × (d.text.items ≡ drive_text answers d.tally.inputs calls d.tally.reached full long) × IsEndings answers d.tally.endings
+unfoldable pub IsTallied : Option Contents → Bool → Drove → Type 0
+IsTallied before json d =
+    (answers : List Resolved) × (calls full long : ℕ) × (d.text.items ≡ drive_text json answers d.tally.inputs calls d.tally.reached full long) × IsEndings answers d.tally.endings
     × (d.tally.had ≡ inputs_before before)

@@ -35,11 +35,26 @@ pub struct Drove {
     pub tally: Tally,
 }
 
+/// Why the asks of a file are not driven by so many workers, as far as it is known without taking memory: they are no asks,
+/// or else the number of the workers.
+pub fn refusal_of(asks: &Tree, workers: usize) -> Option<DriveRefusal>
+    requires { is_whole (view asks.now) ≡ true }
+    ensures { result ≡ refusal_of (asks_of_shape (view asks.now)) workers }
+{
+    if ask_items(asks).is_none() {
+        return Some(DriveRefusal::BadAsks);
+    }
+    match fault_of(workers) {
+        Some(fault) => Some(DriveRefusal::Drive(fault)),
+        None => None,
+    }
+}
+
 /// Answers the asks of a file, in their order, by so many workers, and notes what they reach; the book keeps what a book had
-/// before, if one is given. It is refused with BadAsks, then with NoWorkers and TooManyWorkers (more than 64), whatever
-/// memory is left, and at last with PageFull where the two have more than 1000000 inputs of a page. A refusal comes after
-/// all workers have ended. Cost: as `resolve` for each ask, as a note for each input that it reaches, and as another for
-/// each input that is added to the book from before.
+/// before, if one is given. The counts are printed as an object in one line, or a line each. It is refused with BadAsks, then
+/// with NoWorkers and TooManyWorkers (more than 64), whatever memory is left, and at last with PageFull where the two have
+/// more than 1000000 inputs of a page. A refusal comes after all workers have ended. Cost: as `resolve` for each ask, as a
+/// note for each input that it reaches, and as another for each input that is added to the book from before.
 #[tactic(auto, using(crate::proofs::Refused::bad_asks, crate::proofs::Refused::bad_asks_first, crate::proofs::Refused::bad_workers, crate::proofs::Refused::bad_workers_first, crate::proofs::Refused::none_first, crate::proofs::Refused::same_asks))]
 pub fn drive_asks<R: Threads + Wait + Sync>(
     rt: &R,
@@ -48,10 +63,11 @@ pub fn drive_asks<R: Threads + Wait + Sync>(
     asks: &Tree,
     workers: usize,
     before: Option<Book>,
+    json: bool,
 ) -> Result<Drove, DriveRefusal>
     requires { is_whole (view asks.now) ≡ true }
-    ensures driven { Drives (flags_view flags.now) (asks_of_shape (view asks.now)) workers before result }
-    ensures tally { IfOk result (IsTallied before) }
+    ensures driven { Drives (flags_view flags.now) (asks_of_shape (view asks.now)) workers before json result }
+    ensures tally { IfOk result (IsTallied before json) }
     ensures refused { (e : Refusal) → refusal_of (asks_of_shape (view asks.now)) workers ≡ Some e → IsErrOf result e }
 {
     let Some(items) = ask_items(asks) else {
@@ -60,7 +76,7 @@ pub fn drive_asks<R: Threads + Wait + Sync>(
     if let Some(fault) = fault_of(workers) {
         return Err(DriveRefusal::Drive(fault));
     }
-    drive_items(rt, alloc, flags, items, workers, before)
+    drive_items(rt, alloc, flags, items, workers, before, json)
 }
 
 /// Answers the asks that the items of a file are.
@@ -71,15 +87,16 @@ fn drive_items<R: Threads + Wait + Sync>(
     items: &[Tree],
     workers: usize,
     before: Option<Book>,
+    json: bool,
 ) -> Result<Drove, DriveRefusal>
     requires whole { items_are_whole (items_view items.now) ≡ true }
     requires few { length items.now < 2 ^ 32 }
-    ensures driven { Drives (flags_view flags.now) (asks_in (items_view items.now)) workers before result }
-    ensures tally { IfOk result (IsTallied before) }
+    ensures driven { Drives (flags_view flags.now) (asks_in (items_view items.now)) workers before json result }
+    ensures tally { IfOk result (IsTallied before json) }
 {
     let asks = asks_in(alloc, items)?;
     match drive(rt, alloc, flags, asks.as_slice(), workers, &OpenGate) {
-        Ok(driven) => output_of(alloc, driven, before),
+        Ok(driven) => output_of(alloc, driven, before, json),
         Err(fault) => Err(DriveRefusal::Drive(fault)),
     }
 }
@@ -99,9 +116,14 @@ fn fault_of(workers: usize) -> Option<DriveFault>
 
 /// What is printed and what is written of what was driven.
 #[tactic(auto, unfolding(crate::specs::Tally::IsTallied))]
-fn output_of(alloc: Global, driven: Driven, before: Option<Book>) -> Result<Drove, DriveRefusal>
-    ensures output { IfOk result (λ d. IsOutput before (reached_view driven) (drove_view d)) }
-    ensures tally { IfOk result (IsTallied before) }
+fn output_of(
+    alloc: Global,
+    driven: Driven,
+    before: Option<Book>,
+    json: bool,
+) -> Result<Drove, DriveRefusal>
+    ensures output { IfOk result (λ d. IsOutput before json (reached_view driven) (drove_view d)) }
+    ensures tally { IfOk result (IsTallied before json) }
     ensures refused { IfErr result (IsUnadded before driven.book) }
 {
     let Driven {
@@ -121,7 +143,7 @@ fn output_of(alloc: Global, driven: Driven, before: Option<Book>) -> Result<Drov
         full,
         long,
     };
-    let text = lines(alloc, answers.as_slice(), &counts)?.into_bytes();
+    let text = lines(alloc, answers.as_slice(), &counts, json)?.into_bytes();
     let tally = Tally {
         endings: Endings::of(answers.as_slice()),
         had,

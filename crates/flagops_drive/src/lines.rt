@@ -22,11 +22,12 @@ pub(crate) fn lines(
     alloc: Global,
     answers: &[Resolution],
     counts: &Counts,
+    json: bool,
 ) -> Result<String, AllocError>
-    ensures { IfOk result (λ s. string_bytes s ≡ drive_text (map resolution_view answers.now) counts.now.inputs counts.now.calls counts.now.news counts.now.full counts.now.long) }
+    ensures { IfOk result (λ s. string_bytes s ≡ drive_text json (map resolution_view answers.now) counts.now.inputs counts.now.calls counts.now.news counts.now.full counts.now.long) }
 {
     let mut lines = resolution_lines(alloc, answers)?;
-    let counts = count_lines(alloc, counts)?;
+    let counts = count_lines(alloc, counts, json)?;
     lines.push_str(counts.as_str())?;
     Ok(lines)
 }
@@ -42,8 +43,9 @@ fn resolution_lines(alloc: Global, answers: &[Resolution]) -> Result<String, All
     Ok(lines)
 }
 
-fn count_lines(alloc: Global, counts: &Counts) -> Result<String, AllocError>
-    ensures { IfOk result (λ s. string_bytes s ≡ count_lines counts.now.inputs counts.now.calls counts.now.news counts.now.full counts.now.long) }
+/// The counts, a line each, or an object in one line.
+fn count_lines(alloc: Global, counts: &Counts, json: bool) -> Result<String, AllocError>
+    ensures { IfOk result (λ s. string_bytes s ≡ count_lines json counts.now.inputs counts.now.calls counts.now.news counts.now.full counts.now.long) }
 {
     let Counts {
         inputs,
@@ -52,5 +54,11 @@ fn count_lines(alloc: Global, counts: &Counts) -> Result<String, AllocError>
         full,
         long,
     } = *counts;
-    format!(in alloc; "inputs {inputs}\ncalls {calls}\nnews {news}\nfull {full}\nlong {long}\n")
+    if json {
+        format!(in alloc;
+            "{{\"calls\":{calls},\"full\":{full},\"inputs\":{inputs},\"long\":{long},\"news\":{news}}}\n"
+        )
+    } else {
+        format!(in alloc; "inputs {inputs}\ncalls {calls}\nnews {news}\nfull {full}\nlong {long}\n")
+    }
 }

@@ -5,12 +5,17 @@ ghost use Rattle.flagops_remarks.specs.Named.{Names, NamesWord};
 use crate::lines::{Lines, Opening};
 use flag_text::Tree;
 use std::alloc::{AllocError, Global};
+use unread_members::Reader;
 
 /// The latest moment, 2^53-1.
 const LATEST_MOMENT: i64 = 9_007_199_254_740_991;
 
 /// The most threads that answer asks.
 const MOST_WORKERS: usize = 64;
+
+/// Why asks reached nothing.
+const NOTHING: &str =
+    "  nothing was recorded: no ask reached a \"fractional\" with an input of at most 1,024 bytes\n  check the keys and the contexts\n";
 
 /// Of a tree that is no list of asks.
 pub fn of_asks(alloc: Global, path: &str, tree: &Tree) -> Result<String, AllocError>
@@ -85,6 +90,54 @@ fn is_kind(word: &str) -> bool {
     matches!(word, "bool" | "text" | "whole" | "object")
 }
 
+/// Of asks that have a member that is not read: how many have one, and the first such member.
+pub fn of_unread_asks(alloc: Global, path: &str, tree: &Tree) -> Result<String, AllocError>
+    ensures names { IfOk result (λ s. Names path.now (string_bytes s)) }
+{
+    let mut lines = Lines::new(alloc);
+    if let Tree::List(asks) = tree {
+        put_unread(&mut lines, asks.as_slice());
+    }
+    lines.headed(Opening::Note, path)
+}
+
+fn put_unread(lines: &mut Lines, asks: &[Tree]) {
+    lines.put(": ");
+    put_count(lines, unread_asks(asks), "ask");
+    lines.put(" with a member that is not read\n");
+    for i in 0..asks.len() {
+        if let Some(name) = Reader::Ask.unread(&asks[i]) {
+            put_unread_member(lines, i.saturating_add(1), name);
+            return;
+        }
+    }
+}
+
+/// How many asks have a member that is not read.
+fn unread_asks(asks: &[Tree]) -> u128 {
+    let mut count: u128 = 0;
+    for ask in asks {
+        if Reader::Ask.unread(ask).is_some() {
+            count = count.saturating_add(1);
+        }
+    }
+    count
+}
+
+/// The first member that is not read of the ask of a number, and the one that may be meant.
+fn put_unread_member(lines: &mut Lines, number: usize, name: &str) {
+    lines.put("  ");
+    lines.put_name(name);
+    lines.put(" in ask ");
+    lines.put_shown(&number);
+    if let Some(meant) = Reader::Ask.meant(name) {
+        lines.put("; perhaps ");
+        lines.put_name(meant);
+        lines.put(" is meant");
+    }
+    lines.put("\n");
+}
+
 /// Of asks that were read and not driven, by the name of the fault.
 pub fn of_workers(alloc: Global, workers: usize, fault: &str) -> Result<String, AllocError>
     ensures names { IfOk result (λ s. NamesWord (codes "WORKERS") (string_bytes s)) }
@@ -133,10 +186,24 @@ pub fn of_driven(alloc: Global, path: &str, drive: Drive<'_>) -> Result<String, 
     lines.put_shown(&drive.has);
     lines.put("\n");
     if drive.reached == 0 {
-        lines.put(
-            "  nothing was recorded: no ask reached a \"fractional\" with an input of at most 1,024 bytes\n  check the keys and the contexts\n",
-        );
+        lines.put(NOTHING);
     }
+    lines.headed(Opening::Note, path)
+}
+
+/// Of asks that were driven and reached no input, where the book is left as it was.
+pub fn of_unrecorded_asks(
+    alloc: Global,
+    path: &str,
+    endings: &[(&'static str, usize)],
+) -> Result<String, AllocError>
+    ensures names { IfOk result (λ s. Names path.now (string_bytes s)) }
+{
+    let mut lines = Lines::new(alloc);
+    lines.put(": ");
+    put_endings(&mut lines, endings);
+    lines.put("\n");
+    lines.put(NOTHING);
     lines.headed(Opening::Note, path)
 }
 

@@ -24,6 +24,7 @@ mod blocked;
 mod books;
 mod breaches;
 mod checks;
+mod computed;
 mod documents;
 mod ends;
 mod evaluators;
@@ -42,7 +43,7 @@ mod unread;
 mod way;
 mod wrongs;
 
-pub use asks::{Drive, of_asks, of_driven, of_workers};
+pub use asks::{Drive, of_asks, of_driven, of_unread_asks, of_unrecorded_asks, of_workers};
 pub use books::{of_book, of_full_book, of_other_file, of_unrecorded};
 pub use breaches::of_breaches;
 pub use checks::of_check;
