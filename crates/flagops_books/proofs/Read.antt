@@ -106,14 +106,14 @@ module _ (t : Taken) (all : Notes) (n passed : ℕ) (line next : List ℕ) (part
   not_taken some none (inl blank) = differs (sym blank.0 ∙ some)
   not_taken some none (inr (inl added)) = none added.0 added.1
   not_taken some none (inr (inr (inl full))) = not_both full.3
-  not_taken some none (inr (inr (inr (inl stray)))) = differs (sym stray.1)
+  not_taken some none (inr (inr (inr (inl over)))) = differs (sym over.1)
   not_taken some none (inr (inr (inr (inr refused)))) = not_both refused.2
 
   goes_on : ((note : Noted) → IsLineOf (ended line) note → ⊥) → Takes false all n passed (line ∷ next ∷ parts) (Ok t) → Takes false all (n + 1) passed (next ∷ parts) (Ok t)
   goes_on none (inl blank) = blank.1
   goes_on none (inr (inl added)) = absurd (none added.0 added.1)
   goes_on none (inr (inr (inl full))) = not_both full.3
-  goes_on none (inr (inr (inr (inl stray)))) = differs (sym stray.1)
+  goes_on none (inr (inr (inr (inl over)))) = differs (sym over.1)
   goes_on none (inr (inr (inr (inr refused)))) = not_both refused.2
 
 -- the parts, of which the first has white space before it
@@ -134,27 +134,32 @@ first_part (part ∷ others) some = (part, others, refl)
 two_parts : (bytes : List ℕ) → ends_line bytes ≡ true → (line next : List ℕ) × (others : List (List ℕ)) × (parts_of bytes ≡ line ∷ next ∷ others)
 unfolding parts_of
 two_parts [] ends = differs (sym ends)
-two_parts (b ∷ bs) ends = go (is_feed b) refl ends
+two_parts (b ∷ bs) ends = go (is_feed b) refl ends (λ later. two_parts bs later)
   where
-    go : (feed : Bool) → is_feed b ≡ feed → (is_feed b || list_any is_feed bs) ≡ true → (line next : List ℕ) × (others : List (List ℕ)) × (parts_of (b ∷ bs) ≡ line ∷ next ∷ others)
-    go true is found =
+    go : (feed : Bool) → is_feed b ≡ feed → (is_feed b || list_any is_feed bs) ≡ true → (ends_line bs ≡ true → (line next : List ℕ) × (others : List (List ℕ)) × (parts_of bs ≡ line ∷ next ∷ others))
+        → (line next : List ℕ) × (others : List (List ℕ)) × (parts_of (b ∷ bs) ≡ line ∷ next ∷ others)
+    go true is found behind =
         let next = first_part (parts_of bs) (some_part bs) in
         ([], next.0, next.1, slice_split-cons_yes is_feed b bs is ∙ ap (λ (ps : List (List ℕ)). [] ∷ ps) next.2)
-    go false is found =
-        let later = two_parts bs (ap (λ (f : Bool). f || list_any is_feed bs) (sym is) ∙ found) in
+    go false is found behind =
+        let later = behind (ap (λ (f : Bool). f || list_any is_feed bs) (sym is) ∙ found) in
         (b ∷ later.0, later.1, later.2, slice_split-cons_no is_feed b bs is ∙ ap (onto_first b) later.3)
 
 -- a file whose first line that is not blank may be no note's is not taken
 stray_first : (t : Taken) (bytes white : List ℕ) (all : Notes) (n passed : ℕ) → list_all is_white white ≡ true → may_begin_notes bytes ≡ false → Takes false all n passed (glued white (parts_of bytes)) (Ok t) → ⊥
 unfolding parts_of glued
 stray_first t [] white all n passed blank none takes = differs none
-stray_first t (b ∷ bs) white all n passed blank none takes = go (is_ink b) refl (is_feed b) refl
+stray_first t (b ∷ bs) white all n passed blank none takes =
+    go (is_ink b) refl (is_feed b) refl (λ later ps. stray_first t bs [] all (n + 1) passed refl later ps) (λ space later ps. stray_first t bs (white ++ b ∷ []) all n passed (one_white white b blank space) later ps)
   where
     Taking : List (List ℕ) → Type 0
     Taking parts = Takes false all n passed parts (Ok t)
 
-    go : (inked : Bool) → is_ink b ≡ inked → (feed : Bool) → is_feed b ≡ feed → ⊥
-    go true inked feed fed =
+    Behind : List ℕ → ℕ → Type 0
+    Behind front k = may_begin_notes bs ≡ false → Takes false all k passed (glued front (parts_of bs)) (Ok t) → ⊥
+
+    go : (inked : Bool) → is_ink b ≡ inked → (feed : Bool) → is_feed b ≡ feed → Behind [] (n + 1) → (is_white b ≡ true → Behind (white ++ b ∷ []) n) → ⊥
+    go true inked feed fed anew on =
         let other : (b == 91 || not (ends_line bs)) ≡ false = ap (λ (i : Bool). if i then b == 91 || not (ends_line bs) else may_begin_notes bs) (sym inked) ∙ none in
         let two = two_parts bs (not_none (ends_line bs) (or_none (b == 91) _ other)) in
         let no_feed : is_feed b ≡ false = not_some (is_feed b) (right _ (not (is_feed b)) inked) in
@@ -163,18 +168,18 @@ stray_first t (b ∷ bs) white all n passed blank none takes = go (is_ink b) ref
         not_taken t all n passed (white ++ b ∷ two.0) two.1 two.2 (ink_in white two.0 b space)
         (λ note is. no_note white (two.0 ++ 10 ∷ []) b note blank (or_neither (b == 91) _ other) (subst (λ (l : List ℕ). IsLineOf l note) (append_assoc white (b ∷ two.0) (10 ∷ [])) is))
         (subst (λ (ps : List (List ℕ)). Taking (glued white ps)) parts takes)
-    go false inked true fed =
+    go false inked true fed anew on =
         let later : may_begin_notes bs ≡ false = ap (λ (i : Bool). if i then b == 91 || not (ends_line bs) else may_begin_notes bs) (sym inked) ∙ none in
         let next = first_part (parts_of bs) (some_part bs) in
         let parts : parts_of (b ∷ bs) ≡ [] ∷ next.0 ∷ next.1 = slice_split-cons_yes is_feed b bs fed ∙ ap (λ (ps : List (List ℕ)). [] ∷ ps) next.2 in
         let behind = goes_on t all n passed (white ++ []) next.0 next.1
         (λ note is. no_note white [] 10 note blank refl (subst (λ (l : List ℕ). IsLineOf l note) (append_assoc white [] (10 ∷ [])) is))
         (subst (λ (ps : List (List ℕ)). Taking (glued white ps)) parts takes) in
-        stray_first t bs [] all (n + 1) passed refl later (subst (λ (ps : List (List ℕ)). Takes false all (n + 1) passed (glued [] ps) (Ok t)) (sym next.2) behind)
-    go false inked false fed =
+        anew later (subst (λ (ps : List (List ℕ)). Takes false all (n + 1) passed (glued [] ps) (Ok t)) (sym next.2) behind)
+    go false inked false fed anew on =
         let later : may_begin_notes bs ≡ false = ap (λ (i : Bool). if i then b == 91 || not (ends_line bs) else may_begin_notes bs) (sym inked) ∙ none in
         let space : is_white b ≡ true = not_none (is_white b) (sym (ink b) ∙ inked) in
-        stray_first t bs (white ++ b ∷ []) all n passed (one_white white b blank space) later
+        on space later
         (subst Taking (ap (glued white) (slice_split-cons_no is_feed b bs fed) ∙ one_more b white (parts_of bs) (some_part bs)) takes)
 
 as_glued : (parts : List (List ℕ)) → glued [] parts ≡ parts
@@ -183,6 +188,15 @@ as_glued [] = refl
 as_glued (part ∷ parts) = refl
 
 -- ---- a file
+
+not_less : (n : ℕ) → n ≡ 16777216 → nat_lt n 16777216 ≡ false
+not_less n is = grind (arith, nat_tests)
+
+at_most : (n : ℕ) → nat_lt 16777216 n ≡ false → n ≤ 16777216
+at_most n is = grind (arith, nat_tests)
+
+at_least : (n : ℕ) → nat_lt 16777216 n ≡ true → 16777216 ≤ n
+at_least n is = grind (arith, nat_tests)
 
 module _ (Next : Later) (passing : Bool) (before all : Notes) (t u : Bool) (path : List ℕ) where
   abbrev Came : Result United Refusal
@@ -208,12 +222,12 @@ module _ (Next : Later) (passing : Bool) (before all : Notes) (t u : Bool) (path
 
     long : ends_line piece ≡ false → is_one_line piece ≡ true
     long ends =
-        let none : nat_lt (length piece) 16777216 ≡ false = grind (arith, nat_tests, full) in
+        let none = not_less (length piece) full in
         ap (λ (b : Bool). not (b || ends_line piece)) none ∙ ap not ends
 
     lined : ends_line piece ≡ true → is_one_line piece ≡ false
     lined ends =
-        let none : nat_lt (length piece) 16777216 ≡ false = grind (arith, nat_tests, full) in
+        let none = not_less (length piece) full in
         ap (λ (b : Bool). not (b || ends_line piece)) none ∙ ap not ends
 
     lines_of : ends_line piece ≡ true → (passing || may_begin_notes piece) ≡ false
@@ -226,7 +240,7 @@ module _ (Next : Later) (passing : Bool) (before all : Notes) (t u : Bool) (path
     not_taken_lines : ends_line piece ≡ true → (o : Result Taken NotesFault) → TakesBytes false passing before piece o → (taken : Taken) → o ≡ Ok taken → ⊥
     not_taken_lines ends o takes taken ok =
         let whole : Takes false before 1 0 (parts_of piece) (Ok taken) =
-            subst (λ (p : Bool). Takes p before 1 0 (parts_of piece) (Ok taken)) (or_neither passing _ (lines_of ends)) (subst (λ (x : Result Taken NotesFault). Takes passing before 1 0 (parts_of piece) x) ok takes) in
+        subst (λ (p : Bool). Takes p before 1 0 (parts_of piece) (Ok taken)) (or_neither passing _ (lines_of ends)) (subst (λ (x : Result Taken NotesFault). Takes passing before 1 0 (parts_of piece) x) ok takes) in
         stray_first taken piece [] before 1 0 refl (or_none passing _ (lines_of ends)) (subst (λ (ps : List (List ℕ)). Takes false before 1 0 ps (Ok taken)) (sym (as_glued (parts_of piece))) whole)
 
     -- a full piece that begins as neither a book nor note lines is refused
@@ -256,11 +270,11 @@ module _ (Next : Later) (passing : Bool) (before all : Notes) (t u : Bool) (path
 
       piece_alone : may_note passing (notes_piece bytes) ≡ false → (more : Bool) → nat_lt 16777216 (length bytes) ≡ more → read_of (Some bytes) ≡ all_of (Some bytes)
       piece_alone may false few =
-          let short : length bytes ≤ 16777216 = grind (arith, nat_tests, few) in
+          let short : length bytes ≤ 16777216 = at_most (length bytes) few in
           let same : notes_piece bytes ≡ take (max_book + 1) bytes = take_all 16777216 bytes short ∙ sym (take_all (max_book + 1) bytes (omega (arith, short))) in
           read false may ∙ ap if_readable same
       piece_alone may true many =
-          let long : 16777216 ≤ length bytes = grind (arith, nat_tests, many) in
+          let long : 16777216 ≤ length bytes = at_least (length bytes) many in
           let full : length (notes_piece bytes) ≡ 16777216 = omega (arith, length-take 16777216 bytes, long) in
           let only : read_of (Some bytes) ≡ Ok (notes_piece bytes) = read false may ∙ readable (notes_piece bytes) (omega (arith, full)) in
           absurd (refused (notes_piece bytes) may full (begins_book (notes_piece bytes)) (subst (λ (o : Result (List ℕ) Refusal). IsWithFile Next passing before t path o Came) only is))

@@ -6,7 +6,7 @@ use Rattle.flagops_books.proofs.uniting.with_lines.Goals as goal
 
 pub returns-then-is_one_line-clause-exact : goal.returns-then-is_one_line-clause-exact
 returns-then-is_one_line-clause-exact c = λ now is_of.
-    long_line c.args.passing now c.args.path.now c.args.bytes.now (string_bytes c.args.all.told) c.stopped-then-is_one_line.result (sym c.is_one_line.ensures ∙ c.if-is_one_line.true) c.stopped-then-is_one_line.ensures.stray c.stopped-then-is_one_line.ensures.wants
+    long_line c.args.passing now c.args.path.now c.args.bytes.now (string_bytes c.args.all.told) c.stopped.result (sym c.is_one_line.ensures ∙ c.if-is_one_line.true) c.stopped.ensures.stray c.stopped.ensures.wants
 
 pub returns-in-Ok-clause-exact : goal.returns-in-Ok-clause-exact
 returns-in-Ok-clause-exact c = λ now is_of.
@@ -14,8 +14,8 @@ returns-in-Ok-clause-exact c = λ now is_of.
 
 pub returns-in-Err-Line-clause-exact : goal.returns-in-Err-Line-clause-exact
 returns-in-Err-Line-clause-exact c = λ now is_of.
-    stopped_lines c.args.passing now c.args.path.now c.args.bytes.now (string_bytes c.args.all.told) (sym c.is_one_line.ensures ∙ c.if-is_one_line.false) c.in-Err-Line.n c.stopped.result
-    (subst (λ (e : NotesFault). TakesNotes c.args.passing now c.args.bytes.now (Err e)) c.in-Err-Line.field-0-is (c.in-Err-Line.ensures now is_of)) c.stopped.ensures.stray c.stopped.ensures.wants
+    stopped_lines c.args.passing now c.args.path.now c.args.bytes.now (string_bytes c.args.all.told) (sym c.is_one_line.ensures ∙ c.if-is_one_line.false) c.in-Err-Line.n c.stopped-in-Err-Line.result
+    (subst (λ (e : NotesFault). TakesNotes c.args.passing now c.args.bytes.now (Err e)) c.in-Err-Line.field-0-is (c.in-Err-Line.ensures now is_of)) c.stopped-in-Err-Line.ensures.stray c.stopped-in-Err-Line.ensures.wants
 
 pub returns-in-Err-PageFull-clause-exact : goal.returns-in-Err-PageFull-clause-exact
 returns-in-Err-PageFull-clause-exact c = λ now is_of.
