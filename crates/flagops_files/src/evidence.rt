@@ -94,7 +94,7 @@ fn tally_in(alloc: Global, path: &str, bytes: &[u8]) -> Result<Evidence, Refused
         Ok(tally) => Ok(Evidence::Tally(tally)),
         Err(fault) => Err(Refused {
             refusal: Refusal::ReadTally(fault),
-            remark: Remark::of(of_tally(alloc, path, fault)),
+            remark: Remark::of(of_tally(alloc, path, Ends::of(bytes), fault)),
         }),
     }
 }

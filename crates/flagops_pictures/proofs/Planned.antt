@@ -32,21 +32,21 @@ shown : (asked : Result Problem RolloutFault) (p : Planned) → IsPlanned asked 
 shown (Ok problem) p plan = (plan.lawful, plan.shows)
 shown (Err f) p plan = plan
 
-module _ (refine : Option ℕ) (q : Question) (book : Contents) (on : q.evidence ≡ Book book) where
+module _ (strict explain : Bool) (refine : Option ℕ) (q : Question) (book : Contents) (on : q.evidence ≡ Book book) where
   abbrev posed : Result Problem RolloutFault
   posed = problem_refined (unwrap_or refine 1) q.flags q.request book
 
   -- a plan that is reported reads as an answer that is right
-  planned_there : (report : Report) → IsPlanOf false false refine (Ok q) (Ok report) → (answer : Answer) × (answer_of report.text ≡ Ok answer) × IsShown posed answer
+  planned_there : (report : Report) → IsPlanOf strict explain refine (Ok q) (Ok report) → (answer : Answer) × (answer_of report.text ≡ Ok answer) × IsShown posed answer
   planned_there report (Ok p, may, is, reads) = (planned_view p, reads, shown posed p (subst (λ (e : Evidence). IsPlannedOn (unwrap_or refine 1) q.flags q.request e (Ok p)) on may.answers))
   planned_there report (Err f, may, is, reads) = absurd cc
 
-  pub read_right : (report : Report) (answer : Answer) → IsPlanOf false false refine (Ok q) (Ok report) → answer_of report.text ≡ Ok answer → IsShown posed answer
+  pub read_right : (report : Report) (answer : Answer) → IsPlanOf strict explain refine (Ok q) (Ok report) → answer_of report.text ≡ Ok answer → IsShown posed answer
   read_right report answer plan read =
       let there = planned_there report plan in
       subst (λ (r : Result Answer PlanFileFault). IfOk r (λ a. IsShown posed a)) (sym there.1 ∙ read) there.2
 
-  pub reads : (report : Report) (e : PlanFileFault) → IsPlanOf false false refine (Ok q) (Ok report) → answer_of report.text ≡ Err e → ⊥
+  pub reads : (report : Report) (e : PlanFileFault) → IsPlanOf strict explain refine (Ok q) (Ok report) → answer_of report.text ≡ Err e → ⊥
   reads report e plan unread =
       let there = planned_there report plan in
       subst (λ (r : Result Answer PlanFileFault). IfErr r (λ f. ⊥)) (sym there.1 ∙ unread) tt
@@ -59,35 +59,35 @@ module _ (refine : Option ℕ) (q : Question) (book : Contents) (on : q.evidence
 pub want_alone : (refusal : Refusal) (c : Call) → refusal ≡ WantOfMemory c → is_want refusal ≡ false → refusal ≡ unwritable
 want_alone refusal c is no_want = absurd (let both : true ≡ false = sym (ap is_want is) ∙ no_want in cc)
 
-module _ (path : List ℕ) (refine : Option ℕ) (q : Question) where
+module _ (p : Planning) (q : Question) where
   -- it was printed, and its picture written
-  pub planned_with : (old new : Option Holding) (o : Outcome) (bytes : List ℕ) → IsPlanOf false false refine (Ok q) (Ok (outcome_view o)) → IsPictureOf refine q o.text.items bytes → Stores old new path bytes → KeepsOthers old new path
-      → IfSome old (λ at. IsPlanWith at new path refine q (Ok (outcome_view o)))
+  pub planned_with : (old new : Option Holding) (o : Outcome) (bytes : List ℕ) → IsPlanOf p.strict p.explain p.refine (Ok q) (Ok (outcome_view o)) → IsPictureOf p.refine q o.text.items bytes → Stores old new p.picture bytes → KeepsOthers old new p.picture
+      → IfSome old (λ at. IsPlanWith at new p q (Ok (outcome_view o)))
   planned_with None new o bytes plan picture stores others = tt
   planned_with (Some at) new o bytes plan picture stores others = (plan, (bytes, picture, stores, others))
 
   -- the picture was refused to be written
-  pub unwritten : (old new : Option Holding) (e : Refused) (r : Result Outcome Refused) → r ≡ Err e → (is_want e.refusal ≡ false → e.refusal ≡ unwritable) → new ≡ old → IfSome old (λ at. GivesOne outcome_view r (IsPlanWith at new path refine q))
+  pub unwritten : (old new : Option Holding) (e : Refused) (r : Result Outcome Refused) → r ≡ Err e → (is_want e.refusal ≡ false → e.refusal ≡ unwritable) → new ≡ old → IfSome old (λ at. GivesOne outcome_view r (IsPlanWith at new p q))
   unwritten None new e r is refusal same = tt
   unwritten (Some at) new e r is refusal same = rw is (λ no_want. (inr (refusal no_want), same))
 
   -- nothing was planned
-  pub unplanned : (old new : Option Holding) (e : Refused) (r : Result Outcome Refused) → r ≡ Err e → GivesOne outcome_view (Err e) (IsPlanOf false false refine (Ok q)) → new ≡ old → IfSome old (λ at. GivesOne outcome_view r (IsPlanWith at new path refine q))
+  pub unplanned : (old new : Option Holding) (e : Refused) (r : Result Outcome Refused) → r ≡ Err e → GivesOne outcome_view (Err e) (IsPlanOf p.strict p.explain p.refine (Ok q)) → new ≡ old → IfSome old (λ at. GivesOne outcome_view r (IsPlanWith at new p q))
   unplanned None new e r is gives same = tt
   unplanned (Some at) new e r is gives same = rw is (λ no_want. (inl (gives no_want), same))
 
 module _ (p : Planning) where
-  asked_at : (at : Holding) (new : Option Holding) (q : BookQuestion) (r : Result Outcome Refused) → IsBookQuestionAt at p.document p.request p.book (Ok q) → GivesOne outcome_view r (IsPlanWith at new p.picture p.refine (as_question q))
+  asked_at : (at : Holding) (new : Option Holding) (q : BookQuestion) (r : Result Outcome Refused) → IsBookQuestionAt at p.document p.request p.book (Ok q) → GivesOne outcome_view r (IsPlanWith at new p (as_question q))
       → GivesOne outcome_view r (IsPlanPicture at new p)
   unfolding IsPlanPicture
   asked_at at new q (Ok o) asked gives = (Ok q, asked, gives)
   asked_at at new q (Err e) asked gives = λ no_want. (Ok q, asked, gives no_want)
 
   pub asked_of : (old kept new : Option Holding) (q : BookQuestion) (r : Result Outcome Refused) → kept ≡ old → IfSome old (λ at. IsBookQuestionAt at p.document p.request p.book (Ok q))
-      → IfSome kept (λ at. GivesOne outcome_view r (IsPlanWith at new p.picture p.refine (as_question q))) → IfSome old (λ at. GivesOne outcome_view r (IsPlanPicture at new p))
+      → IfSome kept (λ at. GivesOne outcome_view r (IsPlanWith at new p (as_question q))) → IfSome old (λ at. GivesOne outcome_view r (IsPlanPicture at new p))
   asked_of None kept new q r same asked gives = tt
   asked_of (Some at) kept new q r same asked gives =
-      asked_at at new q r asked (subst (λ (h : Option Holding). IfSome h (λ it. GivesOne outcome_view r (IsPlanWith it new p.picture p.refine (as_question q)))) same gives)
+      asked_at at new q r asked (subst (λ (h : Option Holding). IfSome h (λ it. GivesOne outcome_view r (IsPlanWith it new p (as_question q)))) same gives)
 
   unasked_at : (at : Holding) (new : Option Holding) (e : Refused) → GivesOne book_question_view (Err e) (IsBookQuestionAt at p.document p.request p.book) → new ≡ Some at → GivesOne outcome_view (Err e) (IsPlanPicture at new p)
   unfolding IsPlanPicture

@@ -1,5 +1,5 @@
 -- What `plan --picture` answers, and the file that it writes.
-use Rattle.std.specs.Prelude.{◌≡◌, ◌⊎◌, ℕ, Bool, true, false, List, unwrap_or, Option, Some, None, Result, Ok, Err}
+use Rattle.std.specs.Prelude.{◌≡◌, ◌⊎◌, ℕ, Bool, true, List, unwrap_or, Option, Some, None, Result, Ok, Err}
 use Rattle.flag_documents.specs.Document.{Definitions}
 use Rattle.plan_text.specs.Answer.{Answer}
 use Rattle.plan_text.specs.PlanFile.{answer_of}
@@ -39,16 +39,16 @@ abbrev pub HasPicture : Holding → Option Holding → List ℕ → Option ℕ �
 HasPicture at after path refine q report = (bytes : List ℕ) × IsPictureOf refine q report.text bytes × Stores (Some at) after path bytes × KeepsOthers (Some at) after path
 
 -- What is reported is what `plan` reports without a picture. Where that is a plan its picture is written, or the file is refused to be; after a refusal all files are as they were.
-abbrev pub IsPlanWith : Holding → Option Holding → List ℕ → Option ℕ → Question → Outcomes
-IsPlanWith at after path refine q (Ok report) = IsPlanOf false false refine (Ok q) (Ok report) × HasPicture at after path refine q report
-IsPlanWith at after path refine q (Err e) = (IsPlanOf false false refine (Ok q) (Err e) ⊎ (e ≡ unwritable)) × (after ≡ Some at)
+abbrev pub IsPlanWith : Holding → Option Holding → Planning → Question → Outcomes
+IsPlanWith at after p q (Ok report) = IsPlanOf p.strict p.explain p.refine (Ok q) (Ok report) × HasPicture at after p.picture p.refine q report
+IsPlanWith at after p q (Err e) = (IsPlanOf p.strict p.explain p.refine (Ok q) (Err e) ⊎ (e ≡ unwritable)) × (after ≡ Some at)
 
-abbrev pub IsPlanPictured : Holding → Option Holding → List ℕ → Option ℕ → Result BookQuestion Refusal → Outcomes
-IsPlanPictured at after path refine (Err e) r = (r ≡ Err e) × (after ≡ Some at)
-IsPlanPictured at after path refine (Ok q) r = IsPlanWith at after path refine (as_question q) r
+abbrev pub IsPlanPictured : Holding → Option Holding → Planning → Result BookQuestion Refusal → Outcomes
+IsPlanPictured at after p (Err e) r = (r ≡ Err e) × (after ≡ Some at)
+IsPlanPictured at after p (Ok q) r = IsPlanWith at after p (as_question q) r
 
 unfoldable pub IsPlanPicture : Holding → Option Holding → Planning → Outcomes
-IsPlanPicture at after p r = (question : Result BookQuestion Refusal) × IsBookQuestionAt at p.document p.request p.book question × IsPlanPictured at after p.picture p.refine question r
+IsPlanPicture at after p r = (question : Result BookQuestion Refusal) × IsBookQuestionAt at p.document p.request p.book question × IsPlanPictured at after p question r
 
 -- the files stay as they are, or the one at the path alone changes
 abbrev pub LeavesPicture : Option Planning → Option Holding → Option Holding → Type 0

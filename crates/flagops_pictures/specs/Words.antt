@@ -1,10 +1,10 @@
 -- What the words of `picture` and of `plan --picture` ask for, by what `clap` reads of them.
-use Rattle.std.specs.Prelude.{ℕ, List, codes, Option, Some, option_map}
+use Rattle.std.specs.Prelude.{ℕ, Bool, List, codes, Option, Some, option_map}
 use Rattle.clap.specs.Kinds.{Kinds}
 use Rattle.clap.specs.Simple.{App, new_app, with_rule}
 use Rattle.clap.specs.Walk.{Row, Rule, Text, first_of}
 use Rattle.flagops_ramps.specs.Words.{Verifying, asked_in, faults_in, verify_in, with_steps}
-use Rattle.flagops_words.specs.Words.{◌>>=◌, flag, refine_in, refine_option, required, with_rollout}
+use Rattle.flagops_words.specs.Words.{◌>>=◌, flag, flag_in, is_strict, refine_in, refine_option, required, strict_flag, with_rollout}
 use Rattle.flagops_pictures.specs.declared.asked.Asked as code
 use Rattle.flagops_pictures.specs.declared.asked.Planning as code_planning
 
@@ -16,16 +16,19 @@ pub record Asked : Type 0 where
   pub plan : Text
   pub refine : Option ℕ
 
--- the files of a rollout, the file of the picture, and the factor of a refinement if there is one
+-- the files of a rollout, the file of the picture, the factor of a refinement if there is one, whether what is doubted is refused,
+-- and whether the plan is told in words
 pub record Planning : Type 0 where
   pub document : Text
   pub request : Text
   pub book : Text
   pub picture : Text
   pub refine : Option ℕ
+  pub strict : Bool
+  pub explain : Bool
 
 abbrev pub planning_view : code_planning.Planning → Planning
-planning_view p = record { document = p.document.now; request = p.request.now; book = p.book.now; picture = p.picture.now; refine = option_map (λ m. m.number) p.refine }
+planning_view p = record { document = p.document.now; request = p.request.now; book = p.book.now; picture = p.picture.now; refine = option_map (λ m. m.number) p.refine; strict = p.strict; explain = p.explain }
 
 abbrev pub asked_view : code.Asked → Asked
 asked_view a = record { document = a.document.now; request = a.request.now; book = a.book.now; plan = a.plan.now; refine = option_map (λ m. m.number) a.refine }
@@ -42,9 +45,9 @@ ramp_app = with_rule (with_rule (with_rule (with_steps (new_app (codes "picture"
 abbrev pub picture_option : Rule
 picture_option = record (required (codes "FILE")) { long = Some (codes "picture") }
 
--- `plan --picture FILE DOC REQUEST BOOK`, with `--refine M`
+-- `plan --picture FILE DOC REQUEST BOOK`, with `--refine M`, `--strict` and `--explain`
 unfoldable pub plan_app : App
-plan_app = with_rule (with_rule (with_rollout (new_app (codes "plan"))) picture_option) refine_option
+plan_app = with_rule (with_rule (with_rule (with_rule (with_rollout (new_app (codes "plan"))) picture_option) refine_option) strict_flag) (flag (codes "explain"))
 
 abbrev pub picture_in : List Row → Option Asked
 picture_in rows = do
@@ -62,7 +65,7 @@ planning_in rows = do
   book ← first_of (codes "BOOK") rows
   picture ← first_of (codes "FILE") rows
   refine ← refine_in rows
-  Some (record { document = document; request = request; book = book; picture = picture; refine = refine })
+  Some (record { document = document; request = request; book = book; picture = picture; refine = refine; strict = is_strict rows; explain = flag_in (codes "explain") rows })
 
 unfoldable pub picture_faults : List Text → Kinds
 picture_faults = faults_in picture_app picture_in

@@ -11,7 +11,8 @@ pub struct Asked<'a> {
     pub refine: Option<Factor>,
 }
 
-/// What `plan --picture` is asked for: the files of a rollout, the factor, and the file that the picture is written to.
+/// What `plan --picture` is asked for: the files of a rollout, the factor, the file that the picture is written to, and how the
+/// plan is told.
 #[derive(Clone, Copy, Debug)]
 pub struct Planning<'a> {
     pub document: &'a str,
@@ -19,4 +20,8 @@ pub struct Planning<'a> {
     pub book: &'a str,
     pub picture: &'a str,
     pub refine: Option<Factor>,
+    /// Whether what is doubted is refused, and not only told.
+    pub strict: bool,
+    /// Whether the answer is told in words.
+    pub explain: bool,
 }

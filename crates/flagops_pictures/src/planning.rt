@@ -122,7 +122,7 @@ fn planned<R: Threads + Sync, F: FileSet>(
     question: &Question,
 ) -> Result<Outcome, Refused>
     requires { IsOfBook question.now.evidence }
-    ensures exact { IfSome (F.holding files.old) (λ at. GivesOne outcome_view result (IsPlanWith at (F.holding files.new) asked.now.picture.now (option_map (λ m. m.number) asked.now.refine) (question_view question.now))) }
+    ensures exact { IfSome (F.holding files.old) (λ at. GivesOne outcome_view result (IsPlanWith at (F.holding files.new) (planning_view asked.now) (question_view question.now))) }
     ensures calls { ComesFrom plan_calls result }
     ensures left { (F.holding files.new ≡ F.holding files.old) ⊎ KeepsOthers (F.holding files.old) (F.holding files.new) asked.now.picture.now }
     ensures kept { OnErr result (F.holding files.new ≡ F.holding files.old) }
@@ -134,8 +134,8 @@ fn planned<R: Threads + Sync, F: FileSet>(
         asked.book,
         question,
         asked.refine,
-        false,
-        false,
+        asked.strict,
+        asked.explain,
     )?;
     let picture = picture_of(rt, alloc, asked, question, &outcome)?;
     store(alloc, files, asked.picture, picture.as_bytes())?;
@@ -151,7 +151,7 @@ fn picture_of<R: Threads + Sync>(
     outcome: &Outcome,
 ) -> Result<String, Refused>
     requires book { IsOfBook question.now.evidence }
-    requires plan { IsPlanOf false false (option_map (λ m. m.number) asked.now.refine) (Ok (question_view question.now)) (Ok (outcome_view outcome.now)) }
+    requires plan { IsPlanOf asked.now.strict asked.now.explain (option_map (λ m. m.number) asked.now.refine) (Ok (question_view question.now)) (Ok (outcome_view outcome.now)) }
     ensures exact { IfOk result (λ s. IsPictureOf (option_map (λ m. m.number) asked.now.refine) (question_view question.now) outcome.now.text.items (string_bytes s)) }
     ensures wants { IfErr result (λ e. e.refusal ≡ Refusal.WantOfMemory Call.Plan) }
 {
@@ -172,7 +172,7 @@ fn picture_drawn<R: Threads + Sync>(
     outcome: &Outcome,
 ) -> Result<String, AllocError>
     requires book { IsOfBook question.now.evidence }
-    requires plan { IsPlanOf false false (option_map (λ m. m.number) asked.now.refine) (Ok (question_view question.now)) (Ok (outcome_view outcome.now)) }
+    requires plan { IsPlanOf asked.now.strict asked.now.explain (option_map (λ m. m.number) asked.now.refine) (Ok (question_view question.now)) (Ok (outcome_view outcome.now)) }
     ensures { IfOk result (λ s. IsPictureOf (option_map (λ m. m.number) asked.now.refine) (question_view question.now) outcome.now.text.items (string_bytes s)) }
 {
     match &question.evidence {
@@ -191,7 +191,7 @@ fn on_book<R: Threads + Sync>(
     outcome: &Outcome,
 ) -> Result<String, AllocError>
     requires book { question.now.evidence ≡ Evidence.Book book.now }
-    requires plan { IsPlanOf false false (option_map (λ m. m.number) asked.now.refine) (Ok (question_view question.now)) (Ok (outcome_view outcome.now)) }
+    requires plan { IsPlanOf asked.now.strict asked.now.explain (option_map (λ m. m.number) asked.now.refine) (Ok (question_view question.now)) (Ok (outcome_view outcome.now)) }
     ensures { IfOk result (λ s. IsPictureOf (option_map (λ m. m.number) asked.now.refine) (question_view question.now) outcome.now.text.items (string_bytes s)) }
 {
     let planned = match read_planned(alloc, outcome.text.as_slice()) {

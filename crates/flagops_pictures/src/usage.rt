@@ -35,10 +35,11 @@ pub(crate) fn ramp<'a>(alloc: Global) -> Result<Command<'a>, AllocError>
     ensures { IfOk result (λ c. app_of c ≡ ramp_app) }
 {
     let answers = file(alloc, "RAMP", "The file that 'flagops ramp' printed");
-    let ramp = Arg::new(alloc, "ramp")
-        .long("ramp")
-        .action(ArgAction::SetTrue)
-        .help("Draw each step of a rollout, one below the other");
+    let ramp = flag(
+        alloc,
+        "ramp",
+        "Draw each step of a rollout, one below the other",
+    );
     steps(alloc)?.arg(answers)?.arg(ramp)?.arg(factor(alloc))
 }
 
@@ -50,8 +51,21 @@ pub(crate) fn plan<'a>(alloc: Global) -> Result<Command<'a>, AllocError>
     let command = Command::new(alloc, "plan").bin_name("flagops plan")?.about(
         "Prints the rule that a rollout request asks for and that switches the fewest, and writes its picture",
     );
-    let picture = picture_file(alloc);
-    rollout(alloc, command)?.arg(picture)?.arg(factor(alloc))
+    let strict = flag(
+        alloc,
+        "strict",
+        "End with status 1 where something is else only told: docs/REFUSALS.md has the table",
+    );
+    let explain = flag(
+        alloc,
+        "explain",
+        "Tell in words, beside the plan, what it changes, or what stands in the way of any",
+    );
+    rollout(alloc, command)?
+        .arg(picture_file(alloc))?
+        .arg(factor(alloc))?
+        .arg(strict)?
+        .arg(explain)
 }
 
 /// `--picture FILE`.
@@ -113,6 +127,17 @@ fn file<'a>(alloc: Global, name: &'a str, help: &'a str) -> Arg<'a>
     ensures local { result.global ≡ false }
 {
     Arg::new(alloc, name).required(true).help(help)
+}
+
+/// An option without a value, by its long name.
+fn flag<'a>(alloc: Global, name: &'a str, help: &'a str) -> Arg<'a>
+    ensures rule { rule_of result ≡ flag name.entry.now }
+    ensures local { result.global ≡ false }
+{
+    Arg::new(alloc, name)
+        .long(name)
+        .action(ArgAction::SetTrue)
+        .help(help)
 }
 
 /// `--refine M`.

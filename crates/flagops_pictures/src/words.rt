@@ -1,7 +1,7 @@
 //! What the words of `picture` and `plan --picture` ask for, as `clap` reads them.
 ghost use Rattle.std.specs.Prelude.{◌≡◌, IfErr, IfOk, Some, map, option_map};
 ghost use Rattle.clap.specs.Words.{found_of, kind_of, rows_of};
-ghost use Rattle.flagops_words.specs.Words.{refine_in};
+ghost use Rattle.flagops_words.specs.Words.{flag_in, refine_in};
 ghost use Rattle.flagops_pictures.specs.Words.{asked_view, picture_by, picture_faults, picture_in, plan_by, plan_faults, planning_in, planning_view, ramp_by, ramp_faults};
 ghost use Rattle.flagops_ramps.specs.Words.{IsToldBy, verify_in, verifying_view};
 
@@ -86,6 +86,8 @@ fn planning_in<'a>(matches: &ArgMatches<'a>) -> Option<Planning<'a>>
         book,
         picture,
         refine,
+        strict: flag_in(matches, "strict"),
+        explain: flag_in(matches, "explain"),
     })
 }
 
@@ -105,6 +107,17 @@ fn asked_in<'a>(matches: &ArgMatches<'a>) -> Option<Asked<'a>>
         plan,
         refine,
     })
+}
+
+/// Whether an option without a value is given.
+#[tactic(auto, using(crate::proofs::Matched::rows))]
+fn flag_in(matches: &ArgMatches<'_>, name: &str) -> bool
+    ensures { result ≡ flag_in name.now (rows_of (found_of matches.now)) }
+{
+    match matches.get_str(name) {
+        Some(word) => word == "true",
+        None => false,
+    }
 }
 
 /// The factor of a refinement, if one is given; `None` where the word is no factor.

@@ -25,7 +25,7 @@ pub fn of_book(
         Ends::Marked => lines.put(
             " begins with a byte order mark, and is no book\n  save it as UTF-8 without the mark",
         ),
-        _ if ends.is_cut_at(fault) => {
+        _ if is_cut(ends, fault) => {
             lines.put(" is no book: its last line has no line feed (");
             lines.put_shown(&fault);
             lines.put(
@@ -40,6 +40,14 @@ pub fn of_book(
     }
     lines.put("\n");
     lines.headed(Opening::Error, path)
+}
+
+/// Whether the line at fault is the last one, which has no line feed.
+fn is_cut(ends: Ends, fault: BookFileFault) -> bool {
+    match fault {
+        BookFileFault::Line(line) => ends.is_cut_at(u128::from(line)),
+        _ => false,
+    }
 }
 
 /// Of a path at which a book is to be written, and whose file is none.

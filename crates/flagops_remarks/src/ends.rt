@@ -2,8 +2,6 @@
 ghost use Rattle.std.specs.Prelude.{◌≡◌, count_by};
 ghost use Rattle.flagops_remarks.specs.Ends.{ends_of, is_feed, lines_in};
 
-use book_core::BookFileFault;
-
 /// What some editors write before a text in UTF-8.
 const BYTE_ORDER_MARK: &[u8] = b"\xef\xbb\xbf";
 
@@ -36,10 +34,10 @@ impl Ends {
         }
     }
 
-    /// Whether the last line has no line feed and is the one at fault.
-    pub(crate) fn is_cut_at(self, fault: BookFileFault) -> bool {
-        match (self, fault) {
-            (Ends::Cut(last), BookFileFault::Line(line)) => last as u128 == u128::from(line),
+    /// Whether the last line has no line feed and this number, from 1.
+    pub(crate) fn is_cut_at(self, line: u128) -> bool {
+        match self {
+            Ends::Cut(last) => last as u128 == line,
             _ => false,
         }
     }

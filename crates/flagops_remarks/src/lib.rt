@@ -24,6 +24,7 @@ mod blocked;
 mod books;
 mod breaches;
 mod checks;
+mod computed;
 mod documents;
 mod ends;
 mod evaluators;

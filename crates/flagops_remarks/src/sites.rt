@@ -2,6 +2,7 @@
 ghost use Rattle.std.specs.Prelude.{IfOk, string_bytes};
 ghost use Rattle.flagops_remarks.specs.Named.{Names};
 
+use crate::computed::put_computed;
 use crate::lines::{Lines, Opening};
 use crate::requests::{of_request, pairs, range, totals};
 use bucket_core::{Rule, total_weight};
@@ -148,12 +149,7 @@ fn put_place(lines: &mut Lines, place: Place<'_>, fault: RolloutFault) {
     match fault {
         RolloutFault::UnknownFlag => put_unknown_flag(lines, place),
         RolloutFault::NoSite => put_no_site(lines, place),
-        RolloutFault::Computed => {
-            place.put(lines);
-            lines.put(
-                " has a bucket whose name or weight is computed\n  a plan needs literal buckets [name, weight]",
-            );
-        }
+        RolloutFault::Computed => put_computed(lines, place),
         RolloutFault::TotalTooLarge => put_weights(
             lines,
             place,

@@ -3,6 +3,7 @@ ghost use Rattle.std.specs.Prelude.{IfOk, string_bytes};
 ghost use Rattle.flagops_remarks.specs.Named.{Names};
 
 use crate::books::put_page;
+use crate::ends::Ends;
 use crate::lines::{Lines, Opening};
 use crate::sites::Place;
 use book_core::Page;
@@ -14,14 +15,33 @@ use tally_core::PageTally;
 use tally_text::TallyFileFault;
 
 /// Of bytes that begin as the file of a tally and are none.
-pub fn of_tally(alloc: Global, path: &str, fault: TallyFileFault) -> Result<String, AllocError>
+pub fn of_tally(
+    alloc: Global,
+    path: &str,
+    ends: Ends,
+    fault: TallyFileFault,
+) -> Result<String, AllocError>
     ensures names { IfOk result (λ s. Names path.now (string_bytes s)) }
 {
     let mut lines = Lines::new(alloc);
     lines.put(" is no tally: ");
-    lines.put_shown(&fault);
-    lines.put_all(&["\n  ", taken(fault), "\n"]);
+    if is_cut(ends, fault) {
+        lines.put("its last line has no line feed (");
+        lines.put_shown(&fault);
+        lines.put(")\n  was it cut off? each line of a tally has its line end, the last one too\n");
+    } else {
+        lines.put_shown(&fault);
+        lines.put_all(&["\n  ", taken(fault), "\n"]);
+    }
     lines.headed(Opening::Error, path)
+}
+
+/// Whether the line at fault is the last one, which has no line feed.
+fn is_cut(ends: Ends, fault: TallyFileFault) -> bool {
+    match fault {
+        TallyFileFault::Line(line) => ends.is_cut_at(u128::from(line)),
+        _ => false,
+    }
 }
 
 /// What is taken in place of a fault.

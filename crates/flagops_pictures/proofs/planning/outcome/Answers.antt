@@ -11,7 +11,7 @@ pub returns-clause-exact : goal.returns-clause-exact
 returns-clause-exact g c =
     asked_of (planning_view c.args.asked.now) (g.F.FileSet.holding c.args.files.now) (g.F.FileSet.holding c.load_book_question.new.files) (g.F.FileSet.holding c.planned.new.files) (book_question_view c.in_ok-question.question) c.planned.result
     c.load_book_question.ensures.kept c.in_ok-question.ensures.exact
-    (subst (λ (q : Question). IfSome (g.F.FileSet.holding c.load_book_question.new.files) (λ at. GivesOne outcome_view c.planned.result (IsPlanWith at (g.F.FileSet.holding c.planned.new.files) (planning_view c.args.asked.now).picture (planning_view c.args.asked.now).refine q))) c.as_question.ensures.view c.planned.ensures.exact)
+    (subst (λ (q : Question). IfSome (g.F.FileSet.holding c.load_book_question.new.files) (λ at. GivesOne outcome_view c.planned.result (IsPlanWith at (g.F.FileSet.holding c.planned.new.files) (planning_view c.args.asked.now) q))) c.as_question.ensures.view c.planned.ensures.exact)
 
 pub returns-in_err-question-clause-exact : goal.returns-in_err-question-clause-exact
 returns-in_err-question-clause-exact g c =
