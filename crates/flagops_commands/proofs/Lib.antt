@@ -1,6 +1,5 @@
 pub mod AddedUp
 mod Asked
-pub mod Checked
 pub mod Driving
 mod Distinct
 mod Doubting
