@@ -5,6 +5,7 @@ use Rattle.clap.specs.Walk.{Text}
 use Rattle.flagops_books.specs.Ended.{AnswersBook, TellsBook}
 use Rattle.flagops_books.specs.Report.{LeavesBook}
 use Rattle.flagops_books.specs.Words.{book_by}
+use Rattle.flagops_checks.specs.Ended.{AnswersCheck, TellsCheck}
 use Rattle.flagops_commands.specs.Commands.{LeavesAsked}
 use Rattle.flagops_commands.specs.Ended.{AnswersAsked, AnswersStored, AnswersUnread, TellsUnasked}
 use Rattle.flagops_files.specs.Files.{Holding}
@@ -17,7 +18,7 @@ use Rattle.flagops_pictures.specs.Words.{plan_by}
 use Rattle.flagops_ramps.specs.Ended.{AnswersRamp, AnswersStep, AnswersVerify, TellsRamp, TellsStep, TellsVerify}
 use Rattle.flagops_words.specs.Words.{asked_by}
 use Rattle.flagops.specs.declared.family.Family.{Family}
-use Rattle.flagops.specs.declared.family.Family.TheVariants.{Files, Serve, Follow, Ramp, VerifyRamp, Picture, PictureRamp, PlanPicture, ApplyStep, Ofrep, Record, Tally, Join, Book}
+use Rattle.flagops.specs.declared.family.Family.TheVariants.{Files, Serve, Follow, Ramp, VerifyRamp, Picture, PictureRamp, PlanPicture, ApplyStep, Ofrep, Record, Tally, Join, Book, Check}
 use Rattle.flagops_service.specs.Ended.{AnswersOfrep, ServesOfrep, TellsOfrep}
 
 module _ {O E F : Type 0} (bytes : O → Option (List ℕ)) (is_broken : O → Bool) (out out' : O) (told : E → Option (List ℕ)) (is_mute : E → Bool) (err err' : E) (holding : F → Option Holding) (has_failed : F → Bool) (files files' : F) (status : ℕ) (given : Option (List ℕ)) (is_cut : Bool) where
@@ -127,6 +128,15 @@ module _ {O E F : Type 0} (bytes : O → Option (List ℕ)) (is_broken : O → B
       × LeavesBook (book_by words) (holding files) (holding files')
       × AnswersStored bytes is_broken out out' told is_mute err err' status holding has_failed files files'
 
+  -- Of `check`: its answer over files whose bytes are known; whatever they hold, a read that failed; what is told of words with a
+  -- mistake; and the files as they were.
+  abbrev pub ComesOfCheck : List Text → Type 0
+  ComesOfCheck words =
+      AnswersCheck bytes is_broken out out' told is_mute err err' status holding has_failed files files' words
+      × AnswersUnread bytes is_broken out out' told is_mute err err' status holding has_failed files files'
+      × TellsCheck bytes is_broken out out' told is_mute err err' status words
+      × (holding files' ≡ holding files)
+
   abbrev pub Comes : Family → List Text → Type 0
   Comes Files words = ComesOfFiles words
   Comes Serve words = ComesOfServe words
@@ -142,3 +152,4 @@ module _ {O E F : Type 0} (bytes : O → Option (List ℕ)) (is_broken : O → B
   Comes Tally words = ComesOfTally words
   Comes Join words = ComesOfJoin words
   Comes Book words = ComesOfBook words
+  Comes Check words = ComesOfCheck words

@@ -37,6 +37,8 @@ pub enum Family {
     Join,
     /// `book`.
     Book,
+    /// `check`.
+    Check,
 }
 
 /// The family of the command that the first of the words names, and for some an option among the others.
@@ -90,6 +92,7 @@ fn family_named(word: &str) -> Family
         "tally" => Family::Tally,
         "join" => Family::Join,
         "book" => Family::Book,
+        "check" => Family::Check,
         _ => Family::Files,
     }
 }

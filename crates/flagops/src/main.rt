@@ -5,7 +5,8 @@
 //! again at [`flagops`], over the status of the process. Beside it stand the two commands that use the network, `serve` and
 //! `follow` of `flagops_network`, those on a rollout in steps, `ramp`, `verify-ramp` and `apply --step` of `flagops_ramps`, and those
 //! that draw, `picture` and `plan --picture` of `flagops_pictures`, the service, `ofrep` of `flagops_service`, the filters of
-//! `flagops_filters`, `record` and `tally`, which read the standard input, and `join`, and `book` of `flagops_books`.
+//! `flagops_filters`, `record` and `tally`, which read the standard input, and `join`, `book` of `flagops_books`, and `check` of
+//! `flagops_checks`.
 #![tactic(auto)]
 
 ghost use Rattle.std.specs.Prelude.{◌≡◌, false, map, drop, IfErr, IfOk, IsErrOf};
@@ -21,6 +22,7 @@ mod outputs;
 use family::{Family, family_of, helped};
 use flag_text::{Outlet, WriteOutlet};
 use flagops_books::book;
+use flagops_checks::check;
 use flagops_commands::{complain, run};
 use flagops_files::{Call, FileSet, SystemFiles, want};
 use flagops_filters::{join, record, tally};
@@ -229,5 +231,6 @@ where
         Family::Tally => tally(rt, words, input, files, out, err),
         Family::Join => join(rt, words, files, out, err),
         Family::Book => book(rt, words, files, out, err),
+        Family::Check => check(rt, words, files, out, err),
     }
 }

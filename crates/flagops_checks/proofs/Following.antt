@@ -1,0 +1,168 @@
+-- Documents that are checked one after the other.
+use Rattle.std.proofs.Common.{◌≡◌, ◌+◌, arith, inl, inr, suc, zero, ◌<◌, ◌∙◌, ◌||◌, ℕ, Bool, true, false, List, [], ◌∷◌, ◌++◌, Option, Some, None, IfOk, IfSome, add-one, ap, append-nil, append_assoc, drop, drop-cons, flat_map, get_or, length, map, refl, subst, sym, string_bytes, String, Global}
+use Rattle.std.proofs.lemmas.Grind.{flat_map-append}
+use Rattle.std.proofs.lemmas.List.Folds.{list_any-append}
+use Rattle.std.specs.List.{list_any}
+use Rattle.std.specs.Prelude.{Result, Ok, Err}
+use Rattle.flag_documents.specs.Document.{Definitions}
+use Rattle.flagops_checks.specs.Judged.{Checked, are_wrong, checked, has_broken, has_doubted}
+use Rattle.flagops_checks.specs.Printed.{document_text, report_text}
+use Rattle.flagops_checks.specs.Documents.{AreChecked, IsCheckedAt, IsCheckedOf}
+use Rattle.flagops_checks.specs.Step.{Adds, AddsLines, GivesAll, GivesNext, Holds, HoldsLines}
+use Rattle.flagops_checks.specs.Calls.{check_calls}
+use Rattle.flagops_checks.specs.Told.{TellsAll, TellsDocument, check_subjects}
+use Rattle.flagops_checks.specs.declared.form.Form.{Form}
+use Rattle.flagops_checks.specs.declared.gathering.Gathered.{Gathered}
+use Rattle.flagops_checks.specs.declared.told.Told.{Told}
+use Rattle.flagops_files.specs.Documents.{IsDocumentAt, IsDocumentIn, IsDocumentOf}
+use Rattle.flagops_files.specs.Files.{Holding, load_of}
+use Rattle.flagops_files.specs.Loading.{◌>>=◌, max_text, refused_by}
+use Rattle.flagops_files.specs.Refusal.{is_want}
+use Rattle.flagops_files.specs.Told.{NamesOne, NamesSubject, Says, by, file}
+use Rattle.flagops_files.specs.declared.refusal.Refusal.{Refusal}
+use Rattle.flagops_files.specs.declared.refusal.Refusal.TheVariants.{Load}
+use Rattle.flagops_files.specs.declared.refused.Refused.{Refused}
+use Rattle.flagops_files.specs.declared.refused.Remark.{Remark}
+
+-- ---- one document
+
+refused_of : (path : List ℕ) (o : Result (List ℕ) Refusal) (e : Refusal) → IsDocumentOf o (Err e) → IsCheckedOf path o (Err e)
+refused_of path (Err f) e is = let same : f ≡ e = cc in ap Err (sym same)
+refused_of path (Ok bytes) e is = (Err e, is, refl)
+
+module _ (at : Holding) (path : List ℕ) where
+  pub no_document : (e : Refusal) → IsDocumentAt at path (Err e) → IsCheckedAt at path (Err e)
+  unfolding IsDocumentAt IsCheckedAt
+  no_document e is = refused_of path (refused_by Load (load_of at path max_text)) e is
+
+  pub a_document : (bytes : List ℕ) (flags : Definitions) → load_of at path max_text ≡ Ok bytes → IsDocumentAt at path (Ok flags) → IsCheckedAt at path (Ok (checked path bytes flags))
+  unfolding IsDocumentAt IsCheckedAt
+  a_document bytes flags loaded is =
+      let known : refused_by Load (load_of at path max_text) ≡ Ok bytes = ap (refused_by Load) loaded in
+      let found : IsDocumentIn bytes (Ok flags) = subst (λ (o : Result (List ℕ) Refusal). IsDocumentOf o (Ok flags)) known is in
+      let r : Result Checked Refusal = Ok (checked path bytes flags) in
+      subst (λ (o : Result (List ℕ) Refusal). IsCheckedOf path o r) (sym known) (Ok flags, found, refl)
+
+-- ---- along the paths
+
+abbrev with_front : List Checked → Result (List Checked) Refusal → Result (List Checked) Refusal
+with_front cs r = r >>= λ more. Ok (cs ++ more)
+
+no_front : (r : Result (List Checked) Refusal) → with_front [] r ≡ r
+no_front (Ok more) = refl
+no_front (Err e) = refl
+
+longer_front : (cs : List Checked) (c : Checked) (r : Result (List Checked) Refusal) → with_front cs (r >>= λ more. Ok (c ∷ more)) ≡ with_front (cs ++ c ∷ []) r
+longer_front cs c (Ok more) = ap Ok (sym (append_assoc cs (c ∷ []) more))
+longer_front cs c (Err e) = refl
+
+-- what the paths that are left come to behind what is found so far, all come to
+abbrev pub Goes : Form → Holding → List (List ℕ) → List (List ℕ) → Gathered → Type 0
+Goes form at paths left g =
+    (cs : List Checked) × Holds form cs g × ((r : Result (List Checked) Refusal) → AreChecked at left r → AreChecked at paths (r >>= λ more. Ok (cs ++ more)))
+
+pub starts : (form : Form) (at : Holding) (paths : List (List ℕ)) (g : Gathered) → g.text.items ≡ [] → g.is_wrong ≡ false → string_bytes g.told.lines ≡ [] → Goes form at paths paths g
+starts form at paths g empty right silent = (
+  [],
+  record { text = empty; wrong = right; told = λ whole. silent },
+  λ r is. subst (AreChecked at paths) (sym (no_front r)) is,
+)
+
+told_on : (form : Form) (cs : List Checked) (c : Checked) (lines more whole : List ℕ) → TellsAll form cs lines → TellsDocument form c more → whole ≡ lines ++ more → TellsAll form (cs ++ c ∷ []) whole
+told_on form [] c lines more whole told tells is = (more, [], tells, refl, is ∙ (ap (λ (t : List ℕ). t ++ more) told ∙ sym (append-nil more)))
+told_on form (d ∷ cs) c lines more whole told tells is =
+    let rest = told_on form cs c told.1 more (told.1 ++ more) told.3 tells refl in
+    (told.0, told.1 ++ more, told.2, rest, is ∙ (ap (λ (t : List ℕ). t ++ more) told.4 ∙ append_assoc told.0 told.1 more))
+
+all_told_on : (form : Form) (cs : List Checked) (c : Checked) (before after : Told) → HoldsLines form cs before → AddsLines form c before after → HoldsLines form (cs ++ c ∷ []) after
+all_told_on form cs c before after told adds = λ whole.
+    let on = adds whole in
+    told_on form cs c (string_bytes before.lines) on.1 (string_bytes after.lines) (told on.0) on.2 on.3
+
+or_none : (b : Bool) → (b || false) ≡ b
+or_none true = refl
+or_none false = refl
+
+held_on : (form : Form) (cs : List Checked) (c : Checked) (before after : Gathered) → Holds form cs before → Adds form c before after → Holds form (cs ++ c ∷ []) after
+held_on form cs c before after holds adds = record {
+  text = adds.text ∙ (ap (λ (t : List ℕ). t ++ document_text form c.path c.flags) holds.text ∙ (ap (λ (t : List ℕ). report_text form cs ++ t) (sym (append-nil (document_text form c.path c.flags)))
+      ∙ sym (flat_map-append (λ (d : Checked). document_text form d.path d.flags) cs (c ∷ []))));
+  wrong = adds.wrong ∙ (ap (λ (b : Bool). b || (has_broken c || has_doubted c)) holds.wrong ∙ (ap (λ (b : Bool). are_wrong cs || b) (sym (or_none (has_broken c || has_doubted c)))
+      ∙ sym (list_any-append (λ (d : Checked). has_broken d || has_doubted d) cs (c ∷ []))));
+  told = all_told_on form cs c before.told after.told holds.told adds.told;
+}
+
+module _ (form : Form) (at : Holding) (paths left rest : List (List ℕ)) (path : List ℕ) (g : Gathered) (goes : Goes form at paths left g) (first : left ≡ path ∷ rest) where
+  along : (r : Result (List Checked) Refusal) → AreChecked at (path ∷ rest) r → AreChecked at paths (with_front goes.0 r)
+  along r came = goes.2 r (subst (λ (ps : List (List ℕ)). AreChecked at ps r) (sym first) came)
+
+  pub goes_on : (next : Gathered) → GivesNext form g (Ok next) (IsCheckedAt at path) → Goes form at paths rest next
+  unfolding AreChecked
+  goes_on next gives = (
+    goes.0 ++ gives.0 ∷ [],
+    held_on form goes.0 gives.0 g next goes.1 gives.2,
+    λ r later. subst (AreChecked at paths) (longer_front goes.0 gives.0 r) (along (r >>= λ more. Ok (gives.0 ∷ more)) (Ok gives.0, gives.1, (r, later, refl))),
+  )
+
+  pub goes_refused : (e : Refused) → GivesNext form g (Err e) (IsCheckedAt at path) → GivesAll form (Err e) (AreChecked at paths)
+  unfolding AreChecked
+  goes_refused e gives = λ wanted. along (Err e.refusal) (Err e.refusal, gives wanted, refl)
+
+pub goes_all : (form : Form) (at : Holding) (paths left : List (List ℕ)) (g : Gathered) → Goes form at paths left g → left ≡ [] → GivesAll form (Ok g) (AreChecked at paths)
+unfolding AreChecked
+goes_all form at paths left g goes none =
+    let last : AreChecked at paths (Ok (goes.0 ++ [])) = goes.2 (Ok []) (subst (λ (ps : List (List ℕ)). AreChecked at ps (Ok [])) (sym none) refl) in
+    (goes.0, subst (λ (cs : List Checked). AreChecked at paths (Ok cs)) (append-nil goes.0) last, goes.1)
+
+-- the first of those that are left, and those behind it
+pub first_left : {X Y : Type 0} (now : X → Y) (xs : List X) (i : ℕ) (z : X) → i < length xs → map now (drop i xs) ≡ now (get_or xs i z) ∷ map now (drop (i + 1) xs)
+first_left now xs i z inside =
+    let left : drop i xs ≡ get_or xs i z ∷ drop (i + 1) xs = rw add-one (drop-cons xs i z inside) in
+    ap (map now) left
+
+-- ---- what follows for files whose bytes are known
+
+pub where_known : {A : Type 0} (h : Option A) (P Q : A → Type 0) → ((a : A) → P a → Q a) → IfSome h P → IfSome h Q
+where_known None P Q f p = tt
+where_known (Some a) P Q f p = f a p
+
+pub everywhere : {A : Type 0} (h : Option A) (P : A → Type 0) → ((a : A) → P a) → IfSome h P
+everywhere None P f = tt
+everywhere (Some a) P f = f a
+
+-- the same of two facts, where the files stay
+pub both_known : {A : Type 0} (h k : Option A) (P S : A → Type 0) → k ≡ h → IfSome h P → {Q : A → Type 0} → IfSome k Q → ((a : A) → P a → Q a → S a) → IfSome h S
+both_known {A} h k P S same p {Q} q f = go h p (subst (λ (o : Option A). IfSome o Q) same q)
+  where
+    go : (o : Option A) → IfSome o P → IfSome o Q → IfSome o S
+    go None p q = tt
+    go (Some a) p q = f a p q
+
+-- ---- the document at a path
+
+pub next_refused : (form : Form) (g : Gathered) (path : List ℕ) (h : Option Holding) (e : Refused) → IfSome h (λ at. is_want e.refusal ≡ false → IsDocumentAt at path (Err e.refusal)) → IfSome h (λ at. GivesNext form g (Err e) (IsCheckedAt at path))
+next_refused form g path None e is = tt
+next_refused form g path (Some at) e is = λ wanted. no_document at path e.refusal (is wanted)
+
+pub next_found : (form : Form) (g : Gathered) (path : List ℕ) (h : Option Holding) (bytes : List ℕ) (flags : Definitions) (next : Gathered) → IfSome h (λ at. IsDocumentAt at path (Ok flags)) → IfSome h (λ at. load_of at path max_text ≡ Ok bytes)
+    → Adds form (checked path bytes flags) g next → IfSome h (λ at. GivesNext form g (Ok next) (IsCheckedAt at path))
+next_found form g path None bytes flags next is loaded adds = tt
+next_found form g path (Some at) bytes flags next is loaded adds = (checked path bytes flags, a_document at path bytes flags loaded is, adds)
+
+-- ---- one of the documents is refused
+
+no_less : {Y : Type 0} (i : ℕ) → i < 0 → Y
+no_less i less = absurd (omega (arith, less))
+
+less : (i n : ℕ) → suc i < suc n → i < n
+less i n h = omega (arith, h)
+
+told_at : {X : Type 0} (now : X → List ℕ) (xs : List X) (i : ℕ) (z : X) (e : Refusal) (remark : Remark) → i < length xs → by check_calls e ≡ true → Says (NamesSubject (file (now (get_or xs i z)))) remark
+    → NamesOne (check_subjects (map now xs)) e remark
+told_at now [] i z e remark inside of says = no_less i inside
+told_at now (x ∷ xs) zero z e remark inside of says = inl (of, says)
+told_at now (x ∷ xs) (suc i) z e remark inside of says = inr (told_at now xs i z e remark (less i (length xs) inside) of says)
+
+pub told_of_one : {X : Type 0} (now : X → List ℕ) (xs : List X) (i : ℕ) (z : X) (e : Refused) → i < length xs → by check_calls e.refusal ≡ true → (is_want e.refusal ≡ false → Says (NamesSubject (file (now (get_or xs i z)))) e.remark)
+    → is_want e.refusal ≡ false → NamesOne (check_subjects (map now xs)) e.refusal e.remark
+told_of_one now xs i z e inside of says wanted = told_at now xs i z e.refusal e.remark inside of (says wanted)

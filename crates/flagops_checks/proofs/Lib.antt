@@ -1,0 +1,6 @@
+pub mod Ending
+mod Flagged
+mod Following
+mod Matched
+mod Printed
+mod Spoken

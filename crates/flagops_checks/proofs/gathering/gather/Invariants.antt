@@ -1,0 +1,11 @@
+use Rattle.std.proofs.Common.{◌≡◌, drop, map, IfSome}
+use Rattle.flagops_checks.proofs.Following.{Goes}
+use Rattle.flagops_checks.proofs.gathering.gather.Given as goal
+
+-- what the paths left come to with what is found so far, all come to; the files are only read
+abbrev pub invariant-loop-path : goal.invariant-loop-path
+invariant-loop-path g l = record {
+  goes : IfSome (g.F.FileSet.holding l.fn.files) (λ at. Goes l.form at (map (λ p. p.now) l.paths) (map (λ p. p.now) (drop l.path-index l.paths)) l.all);
+  failed : g.F.FileSet.has_failed l.files ≡ g.F.FileSet.has_failed l.fn.files;
+  kept : g.F.FileSet.holding l.files ≡ g.F.FileSet.holding l.fn.files;
+}

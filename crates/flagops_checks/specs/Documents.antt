@@ -1,0 +1,27 @@
+-- What is found of the documents at paths.
+use Rattle.std.specs.Prelude.{◌≡◌, ℕ, List, [], ◌∷◌, Result, Ok, Err}
+use Rattle.flag_documents.specs.Document.{Definitions}
+use Rattle.flagops_checks.specs.Judged.{Checked, checked}
+use Rattle.flagops_files.specs.Documents.{IsDocumentIn}
+use Rattle.flagops_files.specs.Files.{Holding, load_of}
+use Rattle.flagops_files.specs.Loading.{◌>>=◌, max_text, refused_by}
+use Rattle.flagops_files.specs.declared.refusal.Refusal.{Refusal}
+use Rattle.flagops_files.specs.declared.refusal.Refusal.TheVariants.{Load}
+
+-- what is found of the bytes that were loaded from a path, or why they are no document
+abbrev pub IsCheckedOf : List ℕ → Result (List ℕ) Refusal → Result Checked Refusal → Type 0
+IsCheckedOf path (Err e) r = r ≡ Err e
+IsCheckedOf path (Ok bytes) r = (document : Result Definitions Refusal) × IsDocumentIn bytes document × (r ≡ (document >>= λ flags. Ok (checked path bytes flags)))
+
+unfoldable pub IsCheckedAt : Holding → List ℕ → Result Checked Refusal → Type 0
+IsCheckedAt at path r = IsCheckedOf path (refused_by Load (load_of at path max_text)) r
+
+-- a document, and then the others, or the first refusal
+abbrev pub IsWithOthers : (Result (List Checked) Refusal → Type 0) → Result Checked Refusal → Result (List Checked) Refusal → Type 0
+IsWithOthers Others (Err e) r = r ≡ Err e
+IsWithOthers Others (Ok c) r = (others : Result (List Checked) Refusal) × Others others × (r ≡ (others >>= λ cs. Ok (c ∷ cs)))
+
+-- what is found of the documents at these paths, each read before the next, or the first refusal
+unfoldable pub AreChecked : Holding → List (List ℕ) → Result (List Checked) Refusal → Type 0
+AreChecked at [] r = r ≡ Ok []
+AreChecked at (path ∷ paths) r = (first : Result Checked Refusal) × IsCheckedAt at path first × IsWithOthers (AreChecked at paths) first r

@@ -1,0 +1,9 @@
+pub mod Calls
+pub mod Documents
+pub mod Ended
+pub mod Judged
+pub mod Printed
+pub mod Report
+pub mod Step
+pub mod Told
+pub mod Words

@@ -1,0 +1,61 @@
+-- What a person is told of documents, beside the output.
+use Rattle.std.specs.Prelude.{◌≡◌, ℕ, Bool, true, false, List, [], ◌∷◌, ◌++◌, codes, map, if◌then◌else◌}
+use Rattle.flag_doubts.specs.Doubts.{name_of}
+use Rattle.flag_doubts.specs.declared.doubt.Doubt.{Doubt}
+use Rattle.flag_doubts.specs.declared.doubt.Doubt.TheVariants.{Doubled, Never, Unread, Variant, Weight}
+use Rattle.flag_text.specs.Printing.{text_of}
+use Rattle.flag_text.specs.Shape.{text}
+use Rattle.flagops_checks.specs.Calls.{check_calls}
+use Rattle.flagops_checks.specs.Judged.{Checked, Judged, has_broken}
+use Rattle.flagops_checks.specs.declared.form.Form.{Form}
+use Rattle.flagops_files.specs.Told.{Subjects, by, file}
+use Rattle.flagops_remarks.specs.Broken.{TellsBroken}
+use Rattle.flagops_remarks.specs.Named.{Names}
+
+-- the line of a doubt: the path of the document and the key of the flag as JSON texts, why, and the doubt by its name
+abbrev pub IsDoubtLine : List ℕ → List ℕ → Doubt → List ℕ → Type 0
+IsDoubtLine path key d line =
+    (why : List ℕ) × (line ≡ codes "note: " ++ (text_of (text path) ++ (codes ": flag " ++ (text_of (text key) ++ (codes " " ++ (why ++ (codes " (" ++ (name_of d ++ codes ")\n"))))))))
+
+-- such a line where it is doubted, and nothing else
+abbrev pub LineIf : Bool → List ℕ → List ℕ → Doubt → List ℕ → Type 0
+LineIf true path key d lines = IsDoubtLine path key d lines
+LineIf false path key d lines = lines ≡ []
+
+-- such a line for each doubt that a flag has, in this order, and nothing else
+abbrev pub FlagLines : List ℕ → Judged → List ℕ → Type 0
+FlagLines path j lines =
+    (doubled unread weight variant never : List ℕ) × LineIf j.is_doubled path j.key Doubled doubled × LineIf j.doubts.unread path j.key Unread unread × LineIf j.doubts.weight path j.key Weight weight
+    × LineIf j.doubts.variant path j.key Variant variant × LineIf j.doubts.never path j.key Never never × (lines ≡ doubled ++ (unread ++ (weight ++ (variant ++ never))))
+
+-- such lines for each flag, in the order of the keys, and nothing else
+unfoldable pub DoubtLines : List ℕ → List Judged → List ℕ → Type 0
+DoubtLines path [] lines = lines ≡ []
+DoubtLines path (j ∷ js) lines = (first more : List ℕ) × FlagLines path j first × DoubtLines path js more × (lines ≡ first ++ more)
+
+-- where a flag is broken, a line for each that is, and before them the document's where there are others
+abbrev pub head_line : Form → List ℕ → List ℕ
+head_line form path = if form.is_alone then [] else codes "note: " ++ (text_of (text path) ++ codes " has broken flags:\n")
+
+abbrev pub BrokenPart : Bool → Form → List ℕ → List ℕ → List ℕ → Type 0
+BrokenPart true form path bytes lines = (rest : List ℕ) × TellsBroken bytes rest × (lines ≡ head_line form path ++ rest)
+BrokenPart false form path bytes lines = lines ≡ []
+
+-- where a member of the document is not read, lines that tell it
+abbrev pub UnreadPart : Bool → List ℕ → List ℕ → Type 0
+UnreadPart true path lines = Names path lines
+UnreadPart false path lines = lines ≡ []
+
+-- what is told of a document
+unfoldable pub TellsDocument : Form → Checked → List ℕ → Type 0
+TellsDocument form c lines =
+    (broken unread doubts : List ℕ) × BrokenPart (has_broken c) form c.path c.bytes broken × UnreadPart c.is_unread c.path unread × DoubtLines c.path c.flags doubts × (lines ≡ broken ++ (unread ++ doubts))
+
+-- of all, one behind the other
+abbrev pub TellsAll : Form → List Checked → List ℕ → Type 0
+TellsAll form [] lines = lines ≡ []
+TellsAll form (c ∷ cs) lines = (first more : List ℕ) × TellsDocument form c first × TellsAll form cs more × (lines ≡ first ++ more)
+
+-- the documents, each with the refusals that are of it
+abbrev pub check_subjects : List (List ℕ) → Subjects
+check_subjects paths = map (λ path. (file path, by check_calls)) paths

@@ -1,0 +1,134 @@
+//! From the paths of documents to what is printed and told of them.
+ghost use Rattle.std.specs.Prelude.{◌≡◌, ◌||◌, IfErr, IfOk, IfSome, map, string_bytes};
+ghost use Rattle.flag_defs.specs.Flags.{flags_view};
+ghost use Rattle.flagops_checks.specs.Calls.{check_calls};
+ghost use Rattle.flagops_checks.specs.Judged.{checked, checked_view};
+ghost use Rattle.flagops_checks.specs.Documents.{AreChecked, IsCheckedAt};
+ghost use Rattle.flagops_checks.specs.Step.{Adds, GivesAll, GivesNext};
+ghost use Rattle.flagops_checks.specs.Told.{check_subjects};
+ghost use Rattle.flagops_files.specs.Refusal.{ComesFrom, is_file_fault};
+ghost use Rattle.flagops_files.specs.Told.{TellsOf, TellsOfOne, file};
+
+use crate::checked::Checked;
+use crate::form::Form;
+use crate::judging::{judge, tree_of};
+use crate::printing::push_document;
+use crate::told::Told;
+use flag_defs::Flags;
+use flagops_files::{Call, Document, FileSet, Refusal, Refused, Remark, load_document};
+use std::alloc::{AllocError, Global};
+use unread_members::Reader;
+
+/// What is printed and told of the documents so far.
+#[derive(Drop)]
+pub(crate) struct Gathered {
+    pub(crate) text: Vec<u8>,
+    pub(crate) told: Told,
+    /// Whether a flag is broken or doubted, or a member of a document is not read.
+    pub(crate) is_wrong: bool,
+}
+
+/// What is printed and told of the documents at these paths, each read before the next.
+pub(crate) fn gather<F: FileSet>(
+    alloc: Global,
+    files: &mut F,
+    form: Form,
+    paths: &[&str],
+) -> Result<Gathered, Refused>
+    ensures exact { IfSome (F.holding files.old) (λ at. GivesAll form result (AreChecked at (map (λ p. p.now) paths.now))) }
+    ensures calls { ComesFrom check_calls result }
+    ensures failed { F.has_failed files.new ≡ (F.has_failed files.old || is_file_fault result) }
+    ensures kept { F.holding files.new ≡ F.holding files.old }
+    ensures names { TellsOfOne (check_subjects (map (λ p. p.now) paths.now)) result }
+{
+    let mut all = Gathered {
+        text: Vec::new(alloc),
+        told: Told::new(alloc),
+        is_wrong: false,
+    };
+    for path in paths {
+        all = with_document(alloc, files, form, all, path)?;
+    }
+    Ok(all)
+}
+
+/// With the document at a path.
+fn with_document<F: FileSet>(
+    alloc: Global,
+    files: &mut F,
+    form: Form,
+    all: Gathered,
+    path: &str,
+) -> Result<Gathered, Refused>
+    ensures exact { IfSome (F.holding files.old) (λ at. GivesNext form all result (IsCheckedAt at path.now)) }
+    ensures calls { ComesFrom check_calls result }
+    ensures failed { F.has_failed files.new ≡ (F.has_failed files.old || is_file_fault result) }
+    ensures kept { F.holding files.new ≡ F.holding files.old }
+    ensures names { TellsOf (file path.now) result }
+{
+    let Document { bytes, flags } = load_document(alloc, files, path)?;
+    match with_flags(alloc, form, all, path, bytes.as_slice(), &flags) {
+        Ok(next) => Ok(next),
+        Err(AllocError) => Err(out_of_memory()),
+    }
+}
+
+/// With the document at a path that has these bytes and flags.
+fn with_flags(
+    alloc: Global,
+    form: Form,
+    all: Gathered,
+    path: &str,
+    bytes: &[u8],
+    flags: &Flags,
+) -> Result<Gathered, AllocError>
+    ensures { IfOk result (Adds form (checked path.now bytes.now (flags_view flags.now)) all) }
+{
+    let document = tree_of(alloc, bytes)?;
+    let checked = Checked {
+        path,
+        bytes,
+        document: &document,
+        flags: judge(alloc, bytes, &document, flags)?,
+        is_unread: Reader::Document.unread(&document).is_some(),
+    };
+    with_checked(alloc, form, all, &checked)
+}
+
+/// With a document that was checked.
+fn with_checked(
+    alloc: Global,
+    form: Form,
+    all: Gathered,
+    checked: &Checked<'_>,
+) -> Result<Gathered, AllocError>
+    ensures { IfOk result (Adds form (checked_view checked.now) all) }
+{
+    let Gathered {
+        mut text,
+        told,
+        is_wrong,
+    } = all;
+    push_document(
+        alloc,
+        &mut text,
+        form,
+        checked.path,
+        checked.flags.as_slice(),
+    )?;
+    Ok(Gathered {
+        text,
+        told: told.with(alloc, form, checked),
+        is_wrong: is_wrong || checked.is_wrong(),
+    })
+}
+
+/// The refusal where the command itself ran out of memory.
+fn out_of_memory() -> Refused
+    ensures { result.refusal ≡ Refusal.WantOfMemory Call.Check }
+{
+    Refused {
+        refusal: Refusal::WantOfMemory(Call::Check),
+        remark: Remark::Short,
+    }
+}

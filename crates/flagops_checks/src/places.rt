@@ -1,0 +1,219 @@
+//! The first place in a targeting at which something is doubted: the steps to it, and what stands there.
+ghost use Rattle.std.specs.Prelude.{◌≡◌, false};
+ghost use Rattle.flag_documents.specs.Flag.{flag_view, is_broken};
+
+use bucket_core::weight_of;
+use flag_defs::Flag;
+use flag_text::Tree;
+use flagops_files::quoted;
+use logic_ast::{Bucket, Node, Operator};
+use std::alloc::{AllocError, Global};
+
+/// The first place in an expression that gives what names no variant of a flag.
+#[cycle(foreign)]
+pub(crate) fn foreign_in(
+    alloc: Global,
+    node: &Node,
+    flag: &Flag,
+) -> Result<Option<String>, AllocError>
+    requires { is_broken (flag_view flag.now) ≡ false }
+{
+    match node {
+        Node::Literal(tree) => foreign_literal(alloc, tree, flag),
+        Node::List(_) => is_no_name(alloc),
+        Node::Operation(Operator::If, arguments) => foreign_branch(alloc, arguments, flag),
+        Node::Operation(Operator::And, arguments) => {
+            stepped(alloc, "and", foreign_argument(alloc, arguments, flag)?)
+        }
+        Node::Operation(Operator::Or, arguments) => {
+            stepped(alloc, "or", foreign_argument(alloc, arguments, flag)?)
+        }
+        Node::Operation(_, _) => Ok(None),
+        Node::Fractional { by, buckets, .. } => {
+            let first = usize::from(by.is_some());
+            stepped(
+                alloc,
+                "fractional",
+                foreign_bucket(alloc, buckets, first, flag)?,
+            )
+        }
+    }
+}
+
+#[cycle(foreign)]
+fn foreign_argument(
+    alloc: Global,
+    nodes: &Vec<Node>,
+    flag: &Flag,
+) -> Result<Option<String>, AllocError>
+    requires { is_broken (flag_view flag.now) ≡ false }
+{
+    for i in 0..nodes.len() {
+        if let Some(place) = foreign_in(alloc, &nodes[i], flag)? {
+            return at(alloc, i, place);
+        }
+    }
+    Ok(None)
+}
+
+/// Of pairs of a test and a branch, and a last branch.
+#[cycle(foreign)]
+fn foreign_branch(
+    alloc: Global,
+    nodes: &Vec<Node>,
+    flag: &Flag,
+) -> Result<Option<String>, AllocError>
+    requires { is_broken (flag_view flag.now) ≡ false }
+{
+    for i in 0..nodes.len() {
+        if i % 2 == 1 || i + 1 == nodes.len() {
+            if let Some(place) = foreign_in(alloc, &nodes[i], flag)? {
+                return stepped(alloc, "if", at(alloc, i, place)?);
+            }
+        }
+    }
+    Ok(None)
+}
+
+#[cycle(foreign)]
+fn foreign_bucket(
+    alloc: Global,
+    buckets: &Vec<Bucket<Node>>,
+    first: usize,
+    flag: &Flag,
+) -> Result<Option<String>, AllocError>
+    requires { is_broken (flag_view flag.now) ≡ false }
+{
+    for i in 0..buckets.len() {
+        let found = match &buckets[i] {
+            Bucket::Literal(name, _) => foreign_name(alloc, name.as_str(), flag)?,
+            Bucket::Computed(name, _) => foreign_in(alloc, name, flag)?,
+        };
+        if let Some(place) = found {
+            return at(alloc, i.saturating_add(first), place);
+        }
+    }
+    Ok(None)
+}
+
+fn foreign_literal(alloc: Global, tree: &Tree, flag: &Flag) -> Result<Option<String>, AllocError>
+    requires { is_broken (flag_view flag.now) ≡ false }
+{
+    match tree {
+        Tree::Null => Ok(None),
+        Tree::Text(name) => foreign_name(alloc, name.as_str(), flag),
+        Tree::Bool(true) => foreign_name(alloc, "true", flag),
+        Tree::Bool(false) => foreign_name(alloc, "false", flag),
+        _ => is_no_name(alloc),
+    }
+}
+
+fn foreign_name(alloc: Global, name: &str, flag: &Flag) -> Result<Option<String>, AllocError>
+    requires { is_broken (flag_view flag.now) ≡ false }
+{
+    if flag.variant(name).is_some() {
+        return Ok(None);
+    }
+    let name = quoted(alloc, name)?;
+    let shown = format!(in alloc; " is {name}")?;
+    Ok(Some(shown))
+}
+
+fn is_no_name(alloc: Global) -> Result<Option<String>, AllocError> {
+    Ok(Some(String::from_str(alloc, " is no name")?))
+}
+
+/// The first bucket of an expression whose weight is literal and none.
+#[cycle(heavy)]
+pub(crate) fn heavy_in(alloc: Global, node: &Node) -> Result<Option<String>, AllocError> {
+    match node {
+        Node::Literal(_) => Ok(None),
+        Node::List(items) => heavy_item(alloc, items),
+        Node::Operation(operator, arguments) => {
+            stepped(alloc, operator.name(), heavy_item(alloc, arguments)?)
+        }
+        Node::Fractional { by, buckets, .. } => {
+            let place = match heavy_by(alloc, by)? {
+                Some(place) => Some(place),
+                None => heavy_bucket(alloc, buckets, usize::from(by.is_some()))?,
+            };
+            stepped(alloc, "fractional", place)
+        }
+    }
+}
+
+#[cycle(heavy)]
+fn heavy_item(alloc: Global, nodes: &Vec<Node>) -> Result<Option<String>, AllocError> {
+    for i in 0..nodes.len() {
+        if let Some(place) = heavy_in(alloc, &nodes[i])? {
+            return at(alloc, i, place);
+        }
+    }
+    Ok(None)
+}
+
+#[cycle(heavy)]
+fn heavy_by(alloc: Global, by: &Option<Box<Node>>) -> Result<Option<String>, AllocError> {
+    match by {
+        Some(by) => within(alloc, 0, heavy_in(alloc, by)?),
+        None => Ok(None),
+    }
+}
+
+#[cycle(heavy)]
+fn heavy_bucket(
+    alloc: Global,
+    buckets: &Vec<Bucket<Node>>,
+    first: usize,
+) -> Result<Option<String>, AllocError> {
+    for i in 0..buckets.len() {
+        if let Some(place) = heavy_pair(alloc, &buckets[i])? {
+            return at(alloc, i.saturating_add(first), place);
+        }
+    }
+    Ok(None)
+}
+
+/// Of the name of a bucket and its weight.
+#[cycle(heavy)]
+fn heavy_pair(alloc: Global, bucket: &Bucket<Node>) -> Result<Option<String>, AllocError> {
+    match bucket {
+        Bucket::Literal(_, _) => Ok(None),
+        Bucket::Computed(_, weight) if is_no_weight(weight) => Ok(Some(String::new(alloc))),
+        Bucket::Computed(name, weight) => match heavy_in(alloc, name)? {
+            Some(place) => at(alloc, 0, place),
+            None => within(alloc, 1, heavy_in(alloc, weight)?),
+        },
+    }
+}
+
+fn is_no_weight(weight: &Node) -> bool {
+    match weight {
+        Node::Literal(tree) => weight_of(tree).is_none(),
+        _ => false,
+    }
+}
+
+/// A place below an operation of this name.
+fn stepped(alloc: Global, name: &str, place: Option<String>) -> Result<Option<String>, AllocError> {
+    match place {
+        Some(place) => {
+            let whole = format!(in alloc; ".{name}{place}")?;
+            Ok(Some(whole))
+        }
+        None => Ok(None),
+    }
+}
+
+/// A place in an item of a list, where there is one.
+fn within(alloc: Global, item: usize, place: Option<String>) -> Result<Option<String>, AllocError> {
+    match place {
+        Some(place) => at(alloc, item, place),
+        None => Ok(None),
+    }
+}
+
+fn at(alloc: Global, item: usize, place: String) -> Result<Option<String>, AllocError> {
+    let whole = format!(in alloc; "[{item}]{place}")?;
+    Ok(Some(whole))
+}

@@ -1,0 +1,126 @@
+//! What a person is told of a document.
+ghost use Rattle.std.specs.Prelude.{◌≡◌, IfOk, map, string_bytes};
+ghost use Rattle.flagops_checks.specs.Judged.{checked_view, has, judged_view};
+ghost use Rattle.flagops_checks.specs.Told.{BrokenPart, DoubtLines, FlagLines, IsDoubtLine, LineIf, TellsDocument, UnreadPart, head_line};
+
+use crate::checked::Checked;
+use crate::form::Form;
+use crate::judging::Judged;
+use crate::reasons::reason;
+use flag_doubts::Doubt;
+use flag_text::Tree;
+use flagops_files::quoted;
+use flagops_remarks::{of_breaches, of_unread};
+use std::alloc::{AllocError, Global};
+use unread_members::Reader;
+
+/// What is told of a document: nothing where nothing is wrong.
+#[tactic(auto, unfolding(crate::specs::Told::TellsDocument))]
+pub(crate) fn document_lines(
+    alloc: Global,
+    form: Form,
+    checked: &Checked<'_>,
+) -> Result<String, AllocError>
+    ensures { IfOk result (λ s. TellsDocument form (checked_view checked.now) (string_bytes s)) }
+{
+    let broken = broken_lines(
+        alloc,
+        form,
+        checked.path,
+        checked.bytes,
+        checked.has_broken(),
+    )?;
+    let unread = unread_lines(alloc, checked.path, checked.document, checked.is_unread)?;
+    let doubts = doubt_lines(alloc, checked.path, checked.flags.as_slice())?;
+    format!(in alloc; "{broken}{unread}{doubts}")
+}
+
+/// A line for each broken flag, where there is one, behind that of the document where there are others.
+fn broken_lines(
+    alloc: Global,
+    form: Form,
+    path: &str,
+    bytes: &[u8],
+    has_broken: bool,
+) -> Result<String, AllocError>
+    ensures { IfOk result (λ s. BrokenPart has_broken form path.now bytes.now (string_bytes s)) }
+{
+    if !has_broken {
+        return Ok(String::new(alloc));
+    }
+    let head = head_line(alloc, form, path)?;
+    let lines = of_breaches(alloc, bytes)?;
+    format!(in alloc; "{head}{lines}")
+}
+
+/// The line before those of the broken flags of a document, where there are others.
+fn head_line(alloc: Global, form: Form, path: &str) -> Result<String, AllocError>
+    ensures { IfOk result (λ s. string_bytes s ≡ head_line form path.now) }
+{
+    if form.is_alone {
+        return Ok(String::new(alloc));
+    }
+    let path = quoted(alloc, path)?;
+    format!(in alloc; "note: {path} has broken flags:\n")
+}
+
+/// Lines on the members of a document that are not read, where there is one.
+fn unread_lines(
+    alloc: Global,
+    path: &str,
+    document: &Tree,
+    is_unread: bool,
+) -> Result<String, AllocError>
+    ensures { IfOk result (λ s. UnreadPart is_unread path.now (string_bytes s)) }
+{
+    if is_unread {
+        of_unread(alloc, path, document, Reader::Document)
+    } else {
+        Ok(String::new(alloc))
+    }
+}
+
+/// The lines of the doubts of flags.
+fn doubt_lines(alloc: Global, path: &str, flags: &[Judged<'_>]) -> Result<String, AllocError>
+    ensures { IfOk result (λ s. DoubtLines path.now (map judged_view flags.now) (string_bytes s)) }
+{
+    let mut text = String::new(alloc);
+    for flag in flags {
+        let lines = flag_lines(alloc, path, flag)?;
+        text.push_str(lines.as_str())?;
+    }
+    Ok(text)
+}
+
+/// The lines of the doubts of a flag.
+fn flag_lines(alloc: Global, path: &str, flag: &Judged<'_>) -> Result<String, AllocError>
+    ensures { IfOk result (λ s. FlagLines path.now (judged_view flag.now) (string_bytes s)) }
+{
+    let doubled = line_if(alloc, path, flag, Doubt::Doubled)?;
+    let unread = line_if(alloc, path, flag, Doubt::Unread)?;
+    let weight = line_if(alloc, path, flag, Doubt::Weight)?;
+    let variant = line_if(alloc, path, flag, Doubt::Variant)?;
+    let never = line_if(alloc, path, flag, Doubt::Never)?;
+    format!(in alloc; "{doubled}{unread}{weight}{variant}{never}")
+}
+
+/// The line of a doubt, where a flag has it.
+fn line_if(alloc: Global, path: &str, flag: &Judged<'_>, doubt: Doubt) -> Result<String, AllocError>
+    ensures { IfOk result (λ s. LineIf (has doubt (judged_view flag.now)) path.now flag.now.key.now doubt (string_bytes s)) }
+{
+    if flag.has(doubt) {
+        line(alloc, path, flag, doubt)
+    } else {
+        Ok(String::new(alloc))
+    }
+}
+
+fn line(alloc: Global, path: &str, flag: &Judged<'_>, doubt: Doubt) -> Result<String, AllocError>
+    ensures { IfOk result (λ s. IsDoubtLine path.now flag.now.key.now doubt (string_bytes s)) }
+{
+    let path = quoted(alloc, path)?;
+    let key = quoted(alloc, flag.key)?;
+    let why = reason(alloc, flag, doubt)?;
+    let name = doubt.name();
+    format!(in alloc; "note: {path}: flag {key} {why} ({name})\n")
+}
