@@ -7,6 +7,7 @@ mod Gathered
 pub mod Hexadecimal
 mod Keeping
 pub mod Leaving
+mod Members
 mod Noted
 mod Passed
 pub mod Refusing
