@@ -41,6 +41,11 @@ def text_of(path):
         return file.read()
 
 
+def broken_lines(told):
+    """What is told of broken flags, without what is doubted of others."""
+    return "".join(line for line in told.splitlines(keepends=True) if line.startswith("broken: "))
+
+
 class ProgramTest(unittest.TestCase):
     """Tests of runs."""
 

@@ -2,7 +2,7 @@
 import unittest
 
 from given import document
-from program import ProgramTest, run
+from program import ProgramTest, broken_lines, run
 
 # A definition, and whether it is good or broken.
 DEFINITIONS = [
@@ -123,7 +123,7 @@ class Definitions(ProgramTest):
     def assert_state(self, definition, state, evaluators="{}"):
         """The one flag of a document with these evaluators is in this state."""
         ran = run(["check", "d"], {"d": f'{{"$evaluators":{evaluators},"flags":{{"f":{definition}}}}}'})
-        self.assertEqual((ran.status, ran.out, ran.err != ""), (0, f'"f" {state}\n', state == "broken"))
+        self.assertEqual((ran.status, ran.out, broken_lines(ran.err) != ""), (0, f'"f" {state}\n', state == "broken"))
 
     def test_definitions(self):
         for definition, state in DEFINITIONS:

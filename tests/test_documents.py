@@ -1,7 +1,7 @@
 """The commands `check` and `resolve`."""
 import unittest
 
-from program import ProgramTest, run
+from program import ProgramTest, broken_lines, run
 
 DOCUMENT = """{"$evaluators":{"vip":{"in":[{"var":"key"},["test"]]}},"flags":{
 "color":{"state":"ENABLED","variants":{"red":"r","blue":"b","green":"g"},"defaultVariant":"red",
@@ -131,6 +131,57 @@ WORDS = [
 ]
 
 
+GOOD = '{"flags":{"b":{"state":"ENABLED","variants":{"x":true}},"a":{"state":"ENABLED","variants":{"y":"1"}}}}'
+BROKEN = '{"flags":{"z":{"state":"on","variants":{"x":true}},"k":{"state":"ENABLED","variants":{"x":1}}}}'
+
+
+def colored(targeting, more=""):
+    """A document with a flag of this targeting, and what more its definition has."""
+    variants = '"variants":{"red":1,"blue":2},"defaultVariant":"red"'
+    return f'{{"flags":{{"color":{{"state":"ENABLED",{variants},"targeting":{targeting}{more}}}}}}}'
+
+
+# Documents whose flag is good and doubted, with what is told behind its key.
+DOUBTS = [
+    ('{"flags":{"color":{},"color":{"state":"ENABLED","variants":{"red":1}}}}', ["stands more than once, and its last definition counts (Doubled)"]),
+    (colored("{}", ',"defaultvarient":"red"'), ['has a member that is not read: "defaultvarient" (perhaps "defaultVariant" is meant) (Unread)']),
+    (colored("{}", ',"colour":1,"x":2'), ['has a member that is not read: "colour" "x" (Unread)']),
+    (colored('{"fractional":[["red",2147483648],["blue",1]]}'), ["has a bucket whose weight is no whole number from 0 to 2147483647: targeting.fractional[0] (Weight)"]),
+    (colored('{"fractional":[{"var":"k"},["red",1],["blue",-1]]}'), ["has a bucket whose weight is no whole number from 0 to 2147483647: targeting.fractional[2] (Weight)"]),
+    (colored('{"if":[{"==":[{"fractional":[["a",-1]]},"a"]},"red","blue"]}'), ["has a bucket whose weight is no whole number from 0 to 2147483647: targeting.if[0].==[0].fractional[0] (Weight)"]),
+    (colored('{"fractional":[["red",1],["blu",1]]}'), ['can come to what names none of its variants: targeting.fractional[1] is "blu" (Variant)']),
+    (colored('{"if":[{"var":"a"},"red",{"var":"b"},{"fractional":[{"var":"k"},["blu",1],["red",1]]},"blue"]}'), ['can come to what names none of its variants: targeting.if[3].fractional[1] is "blu" (Variant)']),
+    (colored('{"if":[{"var":"a"},"red",7]}'), ["can come to what names none of its variants: targeting.if[2] is no name (Variant)"]),
+    (
+        colored('{"if":[{"var":"a"},"blu"]}'),
+        ['can come to what names none of its variants: targeting.if[1] is "blu" (Variant)', "has a targeting that never gives a variant (Never)"],
+    ),
+    (colored('{"if":[{"var":"a"},null]}'), ["has a targeting that never gives a variant (Never)"]),
+    (
+        colored('{"fractional":[["blu",-1]]}', ',"y":0'),
+        [
+            'has a member that is not read: "y" (Unread)',
+            "has a bucket whose weight is no whole number from 0 to 2147483647: targeting.fractional[0] (Weight)",
+            'can come to what names none of its variants: targeting.fractional[0] is "blu" (Variant)',
+            "has a targeting that never gives a variant (Never)",
+        ],
+    ),
+]
+
+# Documents of which nothing is doubted.
+PLAIN = [
+    GOOD,
+    colored("{}"),
+    colored('{"fractional":[["red",2147483647],["blue",0]]}'),
+    colored('{"if":[{"var":"a"},"red",null]}'),
+    colored('{"var":"name"}'),
+    colored('{"fractional":[[{"var":"name"},1]]}'),
+    '{"$schema":"s","metadata":{},"$evaluators":{},"flags":{"color":{"state":"ENABLED","variants":{"red":1},"metadata":{}}}}',
+]
+
+UNREAD = '{"evaluators":{},"flags":{}}'
+
+
 class Documents(ProgramTest):
     def test_checks(self):
         for document, status, report in CHECKS:
@@ -138,7 +189,68 @@ class Documents(ProgramTest):
                 # A broken flag is told of, though the document is read.
                 ran = run(["check", "d"], {"d": document})
                 self.assertEqual((ran.status, ran.out), (status, report))
-                self.assertEqual(ran.err == "", status == 0 and "broken" not in report)
+                self.assertEqual(broken_lines(ran.err) == "", "broken" not in report)
+                self.assertEqual(ran.err.startswith("error: "), status == 1)
+
+    def test_several_documents(self):
+        files = {"one": GOOD, "two": BROKEN, 'th"ree': '{"flags":{}}'}
+        ran = run(["check", "one", "two", 'th"ree'], files)
+        self.assertEqual(ran.out, 'document "one"\n"a" good\n"b" good\ndocument "two"\n"k" good\n"z" broken\ndocument "th\\"ree"\n')
+        self.assertEqual(ran.err, 'note: "two" has broken flags:\nbroken: flags.z.state is "on", neither "ENABLED" nor "DISABLED" (State)\n')
+        self.assertEqual((ran.status, ran.files), (0, files))
+        self.assertEqual(run(["check", "--strict", "two", "one"], files).status, 1)
+        self.assertEqual(run(["check", "--strict", "one", "two"], files).status, 1)
+        self.assertEqual(run(["check", "--strict", "one", "one"], files), run(["check", "one", "one"], files))
+
+    def test_a_refused_document_refuses_all(self):
+        files = {"one": GOOD, "two": "[]", "three": "{"}
+        for words, refused in [
+            (["one", "two", "three"], "refused read_flags 2 NoFlags\n"),
+            (["three", "two"], "refused read_flags 1 NotJson\n"),
+            (["one", "none", "two"], "refused load 1 Unreadable\n"),
+        ]:
+            with self.subTest(words=words):
+                self.assert_ends(["check", *words], files, 1, refused)
+                self.assert_ends(["check", "--json", "--strict", *words], files, 1, refused)
+
+    def test_doubts(self):
+        for document, doubts in DOUBTS:
+            with self.subTest(document=document):
+                ran = run(["check", "d"], {"d": document})
+                self.assertEqual((ran.status, ran.out), (0, '"color" good\n'))
+                self.assertEqual(ran.err, "".join(f'note: "d": flag "color" {doubt}\n' for doubt in doubts))
+                self.assertEqual(run(["check", "d", "--strict"], {"d": document}), ran._replace(status=1))
+                lists = '{"broken":[],"document":"d","doubted":["color"],"good":["color"]}\n'
+                self.assertEqual(run(["check", "d", "--json"], {"d": document}), ran._replace(out=lists))
+
+    def test_nothing_is_doubted(self):
+        for document in PLAIN:
+            with self.subTest(document=document):
+                ran = run(["check", "--strict", "d"], {"d": document})
+                self.assertEqual((ran.status, ran.err), (0, ""))
+
+    def test_a_member_of_a_document_that_is_not_read(self):
+        told = 'note: "d" has a member that is not read:\n  "evaluators"; perhaps "$evaluators" is meant\n'
+        for words, status, out in [
+            (["check", "d"], 0, ""),
+            (["check", "--strict", "d"], 1, ""),
+            (["check", "--json", "d"], 0, '{"broken":[],"document":"d","doubted":[],"good":[]}\n'),
+        ]:
+            with self.subTest(words=words):
+                ran = run(words, {"d": UNREAD})
+                self.assertEqual((ran.status, ran.out, ran.err), (status, out, told))
+
+    def test_lists(self):
+        ran = run(["check", "--json", "two", "one"], {"one": GOOD, "two": BROKEN})
+        two = '{"broken":["z"],"document":"two","doubted":[],"good":["k"]}\n'
+        self.assertEqual((ran.status, ran.out), (0, two + '{"broken":[],"document":"one","doubted":[],"good":["a","b"]}\n'))
+        broken = '{"flags":{"a":{"state":"on","x":1},"b":{}}}'
+        self.assertEqual(run(["check", "--json", "d"], {"d": broken}).out, '{"broken":["a","b"],"document":"d","doubted":["a"],"good":[]}\n')
+
+    def test_the_words_of_check(self):
+        self.assert_mistake(["check"], {}, "DOC")
+        self.assert_mistake(["check", "--strictly", "d"], {"d": GOOD}, "--strict")
+        self.assertEqual(run(["help", "check"], {}), run(["check", "--help"], {}))
 
     def test_resolves(self):
         for document, moment, rows in [(DOCUMENT, "0", RESOLUTIONS), (MORE, "9007199254740991", MORE_RESOLUTIONS)]:
