@@ -1,2 +1,5 @@
 pub mod Branches
+pub mod Counts
+pub mod Documents
+pub mod Keys
 pub mod Sites

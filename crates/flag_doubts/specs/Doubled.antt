@@ -24,7 +24,7 @@ flag_keys bytes = names_in (option_and_then (get (codes "flags")) (json_of bytes
 
 -- how often a key is among these
 abbrev pub count_of : List ℕ → List (List ℕ) → ℕ
-count_of key names = count_by (bytes_eq key) names
+count_of key names = count_by (λ name. bytes_eq name key) names
 
 -- the key stands more than once
 abbrev pub is_doubled : List ℕ → List ℕ → Bool

@@ -1,5 +1,5 @@
 pub mod Doubled
 pub mod Doubts
 pub mod Outcomes
-pub mod Weights
 pub mod Views
+pub mod Weights

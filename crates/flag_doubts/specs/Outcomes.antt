@@ -1,6 +1,5 @@
 -- What a targeting can result in, as far as it stands there to be read.
 use Rattle.std.specs.Prelude.{ℕ, List, [], ◌∷◌, ◌++◌, codes, true, false}
-use Rattle.flag_text.specs.Shape as shape
 use Rattle.flag_text.specs.Shape.{Shape, null, boolean, text}
 use Rattle.logic_ast.specs.Expression.{Expression, literal, list, operation, fractional, Expressions, no_expressions, expression, Buckets, no_buckets, bucket, Bucket, literal_bucket, computed_bucket}
 use Rattle.logic_ast.specs.declared.operator.Operator.{Operator}

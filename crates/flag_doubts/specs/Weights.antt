@@ -1,5 +1,5 @@
 -- Weights that are none.
-use Rattle.std.specs.Prelude.{Bool, true, false, ◌||◌, is_none}
+use Rattle.std.specs.Prelude.{Bool, false, ◌||◌, is_none}
 use Rattle.std.specs.List.{list_any}
 use Rattle.bucket_core.specs.Reading.{weight_of}
 use Rattle.logic_ast.specs.Expression.{Expression, literal, Buckets, no_buckets, bucket, literal_bucket, computed_bucket}

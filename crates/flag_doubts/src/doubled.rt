@@ -1,5 +1,5 @@
 //! The keys that stand more than once among a document's flags.
-ghost use Rattle.std.specs.Prelude.{◌≡◌, ℕ, List, codes, map, string_bytes, nat_lt, IfOk};
+ghost use Rattle.std.specs.Prelude.{◌≡◌, ℕ, List, codes, map, string_bytes, nat_lt, Some, IfOk};
 ghost use Rattle.std.specs.BTreeSet.{contains_text};
 ghost use Rattle.std.specs.Cmp.Lexicographic.{slice_cmp};
 ghost use Rattle.std.specs.List.{list_any};
@@ -25,8 +25,9 @@ pub fn doubled_keys(alloc: Global, bytes: &[u8]) -> Result<Vec<String>, AllocErr
     let mut scratch = Scratch::new(alloc);
     match Value::from_slice(alloc, bytes, &mut scratch) {
         Ok(document) => doubled_in(alloc, &document),
-        Err(Error::OutOfMemory) => Err(AllocError),
-        Err(_) => Ok(Vec::new(alloc)),
+        Err(Error::Invalid) => Ok(Vec::new(alloc)),
+        // Want of memory: the other faults are those of a tape and of a strict reading.
+        Err(_) => Err(AllocError),
     }
 }
 
@@ -36,7 +37,18 @@ fn doubled_in(alloc: Global, document: &Value<'_>) -> Result<Vec<String>, AllocE
     ensures rising { IfOk result (λ v. IsStrictlySortedBy (slice_cmp nat_cmp) (map string_bytes v.items)) }
 {
     match document.get("flags") {
-        Some(Value::Object(members)) => listed(alloc, repeated(alloc, members)?),
+        Some(flags) => doubled_names(alloc, flags),
+        None => Ok(Vec::new(alloc)),
+    }
+}
+
+/// The names that stand more than once in an object.
+fn doubled_names(alloc: Global, value: &Value<'_>) -> Result<Vec<String>, AllocError>
+    ensures doubled { IfOk result (λ v. (key : List ℕ) → list_any (bytes_eq key) (map string_bytes v.items) ≡ nat_lt 1 (count_of key (names_in (Some (value_view value.now))))) }
+    ensures rising { IfOk result (λ v. IsStrictlySortedBy (slice_cmp nat_cmp) (map string_bytes v.items)) }
+{
+    match value {
+        Value::Object(members) => listed(alloc, repeated(alloc, members)?),
         _ => Ok(Vec::new(alloc)),
     }
 }

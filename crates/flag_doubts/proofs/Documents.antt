@@ -1,0 +1,16 @@
+-- The value of bytes, by whether they are a text.
+use Rattle.std.proofs.Common.{◌≡◌, ℕ, Bool, true, false, cond, List, Some, None, refl, ap, ◌∙◌}
+use Rattle.std.proofs.lemmas.Str.{IsUtf8-from_is_utf8, is_utf8-from_IsUtf8}
+use Rattle.std.specs.Str.{IsUtf8, is_utf8}
+use Rattle.json.specs.Json.{Json, document}
+use Rattle.flag_doubts.specs.Doubled.{json_of}
+
+pub is_json : (bytes : List ℕ) (j : Json) → IsUtf8 bytes → document bytes ≡ Some j → json_of bytes ≡ Some j
+is_json bytes j text e = ap (λ b. cond b (document bytes) None) (is_utf8-from_IsUtf8 bytes text) ∙ e
+
+pub no_json : (bytes : List ℕ) → (IsUtf8 bytes → document bytes ≡ None) → json_of bytes ≡ None
+no_json bytes none = go (is_utf8 bytes) refl
+  where
+    go : (b : Bool) → is_utf8 bytes ≡ b → json_of bytes ≡ None
+    go true e = ap (λ b. cond b (document bytes) None) e ∙ none (IsUtf8-from_is_utf8 bytes e)
+    go false e = ap (λ b. cond b (document bytes) None) e
