@@ -15,7 +15,7 @@ trap 'rm -rf "$room"' EXIT
 git clone -q . "$room/clone"
 cd "$room/clone"
 
-# The crates of crates.txt, lowest first.
+# The crates of crates.txt, in its order.
 crates() {
     sed -E 's/#.*//; s/[ :].*//; /^$/d' crates.txt
 }

@@ -1,4 +1,5 @@
 """Runs of the program, each over files in a folder of its own: of the one that was built here, and else of the shipped one."""
+import json
 import os
 import subprocess
 import tempfile
@@ -57,6 +58,13 @@ class ProgramTest(unittest.TestCase):
         is_told = ran.err != "" and not ran.err.startswith("note: ")
         self.assertEqual(is_told, status == 1, ran.err)
         return ran
+
+    def assert_json(self, words, files, members):
+        """The run ends with status 0 and prints these members as JSON: one line without blanks, sorted by their names."""
+        ran = run(words, files)
+        self.assertEqual((ran.status, ran.err), (0, ""), ran.out)
+        self.assertEqual(json.loads(ran.out), members)
+        self.assertEqual(ran.out, json.dumps(members, ensure_ascii=False, separators=(",", ":"), sort_keys=True) + "\n")
 
     def assert_mistake(self, words, files, told):
         """The words ask for nothing: that is told beside the output, with this within."""

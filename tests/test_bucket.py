@@ -1,4 +1,5 @@
 """The command `bucket`: a rule file that is read, or its first fault."""
+import json
 import unittest
 
 from program import ProgramTest, run
@@ -69,6 +70,12 @@ RULES = [
 ]
 
 
+def members_of(lines):
+    """What the three lines of an answer say."""
+    said = dict(line.split(" ", 1) for line in lines.splitlines())
+    return {"hash": said["hash"], "point": int(said["point"]), "variant": json.loads(said["variant"])}
+
+
 class Bucket(ProgramTest):
     def test_rules(self):
         for rule, key, status, report in RULES:
@@ -80,6 +87,16 @@ class Bucket(ProgramTest):
             with self.subTest(key=key):
                 report = f'hash {digits}\npoint 0\nvariant "on"\n'
                 self.assert_ends(["bucket", "f", key], {"f": '[["on"]]'}, 0, report)
+
+    def test_json(self):
+        """The members say what the lines say; a refusal stays a line."""
+        for rule, key, status, report in RULES:
+            with self.subTest(rule=rule, key=key):
+                words, files = ["bucket", "--json", "f", key], {"f": rule}
+                if status == 0:
+                    self.assert_json(words, files, members_of(report))
+                else:
+                    self.assert_ends(words, files, status, report)
 
     def test_points(self):
         for total, key, point in POINTS:

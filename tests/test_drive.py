@@ -18,6 +18,7 @@ KEYS = [
 ]
 
 COUNTS = "inputs 7\ncalls 21\nnews 7\nfull 0\nlong 0\n"
+COUNTED = '{"calls":21,"full":0,"inputs":7,"long":0,"news":7}\n'
 
 
 def ask(key):
@@ -50,6 +51,15 @@ REFUSALS = [
     ("1", "[", "read_tree 1 NotJson"),
 ]
 
+
+# An ask for a flag that the document does not have, and its resolution.
+LOST = '{"key":"nope","want":"bool","default":false,"context":{},"moment":9007199254740991}'
+NOT_FOUND = '{"code":"FLAG_NOT_FOUND","reached":[],"reason":"ERROR","value":false,"variant":null}\n'
+
+NOTHING = (
+    '  nothing was recorded: no ask reached a "fractional" with an input of at most 1,024 bytes\n'
+    "  check the keys and the contexts\n"
+)
 
 # Seconds, ten times and more of what these asks take: 200000 notes that each wrote a bucketing expression of 4000 nodes anew
 # would write 800 million.
@@ -142,9 +152,76 @@ class Drive(ProgramTest):
         key = "k" * 1025
         report = answer(key, "blue") + "inputs 0\ncalls 0\nnews 0\nfull 0\nlong 1\n"
         self.assert_driven("1", f"[{ask(key)}]", report, EMPTY_BOOK)
-        lost = '{"key":"nope","want":"bool","default":false,"context":{},"moment":9007199254740991}'
-        not_found = '{"code":"FLAG_NOT_FOUND","reached":[],"reason":"ERROR","value":false,"variant":null}\n'
-        self.assert_driven("2", f"[{lost},\n{ask(key)}]", not_found + report, EMPTY_BOOK)
+        self.assert_driven("2", f"[{LOST},\n{ask(key)}]", NOT_FOUND + report, EMPTY_BOOK)
+
+    def test_the_counts_as_an_object(self):
+        """Then each line is a JSON text; the resolutions, the book, and what a person is told stay."""
+        files = {"d": document(), "a": ASKS}
+        plain = run(["drive", "d", "a", "2", "b"], files)
+        report = "".join(answer(key, variant) for key, variant in KEYS * 3) + COUNTED
+        ran = self.assert_ends(["drive", "--json", "d", "a", "2", "b"], files, 0, report)
+        self.assertEqual((ran.err, ran.files), (plain.err, plain.files))
+        for line in ran.out.splitlines():
+            self.assertEqual(compact(json.loads(line)), line)
+
+    def test_a_member_that_is_not_read(self):
+        """The answers and the book stay; the first such member is told, before what the asks ended in."""
+        for places, name, meant in [
+            ([1], "moments", '"moment"'),
+            ([0, 6], "defualt", '"default"'),
+            ([3, 4, 5], "user", None),
+        ]:
+            with self.subTest(places=places):
+                asks = [ask(key) for key, _ in KEYS]
+                plain = run(["drive", "d", "a", "2", "b"], {"d": document(), "a": f"[{','.join(asks)}]"})
+                for place in places:
+                    asks[place] = f'{asks[place][:-1]},"{name}":null}}'
+                ran = run(["drive", "d", "a", "2", "b"], {"d": document(), "a": f"[{','.join(asks)}]"})
+                self.assertEqual((ran.status, ran.out, ran.files["b"]), (0, plain.out, plain.files["b"]))
+                count = "1 ask" if len(places) == 1 else f"{len(places)} asks"
+                perhaps = "" if meant is None else f"; perhaps {meant} is meant"
+                note = f'note: "a": {count} with a member that is not read\n  "{name}" in ask {places[0] + 1}{perhaps}\n'
+                self.assertEqual(ran.err, note + plain.err)
+
+    def test_what_is_doubted_is_refused(self):
+        """The book stays as it was, or is none; each refusal of the files, the asks and the workers comes first."""
+        unread = ask("test")[:-1] + ',"moments":0}'
+        told = 'note: "a": 1 ask with a member that is not read\n  "moments" in ask 1; perhaps "moment" is meant\n'
+        unrecorded = 'note: "a": 1 ask, FLAG_NOT_FOUND 1\n' + NOTHING
+        for asks, workers, refusal, note in [
+            (f"[{unread}]", "1", "drive 16 Unread", told),
+            (f"[{unread},{ask('')}]", "8", "drive 16 Unread", told),
+            (f"[{LOST[:-1]},\"moments\":0}}]", "2", "drive 16 Unread", told),
+            (f"[{LOST}]", "2", "drive 17 Unrecorded", unrecorded),
+            ("[]", "2", "drive 17 Unrecorded", 'note: "a": 0 asks\n' + NOTHING),
+            (f"[{unread}]", "0", "drive 1 NoWorkers", None),
+            (f"[{unread}]", "65", "drive 2 TooManyWorkers", None),
+            (f"[{unread},{{}}]", "0", "drive 5 BadAsks", None),
+            ('{"moments":0}', "1", "drive 5 BadAsks", None),
+        ]:
+            for words, book in [([], None), ([], BOOK), (["--add"], BOOK), (["--add"], EMPTY_BOOK)]:
+                with self.subTest(asks=asks, workers=workers, words=words, book=book):
+                    files = {"d": document(), "a": asks, **({} if book is None else {"b": book})}
+                    ran = run(["drive", "--strict", *words, "d", "a", workers, "b"], files)
+                    self.assertEqual((ran.status, ran.out, ran.files), (1, f"refused {refusal}\n", files))
+                    if note is not None:
+                        self.assertEqual(ran.err, note)
+
+    def test_the_files_are_refused_before_a_doubt(self):
+        unread = f"[{LOST[:-1]},\"moments\":0}}]"
+        for files, refusal in [
+            ({"a": unread, "b": BOOK}, "load 1 Unreadable"),
+            ({"d": document(), "a": unread, "b": document()}, "read_book 1 Header"),
+        ]:
+            ran = self.assert_ends(["drive", "--strict", "d", "a", "2", "b"], files, 1, f"refused {refusal}\n")
+            self.assertEqual(ran.files, files)
+
+    def test_asks_without_a_doubt(self):
+        files = {"d": document(), "a": ASKS}
+        for words in [[], ["--json"]]:
+            plain = run(["drive", *words, "d", "a", "2", "b"], files)
+            self.assertEqual(run(["drive", "--strict", *words, "d", "a", "2", "b"], files), plain)
+            self.assertEqual(plain.status, 0)
 
     def assert_soon(self, files, counts, pages):
         """The asks are driven soon, with these counts, and the book has these pages of one input."""

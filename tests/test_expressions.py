@@ -178,6 +178,16 @@ BUCKETS = [
     ("[]", 1, "3 NoSite"),
 ]
 
+# The buckets of a site, one of which is none that a plan can take, and what is told of it.
+COMPUTED = [
+    ('["on",2147483648]', 'bucket 1, "on", weighs 2147483648'),
+    ('["blue",1],["on",-1]', 'bucket 2, "on", weighs -1'),
+    ('["on","1"]', 'bucket 1, "on", has a weight that is no number'),
+    ("[5]", "bucket 1 has a name that is no text"),
+    ('["on",{"+":[1,1]}]', "bucket 1 has a weight that is computed"),
+    ('["on",1],[{"var":"k"}]', "bucket 2 has a name that is computed"),
+]
+
 NAMES = ["blue", "p", "red", "u", "v", "x", "y"]
 
 
@@ -261,6 +271,14 @@ class Expressions(ProgramTest):
                 ran = self.planned(targeting, site, {})
                 self.assertEqual((ran.status, ran.out), (1, f"refused plan {refusal}\n"))
                 self.assertIn(told, ran.err)
+
+    def test_buckets_that_are_not_literal(self):
+        for buckets, told in COMPUTED:
+            with self.subTest(buckets=buckets):
+                ran = self.planned(f'{{"fractional":[null,{buckets}]}}', 0, {})
+                self.assertEqual((ran.status, ran.out), (1, "refused plan 4 Computed\n"))
+                self.assertIn(f'site 0 of "f": {told}\n', ran.err)
+                self.assertIn("each weight a whole number from 0 to 2147483647", ran.err)
 
     def test_pages_of_the_sites_that_are_reached(self):
         asks = '[{"key":"f","want":"text","default":0,"context":{"targetingKey":"st"},"moment":0}]'

@@ -212,6 +212,19 @@ class PictureTest(ProgramTest):
             self.assertEqual((ran.status, ran.out), (0, planned.files["svg"]))
         self.assertIn("Points: 100", texts_of(self.parsed(ran.out)))
 
+    def test_doubts_and_words(self):
+        """Beside a picture the plan is told in words, and refused where it is doubted, as without one."""
+        files = {"doc": document(), "request": request('"red":3,"blue":7'), "book": BOOK, "svg": "before"}
+        unread = {**files, "request": files["request"].replace('"totals"', '"forbidden":[],"totals"')}
+        for more in ([], ["--explain"], ["--strict"], ["--strict", "--explain"]):
+            for given in (files, unread):
+                with self.subTest(more=more, request=given["request"]):
+                    plain = run(["plan", *more, "doc", "request", "book"], given)
+                    ran = run(["plan", "--picture", "svg", *more, "doc", "request", "book"], given)
+                    self.assertEqual((ran.status, ran.out, ran.err), (plain.status, plain.out, plain.err))
+                    self.assertEqual(ran.files["svg"] == "before", ran.status == 1)
+        self.assertEqual(ran.out, "refused plan 16 Unread\n")
+
     def test_the_file_is_replaced_whole_or_not_at_all(self):
         files = {"doc": document(), "request": request('"red":3,"blue":7'), "book": BOOK, "svg": "before"}
         words = ["plan", "--picture", "svg", "doc", "request", "book"]

@@ -1,4 +1,5 @@
 """The command `price`."""
+import json
 import unittest
 
 from program import ProgramTest
@@ -92,6 +93,17 @@ TOTALS = [
 COUNTS = [1, 1, 0, 0, 2, 0, 1, 2, 0, 0]
 
 
+def members_of(lines):
+    """What the lines of an answer say."""
+    *totals, forbidden, cost = [line.split(" ", 1)[1] for line in lines.splitlines()]
+    named = [line.rsplit(" ", 1) for line in totals]
+    return {
+        "cost": int(cost),
+        "forbidden": None if forbidden == "none" else int(forbidden),
+        "totals": {json.loads(name): int(total) for name, total in named},
+    }
+
+
 class Price(ProgramTest):
     def assert_priced(self, old, new, request, report):
         """The keys are priced so."""
@@ -132,6 +144,23 @@ class Price(ProgramTest):
             with self.subTest(new=new, request=request, keys=keys):
                 files = {"old": OLD, "new": new, "request": request, "keys": keys}
                 self.assert_ends(["price", "old", "new", "request", "keys"], files, status, report)
+
+    def test_json(self):
+        """The members say what the lines say; a refusal stays a line."""
+        for new, request, keys, status, report in PRICES:
+            with self.subTest(new=new, request=request, keys=keys):
+                words = ["price", "old", "new", "request", "keys", "--json"]
+                files = {"old": OLD, "new": new, "request": request, "keys": keys}
+                if status == 0:
+                    self.assert_json(words, files, members_of(report))
+                else:
+                    self.assert_ends(words, files, status, report)
+
+    def test_json_of_names_that_are_escaped(self):
+        rule = r'[["\"",2],["é",1],["\u0001/",0],["",3]]'
+        words = ["price", "rule", "rule", "request", "keys", "--json"]
+        files = {"rule": rule, "request": FREE, "keys": KEYS}
+        self.assert_json(words, files, {"cost": 0, "forbidden": None, "totals": {'"': 2, "é": 1, "\1/": 0, "": 3}})
 
 
 if __name__ == "__main__":

@@ -4,6 +4,7 @@ import hashlib
 import http.client
 import json
 import os
+import resource
 import select
 import signal
 import socket
@@ -75,11 +76,11 @@ class ServiceTest(unittest.TestCase):
         with open(os.path.join(self.folder, name), "w", encoding="utf-8") as file:
             file.write(text)
 
-    def start(self, *words, documents=("d",)):
-        """A service that listens."""
+    def start(self, *words, documents=("d",), **more):
+        """A service that listens. `more` goes to `subprocess.Popen`."""
         self.port = free_port()
         words = [PROGRAM, "ofrep", "--listen", f"127.0.0.1:{self.port}", *words, *documents]
-        how = {"stdout": subprocess.PIPE, "stderr": subprocess.PIPE, "text": True, "cwd": self.folder}
+        how = {"stdout": subprocess.PIPE, "stderr": subprocess.PIPE, "text": True, "cwd": self.folder, **more}
         child = subprocess.Popen(words, **how)
         self.addCleanup(child.communicate)
         self.addCleanup(child.kill)
@@ -277,6 +278,21 @@ class Unbuffered:
 def quoted(key):
     """A key as a part of a path."""
     return "".join(c if c.isalnum() and c.isascii() else "".join(f"%{b:02X}" for b in c.encode()) for c in key)
+
+
+class Stacks(ServiceTest):
+    """A worker's stack is its own, whatever the system gives a thread."""
+
+    def test_a_deep_targeting_on_small_stacks(self):
+        deep = {"var": "a"}
+        for _ in range(46):
+            deep = {"!": [deep]}
+        flag = {"state": "ENABLED", "variants": {"on": True, "off": False}, "defaultVariant": "off"}
+        self.put("d", compact({"flags": {"deep": {**flag, "targeting": {"if": [deep, "on", "off"]}}}}))
+        small = lambda: resource.setrlimit(resource.RLIMIT_STACK, (1 << 17, 1 << 17))
+        self.start("--workers", "2", "--poll", "0", preexec_fn=small)
+        status, told = self.flag("deep", context("k", a=True))
+        self.assertEqual((status, told["variant"]), (200, "on"))
 
 
 class Turns(ServiceTest):

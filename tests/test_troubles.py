@@ -32,6 +32,9 @@ FIRST_LINES = [
 # First lines of no book: by their first bytes, and only behind those.
 OTHER_LINES = ["", "x", '["book",1]', '{"nook":1}', '{"book":2}', '{"book":1,"by":1}', "{" + " " * 5000 + '"cook":1}']
 
+# As many bytes as are read of a file that begins as neither a book nor note lines.
+PIECE = 1 << 24
+
 # The words with a file `f` that is not there.
 ABSENT = [
     ["check", "f"],
@@ -98,6 +101,37 @@ class Troubles(ProgramTest):
                 files = {"d": document(), "r": REQUEST}
                 self.assert_ends(["plan", "d", "r", device], files, 1, "refused read_book 1 Header\n")
                 self.assertLess(time.monotonic() - start, 10)
+
+    def test_book_reads_no_file_without_end(self):
+        for torn in [[], ["--torn"]]:
+            with self.subTest(torn=torn):
+                start = time.monotonic()
+                self.assert_ends(["book", *torn, "b", "/dev/zero"], {}, 1, 'refused book 1 Line "/dev/zero" 1\n')
+                self.assertLess(time.monotonic() - start, 10)
+        with subprocess.Popen(["yes"], stdout=subprocess.PIPE) as endless:
+            ran = run(["book", "b", "-"], {}, stdin=endless.stdout)
+            endless.stdout.close()
+        self.assertEqual((ran.status, ran.out), (1, 'refused book 1 Line "-" 1\n'))
+
+    def test_bytes_without_a_line_are_one_that_is_torn_or_too_long(self):
+        for torn in [[], ["--torn"]]:
+            for size, status, report in [(PIECE - 1, 0, "inputs 0\nfiles 1\n"), (PIECE, 1, 'refused book 1 Line "f" 1\n')]:
+                with self.subTest(torn=torn, size=size):
+                    self.assert_ends(["book", *torn, "b", "f"], {"f": "x" * size}, status, report)
+
+    def test_a_long_file_that_begins_otherwise_is_refused_for_its_first_line(self):
+        for first, report in [(" \n\nx\n", 'book 1 Line "f" 3'), ('{"x":1}\n', "read_book 1 Header"), ("\n{}\n", "read_book 1 Header")]:
+            with self.subTest(first=first):
+                self.assert_ends(["book", "b", "f"], {"f": first + "x" * PIECE}, 1, f"refused {report}\n")
+
+    def test_a_long_file_of_notes_is_read_whole(self):
+        """From a file and through a pipe, behind blank lines, and past lines that are none."""
+        notes = "\n" * 100 + "".join(f'["f",0,null,"{number:01000}"]\n' for number in range(20_000))
+        plain = run(["book", "b", "f"], {"f": notes})
+        self.assertEqual((plain.status, plain.out), (0, "inputs 20000\nfiles 1\n"))
+        for words, text in [(["book", "b", "-"], notes), (["book", "--torn", "b", "-"], "x\n" + notes)]:
+            ran = run(words, {}, input=text)
+            self.assertEqual((ran.status, ran.out, ran.files["b"]), (0, plain.out, plain.files["b"]))
 
     def test_a_book_comes_through_a_pipe(self):
         """It is opened once: what was judged is not lost."""

@@ -3,6 +3,7 @@ import unittest
 
 from given import (
     BOOK,
+    EMPTY_BOOK,
     FINER,
     FINER_PLAN,
     FIVES,
@@ -119,6 +120,10 @@ REFINED = [
 FACTORS = [("1", 1), ("4294967295", 1), ("4294967296", 2), ("0", 2), ("five", 2)]
 
 
+# What a line of a valid answer says of the cost.
+COSTS = {"valid cost 0\n": 0, "valid none\n": None}
+
+
 class Verify(ProgramTest):
     def assert_told(self, buckets, asked, plan, status, report, factor=None, book=BOOK):
         """This is told of a plan for a request."""
@@ -129,6 +134,26 @@ class Verify(ProgramTest):
         for asked, plan, status, report in VERDICTS:
             with self.subTest(asked=asked, plan=plan):
                 self.assert_told(FIVES, asked, plan, status, report)
+
+    def test_json(self):
+        """The members say what the line says; a refusal stays a line."""
+        for asked, plan, status, report in VERDICTS:
+            with self.subTest(asked=asked, plan=plan):
+                words = ["verify", "--json", "d", "r", "b", "p"]
+                files = {"d": document(FIVES), "r": asked, "b": BOOK, "p": plan}
+                if status == 0:
+                    self.assert_json(words, files, {"cost": COSTS[report], "valid": True})
+                else:
+                    self.assert_ends(words, files, status, report)
+
+    def test_json_beside_a_note(self):
+        """What is told stays, and with `--strict` it is refused."""
+        files = {"d": document(FIVES), "r": RED_3, "b": EMPTY_BOOK}
+        files["p"] = run(["plan", "d", "r", "b"], files).out
+        words = ["verify", "d", "r", "b", "p"]
+        plain, ran = run(words, files), run([*words, "--json"], files)
+        self.assertEqual((ran.status, ran.out, ran.err), (0, '{"cost":0,"valid":true}\n', plain.err))
+        self.assert_ends([*words, "--json", "--strict"], files, 1, "refused verify 17 Unrecorded\n")
 
     def test_files(self):
         for asked, book, plan, report in FILES:

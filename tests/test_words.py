@@ -39,7 +39,7 @@ MISTAKES = [
 HELP = [
     (["--help"], "Usage: flagops <COMMAND>"),
     (["-h"], "bucket"),
-    (["bucket", "--help"], "Usage: flagops bucket <RULE> <KEY>"),
+    (["bucket", "--help"], "Usage: flagops bucket [OPTIONS] <RULE> <KEY>"),
     (["help"], "Usage: flagops <COMMAND>"),
     (["help", "plan"], "--strict"),
     (["--version"], "flagops 0.1.0\nproved with "),

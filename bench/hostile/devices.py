@@ -92,8 +92,8 @@ def missing(trial):
 
 
 def endless(trial):
-    """Each file that is loaded has no end: a refusal by name, or an answer, within 500 MB."""
-    for name in trial.tried.loads(trial.before):
+    """Each file that is loaded, and the standard input, has no end: a refusal by name within 500 MB."""
+    for name in trial.tried.loads(trial.before) + ([trial.tried.stdin] if trial.tried.stdin else []):
         restored(trial.folder, trial.before)
         os.remove(os.path.join(trial.folder, name))
         os.symlink("/dev/zero", os.path.join(trial.folder, name))

@@ -31,20 +31,29 @@ KINDS = {
     "document": [
         (row("check doc"), "doc"),
         (row("check rules"), "rules"),
+        (row("check doc sale"), "sale"),
+        (row("check --strict --json doc rules"), "rules"),
         (row("resolve doc checkout bool false context 0"), "doc"),
         (row("resolve sale banner text EMPTY context 0"), "sale"),
         (row("plan doc request book"), "doc"),
         (row("verify doc request book plan"), "doc"),
+        (row("verify --json doc request book plan"), "doc"),
         (row("apply doc plan checkout 0"), "doc"),
         (row("apply --keep doc plan request book"), "doc"),
         (row("apply --keep --write kept plan request tally", writes="kept"), "kept"),
         (row("ramp doc steps book"), "doc"),
         (row("picture doc request book plan"), "doc"),
         (row("drive doc few 2 made", writes="made"), "doc"),
+        (row("drive --strict --json doc few 2 made", writes="made"), "doc"),
         (row("record doc checkout", stdin="contexts"), "doc"),
         (row("tally doc checkout 0", stdin="sorted"), "doc"),
     ],
-    "rule": [(row("bucket rule test"), "rule"), (row("price old new prices keys"), "old"), (row("price old new prices keys"), "new")],
+    "rule": [
+        (row("bucket rule test"), "rule"),
+        (row("bucket --json rule test"), "rule"),
+        (row("price old new prices keys"), "old"),
+        (row("price --json old new prices keys"), "new"),
+    ],
     "request": [
         (row("price old new prices keys"), "prices"),
         (row("plan doc request book"), "request"),
@@ -56,7 +65,11 @@ KINDS = {
     ],
     "keys": [(row("price old new prices keys"), "keys")],
     "context": [(row("resolve doc checkout bool false context 0"), "context")],
-    "asks": [(row("drive doc few 2 made", writes="made"), "few"), (row("drive --add doc asks 2 made", writes="made"), "asks")],
+    "asks": [
+        (row("drive doc few 2 made", writes="made"), "few"),
+        (row("drive --strict --json doc few 2 made", writes="made"), "few"),
+        (row("drive --add doc asks 2 made", writes="made"), "asks"),
+    ],
     "book": [
         (row("plan doc request book"), "book"),
         (row("verify doc request book plan"), "book"),
@@ -121,9 +134,18 @@ ENDS = {"ended": 0, "stopped Limit": 0, "stopped EndedInside": 1, "stopped Frame
 SHAPES = {
     "bucket": r'hash [0-9a-f]{8}\npoint \d+\nvariant ".*"\n',
     "price": r'(total ".*" \d+\n)+forbidden (none|\d+)\ncost \d+\n',
-    "check": r'(".*" (good|broken)\n)*',
+    "check": r'(document ".*"\n|".*" (good|broken)\n)*',
     "verify": r"valid (none|cost \d+)\n",
     "verify-ramp": r"valid cost( \d+)*( none)?\n",
+}
+
+# The members of each text that is printed with --json, but of the resolutions.
+MEMBERS = {
+    "bucket": ["hash", "point", "variant"],
+    "price": ["cost", "forbidden", "totals"],
+    "check": ["broken", "document", "doubted", "good"],
+    "verify": ["cost", "valid"],
+    "drive": ["calls", "full", "inputs", "long", "news"],
 }
 
 
@@ -174,7 +196,8 @@ class Trial:
         others = [name for name in {*seen, *self.looks} if seen.get(name) != self.looks.get(name) and (ran.status == 1 or name != tried.writes)]
         if others:
             return f"changed or left: {others}"
-        if ran.status == 1:
+        is_list = tried.words[:2] == ("check", "--strict") and self.reads_back(tried, ran)
+        if ran.status == 1 and not is_list:
             return self.refused(tried, ran)
         if "error: " in ran.err or "refused " in ran.out.split("\n", 1)[0]:
             return "an answer beside an error"
@@ -182,7 +205,7 @@ class Trial:
 
     def refused(self, tried, ran):
         """What is bad about a refusal: a filter has printed lines before, which read back."""
-        lines = ran.out.splitlines(keepends=True)
+        lines = lines_of(ran.out)
         is_named = lines and REFUSAL.fullmatch(lines[-1]) and "WantOfMemory" not in lines[-1] and ran.err.startswith("error: ")
         if not is_named:
             return "a refusal without its name or its words"
@@ -193,12 +216,14 @@ class Trial:
     def reads_back(self, tried, ran):
         """Whether what a run printed and wrote reads back."""
         command, words, out = tried.words[0], tried.words, ran.out
+        if "--json" in words and command != "drive":
+            return are_texts_of(MEMBERS[command], out.split("\n")[:-1])
         if command in SHAPES:
             return re.fullmatch(SHAPES[command], out) is not None
         if command == "resolve":
             return is_resolution(out)
         if command == "record":
-            return all(is_note(line) for line in out.splitlines(keepends=True))
+            return all(is_note(line) for line in lines_of(out))
         if command == "picture":
             return is_picture(out)
         return getattr(self, command)(words, ran)
@@ -222,9 +247,12 @@ class Trial:
 
     def drive(self, words, ran):
         """Its book is to be read, and its lines to be resolutions."""
-        lines = ran.out.split("\n")
+        lines = ran.out.split("\n")[:-1]
+        count = 1 if "--json" in words else 5
+        answers, counts = lines[:-count], lines[-count:]
+        are_counts = are_texts_of(MEMBERS["drive"], counts) if "--json" in words else len(counts) == count
         book = read(self.folder, words[-1])
-        return self.again("book", "joined", "printed", out=book).startswith("inputs") and len(lines) > 5 and all(map(is_resolution, lines[:-6]))
+        return self.again("book", "joined", "printed", out=book).startswith("inputs") and are_counts and all(map(is_resolution, answers))
 
     def book(self, words, ran):
         """The book is to be read, and to be the book of itself."""
@@ -244,6 +272,11 @@ class Trial:
         return ran.out if ran.status == 0 else f"status {ran.status}"
 
 
+def lines_of(text):
+    """The lines of a text with their line feeds, which alone end them."""
+    return re.findall(r"[^\n]*\n|[^\n]+", text)
+
+
 def is_note(line):
     """Whether a line is that of a note."""
     try:
@@ -251,6 +284,14 @@ def is_note(line):
     except ValueError:
         return False
     return line.endswith("\n") and len(note) == 4 and [type(note[0]), type(note[1]), type(note[3])] == [str, int, str]
+
+
+def are_texts_of(names, lines):
+    """Whether each line is a JSON text with these members, and there is one."""
+    try:
+        return len(lines) > 0 and all(list(json.loads(line)) == names for line in lines)
+    except ValueError:
+        return False
 
 
 def is_resolution(line):

@@ -1,5 +1,6 @@
 pub mod Doubled
 pub mod Doubts
+pub mod Laws
 pub mod Outcomes
-pub mod Weights
 pub mod Views
+pub mod Weights

@@ -16,15 +16,19 @@
 //! with each branch of `if`, each argument of `and` and `or` and each bucket of `fractional`; a weight is one that
 //! `bucket_core` reads (`Weights`); each doubt is told exactly where its definition says so (`Doubts`), and without memory;
 //! and the doubled keys are those that stand more than once in the grammar of `json`, each once and in rising order
-//! (`Doubled`).
+//! (`Doubled`). [`doubts_are_of_evaluations`] ties this to what `flag_resolve` gives (`Laws`): whatever is evaluated is among
+//! what was read off, a targeting that is told of as one that never gives a variant matches for nobody, and each evaluation
+//! that reaches a weight that is none faults.
 #![tactic(auto)]
 
 mod doubled;
 mod doubt;
 mod doubting;
+mod laws;
 mod results;
 mod weights;
 
 pub use doubled::doubled_keys;
 pub use doubt::{Doubt, FlagDoubts};
 pub use doubting::doubts_of;
+pub use laws::doubts_are_of_evaluations;

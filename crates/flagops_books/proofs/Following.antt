@@ -8,11 +8,12 @@ use Rattle.book_core.specs.Reading.{book_of}
 use Rattle.book_core.specs.declared.fault.BookFileFault.{BookFileFault}
 use Rattle.flagops_books.specs.Step.{GivesUnited}
 use Rattle.flagops_books.specs.Told.{is_told}
-use Rattle.flagops_books.specs.Union.{IsLast, IsUnited, IsWithBook, IsWithBytes, IsWithFile, IsWithLines, Later, United, file_bytes_at, noted, stray}
+use Rattle.flagops_books.specs.Union.{IsLast, IsUnited, IsWithBook, IsWithBytes, IsWithFile, IsWithLines, Later, United, noted, stray}
 use Rattle.flagops_books.specs.declared.uniting.Gathered.{Gathered}
 use Rattle.flagops_books.specs.declared.uniting.Step.{Step}
 use Rattle.flagops_books.specs.declared.uniting.Step.TheVariants.{Noted, Stopped}
 use Rattle.flagops_files.specs.Files.{Holding}
+use Rattle.flagops_files.specs.Question.{notes_bytes_at}
 use Rattle.flagops_files.specs.declared.outcome.Outcome.{Outcome}
 use Rattle.flagops_files.specs.declared.refusal.Refusal.{Refusal}
 use Rattle.flagops_files.specs.declared.refused.Refused.{Refused}
@@ -106,33 +107,33 @@ starts at passing paths g none quiet = (
 
 module _ (at : Holding) (passing : Bool) (paths left rest : List (List ℕ)) (path : List ℕ) (g : Gathered) (goes : Goes at passing paths left g) (first : left ≡ path ∷ rest) where
   abbrev Behind : Result Step Refused → Type 0
-  Behind r = (now : Notes) → IsBookOf now g.book → GivesUnited r (IsWithFile IsLast passing now (is_told (string_bytes g.told)) path (file_bytes_at at path))
+  Behind r = (now : Notes) → IsBookOf now g.book → GivesUnited r (IsWithFile IsLast passing now (is_told (string_bytes g.told)) path (notes_bytes_at at passing path))
 
-  along : (r : Result United Refusal) → IsWithFile (IsUnited at passing rest) passing goes.0 (is_told (string_bytes g.told)) path (file_bytes_at at path) r → IsUnited at passing paths no_notes false r
+  along : (r : Result United Refusal) → IsWithFile (IsUnited at passing rest) passing goes.0 (is_told (string_bytes g.told)) path (notes_bytes_at at passing path) r → IsUnited at passing paths no_notes false r
   unfolding IsUnited
   along r came = goes.2 r (subst (λ (ps : List (List ℕ)). IsUnited at passing ps goes.0 (is_told (string_bytes g.told)) r) (sym first) came)
 
   pub goes_on : (s : Step) (next : Gathered) → s ≡ Noted next → Behind (Ok s) → Goes at passing paths rest next
   goes_on s next is gives =
-      let came : GivesUnited (Ok (Noted next)) (IsWithFile IsLast passing goes.0 (is_told (string_bytes g.told)) path (file_bytes_at at path)) = subst (λ (x : Step). Behind (Ok x)) is gives goes.0 goes.1 in (
+      let came : GivesUnited (Ok (Noted next)) (IsWithFile IsLast passing goes.0 (is_told (string_bytes g.told)) path (notes_bytes_at at passing path)) = subst (λ (x : Step). Behind (Ok x)) is gives goes.0 goes.1 in (
         came.0,
         came.1,
-        λ r later. along r (behind_file (IsUnited at passing rest) passing came.0 (is_told (string_bytes next.told)) r later goes.0 (is_told (string_bytes g.told)) path (file_bytes_at at path) came.2),
+        λ r later. along r (behind_file (IsUnited at passing rest) passing came.0 (is_told (string_bytes next.told)) r later goes.0 (is_told (string_bytes g.told)) path (notes_bytes_at at passing path) came.2),
       )
 
   pub goes_stopped : (s : Step) (o : Outcome) → s ≡ Stopped o → Behind (Ok s) → GivesUnited (Ok (Stopped o)) (IsUnited at passing paths no_notes false)
   goes_stopped s o is gives =
-      let came : GivesUnited (Ok (Stopped o)) (IsWithFile IsLast passing goes.0 (is_told (string_bytes g.told)) path (file_bytes_at at path)) = subst (λ (x : Step). Behind (Ok x)) is gives goes.0 goes.1 in
+      let came : GivesUnited (Ok (Stopped o)) (IsWithFile IsLast passing goes.0 (is_told (string_bytes g.told)) path (notes_bytes_at at passing path)) = subst (λ (x : Step). Behind (Ok x)) is gives goes.0 goes.1 in
       let r : Result United Refusal = Ok (stray came.0 came.1) in (
         came.0,
         came.1,
-        along r (stop_file (IsUnited at passing rest) passing r (λ n t is. apart n t came.0 came.1 (sym is)) goes.0 (is_told (string_bytes g.told)) path (file_bytes_at at path) came.2),
+        along r (stop_file (IsUnited at passing rest) passing r (λ n t is. apart n t came.0 came.1 (sym is)) goes.0 (is_told (string_bytes g.told)) path (notes_bytes_at at passing path) came.2),
         came.3,
       )
 
   pub goes_refused : (e : Refused) → Behind (Err e) → GivesUnited (Err e) (IsUnited at passing paths no_notes false)
   goes_refused e gives = λ wanted.
-      along (Err e.refusal) (stop_file (IsUnited at passing rest) passing (Err e.refusal) (λ n t is. not_both (sym is)) goes.0 (is_told (string_bytes g.told)) path (file_bytes_at at path) (gives goes.0 goes.1 wanted))
+      along (Err e.refusal) (stop_file (IsUnited at passing rest) passing (Err e.refusal) (λ n t is. not_both (sym is)) goes.0 (is_told (string_bytes g.told)) path (notes_bytes_at at passing path) (gives goes.0 goes.1 wanted))
 
 pub goes_all : (at : Holding) (passing : Bool) (paths left : List (List ℕ)) (g : Gathered) → Goes at passing paths left g → left ≡ [] → GivesUnited (Ok (Noted g)) (IsUnited at passing paths no_notes false)
 unfolding IsUnited

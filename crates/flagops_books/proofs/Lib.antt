@@ -3,4 +3,5 @@ pub mod Following
 pub mod Matched
 pub mod Naming
 pub mod Unions
+mod Read
 mod Whole

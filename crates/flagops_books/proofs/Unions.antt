@@ -1,5 +1,5 @@
 -- What one file comes to: a book, or note lines.
-use Rattle.std.proofs.Common.{◌≡◌, ◌∙◌, ◌||◌, ◌==◌, ℕ, not, Bool, false, List, Option, Some, None, IfSome, refl, ap, ap₂, sym, subst, inl, inr, string_bytes, IfErr, IfOk}
+use Rattle.std.proofs.Common.{◌≡◌, ◌∙◌, ◌||◌, ◌==◌, ℕ, not, Bool, true, false, List, Option, Some, None, IfSome, refl, ap, ap₂, sym, subst, inl, inr, string_bytes, IfErr, IfOk}
 use Rattle.std.specs.Prelude.{Result, Ok, Err}
 use Rattle.book_core.specs.Book.{Contents, inputs_on, is_among}
 use Rattle.book_core.specs.Union.{HaveNoUnion, IsUnion, Unites}
@@ -8,20 +8,23 @@ use Rattle.book_core.specs.declared.fault.BookFault.TheVariants as noting
 use Rattle.book_core.specs.declared.fault.BookFileFault.{BookFileFault}
 use Rattle.flagops_books.specs.Step.{GivesUnited, IsStepOf, IsStopOf}
 use Rattle.flagops_books.specs.Told.{is_told}
-use Rattle.flagops_books.specs.Union.{IsLast, IsWithBook, IsWithBytes, IsWithFile, United, file_bytes_at, noted, passes_over, stray, union_refusal}
+use Rattle.flagops_books.specs.Union.{IsLast, IsWithBook, IsWithBytes, IsWithFile, TakesBytes, United, is_one_line, noted, passes_over, stray, union_refusal}
 use Rattle.flagops_books.specs.declared.uniting.Gathered.{Gathered}
 use Rattle.flagops_books.specs.declared.uniting.Step.{Step}
 use Rattle.flagops_books.specs.declared.uniting.Step.TheVariants.{Noted, Stopped}
 use Rattle.flagops_files.specs.Files.{Holding}
 use Rattle.flagops_files.specs.Loading.{refused_by}
+use Rattle.flagops_files.specs.Question.{notes_bytes_at}
 use Rattle.flagops_files.specs.Refusal.{is_want}
 use Rattle.flagops_files.specs.declared.refusal.Call.TheVariants as call
 use Rattle.flagops_files.specs.declared.refusal.Refusal.{Refusal}
 use Rattle.flagops_files.specs.declared.refusal.Refusal.TheVariants.{FullBook, ReadBook, WantOfMemory}
 use Rattle.flagops_files.specs.declared.refused.Refused.{Refused}
 use Rattle.note_books.specs.Blank.{begins_book}
-use Rattle.note_books.specs.Lines.{TakesNotes}
+use Rattle.line_batches.specs.Lines.{parts_of}
+use Rattle.note_books.specs.Lines.{Taken, Takes, TakesNotes}
 use Rattle.note_books.specs.Notes.{HaveNoBook, IsBookOf, Notes, both, notes_in}
+use Rattle.note_books.specs.declared.fault.NotesFault.{NotesFault}
 use Rattle.note_books.specs.declared.fault.NotesFault.TheVariants as lines
 use Rattle.note_books.specs.declared.taking.NotesTaken.{NotesTaken}
 use Rattle.flagops_books.proofs.Naming.{want_alone}
@@ -76,47 +79,58 @@ module _ (all : Notes) (one other : Contents) (o : Result Contents BookFileFault
 
 -- ---- note lines
 
-module _ (passing : Bool) (all : Notes) (path bytes before : List ℕ) where
+pub long_line : (passing : Bool) (all : Notes) (path bytes before : List ℕ) (r : Result Step Refused) → is_one_line bytes ≡ true → IfOk r (IsStopOf path 1) → IfErr r (λ e. e.refusal ≡ WantOfMemory call.Book)
+    → GivesUnited r (IsWithBytes false IsLast passing all (is_told before) path bytes)
+long_line passing all path bytes before (Ok (Noted g)) one stop wants = absurd stop
+long_line passing all path bytes before (Ok (Stopped o)) one stop wants =
+    let t : Result Taken NotesFault = Err (lines.Line 1) in
+    (path, 1, (t, subst (λ (b : Bool). TakesBytes b passing all bytes t) (sym one) refl, refl), stop.0)
+long_line passing all path bytes before (Err e) one stop wants = λ wanted. want_alone e.refusal wants wanted
+
+module _ (passing : Bool) (all : Notes) (path bytes before : List ℕ) (lined : is_one_line bytes ≡ false) where
   abbrev Lines : Result United Refusal → Type 0
   Lines = IsWithBytes false IsLast passing all (is_told before) path bytes
+
+  as_bytes : (t : Result Taken NotesFault) → Takes passing all 1 0 (parts_of bytes) t → TakesBytes (is_one_line bytes) passing all bytes t
+  as_bytes t takes = subst (λ (b : Bool). TakesBytes b passing all bytes t) (sym lined) takes
 
   pub taken_lines : (t : NotesTaken) (r : Result Step Refused) → TakesNotes passing all bytes (Ok t) → IfOk r (IsStepOf path t before) → IfErr r (λ e. e.refusal ≡ WantOfMemory call.Book) → GivesUnited r Lines
   taken_lines t (Ok (Noted g)) takes step wants =
       let taken = takes.0 in
       let over : (not (t.passed == 0) || t.torn) ≡ passes_over taken = ap₂ (λ (p : ℕ) (b : Bool). not (p == 0) || b) takes.3 takes.4 in
       let flag : is_told (string_bytes g.told) ≡ (is_told before || passes_over taken) = step.1 ∙ ap (λ (b : Bool). is_told before || b) over in
-      (taken.notes, subst (IsBookOf taken.notes) (sym step.0) takes.2, (Ok taken, takes.1, ap (λ (b : Bool). Ok (noted taken.notes b)) flag))
+      (taken.notes, subst (IsBookOf taken.notes) (sym step.0) takes.2, (Ok taken, as_bytes (Ok taken) takes.1, ap (λ (b : Bool). Ok (noted taken.notes b)) flag))
   taken_lines t (Ok (Stopped o)) takes step wants = absurd step
   taken_lines t (Err e) takes step wants = λ wanted. want_alone e.refusal wants wanted
 
   pub stopped_lines : (n : ℕ) (r : Result Step Refused) → TakesNotes passing all bytes (Err (lines.Line n)) → IfOk r (IsStopOf path n) → IfErr r (λ e. e.refusal ≡ WantOfMemory call.Book) → GivesUnited r Lines
   stopped_lines n (Ok (Noted g)) takes stop wants = absurd stop
-  stopped_lines n (Ok (Stopped o)) takes stop wants = (path, n, (Err (lines.Line n), takes, refl), stop.0)
+  stopped_lines n (Ok (Stopped o)) takes stop wants = (path, n, (Err (lines.Line n), as_bytes (Err (lines.Line n)) takes, refl), stop.0)
   stopped_lines n (Err e) takes stop wants = λ wanted. want_alone e.refusal wants wanted
 
   pub full_lines : (e : Refused) → TakesNotes passing all bytes (Err lines.PageFull) → e.refusal ≡ FullBook → GivesUnited (Err e) Lines
-  full_lines e takes is = λ wanted. (Err lines.PageFull, takes, ap Err is)
+  full_lines e takes is = λ wanted. (Err lines.PageFull, as_bytes (Err lines.PageFull) takes, ap Err is)
 
 -- ---- a file
 
 module _ (passing : Bool) (path : List ℕ) (g : Gathered) (h : Option Holding) where
   abbrev File : Result Step Refused → Holding → Type 0
-  File r at = (all : Notes) → IsBookOf all g.book → GivesUnited r (IsWithFile IsLast passing all (is_told (string_bytes g.told)) path (file_bytes_at at path))
+  File r at = (all : Notes) → IsBookOf all g.book → GivesUnited r (IsWithFile IsLast passing all (is_told (string_bytes g.told)) path (notes_bytes_at at passing path))
 
-  pub unread_file : (e : Refused) → IfSome h (λ at. is_want e.refusal ≡ false → file_bytes_at at path ≡ Err e.refusal) → IfSome h (File (Err e))
+  pub unread_file : (e : Refused) → IfSome h (λ at. is_want e.refusal ≡ false → notes_bytes_at at passing path ≡ Err e.refusal) → IfSome h (File (Err e))
   unread_file e loaded = go h loaded
     where
-      go : (k : Option Holding) → IfSome k (λ at. is_want e.refusal ≡ false → file_bytes_at at path ≡ Err e.refusal) → IfSome k (File (Err e))
+      go : (k : Option Holding) → IfSome k (λ at. is_want e.refusal ≡ false → notes_bytes_at at passing path ≡ Err e.refusal) → IfSome k (File (Err e))
       go None loaded = tt
       go (Some at) loaded = λ all is_of wanted.
           subst (λ (b : Result (List ℕ) Refusal). IsWithFile IsLast passing all (is_told (string_bytes g.told)) path b (Err e.refusal)) (sym (loaded wanted)) refl
 
-  pub read_file : (as_book : Bool) (bytes : List ℕ) (r : Result Step Refused) → begins_book bytes ≡ as_book → IfSome h (λ at. file_bytes_at at path ≡ Ok bytes)
+  pub read_file : (as_book : Bool) (bytes : List ℕ) (r : Result Step Refused) → begins_book bytes ≡ as_book → IfSome h (λ at. notes_bytes_at at passing path ≡ Ok bytes)
       → ((all : Notes) → IsBookOf all g.book → GivesUnited r (IsWithBytes as_book IsLast passing all (is_told (string_bytes g.told)) path bytes)) → IfSome h (File r)
   read_file as_book bytes r begins loaded gives = go h loaded
     where
-      there : (at : Holding) (all : Notes) → file_bytes_at at path ≡ Ok bytes → (x : Result United Refusal) → IsWithBytes as_book IsLast passing all (is_told (string_bytes g.told)) path bytes x
-          → IsWithFile IsLast passing all (is_told (string_bytes g.told)) path (file_bytes_at at path) x
+      there : (at : Holding) (all : Notes) → notes_bytes_at at passing path ≡ Ok bytes → (x : Result United Refusal) → IsWithBytes as_book IsLast passing all (is_told (string_bytes g.told)) path bytes x
+          → IsWithFile IsLast passing all (is_told (string_bytes g.told)) path (notes_bytes_at at passing path) x
       there at all is x came =
           subst (λ (b : Result (List ℕ) Refusal). IsWithFile IsLast passing all (is_told (string_bytes g.told)) path b x) (sym is)
           (subst (λ (b : Bool). IsWithBytes b IsLast passing all (is_told (string_bytes g.told)) path bytes x) (sym begins) came)
@@ -126,7 +140,7 @@ module _ (passing : Bool) (path : List ℕ) (g : Gathered) (h : Option Holding) 
       wider P Q f (Ok (Stopped o)) came = (came.0, came.1, f (Ok (stray came.0 came.1)) came.2, came.3)
       wider P Q f (Err e) came = λ wanted. f (Err e.refusal) (came wanted)
 
-      go : (k : Option Holding) → IfSome k (λ at. file_bytes_at at path ≡ Ok bytes) → IfSome k (File r)
+      go : (k : Option Holding) → IfSome k (λ at. notes_bytes_at at passing path ≡ Ok bytes) → IfSome k (File r)
       go None loaded = tt
       go (Some at) loaded = λ all is_of.
-          wider (IsWithBytes as_book IsLast passing all (is_told (string_bytes g.told)) path bytes) (IsWithFile IsLast passing all (is_told (string_bytes g.told)) path (file_bytes_at at path)) (there at all loaded) r (gives all is_of)
+          wider (IsWithBytes as_book IsLast passing all (is_told (string_bytes g.told)) path bytes) (IsWithFile IsLast passing all (is_told (string_bytes g.told)) path (notes_bytes_at at passing path)) (there at all loaded) r (gives all is_of)

@@ -1,13 +1,15 @@
 -- The book of what files come to is the union of what they note.
-use Rattle.std.proofs.Common.{◌≡◌, ◌⊎◌, ◌||◌, ◌∙◌, ℕ, Bool, true, false, List, [], ◌∷◌, refl, ap, sym, inl, inr}
+use Rattle.std.proofs.Common.{◌≡◌, ◌⊎◌, ◌||◌, ◌∙◌, ℕ, Bool, true, false, List, [], ◌∷◌, refl, ap, sym, subst, inl, inr}
 use Rattle.std.specs.Prelude.{◌↔◌, Result, Ok, Err}
 use Rattle.book_core.specs.Book.{Contents}
 use Rattle.book_core.specs.Page.{PageName}
 use Rattle.book_core.specs.Reading.{book_of}
 use Rattle.book_core.specs.declared.fault.BookFileFault.{BookFileFault}
+use Rattle.flagops_books.proofs.Read.{read_whole}
 use Rattle.flagops_books.specs.Law.{BookNotes, BytesNote, FileNotes, OneNotes, UnitesFiles}
-use Rattle.flagops_books.specs.Union.{IsUnited, IsWithBook, IsWithBytes, IsWithFile, IsWithLines, Later, United, file_bytes_at, noted, stray}
+use Rattle.flagops_books.specs.Union.{IsUnited, IsWithBook, IsWithBytes, IsWithFile, IsWithLines, Later, TakesBytes, United, is_one_line, noted, stray}
 use Rattle.flagops_files.specs.Files.{Holding}
+use Rattle.flagops_files.specs.Question.{notes_bytes_at}
 use Rattle.flagops_files.specs.declared.refusal.Refusal.{Refusal}
 use Rattle.line_batches.specs.Lines.{parts_of}
 use Rattle.note_books.proofs.Noted.{notes_its_lines}
@@ -86,9 +88,16 @@ module _ (at : Holding) (passing : Bool) (all : Notes) (told : Bool) (page : Pag
     by_lines path bytes (Err lines.PageFull) takes is = not_both is
     by_lines path bytes (Err lines.WantOfMemory) takes is = absurd is
 
+    by_taken : (one : Bool) (path bytes : List ℕ) (o : Result Taken NotesFault) → TakesBytes one passing before bytes o → IsWithLines Next t path o Came → Parts before (HasNote (parts_of bytes) page input ⊎ Rest)
+    by_taken true path bytes (Ok taken) takes is = not_both takes
+    by_taken true path bytes (Err (lines.Line k)) takes is = apart path k is
+    by_taken true path bytes (Err lines.PageFull) takes is = not_both is
+    by_taken true path bytes (Err lines.WantOfMemory) takes is = absurd is
+    by_taken false path bytes o takes is = by_lines path bytes o takes is
+
     by_bytes : (as_book : Bool) (path bytes : List ℕ) → IsWithBytes as_book Next passing before t path bytes Came → Parts before (BytesNote as_book bytes page input ⊎ Rest)
     by_bytes true path bytes is = by_book (book_of bytes) is
-    by_bytes false path bytes is = by_lines path bytes is.0 is.1 is.2
+    by_bytes false path bytes is = by_taken (is_one_line bytes) path bytes is.0 is.1 is.2
 
     by_file : (path : List ℕ) (o : Result (List ℕ) Refusal) → IsWithFile Next passing before t path o Came → Parts before (FileNotes o page input ⊎ Rest)
     by_file path (Err e) is = not_both is
@@ -103,7 +112,9 @@ module _ (at : Holding) (passing : Bool) (all : Notes) (told : Bool) (page : Pag
       last : all page input ≡ before page input → (before page input ≡ true) ⊎ OneNotes at [] page input → all page input ≡ true
       last same (inl h) = same ∙ h
       last same (inr none) = absurd none
-  by_files (path ∷ paths) before t is = by_file (IsUnited at passing paths) (OneNotes at paths page input) (λ n u later. by_files paths n u later) before t path (file_bytes_at at path) is
+  by_files (path ∷ paths) before t is =
+      subst (λ (o : Result (List ℕ) Refusal). Parts before (FileNotes o page input ⊎ OneNotes at paths page input)) (read_whole (IsUnited at passing paths) at passing before all t told path is)
+      (by_file (IsUnited at passing paths) (OneNotes at paths page input) (λ n u later. by_files paths n u later) before t path (notes_bytes_at at passing path) is)
 
 pub unites_files : UnitesFiles
 unites_files at passing paths all told book united is_of page input =

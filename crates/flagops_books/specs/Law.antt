@@ -4,9 +4,12 @@ use Rattle.book_core.specs.Book.{Contents, inputs_on, is_among}
 use Rattle.book_core.specs.Page.{PageName}
 use Rattle.book_core.specs.Reading.{book_of}
 use Rattle.book_core.specs.declared.fault.BookFileFault.{BookFileFault}
-use Rattle.flagops_books.specs.Union.{IsUnited, file_bytes_at, noted}
-use Rattle.flagops_files.specs.Files.{Holding}
+use Rattle.flagops_books.specs.Union.{IsUnited, noted}
+use Rattle.flagops_files.specs.Files.{Holding, load_of}
+use Rattle.flagops_files.specs.Loading.{◌>>=◌, refused_by}
+use Rattle.flagops_files.specs.Question.{if_readable, max_book}
 use Rattle.flagops_files.specs.declared.refusal.Refusal.{Refusal}
+use Rattle.flagops_files.specs.declared.refusal.Refusal.TheVariants.{Load}
 use Rattle.line_batches.specs.Lines.{parts_of}
 use Rattle.note_books.specs.Blank.{begins_book}
 use Rattle.note_books.specs.Law.{HasNote}
@@ -21,6 +24,12 @@ BookNotes (Ok book) page input = notes_in book page input ≡ true
 abbrev pub BytesNote : Bool → List ℕ → PageName → List ℕ → Type 0
 BytesNote true bytes page input = BookNotes (book_of bytes) page input
 BytesNote false bytes page input = HasNote (parts_of bytes) page input
+
+-- all bytes of the file at a path
+unfoldable pub file_bytes_at : Holding → List ℕ → Result (List ℕ) Refusal
+file_bytes_at at path = do
+  bytes ← refused_by Load (load_of at path max_book)
+  if_readable bytes
 
 -- what was loaded of a file is a book or note lines, by how it begins
 abbrev pub FileNotes : Result (List ℕ) Refusal → PageName → List ℕ → Type 0

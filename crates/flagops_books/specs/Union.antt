@@ -1,13 +1,13 @@
 -- What several files note, each read before the next: books, and files of note lines.
-use Rattle.std.specs.Prelude.{◌≡◌, ◌⊎◌, ◌||◌, ◌==◌, ℕ, Bool, true, false, not, List, [], ◌∷◌, Result, Ok, Err}
+use Rattle.std.specs.Prelude.{◌≡◌, ◌⊎◌, ◌||◌, ◌==◌, ℕ, nat_lt, Bool, true, false, not, List, [], ◌∷◌, length, Result, Ok, Err}
 use Rattle.book_core.specs.Book.{Contents}
 use Rattle.book_core.specs.Reading.{book_of}
 use Rattle.book_core.specs.declared.fault.BookFault.{BookFault}
 use Rattle.book_core.specs.declared.fault.BookFault.TheVariants as noting
 use Rattle.book_core.specs.declared.fault.BookFileFault.{BookFileFault}
-use Rattle.flagops_files.specs.Files.{Holding, load_of}
-use Rattle.flagops_files.specs.Loading.{◌>>=◌, refused_by}
-use Rattle.flagops_files.specs.Question.{if_readable, max_book}
+use Rattle.flagops_files.specs.Beginning.{ends_line}
+use Rattle.flagops_files.specs.Files.{Holding}
+use Rattle.flagops_files.specs.Question.{notes_bytes_at}
 use Rattle.flagops_files.specs.declared.refusal.Call.TheVariants as call
 use Rattle.flagops_files.specs.declared.refusal.Refusal.{Refusal}
 use Rattle.flagops_files.specs.declared.refusal.Refusal.TheVariants as refusal
@@ -50,26 +50,29 @@ IsWithLines Next told path (Err (lines.Line n)) r = r ≡ Ok (stray path n)
 IsWithLines Next told path (Err lines.PageFull) r = r ≡ Err refusal.FullBook
 IsWithLines Next told path (Err lines.WantOfMemory) r = ⊥
 
+-- as many bytes as no note line of a document has, without a line's end
+abbrev pub is_one_line : List ℕ → Bool
+is_one_line bytes = not (nat_lt (length bytes) 16777216 || ends_line bytes)
+
+-- what is taken of bytes, which are the line of no note where they are one line
+abbrev pub TakesBytes : Bool → Bool → Notes → List ℕ → Result Taken NotesFault → Type 0
+TakesBytes true passing all bytes t = t ≡ Err (lines.Line 1)
+TakesBytes false passing all bytes t = Takes passing all 1 0 (parts_of bytes) t
+
 -- those of bytes, which are read as a book or as note lines
 abbrev pub IsWithBytes : Bool → Later → Bool → Notes → Bool → List ℕ → List ℕ → Result United Refusal → Type 0
 IsWithBytes true Next passing all told path bytes r = IsWithBook Next all told (book_of bytes) r
-IsWithBytes false Next passing all told path bytes r = (t : Result Taken NotesFault) × Takes passing all 1 0 (parts_of bytes) t × IsWithLines Next told path t r
+IsWithBytes false Next passing all told path bytes r = (t : Result Taken NotesFault) × TakesBytes (is_one_line bytes) passing all bytes t × IsWithLines Next told path t r
 
 -- those of a file whose bytes were loaded
 abbrev pub IsWithFile : Later → Bool → Notes → Bool → List ℕ → Result (List ℕ) Refusal → Result United Refusal → Type 0
 IsWithFile Next passing all told path (Err e) r = r ≡ Err e
 IsWithFile Next passing all told path (Ok bytes) r = IsWithBytes (begins_book bytes) Next passing all told path bytes r
 
--- the bytes of the file at a path, a book or note lines
-unfoldable pub file_bytes_at : Holding → List ℕ → Result (List ℕ) Refusal
-file_bytes_at at path = do
-  bytes ← refused_by refusal.Load (load_of at path max_book)
-  if_readable bytes
-
 -- those of the files at these paths, or the first that is refused
 unfoldable pub IsUnited : Holding → Bool → List (List ℕ) → Later
 IsUnited at passing [] all told r = r ≡ Ok (noted all told)
-IsUnited at passing (path ∷ paths) all told r = IsWithFile (IsUnited at passing paths) passing all told path (file_bytes_at at path) r
+IsUnited at passing (path ∷ paths) all told r = IsWithFile (IsUnited at passing paths) passing all told path (notes_bytes_at at passing path) r
 
 -- why a union is refused, as the refusal of the command
 abbrev pub union_refusal : BookFault → Refusal

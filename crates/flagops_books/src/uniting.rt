@@ -4,9 +4,10 @@ ghost use Rattle.book_core.specs.Reading.{book_of};
 ghost use Rattle.flagops_books.specs.Calls.{unites_files};
 ghost use Rattle.flagops_books.specs.Step.{GivesUnited, IsStepOf, IsStopOf, SaysStep, SaysUnited};
 ghost use Rattle.flagops_books.specs.Told.{NamesFile, is_told, united_subjects};
-ghost use Rattle.flagops_books.specs.Union.{IsLast, IsUnited, IsWithBook, IsWithBytes, IsWithFile, file_bytes_at, union_refusal};
+ghost use Rattle.flagops_books.specs.Union.{IsLast, IsUnited, IsWithBook, IsWithBytes, IsWithFile, is_one_line, union_refusal};
 ghost use Rattle.flagops_files.specs.Loading.{refused_by};
-ghost use Rattle.flagops_files.specs.Refusal.{ComesFrom, GivesUnlessWant, call_of, is_file_fault, is_unread, is_want, loads_book, loads_file};
+ghost use Rattle.flagops_files.specs.Question.{notes_bytes_at};
+ghost use Rattle.flagops_files.specs.Refusal.{ComesFrom, GivesUnlessWant, call_of, is_file_fault, is_unread, is_want, loads_book};
 ghost use Rattle.flagops_files.specs.Told.{Says, TellsOf, TellsOfOne, file};
 ghost use Rattle.flagops_files.specs.declared.refusal.Refusal.TheVariants.{ReadBook};
 ghost use Rattle.flagops_remarks.specs.Named.{Names};
@@ -14,13 +15,12 @@ ghost use Rattle.note_books.specs.Notes.{IsBookOf, Notes, no_notes};
 
 use crate::lines::{stray_line, stray_remark, with_passed};
 use book_core::{Book, BookFault, read_book};
-use flagops_files::{Call, FileSet, Outcome, Refusal, Refused, Remark, Status, load};
-use flagops_remarks::{Ends, of_book, of_full_book, of_long_book};
+use flagops_files::{
+    Call, FileSet, NOTES_PIECE, Outcome, Refusal, Refused, Remark, Status, ends_line, load_notes,
+};
+use flagops_remarks::{Ends, of_book, of_full_book};
 use note_books::{NotesFault, NotesTaken, begins_book, take_notes};
 use std::alloc::{AllocError, Global};
-
-/// The largest file, in bytes, as of a book.
-const FILE_LIMIT: u64 = 1 << 40;
 
 /// What files note, and what a person is told of lines that were passed over.
 #[derive(Drop)]
@@ -74,38 +74,19 @@ fn with_file<F: FileSet>(
     path: &str,
     passing: bool,
 ) -> Result<Step, Refused>
-    ensures exact { IfSome (F.holding files.old) (λ at. (now : Notes) → IsBookOf now all.book → GivesUnited result (IsWithFile IsLast passing now (is_told (string_bytes all.told)) path.now (file_bytes_at at path.now))) }
+    ensures exact { IfSome (F.holding files.old) (λ at. (now : Notes) → IsBookOf now all.book → GivesUnited result (IsWithFile IsLast passing now (is_told (string_bytes all.told)) path.now (notes_bytes_at at passing path.now))) }
     ensures calls { ComesFrom unites_files result }
     ensures failed { F.has_failed files.new ≡ (F.has_failed files.old || is_file_fault result) }
     ensures kept { F.holding files.new ≡ F.holding files.old }
     ensures names { TellsOf (file path.now) result }
     ensures says { SaysStep path.now (string_bytes all.told) result }
 {
-    let bytes = load_whole(alloc, files, path)?;
+    let bytes = load_notes(alloc, files, path, passing)?;
     if begins_book(bytes.as_slice()) {
         with_book(alloc, all, path, bytes.as_slice())
     } else {
         with_lines(alloc, all, path, bytes.as_slice(), passing)
     }
-}
-
-/// The bytes of the file at a path; one of more than 2^40 counts as unreadable.
-#[tactic(auto, using(flagops_files::proofs::Told::says), unfolding(crate::specs::Union::file_bytes_at))]
-fn load_whole<F: FileSet>(alloc: Global, files: &mut F, path: &str) -> Result<Vec<u8>, Refused>
-    ensures exact { IfSome (F.holding files.old) (λ at. GivesUnlessWant (λ v. v.items) result (file_bytes_at at path.now)) }
-    ensures calls { ComesFrom loads_file result }
-    ensures failed { F.has_failed files.new ≡ (F.has_failed files.old || is_file_fault result) }
-    ensures kept { F.holding files.new ≡ F.holding files.old }
-    ensures names { TellsOf (file path.now) result }
-{
-    let bytes = load(alloc, files, path, FILE_LIMIT)?;
-    if bytes.len() as u64 > FILE_LIMIT {
-        return Err(Refused {
-            refusal: Refusal::LongBook,
-            remark: Remark::of(of_long_book(alloc, path)),
-        });
-    }
-    Ok(bytes)
 }
 
 /// What is noted so far, with the book that bytes are, which were loaded from a path.
@@ -169,6 +150,9 @@ fn with_lines(
     ensures names { TellsOf (file path.now) result }
     ensures says { SaysStep path.now (string_bytes all.told) result }
 {
+    if is_one_line(bytes) {
+        return stopped(alloc, path, 1);
+    }
     let Gathered { book, told } = all;
     match take_notes(alloc, book, bytes, passing) {
         Ok(taken) => with_taken(alloc, taken, told, path),
@@ -176,6 +160,13 @@ fn with_lines(
         Err(NotesFault::PageFull) => Err(full(alloc, path)),
         Err(NotesFault::WantOfMemory) => Err(out_of_memory()),
     }
+}
+
+/// Whether bytes are more than any note line of a document has, and no line ends in them.
+fn is_one_line(bytes: &[u8]) -> bool
+    ensures { result ≡ is_one_line bytes.now }
+{
+    !(bytes.len() < NOTES_PIECE || ends_line(bytes))
 }
 
 /// The notes of a file at a path with those before, and what is told of the file behind what is told so far.

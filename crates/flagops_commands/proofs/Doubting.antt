@@ -6,7 +6,7 @@ use Rattle.plan_text.specs.Answer.{Answer, planned_view}
 use Rattle.plan_text.specs.declared.planned.Planned.{Planned}
 use Rattle.flagops_commands.specs.Doubts.{NamesDoubt, NamesDoubted, doubt_of, doubt_subjects, settle}
 use Rattle.flagops_commands.specs.Plan.{Holds, IsPlanOf, MayBePlanned, plan_report}
-use Rattle.flagops_commands.specs.Verify.{IsVerdict, MayBeTold, valid_text}
+use Rattle.flagops_commands.specs.Verify.{IsVerdict, MayBeTold, valid_as}
 use Rattle.flagops_commands.proofs.Telling.{told_among}
 use Rattle.flagops_files.proofs.Told.{told_left}
 use Rattle.flagops_files.specs.Question.{Question}
@@ -68,13 +68,13 @@ module _ (strict : Bool) (refine : Option ℕ) (q : Question) where
         go (Ok o) given back = (Ok p, may, rw is (sym given), back)
         go (Err e) given back = λ wanted. (Ok p, may, rw is (sym (given wanted)), tt)
 
-  module _ (answer : Answer) where
+  module _ (json : Bool) (answer : Answer) where
     pub verdict_doubted : (e : Refused) → MayBeTold refine q answer (Ok tt) → (is_want e.refusal ≡ false → settle call.Verify strict (doubt_of q) ≡ Err e.refusal)
-        → GivesOne outcome_view (Err e) (IsVerdict strict refine (Ok q) (Ok answer))
+        → GivesOne outcome_view (Err e) (IsVerdict strict json refine (Ok q) (Ok answer))
     verdict_doubted e may refused = λ wanted. (Ok tt, may, rw (refused wanted) refl)
 
     pub verdict_told : (noted : Bool) (r : Result Outcome Refused) → MayBeTold refine q answer (Ok tt) → settle call.Verify strict (doubt_of q) ≡ Ok noted
-        → GivesUnlessWant outcome_view r (beside noted (done (valid_text answer))) → GivesOne outcome_view r (IsVerdict strict refine (Ok q) (Ok answer))
+        → GivesUnlessWant outcome_view r (beside noted (done (valid_as json answer))) → GivesOne outcome_view r (IsVerdict strict json refine (Ok q) (Ok answer))
     verdict_told noted (Ok o) may is given = (Ok tt, may, rw is (sym given))
     verdict_told noted (Err e) may is given = λ wanted. (Ok tt, may, rw is (sym (given wanted)))
 

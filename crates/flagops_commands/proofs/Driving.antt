@@ -1,23 +1,25 @@
 -- What was loaded in turn, driven and then stored, as the report of `drive`.
-use Rattle.std.proofs.Common.{◌≡◌, ℕ, Bool, List, Option, Some, None, true, false, IfSome, is_some, inl, inr, refl, ap, ◌∙◌, subst}
-use Rattle.std.specs.Prelude.{Result, Ok, Err, option_map}
+use Rattle.std.proofs.Common.{◌≡◌, ℕ, Bool, List, Option, Some, None, true, false, IfSome, is_some, inl, inr, refl, ap, ◌∙◌, subst, sym}
+use Rattle.std.specs.Prelude.{IsErrOf, IsOk, Result, Ok, Err, option_map}
 use Rattle.book_core.specs.Book.{Contents}
 use Rattle.flag_documents.specs.Document.{Definitions}
 use Rattle.flag_text.specs.Shape.{Shape}
 use Rattle.flagops_drive.specs.Asks.{Ask, asks_of}
-use Rattle.flagops_drive.specs.Driven.{Drove, IsDriveOf, workers_refusal}
+use Rattle.flagops_drive.specs.Driven.{Drove, IsDriveOf, refusal_of, workers_refusal}
 use Rattle.flagops_drive.specs.declared.fault.DriveRefusal.{DriveRefusal}
 use Rattle.flagops_drive.specs.declared.fault.DriveRefusal.TheVariants as reason
 use Rattle.flagops_files.specs.Documents.{IsDocumentAt}
 use Rattle.flagops_files.specs.Files.{Holding, KeepsOthers, Stores}
-use Rattle.flagops_files.specs.Loading.{max_text, refused_by, tree_at}
+use Rattle.flagops_files.specs.Loading.{◌>>=◌, max_text, refused_by, tree_at}
 use Rattle.flagops_files.specs.Refusal.{GivesOne, is_want, unwritable}
 use Rattle.flagops_files.specs.Report.{Report, beside, done, outcome_view}
 use Rattle.flagops_files.specs.declared.outcome.Outcome.{Outcome}
 use Rattle.flagops_files.specs.declared.refused.Refused.{Refused}
+use Rattle.flagops_files.specs.declared.refusal.Call.TheVariants as call
 use Rattle.flagops_files.specs.declared.refusal.Refusal.{Refusal}
 use Rattle.flagops_files.specs.declared.refusal.Refusal.TheVariants.{Drive}
-use Rattle.flagops_commands.specs.Drive.{AreRead, IsDriveReport, IsDroveOf, IsWritten, KeepsUnlessDone, LeavesBook, before_at}
+use Rattle.flagops_commands.specs.Doubts.{settle}
+use Rattle.flagops_commands.specs.Drive.{AreRead, IsAnswered, IsDriveReport, IsDroveOf, IsWritten, KeepsUnlessDone, LeavesBook, admitted, before_at, doubt_of_asks, recorded}
 
 -- files that stayed until the storing
 pub kept_after : {E : Type 0} (old mid last new : Option Holding) (r : Result Outcome E) → mid ≡ old → last ≡ mid → KeepsUnlessDone last new r → KeepsUnlessDone old new r
@@ -70,41 +72,73 @@ module _ (path asks : List ℕ) (workers : ℕ) (book : List ℕ) (add strict js
 
       module _ (before : Option Contents) where
         pub not_driven : (old after : Option Holding) (e : Refused) → after ≡ old → IfSome old (λ at. IsDocumentAt at path (Ok flags)) → IfSome old (λ at. tree_at at asks max_text ≡ Ok t)
-            → IfSome old (λ at. before_at at book add ≡ Ok before) → (is_want e.refusal ≡ false → IsDroveOf (Ok flags) (Ok t) (Ok before) workers (Err e.refusal)) → Is old after (Err e)
+            → IfSome old (λ at. before_at at book add ≡ Ok before) → (is_want e.refusal ≡ false → IsDroveOf (Ok flags) (Ok t) (Ok before) workers strict json (Err e.refusal)) → Is old after (Err e)
         unfolding IsDriveReport
         not_driven None after e same document tree had drove = tt
         not_driven (Some at) after e same document tree had drove = λ wanted. (Ok flags, document, Err e.refusal, rw (tree, had) (drove wanted), (refl, same))
 
         pub driven : (old after : Option Holding) (d : Drove) (r : Result Outcome Refused) → IfSome old (λ at. IsDocumentAt at path (Ok flags)) → IfSome old (λ at. tree_at at asks max_text ≡ Ok t)
-            → IfSome old (λ at. before_at at book add ≡ Ok before) → IsDroveOf (Ok flags) (Ok t) (Ok before) workers (Ok d)
+            → IfSome old (λ at. before_at at book add ≡ Ok before) → IsDroveOf (Ok flags) (Ok t) (Ok before) workers strict json (Ok d)
             → IfSome old (λ at. GivesOne outcome_view r (IsWritten at after book (Ok d))) → Is old after r
         unfolding IsDriveReport
         driven None after d r document tree had drove written = tt
         driven (Some at) after d (Ok o) document tree had drove written = (Ok flags, document, Ok d, rw (tree, had) drove, written)
         driven (Some at) after d (Err e) document tree had drove written = λ wanted. (Ok flags, document, Ok d, rw (tree, had) drove, written wanted)
 
+-- ---- what the asks come to
+
+same_reason : {X : Type 0} (d e : DriveRefusal) → IsErrOf {T = X} (Err d) e → d ≡ e
+same_reason d e is = cc
+
+not_ok : {X : Type 0} (e : Refusal) → IsOk {T = Bool} (Err e) → X
+not_ok e h = cc
+
+-- what is refused before an ask is answered is what `drive` refuses, where nothing is doubted that is refused
+pub undriven_first : {X : Type 0} (strict : Bool) (o : Option DriveRefusal) (t : Shape) (d : DriveRefusal) → IsOk (settle call.Drive strict (doubt_of_asks t)) → ((first : DriveRefusal) → o ≡ Some first → IsErrOf {T = X} (Err d) first)
+    → (e : Refusal) → admitted strict o t ≡ Err e → Drive d ≡ e
+undriven_first strict None t d ok first e is = not_ok e (subst (λ (s : Result Bool Refusal). IsOk s) is ok)
+undriven_first strict (Some x) t d ok first e is =
+    let same : d ≡ x = same_reason d x (first x refl) in
+    let refused : Drive x ≡ e = cc in
+    ap Drive same ∙ refused
+
+-- asks that are not refused before one is answered
+admits : (strict : Bool) (o : Option DriveRefusal) (t : Shape) (noted : Bool) → admitted strict o t ≡ Ok noted → settle call.Drive strict (doubt_of_asks t) ≡ Ok noted
+admits strict None t noted is = is
+admits strict (Some e) t noted is = cc
+
+answered : (flags : Definitions) (o : Option (List Ask)) (workers : ℕ) (before : Option Contents) (json : Bool) (d : Drove) → IsDriveOf flags o workers before json (Ok d) → (workers_refusal workers ≡ None) × (is_some o ≡ true)
+answered flags None workers before json d is = cc
+answered flags (Some asks) workers before json d is = (ap (option_map reason.Drive) is.0, refl)
+
 -- ---- what is left
 
-made : (flags : Definitions) (o : Option (List Ask)) (workers : ℕ) (before : Option Contents) (d : Drove) → IsDriveOf flags o workers before (Ok d) → (workers_refusal workers ≡ None) × (is_some o ≡ true)
-made flags None workers before d is = cc
-made flags (Some asks) workers before d is = (ap (option_map reason.Drive) is.0, refl)
-
-drove_by : (flags : Definitions) (t : Shape) (workers : ℕ) (before : Option Contents) (d : Drove) → IsDroveOf (Ok flags) (Ok t) (Ok before) workers (Ok d)
-    → (workers_refusal workers ≡ None) × (is_some (asks_of t) ≡ true)
-drove_by flags t workers before d drove = go drove.0 drove.1 drove.2
+-- asks that came to something were admitted
+drove_by : (flags : Definitions) (t : Shape) (workers : ℕ) (before : Option Contents) (strict json : Bool) (d : Drove) → IsDroveOf (Ok flags) (Ok t) (Ok before) workers strict json (Ok d)
+    → (workers_refusal workers ≡ None) × (is_some (asks_of t) ≡ true) × IsOk (settle call.Drive strict (doubt_of_asks t))
+drove_by flags t workers before strict json d came = go (admitted strict (refusal_of (asks_of t) workers) t) refl came
   where
-    go : (r : Result Drove DriveRefusal) → IsDriveOf flags (asks_of t) workers before r → Ok d ≡ refused_by Drive r → (workers_refusal workers ≡ None) × (is_some (asks_of t) ≡ true)
-    go (Ok x) is same = made flags (asks_of t) workers before x is
-    go (Err e) is same = cc
+    made : (noted : Bool) → admitted strict (refusal_of (asks_of t) workers) t ≡ Ok noted → (r : Result Drove DriveRefusal) → IsDriveOf flags (asks_of t) workers before json r → Ok d ≡ (refused_by Drive r >>= recorded strict)
+        → (workers_refusal workers ≡ None) × (is_some (asks_of t) ≡ true) × IsOk (settle call.Drive strict (doubt_of_asks t))
+    made noted is (Ok x) drove same =
+        let fit : (workers_refusal workers ≡ None) × (is_some (asks_of t) ≡ true) = answered flags (asks_of t) workers before json x drove in
+        let settled : settle call.Drive strict (doubt_of_asks t) ≡ Ok noted = admits strict (refusal_of (asks_of t) workers) t noted is in
+        (fit.0, fit.1, subst (λ (s : Result Bool Refusal). IsOk s) (sym settled) refl)
+    made noted is (Err e) drove same = cc
 
-pub left_by_storing : (path asks : List ℕ) (workers : ℕ) (book : List ℕ) (add : Bool) (flags : Definitions) (t : Shape) (before : Option Contents) (old after : Option Holding) (d : Drove)
+    go : (a : Result Bool Refusal) → admitted strict (refusal_of (asks_of t) workers) t ≡ a → IsAnswered a flags t before workers strict json (Ok d)
+        → (workers_refusal workers ≡ None) × (is_some (asks_of t) ≡ true) × IsOk (settle call.Drive strict (doubt_of_asks t))
+    go (Ok noted) is came = made noted is came.0 came.1 came.2
+    go (Err e) is came = cc
+
+pub left_by_storing : (path asks : List ℕ) (workers : ℕ) (book : List ℕ) (add strict json : Bool) (flags : Definitions) (t : Shape) (before : Option Contents) (old after : Option Holding) (d : Drove)
     → IfSome old (λ at. IsDocumentAt at path (Ok flags)) → IfSome old (λ at. tree_at at asks max_text ≡ Ok t) → IfSome old (λ at. before_at at book add ≡ Ok before)
-    → IsDroveOf (Ok flags) (Ok t) (Ok before) workers (Ok d) → KeepsOthers old after book → LeavesBook old after path asks workers book add
-left_by_storing path asks workers book add flags t before old after d document tree had drove kept =
-    let fit : (workers_refusal workers ≡ None) × (is_some (asks_of t) ≡ true) = drove_by flags t workers before d drove in
-    inr (fit.0, read old document tree had fit.1, kept)
+    → IsDroveOf (Ok flags) (Ok t) (Ok before) workers strict json (Ok d) → KeepsOthers old after book → LeavesBook old after path asks workers book add strict
+left_by_storing path asks workers book add strict json flags t before old after d document tree had drove kept =
+    let fit : (workers_refusal workers ≡ None) × (is_some (asks_of t) ≡ true) × IsOk (settle call.Drive strict (doubt_of_asks t)) = drove_by flags t workers before strict json d drove in
+    inr (fit.0, read old document tree had fit.1 fit.2, kept)
   where
     read : (h : Option Holding) → IfSome h (λ at. IsDocumentAt at path (Ok flags)) → IfSome h (λ at. tree_at at asks max_text ≡ Ok t) → IfSome h (λ at. before_at at book add ≡ Ok before)
-        → is_some (asks_of t) ≡ true → IfSome h (λ at. AreRead at path asks book add)
-    read None document tree had some = tt
-    read (Some at) document tree had some = (flags, document, t, tree, some, before, had)
+        → is_some (asks_of t) ≡ true → IsOk (settle call.Drive strict (doubt_of_asks t)) → IfSome h (λ at. AreRead at path asks book add strict)
+    read None document tree had some ok = tt
+    read (Some at) document tree had some ok = (flags, document, t, tree, some, ok, before, had)

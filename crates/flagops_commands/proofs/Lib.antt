@@ -1,6 +1,5 @@
 pub mod AddedUp
 mod Asked
-pub mod Checked
 pub mod Driving
 mod Distinct
 mod Doubting
@@ -8,6 +7,7 @@ mod Gathered
 pub mod Hexadecimal
 mod Keeping
 pub mod Leaving
+mod Members
 mod Noted
 mod Passed
 pub mod Refusing

@@ -1,10 +1,11 @@
--- What `drive` refuses: by name where the workers or the asks are wrong, and before any file is stored.
+-- What `drive` refuses: by name where the workers or the asks are wrong or a member is not read, and before any file is stored.
 use Rattle.std.proofs.Common.{◌≡◌, ◌∙◌, ◌||◌, ℕ, List, Option, Some, None, Bool, true, false, IfSome, inl, refl, sym, ap, subst}
-use Rattle.std.specs.Prelude.{Result, Ok}
+use Rattle.std.specs.Prelude.{if◌then◌else◌, Result, Ok, Err}
 use Rattle.flag_text.specs.Shape.{Shape}
 use Rattle.flagops_drive.proofs.Named.{is_refused, named}
 use Rattle.flagops_drive.specs.Asks.{Ask, asks_of}
 use Rattle.flagops_drive.specs.Driven.{refusal_of, workers_refusal}
+use Rattle.flagops_drive.specs.Unread.{has_unread_ask}
 use Rattle.flagops_drive.specs.declared.fault.DriveRefusal.{DriveRefusal}
 use Rattle.flagops_drive.specs.declared.fault.DriveRefusal.TheVariants.{BadAsks}
 use Rattle.flagops_files.specs.Files.{Holding}
@@ -13,9 +14,11 @@ use Rattle.flagops_files.specs.Refusal.{call_of, is_want}
 use Rattle.flagops_files.specs.declared.refusal.Call.{Call}
 use Rattle.flagops_files.specs.declared.refusal.Call.TheVariants as call
 use Rattle.flagops_files.specs.declared.refusal.Refusal.{Refusal}
-use Rattle.flagops_files.specs.declared.refusal.Refusal.TheVariants.{Drive}
+use Rattle.flagops_files.specs.declared.refusal.Doubt.TheVariants as doubt
+use Rattle.flagops_files.specs.declared.refusal.Refusal.TheVariants.{Drive, Doubted}
 use Rattle.flagops_files.specs.declared.refused.Refused.{Refused}
-use Rattle.flagops_commands.specs.Drive.{HasNoAsks, IsRefusedByName, KeepsUnlessDone}
+use Rattle.flagops_commands.specs.Doubts.{settle}
+use Rattle.flagops_commands.specs.Drive.{HasNoAsks, HasUnreadAsk, IsRefusedByName, KeepsUnlessDone, admitted}
 use Rattle.flagops_files.specs.declared.outcome.Outcome.{Outcome}
 
 differs : {X : Type 0} → true ≡ false → X
@@ -25,52 +28,69 @@ differs h = cc
 pub by_another : (calls : Call → Bool) (r : Refusal) → calls call.Drive ≡ false → calls (call_of r) ≡ true → call_of r ≡ call.Drive → is_want r ≡ false
 by_another calls r apart made is = differs (sym made ∙ (ap calls is ∙ apart))
 
--- ---- the number of workers
+-- ---- what is refused before an ask is answered
 
--- a refusal by `drive` itself
-pub by_workers : (o : Option (List Ask)) (workers : ℕ) (e : DriveRefusal) (r : Refusal) → workers_refusal workers ≡ Some e → ((d : DriveRefusal) → refusal_of o workers ≡ Some d → r ≡ Drive d) → is_want r ≡ false
-by_workers o workers e r wrong refused =
-    let found : (d : DriveRefusal) × (refusal_of o workers ≡ Some d) = is_refused o workers e wrong in
-    ap is_want (refused found.0 found.1) ∙ named o workers found.0 found.1
+-- asks are refused so, and not for want of memory
+abbrev pub AreRefused : Bool → Shape → ℕ → Type 0
+AreRefused strict t workers = (x : Refusal) × (admitted strict (refusal_of (asks_of t) workers) t ≡ Err x) × (is_want x ≡ false)
 
--- wrong workers drive nothing
-pub none_driven : (o : Option (List Ask)) (workers : ℕ) (e : DriveRefusal) → workers_refusal workers ≡ Some e → ((d : DriveRefusal) → refusal_of o workers ≡ Some d → ⊥) → ⊥
-none_driven o workers e wrong refused = let found : (d : DriveRefusal) × (refusal_of o workers ≡ Some d) = is_refused o workers e wrong in refused found.0 found.1
+-- and then so is what was returned
+pub by_name : (strict : Bool) (t : Shape) (workers : ℕ) (r : Refusal) → AreRefused strict t workers → ((x : Refusal) → admitted strict (refusal_of (asks_of t) workers) t ≡ Err x → r ≡ x) → is_want r ≡ false
+by_name strict t workers r are refused = ap is_want (refused are.0 are.1) ∙ are.2
 
--- ---- no asks
+pub none_driven : (strict : Bool) (t : Shape) (workers : ℕ) → AreRefused strict t workers → ((x : Refusal) → admitted strict (refusal_of (asks_of t) workers) t ≡ Err x → ⊥) → ⊥
+none_driven strict t workers are refused = refused are.0 are.1
 
--- whatever the file of the asks has
-pub in_any_case : {X : Type 0} (h : Option Holding) (path : List ℕ) (r : Result X Refused) → IsRefusedByName r → IfSome h (λ at. HasNoAsks at path → IsRefusedByName r)
-in_any_case None path r named = tt
-in_any_case (Some at) path r named = λ _. named
+-- what `drive` itself refuses
+by_drive : (strict : Bool) (t : Shape) (workers : ℕ) (e : DriveRefusal) → refusal_of (asks_of t) workers ≡ Some e → AreRefused strict t workers
+by_drive strict t workers e is = (Drive e, ap (λ (o : Option DriveRefusal). admitted strict o t) is, named (asks_of t) workers e is)
 
--- the tree that was loaded is no list of asks
-no_asks : (at : Holding) (path : List ℕ) (t : Shape) → tree_at at path max_text ≡ Ok t → HasNoAsks at path → asks_of t ≡ None
-no_asks at path t loaded has = go has.0 has.1 has.2
+-- a wrong number of workers
+pub wrong_workers : (strict : Bool) (t : Shape) (workers : ℕ) (e : DriveRefusal) → workers_refusal workers ≡ Some e → AreRefused strict t workers
+wrong_workers strict t workers e wrong = let found : (d : DriveRefusal) × (refusal_of (asks_of t) workers ≡ Some d) = is_refused (asks_of t) workers e wrong in by_drive strict t workers found.0 found.1
+
+-- no list of asks
+no_asks : (strict : Bool) (t : Shape) (workers : ℕ) → asks_of t ≡ None → AreRefused strict t workers
+no_asks strict t workers none = by_drive strict t workers BadAsks (ap (λ (o : Option (List Ask)). refusal_of o workers) none)
+
+-- a member that is not read
+unread : (t : Shape) (workers : ℕ) → has_unread_ask t ≡ true → AreRefused true t workers
+unread t workers has = go (refusal_of (asks_of t) workers) refl
   where
-    go : (s : Shape) → tree_at at path max_text ≡ Ok s → asks_of s ≡ None → asks_of t ≡ None
-    go s is none = let same : s ≡ t = cc in subst (λ (u : Shape). asks_of u ≡ None) same none
+    go : (o : Option DriveRefusal) → refusal_of (asks_of t) workers ≡ o → AreRefused true t workers
+    go (Some e) is = by_drive true t workers e is
+    go None is = (Doubted call.Drive doubt.Unread, ap (λ (o : Option DriveRefusal). admitted true o t) is ∙ ap (λ (b : Bool). settle call.Drive true (if b then Some doubt.Unread else None)) has, refl)
 
-module _ (path : List ℕ) (t : Shape) (workers : ℕ) where
-  refused_first : asks_of t ≡ None → refusal_of (asks_of t) workers ≡ Some BadAsks
-  refused_first none = ap (λ (o : Option (List Ask)). refusal_of o workers) none
+-- ---- the file of the asks
 
-  pub by_asks : (old mid : Option Holding) (e : Refused) → mid ≡ old → IfSome mid (λ at. tree_at at path max_text ≡ Ok t)
-      → ((d : DriveRefusal) → refusal_of (asks_of t) workers ≡ Some d → e.refusal ≡ Drive d) → IfSome old (λ at. HasNoAsks at path → call_of e.refusal ≡ call.Drive → is_want e.refusal ≡ false)
-  by_asks old mid e same loaded refused = go old (subst (λ (h : Option Holding). IfSome h (λ at. tree_at at path max_text ≡ Ok t)) same loaded)
-    where
-      go : (h : Option Holding) → IfSome h (λ at. tree_at at path max_text ≡ Ok t) → IfSome h (λ at. HasNoAsks at path → call_of e.refusal ≡ call.Drive → is_want e.refusal ≡ false)
-      go None loaded = tt
-      go (Some at) loaded = λ has _. ap is_want (refused BadAsks (refused_first (no_asks at path t loaded has)))
+-- whatever it has
+pub in_any_case : {X : Type 0} (P : Holding → Type 0) (h : Option Holding) (r : Result X Refused) → IsRefusedByName r → IfSome h (λ at. P at → IsRefusedByName r)
+in_any_case P None r refused = tt
+in_any_case P (Some at) r refused = λ _. refused
 
-  -- such a tree drives nothing
-  pub no_asks_driven : {X : Type 0} (old mid : Option Holding) (r : Result X Refused) → mid ≡ old → IfSome mid (λ at. tree_at at path max_text ≡ Ok t)
-      → ((d : DriveRefusal) → refusal_of (asks_of t) workers ≡ Some d → ⊥) → IfSome old (λ at. HasNoAsks at path → IsRefusedByName r)
-  no_asks_driven {X} old mid r same loaded refused = go old (subst (λ (h : Option Holding). IfSome h (λ at. tree_at at path max_text ≡ Ok t)) same loaded)
+pub in_any_mode : {X : Type 0} (P : Holding → Type 0) (h : Option Holding) (strict : Bool) (r : Result X Refused) → IsRefusedByName r → IfSome h (λ at. strict ≡ true → P at → IsRefusedByName r)
+in_any_mode P None strict r refused = tt
+in_any_mode P (Some at) strict r refused = λ _ _. refused
+
+-- the tree that was loaded is the one that the file has
+same_tree : (P : Shape → Type 0) (at : Holding) (path : List ℕ) (s t : Shape) → tree_at at path max_text ≡ Ok t → tree_at at path max_text ≡ Ok s → P s → P t
+same_tree P at path s t loaded is has = let same : s ≡ t = cc in subst P same has
+
+module _ (path : List ℕ) (t : Shape) (strict : Bool) (workers : ℕ) {X : Type 0} (old mid : Option Holding) (r : Result X Refused) where
+  pub for_no_asks : mid ≡ old → IfSome mid (λ at. tree_at at path max_text ≡ Ok t) → (AreRefused strict t workers → IsRefusedByName r) → IfSome old (λ at. HasNoAsks at path → IsRefusedByName r)
+  for_no_asks same loaded refused = go old (subst (λ (h : Option Holding). IfSome h (λ at. tree_at at path max_text ≡ Ok t)) same loaded)
     where
       go : (h : Option Holding) → IfSome h (λ at. tree_at at path max_text ≡ Ok t) → IfSome h (λ at. HasNoAsks at path → IsRefusedByName r)
       go None loaded = tt
-      go (Some at) loaded = λ has. absurd (refused BadAsks (refused_first (no_asks at path t loaded has)))
+      go (Some at) loaded = λ has. refused (no_asks strict t workers (same_tree (λ (u : Shape). asks_of u ≡ None) at path has.0 t loaded has.1 has.2))
+
+  pub for_unread : mid ≡ old → IfSome mid (λ at. tree_at at path max_text ≡ Ok t) → (AreRefused strict t workers → IsRefusedByName r) → IfSome old (λ at. strict ≡ true → HasUnreadAsk at path → IsRefusedByName r)
+  for_unread same loaded refused = go old (subst (λ (h : Option Holding). IfSome h (λ at. tree_at at path max_text ≡ Ok t)) same loaded)
+    where
+      go : (h : Option Holding) → IfSome h (λ at. tree_at at path max_text ≡ Ok t) → IfSome h (λ at. strict ≡ true → HasUnreadAsk at path → IsRefusedByName r)
+      go None loaded = tt
+      go (Some at) loaded = λ is has.
+          refused (subst (λ (b : Bool). AreRefused b t workers) (sym is) (unread t workers (same_tree (λ (u : Shape). has_unread_ask u ≡ true) at path has.0 t loaded has.1 has.2)))
 
 -- ---- the files
 

@@ -157,11 +157,11 @@ module _ (asks : TalliesAskAsBooks) (refining : Refining) (flags : Definitions) 
         let alike = asks refining flags request book t p of is in
         subst (λ (b : Result Problem RolloutFault). IsShown b answer) (sym alike.0) (shown (inputs_on book t.page) alike.1)
 
-  told_beside : (strict : Bool) (answer : Answer) (verdict : Result (Unit {0}) VerifyFault) (r : Result TallyProblem RolloutFault) → tally_problem_of refining flags request t ≡ r → IsTallyOutcome r answer verdict
-      → told (settle call.Verify strict (doubt_of (over flags request (Tally t)))) answer verdict ≡ told (settle call.Verify strict (doubt_of (over flags request (Book book)))) answer verdict
-  told_beside strict answer (Err e) r is outcome = refl
-  told_beside strict answer (Ok u) (Err f) is outcome = absurd outcome
-  told_beside strict answer (Ok u) (Ok p) is outcome = ap (λ (d : Option Doubt). told (settle call.Verify strict d) answer (Ok u)) (doubted_alike refining flags request book t p of is)
+  told_beside : (strict json : Bool) (answer : Answer) (verdict : Result (Unit {0}) VerifyFault) (r : Result TallyProblem RolloutFault) → tally_problem_of refining flags request t ≡ r → IsTallyOutcome r answer verdict
+      → told json (settle call.Verify strict (doubt_of (over flags request (Tally t)))) answer verdict ≡ told json (settle call.Verify strict (doubt_of (over flags request (Book book)))) answer verdict
+  told_beside strict json answer (Err e) r is outcome = refl
+  told_beside strict json answer (Ok u) (Err f) is outcome = absurd outcome
+  told_beside strict json answer (Ok u) (Ok p) is outcome = ap (λ (d : Option Doubt). told json (settle call.Verify strict d) answer (Ok u)) (doubted_alike refining flags request book t p of is)
 
 -- ---- the laws
 
@@ -189,21 +189,21 @@ plans_alike counts asks strict explain refine flags request book t r of apart = 
         )
 
 pub tells_alike : TalliesAskAsBooks → TalliesTellAsBooks
-tells_alike asks strict None flags request book t answer r of apart (verdict, may, is) =
+tells_alike asks strict json None flags request book t answer r of apart (verdict, may, is) =
     let refining = refining_for answer in (
       verdict,
       record {
         told = told_to asks refining flags request book t of apart answer verdict (tally_problem_of refining flags request t) refl may.told;
         shown = on_ok verdict (shown_to asks refining flags request book t of apart answer verdict (tally_problem_of refining flags request t) refl) may.shown;
       },
-      is ∙ told_beside asks refining flags request book t of apart strict answer verdict (tally_problem_of refining flags request t) refl may.told,
+      is ∙ told_beside asks refining flags request book t of apart strict json answer verdict (tally_problem_of refining flags request t) refl may.told,
     )
-tells_alike asks strict (Some m) flags request book t answer r of apart (verdict, may, is) =
+tells_alike asks strict json (Some m) flags request book t answer r of apart (verdict, may, is) =
     let refining = Times m in (
       verdict,
       record {
         told = told_to asks refining flags request book t of apart answer verdict (tally_problem_of refining flags request t) refl may.told;
         shown = on_ok verdict (shown_to asks refining flags request book t of apart answer verdict (tally_problem_of refining flags request t) refl) may.shown;
       },
-      is ∙ told_beside asks refining flags request book t of apart strict answer verdict (tally_problem_of refining flags request t) refl may.told,
+      is ∙ told_beside asks refining flags request book t of apart strict json answer verdict (tally_problem_of refining flags request t) refl may.told,
     )

@@ -127,18 +127,18 @@ module _ (flags : Definitions) (request : List ℕ) where
 
 -- ---- what proves a problem is told as valid
 
-told_valid : (b : Bool) (p : Problem) (answer : Answer) (verdict : Result (Unit {0}) VerifyFault) → Proves p answer → IsOutcome (Ok p) answer verdict → IsValid answer (told (Ok b) answer verdict)
-told_valid b p answer (Ok u) proves h = (refl, refl)
-told_valid b p answer (Err (Request e)) proves h = rw h refl
-told_valid b p answer (Err (Check check.WantOfMemory)) proves h = refl
-told_valid b p answer (Err (Check check.Weight)) proves h = absurd (h.wrong (λ same. cc) proves)
-told_valid b p answer (Err (Check check.Totals)) proves h = absurd (h.wrong (λ same. cc) proves)
-told_valid b p answer (Err (Check (check.Forbidden point))) proves h = absurd (h.wrong (λ same. cc) proves)
-told_valid b p answer (Err (Check (check.Slack name count variant))) proves h = absurd (h.wrong (λ same. cc) proves)
-told_valid b p answer (Err (Check check.Sum)) proves h = absurd (h.wrong (λ same. cc) proves)
-told_valid b p answer (Err (Check check.Cost)) proves h = absurd (h.wrong (λ same. cc) proves)
-told_valid b p answer (Err (Check check.NotDeficient)) proves h = absurd (h.wrong (λ same. cc) proves)
-told_valid b p answer (Err (Check check.Groups)) proves h = absurd (h.wrong (λ same. cc) proves)
+told_valid : (json b : Bool) (p : Problem) (answer : Answer) (verdict : Result (Unit {0}) VerifyFault) → Proves p answer → IsOutcome (Ok p) answer verdict → IsValid json answer (told json (Ok b) answer verdict)
+told_valid json b p answer (Ok u) proves h = (refl, refl)
+told_valid json b p answer (Err (Request e)) proves h = rw h refl
+told_valid json b p answer (Err (Check check.WantOfMemory)) proves h = refl
+told_valid json b p answer (Err (Check check.Weight)) proves h = absurd (h.wrong (λ same. cc) proves)
+told_valid json b p answer (Err (Check check.Totals)) proves h = absurd (h.wrong (λ same. cc) proves)
+told_valid json b p answer (Err (Check (check.Forbidden point))) proves h = absurd (h.wrong (λ same. cc) proves)
+told_valid json b p answer (Err (Check (check.Slack name count variant))) proves h = absurd (h.wrong (λ same. cc) proves)
+told_valid json b p answer (Err (Check check.Sum)) proves h = absurd (h.wrong (λ same. cc) proves)
+told_valid json b p answer (Err (Check check.Cost)) proves h = absurd (h.wrong (λ same. cc) proves)
+told_valid json b p answer (Err (Check check.NotDeficient)) proves h = absurd (h.wrong (λ same. cc) proves)
+told_valid json b p answer (Err (Check check.Groups)) proves h = absurd (h.wrong (λ same. cc) proves)
 
 -- what is told of all inputs with these counts is told of some of them
 pub outcome_over : (p : TallyProblem) (inputs : Inputs) (answer : Answer) (verdict : Result (Unit {0}) VerifyFault) → AreTallied p inputs → IsTallyOutcome (Ok p) answer verdict → IsOutcome (Ok (with_inputs p inputs)) answer verdict
@@ -146,26 +146,26 @@ outcome_over p inputs answer (Ok u) tallied h = h inputs tallied
 outcome_over p inputs answer (Err (Request e)) tallied h = h
 outcome_over p inputs answer (Err (Check e)) tallied h = h inputs tallied
 
-module _ (refine : Option ℕ) (flags : Definitions) (request : List ℕ) (answer : Planned) (b : Bool) (verdict : Result (Unit {0}) VerifyFault) where
+module _ (refine : Option ℕ) (flags : Definitions) (request : List ℕ) (answer : Planned) (json b : Bool) (verdict : Result (Unit {0}) VerifyFault) where
   book_right : (book : Contents) (r : Result Problem RolloutFault) → problem_refined (unwrap_or refine 1) flags request book ≡ r → IsPlanned r (Ok answer) → IsToldOn refine (planned_view answer) flags request (Book book) verdict
-      → IsValid (planned_view answer) (told (Ok b) (planned_view answer) verdict)
+      → IsValid json (planned_view answer) (told json (Ok b) (planned_view answer) verdict)
   book_right book (Err f) e plan outcome = absurd plan
   book_right book (Ok p) e plan outcome =
-      told_valid b p (planned_view answer) verdict plan.proves
+      told_valid json b p (planned_view answer) verdict plan.proves
       (subst (λ (it : Result Problem RolloutFault). IsOutcome it (planned_view answer) verdict) (same_problem flags request refine (planned_view answer) book p e plan.proves) outcome)
 
   tally_right : (tally : PageTally) (inputs : Inputs) → tally.counts ≡ counts_of inputs tally.total → (r : Result TallyProblem RolloutFault) → tally_problem_of (Times (unwrap_or refine 1)) flags request tally ≡ r
-      → IsTallyPlanned r (Ok answer) → IsToldOn refine (planned_view answer) flags request (Tally tally) verdict → IsValid (planned_view answer) (told (Ok b) (planned_view answer) verdict)
+      → IsTallyPlanned r (Ok answer) → IsToldOn refine (planned_view answer) flags request (Tally tally) verdict → IsValid json (planned_view answer) (told json (Ok b) (planned_view answer) verdict)
   tally_right tally inputs of (Err f) e plan outcome = absurd plan
   tally_right tally inputs of (Ok p) e plan outcome =
       let tallied = are_tallied (Times (unwrap_or refine 1)) flags request tally p inputs e of in
       let proves = (plan inputs tallied).proves in
-      told_valid b (with_inputs p inputs) (planned_view answer) verdict proves
+      told_valid json b (with_inputs p inputs) (planned_view answer) verdict proves
       (outcome_over p inputs (planned_view answer) verdict tallied
       (subst (λ (it : Result TallyProblem RolloutFault). IsTallyOutcome it (planned_view answer) verdict) (same_tally_problem flags request refine (planned_view answer) tally p inputs e proves) outcome))
 
   right_on : (evidence : Evidence) → IsOfInputs evidence → IsPlannedOn (unwrap_or refine 1) flags request evidence (Ok answer) → IsToldOn refine (planned_view answer) flags request evidence verdict
-      → IsValid (planned_view answer) (told (Ok b) (planned_view answer) verdict)
+      → IsValid json (planned_view answer) (told json (Ok b) (planned_view answer) verdict)
   right_on (Book book) of plan outcome = book_right book (problem_refined (unwrap_or refine 1) flags request book) refl plan outcome
   right_on (Tally tally) (inputs, of) plan outcome = tally_right tally inputs of (tally_problem_of (Times (unwrap_or refine 1)) flags request tally) refl plan outcome
 
@@ -189,9 +189,9 @@ module _ (refine : Option ℕ) (q : Question) (report : Report) (p : Planned) wh
   planned_valid of may holds = record {
     answer = planned_view p;
     holds = holds;
-    valid = λ at path r is told_of.
-        let verdict : IsVerdict false refine (Ok q) (Ok (planned_view p)) r = subst (λ (it : Result Answer Refusal). IsVerdict false refine (Ok q) it r) (saved_plan at path report.text (planned_view p) is holds) told_of in
-        subst (IsValid (planned_view p)) (sym verdict.2) (right_on refine q.flags q.request p (is_some (doubt_of q)) verdict.0 q.evidence of may.answers verdict.1.told);
+    valid = λ json at path r is told_of.
+        let verdict : IsVerdict false json refine (Ok q) (Ok (planned_view p)) r = subst (λ (it : Result Answer Refusal). IsVerdict false json refine (Ok q) it r) (saved_plan at path report.text (planned_view p) is holds) told_of in
+        subst (IsValid json (planned_view p)) (sym verdict.2) (right_on refine q.flags q.request p json (is_some (doubt_of q)) verdict.0 q.evidence of may.answers verdict.1.told);
   }
 
 pub plans_are_valid : (strict explain : Bool) (refine : Option ℕ) (q : Question) (report : Report) → IsOfInputs q.evidence → IsPlanOf strict explain refine (Ok q) (Ok report) → IsValidPlan refine q report.text

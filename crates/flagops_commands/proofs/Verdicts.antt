@@ -25,13 +25,13 @@ joined {P} {Q} {R} old kept same p q both = go old p (subst (λ (h : Option Hold
 
 module _ (document request book plan : List ℕ) (refine : Option ℕ) (strict json : Bool) (q : Question) (answer : Answer) where
   verified_over : (at : Holding) (r : Result Outcome Refused) → IsQuestionAt at document request book (Ok q) → plan_at at plan ≡ Ok answer
-      → GivesOne outcome_view r (IsVerdict strict refine (Ok q) (Ok answer)) → GivesOne outcome_view r (IsVerifyReport at document request book plan refine strict json)
+      → GivesOne outcome_view r (IsVerdict strict json refine (Ok q) (Ok answer)) → GivesOne outcome_view r (IsVerifyReport at document request book plan refine strict json)
   unfolding IsVerifyReport
   verified_over at (Ok o) asked answered told = (Ok q, asked, rw answered told)
   verified_over at (Err e) asked answered told = λ no. (Ok q, asked, rw answered (told no))
 
   pub verified : (old kept : Option Holding) (r : Result Outcome Refused) → kept ≡ old → IfSome old (λ at. IsQuestionAt at document request book (Ok q))
-      → IfSome kept (λ at. plan_at at plan ≡ Ok answer) → GivesOne outcome_view r (IsVerdict strict refine (Ok q) (Ok answer))
+      → IfSome kept (λ at. plan_at at plan ≡ Ok answer) → GivesOne outcome_view r (IsVerdict strict json refine (Ok q) (Ok answer))
       → IfSome old (λ at. GivesOne outcome_view r (IsVerifyReport at document request book plan refine strict json))
   verified old kept r same asked answered told = joined old kept same asked answered (λ at a b. verified_over at r a b told)
 

@@ -1,5 +1,5 @@
 -- What the command `bucket` answers.
-use Rattle.std.specs.Prelude.{ℕ, zero, suc, ◌/◌, ◌%◌, List, [], ◌∷◌, ◌++◌, Bool, false, codes, decimal, unwrap_or, Result}
+use Rattle.std.specs.Prelude.{ℕ, zero, suc, ◌/◌, ◌%◌, List, [], ◌∷◌, ◌++◌, Bool, false, codes, decimal, if◌then◌else◌, unwrap_or, Result}
 use Rattle.std.specs.Fmt.{digit_glyph}
 use Rattle.murmur_core.specs.Murmur.{hash}
 use Rattle.flag_text.specs.Shape.{text}
@@ -31,8 +31,16 @@ chosen r key = unwrap_or (choice r key) []
 unfoldable pub bucket_text : Entries → List ℕ → List ℕ
 bucket_text r key = three_lines (eight_hex_digits (hash key 0)) (decimal (point_of (total_weight r) key)) (text_of (text (chosen r key)))
 
--- the same three lines, of the rule of a rule file
+-- {"hash":..,"point":..,"variant":..} and a line feed
+abbrev pub three_members : List ℕ → List ℕ → List ℕ → List ℕ
+three_members digits point name = codes "{\"hash\":\"" ++ (digits ++ (codes "\",\"point\":" ++ (point ++ (codes ",\"variant\":" ++ (name ++ codes "}\n")))))
+
+-- the same hash, point and variant as one JSON text
+unfoldable pub bucket_json : Entries → List ℕ → List ℕ
+bucket_json r key = three_members (eight_hex_digits (hash key 0)) (decimal (point_of (total_weight r) key)) (text_of (text (chosen r key)))
+
+-- what is printed of the rule of a rule file: the lines, or with `--json` the JSON text
 unfoldable pub bucket_report : Holding → List ℕ → List ℕ → Bool → Result Report Refusal
 bucket_report at rule key json = do
   r ← rule_at at rule
-  done (bucket_text r key)
+  done (if json then bucket_json r key else bucket_text r key)

@@ -40,7 +40,7 @@ IsRunOutcome at after has_failed asked r = IsOutcome at after asked r × (IsFile
 -- a command leaves the files as they are; `drive` and `apply --keep --write` change the one file that they write, and only where there is something to write
 abbrev pub Leaves : Asked → Option Holding → Option Holding → Type 0
 Leaves (keep document file request book write refine strict) old new = LeavesDocument old new document write
-Leaves (drive document file workers book add strict json) old new = LeavesBook old new document file workers book add
+Leaves (drive document file workers book add strict json) old new = LeavesBook old new document file workers book add strict
 Leaves asked old new = new ≡ old
 
 -- words that ask for no command leave them

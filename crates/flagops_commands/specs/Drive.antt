@@ -1,11 +1,13 @@
 -- What the command `drive` answers, and the book that it writes.
-use Rattle.std.specs.Prelude.{◌≡◌, ◌⊎◌, ℕ, Bool, List, true, false, Option, Some, None, is_some, IfSome, Result, Ok, Err, IsErrAnd, IsOkAnd}
+use Rattle.std.specs.Prelude.{◌≡◌, ◌⊎◌, ℕ, ◌==◌, Bool, List, true, false, if◌then◌else◌, Option, Some, None, is_some, IfSome, Result, Ok, Err, IsErrAnd, IsOk, IsOkAnd}
 use Rattle.book_core.specs.Book.{Contents}
 use Rattle.flag_documents.specs.Document.{Definitions}
 use Rattle.flag_text.specs.Shape.{Shape}
 use Rattle.flagops_drive.specs.Asks.{asks_of}
-use Rattle.flagops_drive.specs.Driven.{Drove, IsDriveOf, workers_refusal}
+use Rattle.flagops_drive.specs.Driven.{Drove, IsDriveOf, refusal_of, workers_refusal}
+use Rattle.flagops_drive.specs.Unread.{has_unread_ask}
 use Rattle.flagops_drive.specs.declared.fault.DriveRefusal.{DriveRefusal}
+use Rattle.flagops_commands.specs.Doubts.{settle}
 use Rattle.flagops_files.specs.Documents.{IsDocumentAt}
 use Rattle.flagops_files.specs.Files.{Holding, KeepsOthers, Stores}
 use Rattle.flagops_files.specs.Loading.{◌>>=◌, max_text, refused_by, tree_at}
@@ -14,6 +16,8 @@ use Rattle.flagops_files.specs.Refusal.{call_of, is_want, unwritable}
 use Rattle.flagops_files.specs.Report.{Outcomes, beside, done, status_number}
 use Rattle.flagops_files.specs.declared.outcome.Outcome.{Outcome}
 use Rattle.flagops_files.specs.declared.refusal.Call.TheVariants as call
+use Rattle.flagops_files.specs.declared.refusal.Doubt.{Doubt}
+use Rattle.flagops_files.specs.declared.refusal.Doubt.TheVariants as doubt
 use Rattle.flagops_files.specs.declared.refusal.Refusal.{Refusal}
 use Rattle.flagops_files.specs.declared.refusal.Refusal.TheVariants.{Drive}
 use Rattle.flagops_files.specs.declared.refused.Refused.{Refused}
@@ -23,12 +27,35 @@ unfoldable pub before_at : Holding → List ℕ → Bool → Result (Option Cont
 before_at at book false = replaceable_at at book >>= λ _. Ok None
 before_at at book true = book_at at book >>= λ before. Ok (Some before)
 
+-- what is doubted of asks: a member of one of them is not read
+abbrev pub doubt_of_asks : Shape → Option Doubt
+doubt_of_asks t = if has_unread_ask t then Some doubt.Unread else None
+
+-- and of what they came to: they reached no input, so nothing was recorded
+abbrev pub doubt_of_drove : Drove → Option Doubt
+doubt_of_drove d = if d.reached == 0 then Some doubt.Unrecorded else None
+
+-- why asks are refused before one of them is answered: by `drive` itself, or for what is doubted of them
+abbrev pub admitted : Bool → Option DriveRefusal → Shape → Result Bool Refusal
+admitted strict (Some e) t = Err (Drive e)
+admitted strict None t = settle call.Drive strict (doubt_of_asks t)
+
+-- what they came to, unless that is doubted and refused
+abbrev pub recorded : Bool → Drove → Result Drove Refusal
+recorded strict d = settle call.Drive strict (doubt_of_drove d) >>= λ _. Ok d
+
+-- what comes of asks that were admitted, or refused
+abbrev pub IsAnswered : Result Bool Refusal → Definitions → Shape → Option Contents → ℕ → Bool → Bool → Result Drove Refusal → Type 0
+IsAnswered (Err e) flags t before workers strict json r = r ≡ Err e
+IsAnswered (Ok noted) flags t before workers strict json r =
+    (d : Result Drove DriveRefusal) × IsDriveOf flags (asks_of t) workers before json d × (r ≡ (refused_by Drive d >>= recorded strict))
+
 -- what comes of the asks, where the document, the asks and the book before were read, each before the next
-abbrev pub IsDroveOf : Result Definitions Refusal → Result Shape Refusal → Result (Option Contents) Refusal → ℕ → Result Drove Refusal → Type 0
-IsDroveOf (Err e) asks before workers r = r ≡ Err e
-IsDroveOf (Ok flags) (Err e) before workers r = r ≡ Err e
-IsDroveOf (Ok flags) (Ok t) (Err e) workers r = r ≡ Err e
-IsDroveOf (Ok flags) (Ok t) (Ok before) workers r = (d : Result Drove DriveRefusal) × IsDriveOf flags (asks_of t) workers before d × (r ≡ refused_by Drive d)
+abbrev pub IsDroveOf : Result Definitions Refusal → Result Shape Refusal → Result (Option Contents) Refusal → ℕ → Bool → Bool → Result Drove Refusal → Type 0
+IsDroveOf (Err e) asks before workers strict json r = r ≡ Err e
+IsDroveOf (Ok flags) (Err e) before workers strict json r = r ≡ Err e
+IsDroveOf (Ok flags) (Ok t) (Err e) workers strict json r = r ≡ Err e
+IsDroveOf (Ok flags) (Ok t) (Ok before) workers strict json r = IsAnswered (admitted strict (refusal_of (asks_of t) workers) t) flags t before workers strict json r
 
 -- The book is written before the output, and no other file changes; none does where there is no book, or where it is refused to be written. A person is told how many asks ended in what, and how many inputs they reached.
 abbrev pub IsWritten : Holding → Option Holding → List ℕ → Result Drove Refusal → Outcomes
@@ -37,16 +64,18 @@ IsWritten at after book (Ok d) r = ((r ≡ beside true (done d.text)) × Stores 
 
 unfoldable pub IsDriveReport : Holding → Option Holding → List ℕ → List ℕ → ℕ → List ℕ → Bool → Bool → Bool → Outcomes
 IsDriveReport at after path asks workers book add strict json r =
-    (document : Result Definitions Refusal) × IsDocumentAt at path document × (d : Result Drove Refusal) × IsDroveOf document (tree_at at asks max_text) (before_at at book add) workers d × IsWritten at after book d r
+    (document : Result Definitions Refusal) × IsDocumentAt at path document × (d : Result Drove Refusal) × IsDroveOf document (tree_at at asks max_text) (before_at at book add) workers strict json d × IsWritten at after book d r
 
--- the document and the asks of these files were read, and the book that is added to
-abbrev pub AreRead : Holding → List ℕ → List ℕ → List ℕ → Bool → Type 0
-AreRead at path asks book add =
-    (flags : Definitions) × IsDocumentAt at path (Ok flags) × (t : Shape) × (tree_at at asks max_text ≡ Ok t) × (is_some (asks_of t) ≡ true) × (before : Option Contents) × (before_at at book add ≡ Ok before)
+-- the document and the asks of these files were read, of which nothing is doubted that is refused, and the book that is added to
+abbrev pub AreRead : Holding → List ℕ → List ℕ → List ℕ → Bool → Bool → Type 0
+AreRead at path asks book add strict =
+    (flags : Definitions) × IsDocumentAt at path (Ok flags) × (t : Shape) × (tree_at at asks max_text ≡ Ok t) × (is_some (asks_of t) ≡ true) × IsOk (settle call.Drive strict (doubt_of_asks t))
+    × (before : Option Contents) × (before_at at book add ≡ Ok before)
 
 -- The files stay as they are; or the number of workers is right, the files were read, and the file of the book alone changes.
-abbrev pub LeavesBook : Option Holding → Option Holding → List ℕ → List ℕ → ℕ → List ℕ → Bool → Type 0
-LeavesBook old new path asks workers book add = (new ≡ old) ⊎ ((workers_refusal workers ≡ None) × IfSome old (λ at. AreRead at path asks book add) × KeepsOthers old new book)
+abbrev pub LeavesBook : Option Holding → Option Holding → List ℕ → List ℕ → ℕ → List ℕ → Bool → Bool → Type 0
+LeavesBook old new path asks workers book add strict =
+    (new ≡ old) ⊎ ((workers_refusal workers ≡ None) × IfSome old (λ at. AreRead at path asks book add strict) × KeepsOthers old new book)
 
 -- the files stay as they are, or the command did what it was asked
 abbrev pub KeepsUnlessDone : {E : Type 0} → Option Holding → Option Holding → Result Outcome E → Type 0
@@ -55,6 +84,10 @@ KeepsUnlessDone old new r = (new ≡ old) ⊎ IsOkAnd r (λ o. status_number o.s
 -- the file at a path has a tree that is no list of asks
 abbrev pub HasNoAsks : Holding → List ℕ → Type 0
 HasNoAsks at path = (t : Shape) × (tree_at at path max_text ≡ Ok t) × (asks_of t ≡ None)
+
+-- the file at a path has asks with a member that is not read
+abbrev pub HasUnreadAsk : Holding → List ℕ → Type 0
+HasUnreadAsk at path = (t : Shape) × (tree_at at path max_text ≡ Ok t) × (has_unread_ask t ≡ true)
 
 -- the command is refused, and where it is by `drive` itself, then by name and not for want of memory
 abbrev pub IsRefusedByName : {X : Type 0} → Result X Refused → Type 0

@@ -1,8 +1,8 @@
 -- What the command `price` answers.
-use Rattle.std.specs.Prelude.{ℕ, List, [], ◌∷◌, ◌++◌, ◌==◌, ◌&&◌, Bool, true, nat_le, length, String, string_bytes, codes, decimal, if◌then◌else◌, Option, Some, None, option_map, option_and_then, Result, Ok, Err}
+use Rattle.std.specs.Prelude.{ℕ, pos, List, [], ◌∷◌, ◌++◌, ◌==◌, ◌&&◌, Bool, true, nat_le, length, String, string_bytes, codes, decimal, if◌then◌else◌, Option, Some, None, option_map, option_and_then, Result, Ok, Err}
 use Rattle.flag_text.specs.Printing.{text_of}
 use Rattle.flag_text.specs.Readers.{as_text, as_list}
-use Rattle.flag_text.specs.Shape.{Shape, text, Items, no_items, item}
+use Rattle.flag_text.specs.Shape.{Shape, whole, text, object, Items, no_items, item, Members, no_members, member}
 use Rattle.bucket_core.specs.Rule.{Entries, total_weight}
 use Rattle.std.specs.declared.alloc.Global.{Global}
 use Rattle.book_core.specs.Book.{Contents, Inputs, inputs_on, most_bytes, most_inputs, reply_to, with_input}
@@ -90,18 +90,41 @@ forbidden_line (Some p) = codes "forbidden " ++ (decimal p ++ codes "\n")
 abbrev pub cost_line : ℕ → List ℕ
 cost_line cost = codes "cost " ++ (decimal cost ++ codes "\n")
 
+-- totals, a forbidden point and a cost, in lines
+abbrev pub price_lines : List (List ℕ × ℕ) → Option ℕ → ℕ → List ℕ
+price_lines totals forbidden cost = total_lines totals ++ (forbidden_line forbidden ++ cost_line cost)
+
 -- the new totals, the first forbidden point and the cost
 unfoldable pub price_text : Entries → Entries → Pricing → Inputs → List ℕ
-price_text old new pricing inputs =
-    total_lines (totals_by_name new) ++ (forbidden_line (first_forbidden_of old new pricing) ++ cost_line (cost_of old new inputs pricing))
+price_text old new pricing inputs = price_lines (totals_by_name new) (first_forbidden_of old new pricing) (cost_of old new inputs pricing)
 
--- the rules have one total
-abbrev pub weighed : Entries → Entries → Pricing → Inputs → Result Report Refusal
-weighed old new pricing inputs = if total_weight old == total_weight new then done (price_text old new pricing inputs) else Err (Price Weight)
+-- each name with its total
+abbrev pub total_members : List (List ℕ × ℕ) → Members
+total_members [] = no_members
+total_members (e ∷ es) = member e.0 (whole (pos e.1)) (total_members es)
+
+-- a number, or null where there is none
+abbrev pub number_or_null : Option ℕ → List ℕ
+number_or_null None = codes "null"
+number_or_null (Some n) = decimal n
+
+-- {"cost":..,"forbidden":..,"totals":{..}} and a line feed
+abbrev pub price_members : List (List ℕ × ℕ) → Option ℕ → ℕ → List ℕ
+price_members totals forbidden cost =
+    codes "{\"cost\":" ++ (decimal cost ++ (codes ",\"forbidden\":" ++ (number_or_null forbidden ++ (codes ",\"totals\":" ++ (text_of (object (total_members totals)) ++ codes "}\n")))))
+
+-- the same totals, point and cost as one JSON text
+unfoldable pub price_json : Entries → Entries → Pricing → Inputs → List ℕ
+price_json old new pricing inputs = price_members (totals_by_name new) (first_forbidden_of old new pricing) (cost_of old new inputs pricing)
+
+-- The rules have one total. The lines are printed, or with `--json` the JSON text.
+abbrev pub weighed : Bool → Entries → Entries → Pricing → Inputs → Result Report Refusal
+weighed json old new pricing inputs =
+    if total_weight old == total_weight new then done (if json then price_json old new pricing inputs else price_text old new pricing inputs) else Err (Price Weight)
 
 -- the keys come to these inputs, which are then paid for
-abbrev pub weighed_keys : Entries → Entries → Pricing → Inputs → Result Report Refusal
-weighed_keys old new pricing keys = exposed keys >>= λ inputs. weighed old new pricing inputs
+abbrev pub weighed_keys : Bool → Entries → Entries → Pricing → Inputs → Result Report Refusal
+weighed_keys json old new pricing keys = exposed keys >>= λ inputs. weighed json old new pricing inputs
 
 -- what the command reports, its files read in the order of the words
 unfoldable pub price_report : Holding → List ℕ → List ℕ → List ℕ → List ℕ → Bool → Result Report Refusal
@@ -110,4 +133,4 @@ price_report at old new request keys json = do
   n ← rule_at at new
   a ← request_at at request
   ks ← keys_at at keys
-  weighed_keys o n a.prices ks
+  weighed_keys json o n a.prices ks

@@ -11,7 +11,7 @@ use Rattle.flagops_files.specs.declared.refusal.Call.{Call}
 use Rattle.flagops_files.specs.declared.refusal.Call.TheVariants as call
 use Rattle.flagops_files.specs.declared.refusal.PriceMismatch.TheVariants.{Weight, BadKeys}
 use Rattle.flagops_files.specs.declared.refusal.Refusal.{Refusal}
-use Rattle.flagops_files.specs.declared.refusal.Refusal.TheVariants.{Note, Price, Plan, PrintPlanned, Verify, Apply, Keep, Drive}
+use Rattle.flagops_files.specs.declared.refusal.Refusal.TheVariants.{Note, Price, Plan, PrintPlanned, Verify, Apply, Keep, Drive, Doubted}
 use Rattle.flagops_commands.specs.Calls.{loads_request}
 use Rattle.flagops_commands.specs.Doubts.{NamesDoubted, doubt_subjects}
 use Rattle.flagops_remarks.specs.Named.{Names, NamesWord}
@@ -102,9 +102,10 @@ the_plan = codes "the plan"
 abbrev pub plan_subjects : List ℕ → List ℕ → List ℕ → Subjects
 plan_subjects document request book = question_subjects document request book ++ (file request, is_of_request) ∷ (word the_plan, is_of_size) ∷ doubt_subjects request book
 
--- asks are refused as a file, or for what it holds
+-- asks are refused as a file, for what it holds, or for what is doubted of it
 abbrev pub is_of_asks : Refusal → Bool
 is_of_asks (Drive driving.BadAsks) = true
+is_of_asks (Doubted call.Drive d) = true
 is_of_asks e = by loads_tree e
 
 -- asks that are not driven, as by too many workers

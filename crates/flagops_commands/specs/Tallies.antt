@@ -30,6 +30,6 @@ TalliesPlanAsBooks =
 -- and what `verify` tells on the tally it may tell on the book
 abbrev pub TalliesTellAsBooks : Type 0
 TalliesTellAsBooks =
-    (strict : Bool) (refine : Option ℕ) (flags : Definitions) (request : List ℕ) (book : Contents) (tally : PageTally) (answer : Answer) (r : Result Report Refusal)
+    (strict json : Bool) (refine : Option ℕ) (flags : Definitions) (request : List ℕ) (book : Contents) (tally : PageTally) (answer : Answer) (r : Result Report Refusal)
     → IsTallyOf (inputs_on book tally.page) tally → tally_problem_checked refine answer flags request tally ≢ Err OtherTally
-    → IsVerdict strict refine (Ok (over flags request (Tally tally))) (Ok answer) r → IsVerdict strict refine (Ok (over flags request (Book book))) (Ok answer) r
+    → IsVerdict strict json refine (Ok (over flags request (Tally tally))) (Ok answer) r → IsVerdict strict json refine (Ok (over flags request (Book book))) (Ok answer) r

@@ -4,7 +4,7 @@ use Rattle.book_core.specs.Book.{Inputs}
 use Rattle.book_core.specs.Counts.{counts_of}
 use Rattle.plan_text.specs.Answer.{Answer}
 use Rattle.flagops_commands.specs.Plan.{Holds, IsPlanOf}
-use Rattle.flagops_commands.specs.Verify.{IsVerdict, valid_text}
+use Rattle.flagops_commands.specs.Verify.{IsVerdict, valid_as}
 use Rattle.flagops_files.specs.Files.{Holding}
 use Rattle.flagops_files.specs.PlanFile.{plan_at}
 use Rattle.flagops_files.specs.Question.{Question}
@@ -14,16 +14,16 @@ use Rattle.flagops_files.specs.Refusal.{is_want}
 use Rattle.flagops_files.specs.Report.{Outcomes, Report}
 use Rattle.flagops_files.specs.declared.refusal.Refusal.{Refusal}
 
--- the line of a valid answer, unless memory ran out
-abbrev pub IsValid : Answer → Outcomes
-IsValid answer (Ok report) = (report.text ≡ valid_text answer) × (report.status ≡ 0)
-IsValid answer (Err e) = is_want e ≡ true
+-- what is printed of a valid answer, unless memory ran out
+abbrev pub IsValid : Bool → Answer → Outcomes
+IsValid json answer (Ok report) = (report.text ≡ valid_as json answer) × (report.status ≡ 0)
+IsValid json answer (Err e) = is_want e ≡ true
 
 -- The text reads as an answer, and wherever it is the file at a path, `verify` tells of this file that the answer is valid.
 pub record IsValidPlan (refine : Option ℕ) (q : Question) (text : List ℕ) : Type 0 where
   pub answer : Answer
   pub holds : Holds answer text
-  pub valid : (at : Holding) (path : List ℕ) (told : Result Report Refusal) → at path ≡ Some text → IsVerdict false refine (Ok q) (plan_at at path) told → IsValid answer told
+  pub valid : (json : Bool) (at : Holding) (path : List ℕ) (told : Result Report Refusal) → at path ≡ Some text → IsVerdict false json refine (Ok q) (plan_at at path) told → IsValid json answer told
 
 -- it is the evidence of some inputs: a book is that of its own, and of a tally there are inputs of which so many fall on each point
 abbrev pub IsOfInputs : Evidence → Type 0

@@ -1,5 +1,5 @@
 -- What the command `verify` answers.
-use Rattle.std.specs.Prelude.{◌≡◌, ℕ, Bool, List, ◌++◌, codes, decimal, OnOk, Option, Some, None, Result, Ok, Err}
+use Rattle.std.specs.Prelude.{◌≡◌, ℕ, Bool, List, ◌++◌, codes, decimal, if◌then◌else◌, OnOk, Option, Some, None, Result, Ok, Err}
 use Rattle.flag_documents.specs.Document.{Definitions}
 use Rattle.plan_text.specs.Answer.{Answer, emit, none_exists}
 use Rattle.rollout_checks.specs.Refined.{problem_checked}
@@ -26,9 +26,18 @@ unfoldable pub valid_text : Answer → List ℕ
 valid_text (emit rule c) = codes "valid cost " ++ (decimal c.cost ++ codes "\n")
 valid_text (none_exists kind names) = codes "valid none\n"
 
+-- the same as one JSON text, the cost null where there is no rule
+unfoldable pub valid_json : Answer → List ℕ
+valid_json (emit rule c) = codes "{\"cost\":" ++ (decimal c.cost ++ codes ",\"valid\":true}\n")
+valid_json (none_exists kind names) = codes "{\"cost\":null,\"valid\":true}\n"
+
+-- the line, or with `--json` the JSON text
+abbrev pub valid_as : Bool → Answer → List ℕ
+valid_as json answer = if json then valid_json answer else valid_text answer
+
 -- the report of what is told of an answer, beside which a person is told more, or not
-abbrev pub told : Result Bool Refusal → Answer → Result (Unit {0}) VerifyFault → Result Report Refusal
-told settled answer verdict = refused_by Verify verdict >>= λ _. settled >>= λ noted. beside noted (done (valid_text answer))
+abbrev pub told : Bool → Result Bool Refusal → Answer → Result (Unit {0}) VerifyFault → Result Report Refusal
+told json settled answer verdict = refused_by Verify verdict >>= λ _. settled >>= λ noted. beside noted (done (valid_as json answer))
 
 -- what an answer is checked against on a tally: the rule refined as on a book
 abbrev pub tally_problem_checked : Option ℕ → Answer → Definitions → List ℕ → PageTally → Result TallyProblem RolloutFault
@@ -53,12 +62,12 @@ pub record MayBeTold (refine : Option ℕ) (q : Question) (answer : Answer) (ver
   pub shown : OnOk verdict (IsShownOn refine answer q.flags q.request q.evidence)
 
 -- its report, unless it is doubted and `--strict` refuses that; the answer is asked for where there is a question
-abbrev pub IsVerdict : Bool → Option ℕ → Result Question Refusal → Result Answer Refusal → Outcomes
-IsVerdict strict refine (Err e) answer r = r ≡ Err e
-IsVerdict strict refine (Ok q) (Err e) r = r ≡ Err e
-IsVerdict strict refine (Ok q) (Ok answer) r =
-    (verdict : Result (Unit {0}) VerifyFault) × MayBeTold refine q answer verdict × (r ≡ told (settle call.Verify strict (doubt_of q)) answer verdict)
+abbrev pub IsVerdict : Bool → Bool → Option ℕ → Result Question Refusal → Result Answer Refusal → Outcomes
+IsVerdict strict json refine (Err e) answer r = r ≡ Err e
+IsVerdict strict json refine (Ok q) (Err e) r = r ≡ Err e
+IsVerdict strict json refine (Ok q) (Ok answer) r =
+    (verdict : Result (Unit {0}) VerifyFault) × MayBeTold refine q answer verdict × (r ≡ told json (settle call.Verify strict (doubt_of q)) answer verdict)
 
 unfoldable pub IsVerifyReport : Holding → List ℕ → List ℕ → List ℕ → List ℕ → Option ℕ → Bool → Bool → Outcomes
 IsVerifyReport at document request book plan refine strict json r =
-    (question : Result Question Refusal) × IsQuestionAt at document request book question × IsVerdict strict refine question (plan_at at plan) r
+    (question : Result Question Refusal) × IsQuestionAt at document request book question × IsVerdict strict json refine question (plan_at at plan) r

@@ -1,3 +1,4 @@
 //! The command that makes a book.
 
 pub mod drive;
+mod driving;

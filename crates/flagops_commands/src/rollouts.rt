@@ -1,7 +1,7 @@
 //! The commands on rollouts.
 
 pub mod apply;
-mod doubts;
+pub mod doubts;
 mod explained;
 pub mod keep;
 mod kept;

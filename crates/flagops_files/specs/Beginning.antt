@@ -1,7 +1,7 @@
--- Whether a file may be a book or a tally, by the bytes that it begins with. A book begins with the line {"book":1}, a JSON text
--- (RFC 8259), and a tally with the bytes {"tally":.
-use Rattle.std.specs.Prelude.{ℕ, ◌+◌, ◌==◌, ◌||◌, ◌&&◌, Bool, true, List, [], ◌∷◌, not, take, drop, Option, Some, None}
-use Rattle.std.specs.List.{position}
+-- Whether a file may be a book, a tally or note lines, by the bytes that it begins with. A book begins with the line {"book":1}, a JSON
+-- text (RFC 8259), a tally with the bytes {"tally":, and a note line with [.
+use Rattle.std.specs.Prelude.{ℕ, ◌+◌, ◌==◌, ◌||◌, ◌&&◌, Bool, true, List, [], ◌∷◌, not, if◌then◌else◌, take, drop, Option, Some, None}
+use Rattle.std.specs.List.{list_any, position}
 
 -- no blank, no tab and no carriage return, which JSON passes over within a line
 abbrev pub is_mark : ℕ → Bool
@@ -49,3 +49,20 @@ through_place (Some at) bytes = take (at + 1) bytes
 -- the first line with its line feed, or all bytes where there is none
 unfoldable pub first_line : List ℕ → List ℕ
 first_line bytes = through_place (position is_feed bytes) bytes
+
+-- a line ends in the bytes
+abbrev pub ends_line : List ℕ → Bool
+ends_line bytes = list_any is_feed bytes
+
+-- no white space of JSON, a line feed neither
+abbrev pub is_ink : ℕ → Bool
+is_ink b = is_mark b && not (is_feed b)
+
+-- the first line that is not blank begins with a list, or does not end here; what is not known speaks not against it
+abbrev pub may_begin_notes : List ℕ → Bool
+may_begin_notes [] = true
+may_begin_notes (b ∷ bs) = if is_ink b then b == 91 || not (ends_line bs) else may_begin_notes bs
+
+-- A book may begin so, or note lines: a line ends, and the first one that is not blank may be a note's, or others are passed over.
+unfoldable pub may_note : Bool → List ℕ → Bool
+may_note passing bytes = may_begin_record bytes || (ends_line bytes && (passing || may_begin_notes bytes))

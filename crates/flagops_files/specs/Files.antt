@@ -1,6 +1,6 @@
 -- What the files hold that the program reads and writes.
 use Rattle.std.specs.Prelude.{◌≡◌, ◌≢◌, ℕ, ◌+◌, Bool, true, false, if◌then◌else◌, List, take, Option, Some, None, Result, Ok, Err, codes}
-use Rattle.flagops_files.specs.Beginning.{may_begin_record}
+use Rattle.flagops_files.specs.Beginning.{may_begin_record, may_note}
 use Rattle.flagops_files.specs.declared.files.LoadFault.{LoadFault}
 use Rattle.flagops_files.specs.declared.files.LoadFault.TheVariants as load
 use Rattle.flagops_files.specs.declared.files.StoreFault.{StoreFault}
@@ -31,6 +31,19 @@ front_of_book limit (Some bytes) = Ok (if may_begin_record (first_piece bytes) t
 -- what a read gives of the book file at a path
 abbrev pub load_book_of : Holding → List ℕ → ℕ → Result (List ℕ) LoadFault
 load_book_of at path limit = front_of_book limit (at path)
+
+-- the piece of a file by which it is judged whether it notes anything: more bytes than the longest note line of a document has
+abbrev pub notes_piece : List ℕ → List ℕ
+notes_piece bytes = take 16777216 bytes
+
+-- all of a book or a file of note lines, cut so, and of a file that begins as neither that piece
+abbrev pub front_of_notes : Bool → ℕ → Option (List ℕ) → Result (List ℕ) LoadFault
+front_of_notes passing limit None = Err load.Unreadable
+front_of_notes passing limit (Some bytes) = Ok (if may_note passing (notes_piece bytes) then take (limit + 1) bytes else notes_piece bytes)
+
+-- what a read gives of the file at a path that is a book or note lines, where lines that are none may be passed over
+abbrev pub load_notes_of : Holding → Bool → List ℕ → ℕ → Result (List ℕ) LoadFault
+load_notes_of at passing path limit = front_of_notes passing limit (at path)
 
 -- the new files have the bytes at the path
 abbrev pub Stores : Option Holding → Option Holding → List ℕ → List ℕ → Type 0

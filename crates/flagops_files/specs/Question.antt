@@ -1,5 +1,5 @@
 -- What a rollout is asked over: the flags, a request, and the inputs that were recorded.
-use Rattle.std.specs.Prelude.{◌≡◌, ℕ, nat_lt, List, [], ◌∷◌, length, if◌then◌else◌, Option, Some, None, option_map, Result, Ok, Err}
+use Rattle.std.specs.Prelude.{◌≡◌, ℕ, nat_lt, Bool, List, [], ◌∷◌, length, if◌then◌else◌, Option, Some, None, option_map, Result, Ok, Err}
 use Rattle.book_core.specs.Book.{Contents}
 use Rattle.book_core.specs.Reading.{book_of}
 use Rattle.flag_documents.specs.Document.{Definitions}
@@ -7,7 +7,7 @@ use Rattle.flag_defs.specs.Flags.{flags_view}
 use Rattle.flagops_files.specs.Documents.{IsDocumentAt}
 use Rattle.flagops_files.specs.Beginning.{first_line}
 use Rattle.flagops_files.specs.Evidence.{IsEvidenceOf}
-use Rattle.flagops_files.specs.Files.{Holding, first_piece, load_book_of, load_of}
+use Rattle.flagops_files.specs.Files.{Holding, first_piece, load_book_of, load_notes_of, load_of}
 use Rattle.flagops_files.specs.Loading.{◌>>=◌, max_text, refused_by}
 use Rattle.flagops_files.specs.Refusal.{loads_book, loads_evidence, loads_file, loads_flags}
 use Rattle.flagops_files.specs.Told.{Subjects, by, file}
@@ -48,6 +48,12 @@ if_readable bytes = if nat_lt max_book (length bytes) then Err LongBook else Ok 
 unfoldable pub book_bytes_at : Holding → List ℕ → Result (List ℕ) Refusal
 book_bytes_at at path = do
   bytes ← refused_by Load (load_book_of at path max_book)
+  if_readable bytes
+
+-- those of the file of a book or of note lines at a path, as many as tell that it is neither where lines that are none may be passed over
+unfoldable pub notes_bytes_at : Holding → Bool → List ℕ → Result (List ℕ) Refusal
+notes_bytes_at at passing path = do
+  bytes ← refused_by Load (load_notes_of at passing path max_book)
   if_readable bytes
 
 -- the book of the file at a path

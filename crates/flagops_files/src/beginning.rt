@@ -1,7 +1,7 @@
-//! Whether a file may be a book or a tally, by the bytes that it begins with.
+//! Whether a file may be a book, a tally or note lines, by the bytes that it begins with.
 ghost use Rattle.std.specs.Prelude.{◌≡◌};
 ghost use Rattle.std.specs.List.{position};
-ghost use Rattle.flagops_files.specs.Beginning.{after_blanks, begins_member, begins_name, begins_object, first_line, goes_on_as_tally, is_feed, is_mark, may_begin_record};
+ghost use Rattle.flagops_files.specs.Beginning.{after_blanks, begins_member, begins_name, begins_object, ends_line, first_line, goes_on_as_tally, is_feed, is_ink, is_mark, may_begin_notes, may_begin_record, may_note};
 
 /// Whether a book or a tally may begin so: with an object whose first name may be "book" or "tally". What the bytes do not show
 /// speaks not against it, so each of them begins so, and hardly any other file.
@@ -84,4 +84,39 @@ fn feed_at(bytes: &[u8]) -> Option<usize>
     ensures { result ≡ position is_feed bytes.now }
 {
     bytes.iter().position(|b| *b == b'\n')
+}
+
+/// Whether a book may begin so, or a file of note lines: there a line ends, and the first one that is not blank begins with a list,
+/// or lines that are none are passed over.
+#[tactic(auto, unfolding(crate::specs::Beginning::may_note))]
+pub fn may_note(bytes: &[u8], passing: bool) -> bool
+    ensures { result ≡ may_note passing bytes.now }
+{
+    may_begin_record(bytes) || ends_line(bytes) && (passing || may_begin_notes(bytes))
+}
+
+/// Whether a line ends in the bytes.
+pub fn ends_line(bytes: &[u8]) -> bool
+    ensures { result ≡ ends_line bytes.now }
+{
+    bytes.contains(&b'\n')
+}
+
+fn may_begin_notes(bytes: &[u8]) -> bool
+    ensures { result ≡ may_begin_notes bytes.now }
+{
+    let mut left = bytes;
+    'bytes: while let [first, rest @ ..] = left {
+        if is_ink(*first) {
+            return *first == b'[' || !ends_line(rest);
+        }
+        left = rest;
+    }
+    true
+}
+
+fn is_ink(byte: u8) -> bool
+    ensures { result ≡ is_ink byte }
+{
+    !(byte == b' ' || byte == b'\t' || byte == b'\r') && byte != b'\n'
 }

@@ -1,7 +1,7 @@
-//! From the path of a book file to the book.
+//! From the path of a book file to the book, and from that of a file of notes to its bytes.
 ghost use Rattle.std.specs.Prelude.{◌≡◌, ◌||◌, false, IfSome, option_map};
 ghost use Rattle.flagops_files.specs.Beginning.{first_line};
-ghost use Rattle.flagops_files.specs.Question.{book_at, book_bytes_at, if_readable, if_replaceable, replaceable_at};
+ghost use Rattle.flagops_files.specs.Question.{book_at, book_bytes_at, if_readable, if_replaceable, notes_bytes_at, replaceable_at};
 ghost use Rattle.flagops_files.specs.Refusal.{ComesFrom, GivesUnlessWant, is_file_fault, loads_book, loads_file};
 ghost use Rattle.flagops_files.specs.Told.{TellsOf, file};
 
@@ -50,6 +50,30 @@ pub fn load_book_bytes<F: FileSet>(
     ensures names { TellsOf (file path.now) result }
 {
     match files.read_book(alloc, path, BOOK_LIMIT) {
+        Ok(bytes) => if_readable(alloc, path, bytes),
+        Err(fault) => Err(Refused {
+            refusal: Refusal::Load(fault),
+            remark: Remark::of(of_unreadable(alloc, path, files.trouble())),
+        }),
+    }
+}
+
+/// The bytes of the file of a book or of note lines at a path; a file of more than 2^40 counts as unreadable, and of one that begins
+/// as neither there are no more than by which that is seen, also where lines that are none are passed over.
+#[tactic(auto, using(crate::proofs::Told::says), unfolding(crate::specs::Question::notes_bytes_at))]
+pub fn load_notes<F: FileSet>(
+    alloc: Global,
+    files: &mut F,
+    path: &str,
+    passing: bool,
+) -> Result<Vec<u8>, Refused>
+    ensures exact { IfSome (F.holding files.old) (λ at. GivesUnlessWant (λ v. v.items) result (notes_bytes_at at passing path.now)) }
+    ensures calls { ComesFrom loads_file result }
+    ensures failed { F.has_failed files.new ≡ (F.has_failed files.old || is_file_fault result) }
+    ensures kept { F.holding files.new ≡ F.holding files.old }
+    ensures names { TellsOf (file path.now) result }
+{
+    match files.read_notes(alloc, path, passing, BOOK_LIMIT) {
         Ok(bytes) => if_readable(alloc, path, bytes),
         Err(fault) => Err(Refused {
             refusal: Refusal::Load(fault),

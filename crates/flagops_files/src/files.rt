@@ -1,7 +1,7 @@
 //! The files that the program reads and writes, as it sees them.
 ghost use Rattle.std.specs.Prelude.{◌≡◌, ◌≤◌, ◌+◌, ℕ, List, Option, Bool, ◌||◌, length, IfOk, IfSome, OnErr, OnOk, option_map};
 ghost use Rattle.flag_text.specs.Outcome.{GivesUnless};
-ghost use Rattle.flagops_files.specs.Files.{Holding, first_piece, load_book_of, load_of, is_unreadable, is_unwritable, Stores, KeepsOthers, load_number, load_name, store_number, store_name};
+ghost use Rattle.flagops_files.specs.Files.{Holding, first_piece, load_book_of, load_notes_of, load_of, is_unreadable, is_unwritable, Stores, KeepsOthers, load_number, load_name, store_number, store_name};
 
 use std::alloc::{AllocError, Global};
 use std::io;
@@ -9,6 +9,9 @@ use thiserror::Error;
 
 /// The bytes of the piece by which a file is judged.
 pub(crate) const FIRST_PIECE: u64 = 4096;
+
+/// The bytes of the piece by which a file is judged whether it notes anything: more than the longest note line of a document has.
+pub const NOTES_PIECE: usize = 16_777_216;
 
 /// Why a file was not read.
 #[derive(Clone, Copy, Debug, PartialEq, Eq, Error)]
@@ -98,6 +101,21 @@ pub trait FileSet {
     fn read_book(&mut self, alloc: Global, path: &str, max: u64) -> Result<Vec<u8>, LoadFault>
         ensures exact { IfSome (holding self.old) (λ at.
             GivesUnless LoadFault.WantOfMemory (λ v. v.items) result (load_book_of at path.now max)) }
+        ensures failed { has_failed self.new ≡ (has_failed self.old || is_unreadable result) }
+        ensures kept { holding self.new ≡ holding self.old };
+
+    /// The bytes of the file at the path, a book or note lines, cut after `max + 1`. A file that begins as neither is judged by its
+    /// first 16,777,216 bytes: no more of it is read. Where lines that are none are passed over (`passing`), that is one without
+    /// a line's end there.
+    fn read_notes(
+        &mut self,
+        alloc: Global,
+        path: &str,
+        passing: bool,
+        max: u64,
+    ) -> Result<Vec<u8>, LoadFault>
+        ensures exact { IfSome (holding self.old) (λ at.
+            GivesUnless LoadFault.WantOfMemory (λ v. v.items) result (load_notes_of at passing path.now max)) }
         ensures failed { has_failed self.new ≡ (has_failed self.old || is_unreadable result) }
         ensures kept { holding self.new ≡ holding self.old };
 

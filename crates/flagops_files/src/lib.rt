@@ -47,12 +47,12 @@ mod storing;
 mod system_files;
 mod tallies;
 
-pub use beginning::may_begin_record;
+pub use beginning::{ends_line, may_begin_record, may_note};
 pub use book_question::{BookQuestion, load_book_question};
-pub use books::{check_replaceable, load_book};
+pub use books::{check_replaceable, load_book, load_notes};
 pub use documents::{Document, load_document, load_flags};
 pub use evidence::Evidence;
-pub use files::{FileSet, LoadFault, StoreFault};
+pub use files::{FileSet, LoadFault, NOTES_PIECE, StoreFault};
 pub use keeping::KeepRefusal;
 pub use loading::{TEXT_LIMIT, load, load_rule, load_tree};
 pub use outcome::{Outcome, Status};

@@ -1,8 +1,8 @@
 //! The files of the system.
 ghost use Rattle.std.specs.Prelude.{◌≡◌, ◌≤◌, ◌+◌, None, false, length, IfOk};
 
-use crate::beginning::may_begin_record;
-use crate::files::{FIRST_PIECE, FileSet, LoadFault, StoreFault};
+use crate::beginning::{may_begin_record, may_note};
+use crate::files::{FIRST_PIECE, FileSet, LoadFault, NOTES_PIECE, StoreFault};
 use crate::replacing::{plain_file, replace};
 use std::alloc::{AllocError, Global};
 use std::fs::OpenFile;
@@ -51,6 +51,24 @@ impl<'a, R: Files> FileSet for SystemFiles<'a, R> {
 
     fn read_book(&mut self, alloc: Global, path: &str, max: u64) -> Result<Vec<u8>, LoadFault> {
         match read_book_front(self.rt, alloc, read_from(path), max) {
+            Ok(bytes) => Ok(bytes),
+            Err(e) if e.kind() == ErrorKind::OutOfMemory => Err(LoadFault::WantOfMemory),
+            Err(e) => {
+                self.failed = true;
+                self.trouble = Some(e);
+                Err(LoadFault::Unreadable)
+            }
+        }
+    }
+
+    fn read_notes(
+        &mut self,
+        alloc: Global,
+        path: &str,
+        passing: bool,
+        max: u64,
+    ) -> Result<Vec<u8>, LoadFault> {
+        match read_notes_front(self.rt, alloc, read_from(path), passing, max) {
             Ok(bytes) => Ok(bytes),
             Err(e) if e.kind() == ErrorKind::OutOfMemory => Err(LoadFault::WantOfMemory),
             Err(e) => {
@@ -121,6 +139,31 @@ fn read_book_front<R: Files>(rt: &R, alloc: Global, path: &str, max: u64) -> io:
     if may_begin_record(bytes.as_slice()) {
         bytes.reserve(len.saturating_sub(FIRST_PIECE) as usize)?;
         file.set_limit(limit.saturating_sub(FIRST_PIECE));
+        file.read_to_end(&mut bytes)?;
+        bytes.truncate(limit as usize);
+    }
+    Ok(bytes)
+}
+
+/// The bytes of the file of a book or of note lines at the path, cut after `max + 1`, or the first piece of one that begins as
+/// neither.
+fn read_notes_front<R: Files>(
+    rt: &R,
+    alloc: Global,
+    path: &str,
+    passing: bool,
+    max: u64,
+) -> io::Result<Vec<u8>> {
+    let file = fs::open(rt, path)?;
+    let piece = NOTES_PIECE as u64;
+    let limit = max.saturating_add(1);
+    let len = file.metadata()?.len().min(limit);
+    let mut bytes = Vec::with_capacity(alloc, len.min(piece) as usize)?;
+    let mut file = file.take(piece);
+    file.read_to_end(&mut bytes)?;
+    if may_note(bytes.as_slice(), passing) {
+        bytes.reserve(len.saturating_sub(piece) as usize)?;
+        file.set_limit(limit.saturating_sub(piece));
         file.read_to_end(&mut bytes)?;
         bytes.truncate(limit as usize);
     }

@@ -93,21 +93,21 @@ fn why_unready(kind: ErrorKind, other: Unready) -> Unready {
     }
 }
 
-/// The logs of so many workers in a folder, which is made where it is missing.
+/// The logs of so many workers in a folder, which is made where it is missing; none where no folder is named.
 fn journals<R: Files<File = File>>(
     files: &R,
     alloc: Global,
     folder: Option<&str>,
     workers: u64,
-) -> io::Result<Vec<Journal>> {
+) -> io::Result<Vec<Option<Journal>>> {
     if let Some(folder) = folder {
         fs::create_dir_all(files, folder)?;
     }
     let mut journals = Vec::new(alloc);
     for worker in 0..workers {
         let journal = match folder {
-            Some(folder) => open_journal(files, alloc, folder, worker as usize + 1)?,
-            None => Journal::Nowhere,
+            Some(folder) => Some(open_journal(files, alloc, folder, worker as usize + 1)?),
+            None => None,
         };
         journals.push(journal)?;
     }

@@ -149,7 +149,7 @@ abbrev pub body_view : Content → Body
 body_view content.Nothing = nothing
 body_view (content.Plain s) = plain s.now
 body_view (content.Fixed s) = json s.now
-body_view (content.Json s) = json (string_bytes s)
+body_view (content.Json s) = json s.items
 body_view content.Counts = counts
 
 abbrev pub reached_view : FlagReached → List ℕ × List Reach

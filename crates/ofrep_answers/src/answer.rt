@@ -20,7 +20,7 @@ pub enum Content {
     /// A JSON text that is always the same.
     Fixed(&'static str),
     /// A JSON text.
-    Json(String),
+    Json(Vec<u8>),
     /// What the service counts, which its owner writes.
     Counts,
 }
@@ -73,7 +73,7 @@ impl Content {
             Content::Nothing | Content::Counts => "".as_bytes(),
             Content::Plain(text) => text.as_bytes(),
             Content::Fixed(text) => text.as_bytes(),
-            Content::Json(text) => text.as_bytes(),
+            Content::Json(text) => text.as_slice(),
         }
     }
 }

@@ -1,5 +1,5 @@
 //! The answer to a request for every flag.
-ghost use Rattle.std.specs.Prelude.{◌≡◌, ◌<◌, ◌≤◌, ◌++◌, ◌^◌, true, length, map, if◌then◌else◌, IfOk, OnOk, IsOk, string_bytes};
+ghost use Rattle.std.specs.Prelude.{◌≡◌, ◌<◌, ◌≤◌, ◌++◌, ◌^◌, true, length, map, if◌then◌else◌, IfOk, OnOk, IsOk};
 ghost use Rattle.flag_defs.specs.Flags.{flags_view};
 ghost use Rattle.flag_resolve.specs.Views.{resolution_view};
 ghost use Rattle.flag_text.specs.Shape.{is_whole, items_are_whole};
@@ -103,8 +103,8 @@ impl Told {
 fn tagged(alloc: Global, if_none_match: &[&[u8]], told: Told) -> Result<Answer, AllocError>
     ensures { IfOk result (λ a. answer_view a ≡ tagged (map (λ field. field.now) if_none_match.now) (text_of (flags_shape (map view told.bodies.items))) (map reached_view told.reached.items)) }
 {
-    let text = print_tree(alloc, &flags_body(alloc, told.bodies)?)?;
-    let opaque = opaque_tag(alloc, text.as_bytes())?;
+    let text = print_tree(alloc, &flags_body(alloc, told.bodies)?)?.into_bytes();
+    let opaque = opaque_tag(alloc, text.as_slice())?;
     let tag = entity_tag(alloc, opaque.as_str())?;
     let named = is_named(opaque.as_str(), if_none_match);
     Ok(Answer {
@@ -127,8 +127,8 @@ fn status_if(named: bool) -> StatusCode
     }
 }
 
-fn content_unless(named: bool, text: String) -> Content
-    ensures { body_view result ≡ (if named then nothing else json (string_bytes text)) }
+fn content_unless(named: bool, text: Vec<u8>) -> Content
+    ensures { body_view result ≡ (if named then nothing else json text.items) }
 {
     if named {
         Content::Nothing

@@ -15,7 +15,7 @@ use crate::reasons::Reasons;
 use flag_defs::Flags;
 use flag_resolve::Code;
 use flag_text::{Tree, print_tree};
-use ofrep_bodies::{code_status, evaluation_of, failure_body, status_of};
+use ofrep_bodies::{code_status, evaluation_text, failure_body, status_of};
 use ofrep_contexts::{ContextFault, read_context};
 use ofrep_requests::key_in;
 use std::alloc::{AllocError, Global};
@@ -70,10 +70,9 @@ fn one_told(
     let resolution = evaluate(alloc, flags, key, context, moment)?;
     let status = status_of(&resolution);
     let reasons = Reasons::of(resolution.reason);
-    let evaluation = evaluation_of(alloc, key, resolution)?;
-    let text = print_tree(alloc, &evaluation.body)?;
+    let text = evaluation_text(alloc, key, &resolution)?;
     let mut reached = Vec::new(alloc);
-    push_reached(alloc, &mut reached, key, evaluation.reached)?;
+    push_reached(alloc, &mut reached, key, resolution.reached)?;
     Ok(Answer {
         status,
         allow: None,
@@ -104,7 +103,7 @@ fn failed(alloc: Global, key: Option<&str>, code: Code, details: &str) -> Result
     ensures { IfOk result (λ a. answer_view a ≡ failed (option_copied key.entry) (Some code) details.now) }
 {
     let body = failure_body(alloc, key, code, details)?;
-    let text = print_tree(alloc, &body)?;
+    let text = print_tree(alloc, &body)?.into_bytes();
     Ok(Answer::bare(alloc, code_status(code), Content::Json(text)))
 }
 

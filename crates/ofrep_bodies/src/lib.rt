@@ -20,7 +20,9 @@
 mod body;
 mod evaluation;
 mod failure;
+mod text;
 
 pub use body::{flags_body, success_body};
 pub use evaluation::{Evaluation, evaluation_of, status_of};
 pub use failure::{code_of, code_status, details_of, failure_body};
+pub use text::evaluation_text;

@@ -4,7 +4,8 @@ use Rattle.std.proofs.lemmas.Bool.{eqb-true, eqb-false}
 use Rattle.http.specs.declared.request.Request.{Request}
 use Rattle.http_server.specs.declared.response.Response.{Response}
 use Rattle.http_server.specs.Connection.{history}
-use Rattle.slab.specs.Slab.{Slab, Updates, get}
+use Rattle.slab.specs.Slab.{Slab, Updates, get, with_value}
+use Rattle.slab.proofs.SlabLemmas.{Updates-with_value}
 use Rattle.recorded_answers.specs.Stand.{AllStand}
 use Rattle.recorded_answers.proofs.Standing.{Leads, still_stand}
 use Rattle.ofrep_connections.specs.Stand.{PeersStand}
@@ -28,6 +29,11 @@ module _ {S : Type 0} (stands : S → Request (List ℕ) → Response → Type 0
 
   pub removed : (old new : Slab Peer) (key : ℕ) → Updates old new key None → PeersStand stands s old → PeersStand stands s new
   removed old new key u p = updated old new key None u tt p
+
+  -- the peer at the key has become another
+  pub replaced : (old : Slab Peer) (key : ℕ) (peer other : Peer) → get old key ≡ Some peer → AllStand stands s (history other.connection).calls
+      → PeersStand stands s old → PeersStand stands s (with_value old key other)
+  replaced old key peer other is h p = updated old (with_value old key other) key (Some other) (Updates-with_value old key other (rw is refl)) h p
 
   pub inserted : {E : Type 0} (r : Result ℕ E) (old new : Slab Peer) (peer : Peer) → IfOk r (λ key. Updates old new key (Some peer)) → OnErr r (new ≡ record old { capacity = new.capacity })
       → AllStand stands s (history peer.connection).calls → PeersStand stands s old → PeersStand stands s new

@@ -36,21 +36,27 @@ pub(crate) enum Stay {
 }
 
 impl Peer {
-    /// Reads, answers and writes until the socket would wait, or others have to have their turn.
-    pub(crate) fn go_on<S: Recording>(&mut self, service: &mut S) -> Stay
+    /// Reads, answers and writes until the socket has nothing for now, or others have to have their turn. A read of fewer bytes
+    /// than `room` took all that had come, so that the socket tells of what comes later.
+    pub(crate) fn go_on<S: Recording>(&mut self, service: &mut S, room: usize) -> Stay
         requires { AllStand S.stands service.old (history self.old.connection).calls }
         ensures stand { AllStand S.stands service.new (history self.new.connection).calls }
         ensures chain { (calls : List Call) × Chain S.answers service.old calls service.new }
     {
+        let mut is_read = false;
         for _ in 0..MOST_TURNS {
+            if is_read && !self.connection.wants_write() {
+                return Stay::Waits;
+            }
+            match self.move_bytes(service, room) {
+                Ok(all) => is_read = is_read || all,
+                Err(e) if e.kind() == ErrorKind::Interrupted => {}
+                Err(e) if e.kind() == ErrorKind::WouldBlock => return Stay::Waits,
+                Err(_) => return Stay::Leaves,
+            }
             self.connection.advance(service);
             if self.connection.is_done() {
                 return Stay::Leaves;
-            }
-            match self.move_bytes(service) {
-                Ok(_) => {}
-                Err(e) if e.kind() == ErrorKind::WouldBlock => return Stay::Waits,
-                Err(_) => return Stay::Leaves,
             }
         }
         Stay::Yields
@@ -66,20 +72,22 @@ impl Peer {
         }
     }
 
-    /// Writes once where bytes are pending, and reads once else. A write that takes no byte is an error.
-    fn move_bytes<S: Recording>(&mut self, service: &S) -> io::Result<usize>
+    /// Writes once where bytes are pending, and reads once else, and says whether it read all that there was. A write that takes
+    /// no byte is an error.
+    fn move_bytes<S: Recording>(&mut self, service: &S, room: usize) -> io::Result<bool>
         requires served { ∥ IsServed (config_of self.old.connection) (history self.old.connection) ∥₁ }
         requires stand { AllStand S.stands service.now (history self.old.connection).calls }
         ensures { (history self.new.connection).calls ≡ (history self.old.connection).calls }
     {
         if !self.connection.wants_write() {
-            return read(&mut self.connection, &mut self.stream);
+            let count = read(&mut self.connection, &mut self.stream)?;
+            return Ok(count < room);
         }
         let count = send(&mut self.connection, service, &mut self.stream)?;
         if count == 0 {
             return Err(ErrorKind::WriteZero.into());
         }
-        Ok(count)
+        Ok(false)
     }
 }
 

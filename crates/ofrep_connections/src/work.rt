@@ -7,6 +7,7 @@ ghost use Rattle.ofrep_connections.specs.Stand.{PeersStand};
 
 use crate::peer::{Peer, Stay};
 use http_server::{Config, Connection};
+use mio::event::Event;
 use mio::net::TcpListener;
 use mio::{Events, Interest, Poll, Registry, Token};
 use recorded_answers::Recording;
@@ -36,6 +37,17 @@ pub(crate) struct Making {
     pub(crate) alloc: Global,
     pub(crate) keys: RandomState,
     pub(crate) config: Config,
+}
+
+impl Making {
+    /// The room that a read of this event's socket leaves none of unless it takes all that there is: none where the peer sends
+    /// no more, since the end of what it sent is told once.
+    fn room(&self, event: &Event) -> usize {
+        if event.is_read_closed() || event.is_error() {
+            return 0;
+        }
+        self.config.read_size
+    }
 }
 
 /// Answers the connections of a listener, which must not block, until the flag is set or the system fails.
@@ -94,8 +106,15 @@ fn turn<S: Recording, R: Clock>(
         poll.poll(events, Some(Duration::from_millis(TURN_MILLIS)))?;
         let now = Instant::now(rt)?;
         for event in events.iter() {
-            let Token(key) = event.token();
-            answer_event(making, now, poll.registry(), listener, peers, key, service);
+            answer_event(
+                making,
+                now,
+                poll.registry(),
+                listener,
+                peers,
+                event,
+                service,
+            );
         }
         if now.duration_since(swept).as_secs() > 0 {
             leave_idle(now, poll.registry(), service, peers);
@@ -112,17 +131,19 @@ fn answer_event<S: Recording>(
     registry: &Registry,
     listener: &TcpListener,
     peers: &mut Slab<Peer>,
-    key: usize,
+    event: &Event,
     service: &mut S,
 )
     requires { PeersStand S.stands service.old peers.old }
     ensures stand { PeersStand S.stands service.new peers.new }
     ensures chain { (calls : List Call) × Chain S.answers service.old calls service.new }
 {
+    let Token(key) = event.token();
     if key == LISTENER {
         admit(making, now, registry, listener, service, peers);
     } else {
-        attend(now, registry, peers, key, service);
+        let room = making.room(event);
+        attend(now, registry, peers, key, room, service);
     }
 }
 
@@ -175,29 +196,44 @@ fn welcome<S: Recording>(service: &S, peers: &mut Slab<Peer>, peer: Peer, is_reg
     let _ = peers.insert(peer);
 }
 
-/// Goes on with one peer.
+/// Goes on with one peer, and closes its connection where it leaves.
 fn attend<S: Recording>(
     now: Instant,
     registry: &Registry,
     peers: &mut Slab<Peer>,
     key: usize,
+    room: usize,
     service: &mut S,
 )
     requires { PeersStand S.stands service.old peers.old }
     ensures stand { PeersStand S.stands service.new peers.new }
     ensures chain { (calls : List Call) × Chain S.answers service.old calls service.new }
 {
-    let Some(mut peer) = peers.try_remove(key) else {
-        return;
+    if visit(now, registry, peers, key, room, service) == Stay::Leaves {
+        leave(registry, service, peers, key);
+    }
+}
+
+/// Goes on with one peer, and says whether it stays.
+fn visit<S: Recording>(
+    now: Instant,
+    registry: &Registry,
+    peers: &mut Slab<Peer>,
+    key: usize,
+    room: usize,
+    service: &mut S,
+) -> Stay
+    requires { PeersStand S.stands service.old peers.old }
+    ensures stand { PeersStand S.stands service.new peers.new }
+    ensures chain { (calls : List Call) × Chain S.answers service.old calls service.new }
+{
+    let Some(peer) = peers.get_mut(key) else {
+        return Stay::Waits;
     };
     peer.active = now;
-    let stay = peer.go_on(service);
-    if stay == Stay::Leaves {
-        let _ = registry.deregister(&mut peer.stream);
-        return;
-    }
+    let stay = peer.go_on(service, room);
     peer.come_again(registry, key, stay);
-    peers.insert_reserved(peer);
+    stay
 }
 
 /// Closes the connections that have had nothing to do for long.

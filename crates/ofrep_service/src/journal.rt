@@ -4,29 +4,32 @@ ghost use Rattle.std.specs.Prelude.{None};
 use note_log::whole_lines;
 use std::alloc::Global;
 use std::fs::{File, OpenFile, OpenOptions};
-use std::io::{self, Read, Seek, SeekFrom, Write};
+use std::io::{self, ErrorKind, Read, Seek, SeekFrom, Write};
 use std::rt::Files;
 
 /// The bytes that are read at once where the end of the last whole line is looked for.
 const PIECE: usize = 65_536;
 
-/// Where the notes of a worker are kept.
+/// How often a write is made again that was interrupted each time.
+const MOST_CALLS: u32 = 1024;
+
+/// The log of a worker: its notes are kept at the end of a file.
 #[derive(Drop)]
-pub enum Journal {
-    /// Nowhere: they are dropped.
-    Nowhere,
-    /// At the end of a file.
-    Kept(File),
+pub struct Journal {
+    file: File,
 }
 
 impl Write for Journal {
     ghost contents = { λ _. None };
 
     fn write(&mut self, buf: &[u8]) -> io::Result<usize> {
-        match self {
-            Journal::Nowhere => Ok(buf.len()),
-            Journal::Kept(file) => file.write(buf),
+        for _ in 0..MOST_CALLS {
+            match self.file.write(buf) {
+                Err(e) if e.kind() == ErrorKind::Interrupted => {}
+                written => return written,
+            }
         }
+        Err(ErrorKind::Interrupted.into())
     }
 
     fn flush(&mut self) -> io::Result<()> {
@@ -54,7 +57,7 @@ pub fn open_journal<R: Files<File = File>>(
     if whole < len {
         file.set_len(whole)?;
     }
-    Ok(Journal::Kept(file))
+    Ok(Journal { file })
 }
 
 /// How many of the first bytes of a file are whole lines.

@@ -1,12 +1,14 @@
-//! The threads of the evaluation service: workers that share an address, each with a log of its own, and the seats of its stream.
+//! The threads of the evaluation service: workers that share an address, each with a log of its own where one is kept, and the
+//! seats of its stream.
 //!
 //! [`open_journal`] opens the log of a worker. [`bind`] listens on an address for the workers, and [`bind_stream`] on a port of
 //! this host for the subscribers of the stream. [`work_beside`] runs a worker of `ofrep_worker` on a thread for each [`Post`],
 //! over `ofrep_connections`, and serves the stream by `sync_server` on a thread for each of its seats, while its caller goes on
 //! with what it has to do beside them; it tells the threads of each snapshot on their [`Board`].
 //!
-//! What answers rest on is proved there: no byte of an answer is written to a socket before its notes stand in the log, and a
-//! subscriber is sent whole frames whose numbers rise. What files and sockets do with bytes, and that threads run, is not.
+//! What answers rest on is proved there: no byte of an answer is written to a socket before its notes stand in the log of the
+//! worker, where it keeps one, and a subscriber is sent whole frames whose numbers rise. What files and sockets do with bytes,
+//! and that threads run, is not.
 #![tactic(auto)]
 
 mod board;

@@ -4,19 +4,19 @@ use std::alloc::Global;
 use std::io;
 use std::net::{Net, SocketAddr, TcpListener, TcpStream};
 
-/// Where a worker takes connections, and where its notes are kept.
+/// Where a worker takes connections, and its log, where it keeps one.
 #[derive(Drop)]
 pub struct Post {
     pub listener: TcpListener,
-    pub journal: Journal,
+    pub journal: Option<Journal>,
 }
 
-/// Listens on an address, once for each worker that has a log.
+/// Listens on an address, once for each worker, of which these are the logs.
 pub fn bind<R: Net<Listener = TcpListener, Stream = TcpStream>>(
     rt: &R,
     alloc: Global,
     address: SocketAddr,
-    journals: Vec<Journal>,
+    journals: Vec<Option<Journal>>,
 ) -> io::Result<Vec<Post>> {
     let listener = TcpListener::bind(rt, address)?;
     listener.set_nonblocking(true)?;

@@ -15,7 +15,7 @@ use std::hash::RandomState;
 use std::io;
 use std::net::{Net, TcpListener, TcpStream};
 use std::sync::Wait;
-use std::thread::{self, Threads};
+use std::thread::{self, Builder, Threads};
 use std::time::Clock;
 
 /// The most bytes of a request's body. A longer one is answered with 413.
@@ -23,6 +23,9 @@ const MOST_BODY: usize = 4_194_304;
 
 /// While more bytes than this wait to be sent on a connection, no request is read from it.
 const MOST_PENDING: usize = 16_777_216;
+
+/// The bytes of the stack of a worker: more than the deepest of targetings, bodies and contexts take.
+const STACK: usize = 4 * 1024 * 1024;
 
 /// Runs a worker on a thread for each post, and serves the stream on a thread for each listener, each with the seat of the same
 /// place, and does `beside` meanwhile on its own. It ends when all workers have ended, and they end where the system fails them.
@@ -77,7 +80,9 @@ where
             requires { IsSend J.row × IsSync J.row × IsSync R.row × B.pre beside }
         {
             for (seat, post) in seats.into_iter().zip(posts) {
-                let spawned = scope.spawn(move || work(rt, alloc, keys, board, seat, post));
+                let spawned = Builder::new()
+                    .stack_size(STACK)
+                    .spawn_scoped(scope, move || work(rt, alloc, keys, board, seat, post));
                 if spawned.is_err() {
                     board.end();
                     return None;
@@ -109,7 +114,10 @@ fn answer<J: ShareName, R: Net + Clock>(
     post: Post,
 ) -> io::Result<()> {
     let Post { listener, journal } = post;
-    let log = NoteLog::new(alloc, keys, WriteOutlet::new(journal))?;
+    let log = match journal {
+        Some(journal) => Some(NoteLog::new(alloc, keys, WriteOutlet::new(journal))?),
+        None => None,
+    };
     let mut worker = OfrepWorker::new(rt, alloc, seat, log, &board.counts);
     let config = Config {
         max_body_len: MOST_BODY,

@@ -3,9 +3,8 @@ ghost use Rattle.std.specs.Prelude.{◌≡◌, ◌<◌, ◌^◌, IfOk, OnErr, On
 ghost use Rattle.std.specs.Arc.{arc_value};
 ghost use Rattle.flag_defs.specs.Flags.{flags_view};
 ghost use Rattle.http_server.specs.Response.{IsBlank};
-ghost use Rattle.note_log.specs.Log.{logged};
 ghost use Rattle.ofrep_answers.specs.Answer.{answer_of, answer_view};
-ghost use Rattle.ofrep_worker.specs.Answers.{Answers};
+ghost use Rattle.ofrep_worker.specs.Answers.{Answers, kept_in};
 ghost use Rattle.ofrep_worker.specs.Asked.{asked_of};
 ghost use Rattle.ofrep_worker.specs.Sent.{Sends};
 
@@ -14,8 +13,7 @@ use crate::counts::Counts;
 use crate::failing::give;
 use crate::filling::fill;
 use crate::moment::moment_of;
-use crate::notes::notes_of;
-use crate::recording::record_first;
+use crate::recording::record_answer;
 use bytes::{BufMut, Bytes};
 use flag_text::Outlet;
 use http::Request;
@@ -35,29 +33,22 @@ pub(crate) struct Answering<'a, R> {
     pub(crate) snapshot: &'a SharedSnapshot,
 }
 
-/// Answers a request of the flags of a snapshot, once the notes of the answer are recorded. Where memory runs out the log is
-/// as it was.
+/// Answers a request of the flags of a snapshot, once the notes of the answer are recorded, where a log is kept. Where memory
+/// runs out the log is as it was.
 pub(crate) fn answer_from<R: Clock, O: Outlet>(
     with: &Answering<'_, R>,
-    log: &mut NoteLog<O>,
+    log: &mut Option<NoteLog<O>>,
     request: &Request<Bytes>,
     response: &mut Response,
 ) -> Result<(), AllocError>
     requires { IsBlank response.old }
-    ensures ok { OnOk result (Answers (flags_view (arc_value with.now.snapshot.now).flags) request.now response.new (logged log.old) (logged log.new) (O.bytes log.old.outlet) (O.bytes log.new.outlet)) }
+    ensures ok { OnOk result (Answers (flags_view (arc_value with.now.snapshot.now).flags) request.now response.new (kept_in O.bytes log.old) (kept_in O.bytes log.new)) }
     ensures err { OnErr result (log.new ≡ log.old) }
 {
     let moment = moment_of(with.rt);
     let answer = with.answer_at(moment, request)?;
-    let notes = notes_of(with.alloc, with.snapshot.flags(), &answer)?;
-    fill(with.alloc, &answer, response)?;
-    if let Content::Counts = answer.content {
-        let number = with.snapshot.number();
-        let flags = with.snapshot.flags().len();
-        let text = with.counts.text(with.alloc, number, flags)?;
-        response.body.put_slice(text.as_bytes())?;
-    }
-    let recorded = record_first(with.alloc, log, notes.as_slice())?;
+    with.tell(&answer, response)?;
+    let recorded = record_answer(with.alloc, log, with.snapshot.flags(), &answer)?;
     give(recorded, response);
     with.counts.count_evaluations(answer.reasons);
     Ok(())
@@ -77,5 +68,20 @@ impl<R> Answering<'_, R> {
             body: request.body().as_slice(),
         };
         answer_to(self.alloc, self.snapshot.flags(), moment, &asked)
+    }
+
+    /// Fills a response with an answer, and with what is counted where that is asked for.
+    fn tell(&self, answer: &Answer, response: &mut Response) -> Result<(), AllocError>
+        requires { IsBlank response.old }
+        ensures { OnOk result (Sends (answer_view answer.now) response.new) }
+    {
+        fill(self.alloc, answer, response)?;
+        if let Content::Counts = answer.content {
+            let number = self.snapshot.number();
+            let flags = self.snapshot.flags().len();
+            let text = self.counts.text(self.alloc, number, flags)?;
+            response.body.put_slice(text.as_bytes())?;
+        }
+        Ok(())
     }
 }

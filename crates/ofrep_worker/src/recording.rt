@@ -1,15 +1,40 @@
 //! Notes before answers.
 ghost use Rattle.std.specs.Prelude.{◌≡◌, IfOk, OnErr};
+ghost use Rattle.flag_defs.specs.Flags.{flags_view};
 ghost use Rattle.note_log.specs.Log.{logged};
-ghost use Rattle.ofrep_worker.specs.Answers.{RecordedFirst};
+ghost use Rattle.ofrep_answers.specs.Answer.{answer_view};
+ghost use Rattle.ofrep_worker.specs.Answers.{RecordedFirst, RecordedIn, kept_in};
+ghost use Rattle.ofrep_worker.specs.Notes.{notes_of};
 
+use crate::notes::notes_of;
+use flag_defs::Flags;
 use flag_text::Outlet;
 use note_lines::Note;
 use note_log::NoteLog;
+use ofrep_answers::Answer;
 use std::alloc::{AllocError, Global};
 
+/// Records the notes of an answer, and says whether all of them stand in the log. Where no log is kept there is nothing to do.
+pub(crate) fn record_answer<O: Outlet>(
+    alloc: Global,
+    log: &mut Option<NoteLog<O>>,
+    flags: &Flags,
+    answer: &Answer,
+) -> Result<bool, AllocError>
+    ensures records { IfOk result (λ all. RecordedIn all (notes_of (flags_view flags.now) (answer_view answer.now)) (kept_in O.bytes log.old) (kept_in O.bytes log.new)) }
+    ensures err { OnErr result (log.new ≡ log.old) }
+{
+    match log {
+        Some(log) => {
+            let notes = notes_of(alloc, flags, answer)?;
+            record_first(alloc, log, notes.as_slice())
+        }
+        None => Ok(true),
+    }
+}
+
 /// Records notes, and says whether all of them stand in the log. Where there are none the log is left alone.
-pub(crate) fn record_first<O: Outlet>(
+fn record_first<O: Outlet>(
     alloc: Global,
     log: &mut NoteLog<O>,
     notes: &[Note],

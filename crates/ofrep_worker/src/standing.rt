@@ -1,6 +1,5 @@
 //! What a worker's answers rest on.
-ghost use Rattle.note_log.specs.Log.{logged};
-ghost use Rattle.ofrep_worker.specs.Answers.{Stands};
+ghost use Rattle.ofrep_worker.specs.Answers.{Stands, handed, kept_in};
 ghost use Rattle.ofrep_worker.specs.Standing.{responded, still_stands};
 
 use crate::worker::OfrepWorker;
@@ -10,9 +9,9 @@ use snap_share::ShareName;
 use std::time::Clock;
 
 impl<J: ShareName, R: Clock, O: Outlet> Recording for OfrepWorker<'_, J, R, O> {
-    ghost stands = { λ worker request response. Stands worker.seat (logged worker.log).handed request response };
+    ghost stands = { λ worker request response. Stands worker.seat (handed (kept_in O.bytes worker.log)) request response };
 
-    ghost given = { λ old request response new. responded old.seat new.seat request response (logged old.log) (logged new.log) (O.bytes old.log.outlet) (O.bytes new.log.outlet) };
+    ghost given = { λ old request response new. responded old.seat new.seat request response (kept_in O.bytes old.log) (kept_in O.bytes new.log) };
 
-    ghost stays = { λ old request response new. still_stands old.seat new.seat request response (logged old.log) (logged new.log) (O.bytes old.log.outlet) (O.bytes new.log.outlet) };
+    ghost stays = { λ old request response new. still_stands old.seat new.seat request response (kept_in O.bytes old.log) (kept_in O.bytes new.log) };
 }

@@ -2,8 +2,7 @@
 ghost use Rattle.std.specs.Prelude.{◌≡◌, OnErr, OnOk};
 ghost use mathlib.Core.List.{IsPrefix};
 ghost use Rattle.http_server.specs.Response.{IsBlank};
-ghost use Rattle.note_log.specs.Log.{logged};
-ghost use Rattle.ofrep_worker.specs.Answers.{Responds, RespondsFrom};
+ghost use Rattle.ofrep_worker.specs.Answers.{Responds, RespondsFrom, kept_in};
 
 use crate::answering::{Answering, answer_from};
 use crate::counts::Counts;
@@ -17,23 +16,24 @@ use snap_share::{Current, ReadSeat, ShareFault, ShareName};
 use std::alloc::{AllocError, Global};
 use std::time::Clock;
 
-/// Answers requests from the last snapshot that its seat knows, once what the answers rest on is recorded.
+/// Answers requests from the last snapshot that its seat knows, once what the answers rest on is recorded, where it keeps a log.
 #[derive(Drop)]
 pub struct OfrepWorker<'a, J: ShareName, R, O> {
     rt: &'a R,
     alloc: Global,
     pub(crate) seat: ReadSeat<J>,
-    pub(crate) log: NoteLog<O>,
+    pub(crate) log: Option<NoteLog<O>>,
     counts: &'a Counts,
 }
 
 impl<'a, J: ShareName, R: Clock, O: Outlet> OfrepWorker<'a, J, R, O> {
-    /// A worker that answers from the snapshots of a seat. The workers of a service count together.
+    /// A worker that answers from the snapshots of a seat, and records in a log where it has one. The workers of a service count
+    /// together.
     pub fn new(
         rt: &'a R,
         alloc: Global,
         seat: ReadSeat<J>,
-        log: NoteLog<O>,
+        log: Option<NoteLog<O>>,
         counts: &'a Counts,
     ) -> OfrepWorker<'a, J, R, O>
         ensures seat { result.seat ≡ seat }
@@ -48,6 +48,14 @@ impl<'a, J: ShareName, R: Clock, O: Outlet> OfrepWorker<'a, J, R, O> {
         }
     }
 
+    /// How many notes the log was given, and how many inputs were too long for one.
+    fn noted(&self) -> (u64, u64) {
+        match &self.log {
+            Some(log) => (log.written(), log.too_long()),
+            None => (0, 0),
+        }
+    }
+
     /// Answers from the current snapshot. Where it fails the log has not changed.
     fn respond(
         &mut self,
@@ -55,7 +63,7 @@ impl<'a, J: ShareName, R: Clock, O: Outlet> OfrepWorker<'a, J, R, O> {
         response: &mut Response,
     ) -> Result<(), ShareFault>
         requires { IsBlank response.old }
-        ensures ok { OnOk result (RespondsFrom self.old.seat self.new.seat request.now response.new (logged self.old.log) (logged self.new.log) (O.bytes self.old.log.outlet) (O.bytes self.new.log.outlet)) }
+        ensures ok { OnOk result (RespondsFrom self.old.seat self.new.seat request.now response.new (kept_in O.bytes self.old.log) (kept_in O.bytes self.new.log)) }
         ensures err { OnErr result (IsPrefix self.old.seat self.new.seat × (self.new.log ≡ self.old.log)) }
     {
         let snapshot = self.seat.current()?;
@@ -72,7 +80,7 @@ impl<'a, J: ShareName, R: Clock, O: Outlet> OfrepWorker<'a, J, R, O> {
     /// Answers from the current snapshot, or leaves the response empty where memory runs out.
     fn respond_or_leave(&mut self, request: &Request<Bytes>, response: &mut Response)
         requires { IsBlank response.old }
-        ensures { Responds self.old.seat self.new.seat request.now response.new (logged self.old.log) (logged self.new.log) (O.bytes self.old.log.outlet) (O.bytes self.new.log.outlet) }
+        ensures { Responds self.old.seat self.new.seat request.now response.new (kept_in O.bytes self.old.log) (kept_in O.bytes self.new.log) }
     {
         match self.respond(request, response) {
             Ok(()) => {}
@@ -83,19 +91,20 @@ impl<'a, J: ShareName, R: Clock, O: Outlet> OfrepWorker<'a, J, R, O> {
 
 impl<J: ShareName, R: Clock, O: Outlet> Service for OfrepWorker<'_, J, R, O> {
     ghost answers = { λ old request response new.
-        Responds old.seat new.seat request response (logged old.log) (logged new.log) (O.bytes old.log.outlet) (O.bytes new.log.outlet) };
+        Responds old.seat new.seat request response (kept_in O.bytes old.log) (kept_in O.bytes new.log) };
 
     fn call(
         &mut self,
         request: &Request<Bytes>,
         response: &mut Response,
     ) -> Result<(), AllocError> {
-        let (notes, too_long) = (self.log.written(), self.log.too_long());
+        let (notes, too_long) = self.noted();
         self.respond_or_leave(request, response);
         self.counts.count(response.status);
+        let (more_notes, more_too_long) = self.noted();
         self.counts.count_notes(
-            self.log.written().saturating_sub(notes),
-            self.log.too_long().saturating_sub(too_long),
+            more_notes.saturating_sub(notes),
+            more_too_long.saturating_sub(too_long),
         );
         Ok(())
     }

@@ -1,5 +1,5 @@
 mod Blanks
-mod Books
+pub mod Books
 mod Lexed
 mod Members
 mod Pieces

@@ -1,10 +1,10 @@
 //! Files and an outlet in memory.
 ghost use Rattle.std.specs.Prelude.{◌≡◌, ◌+◌, ◌∷◌, Ok, Some, false, option_map, string_bytes, take, IfOk, OnErr};
-ghost use Rattle.flagops_files.specs.Files.{first_piece, front_of_book};
+ghost use Rattle.flagops_files.specs.Files.{first_piece, front_of_book, front_of_notes, notes_piece};
 ghost use Rattle.upper_tests.specs.Memory.{held_in};
 
 use flag_text::Outlet;
-use flagops_files::{FileSet, LoadFault, StoreFault, may_begin_record};
+use flagops_files::{FileSet, LoadFault, StoreFault, may_begin_record, may_note};
 use std::alloc::{AllocError, Global};
 use std::io;
 
@@ -49,6 +49,25 @@ impl FileSet for MemoryFiles {
     fn read_book(&mut self, alloc: Global, path: &str, max: u64) -> Result<Vec<u8>, LoadFault> {
         match find(self.files.as_slice(), path) {
             Some(bytes) => match Vec::from_slice(alloc, front_of_book(bytes, max)) {
+                Ok(front) => Ok(front),
+                Err(AllocError) => Err(LoadFault::WantOfMemory),
+            },
+            None => {
+                self.failed = true;
+                Err(LoadFault::Unreadable)
+            }
+        }
+    }
+
+    fn read_notes(
+        &mut self,
+        alloc: Global,
+        path: &str,
+        passing: bool,
+        max: u64,
+    ) -> Result<Vec<u8>, LoadFault> {
+        match find(self.files.as_slice(), path) {
+            Some(bytes) => match Vec::from_slice(alloc, front_of_notes(bytes, passing, max)) {
                 Ok(front) => Ok(front),
                 Err(AllocError) => Err(LoadFault::WantOfMemory),
             },
@@ -108,6 +127,23 @@ fn front_of_book(bytes: &[u8], max: u64) -> &[u8]
     } else {
         piece
     }
+}
+
+fn front_of_notes(bytes: &[u8], passing: bool, max: u64) -> &[u8]
+    ensures { Ok result.now ≡ front_of_notes passing max (Some bytes.now) }
+{
+    let piece = notes_piece(bytes);
+    if may_note(piece, passing) {
+        front(bytes, max)
+    } else {
+        piece
+    }
+}
+
+fn notes_piece(bytes: &[u8]) -> &[u8]
+    ensures { result.now ≡ notes_piece bytes.now }
+{
+    front(bytes, 16_777_215)
 }
 
 fn first_piece(bytes: &[u8]) -> &[u8]

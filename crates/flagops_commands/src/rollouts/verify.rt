@@ -6,7 +6,7 @@ ghost use Rattle.flagops_files.specs.Question.{question_view};
 ghost use Rattle.flagops_commands.specs.Calls.{verify_calls, verify_itself};
 ghost use Rattle.flagops_files.specs.Refusal.{ComesFrom, GivesOne, GivesUnlessWant, is_file_fault};
 ghost use Rattle.flagops_files.specs.Report.{beside, done, outcome_view};
-ghost use Rattle.flagops_commands.specs.Verify.{IsShownOn, IsToldOn, IsVerdict, IsVerifyReport, MayBeTold, valid_text};
+ghost use Rattle.flagops_commands.specs.Verify.{IsShownOn, IsToldOn, IsVerdict, IsVerifyReport, MayBeTold, valid_as, valid_json, valid_text};
 ghost use Rattle.flagops_files.specs.declared.evidence.Evidence.TheVariants.{Book, Tally};
 ghost use Rattle.flagops_remarks.specs.Named.{Names};
 ghost use Rattle.flagops_files.specs.Told.{Says, TellsOfOne, file};
@@ -28,7 +28,7 @@ use rollout::{PageTally, VerifyFault, verify_refined, verify_tally, verify_tally
 use std::alloc::{AllocError, Global};
 use std::thread::Threads;
 
-/// What the answer of a plan file proves, where it is right for the request: a line.
+/// What the answer of a plan file proves, where it is right for the request: a line, or with `json` a JSON text.
 #[tactic(auto, unfolding(crate::specs::Verify::IsVerifyReport))]
 pub fn verify<R: Threads + Sync, F: FileSet>(
     rt: &R,
@@ -56,7 +56,7 @@ pub fn verify<R: Threads + Sync, F: FileSet>(
         book,
         plan,
     };
-    verdict(rt, alloc, paths, &question, &planned, refine, strict)
+    verdict(rt, alloc, paths, &question, &planned, refine, strict, json)
 }
 
 /// Where what is verified was loaded from.
@@ -67,7 +67,7 @@ pub struct Paths<'a> {
     pub plan: &'a str,
 }
 
-/// The line of an answer that is right.
+/// What is printed of an answer that is right.
 #[tactic(auto, using(flagops_files::proofs::Told::says, crate::proofs::Doubting::verdict_doubted, crate::proofs::Doubting::verdict_told))]
 fn verdict(
     rt: &(impl Threads + Sync),
@@ -77,8 +77,9 @@ fn verdict(
     planned: &Planned,
     refine: Option<Factor>,
     strict: bool,
+    json: bool,
 ) -> Result<Outcome, Refused>
-    ensures exact { GivesOne outcome_view result (IsVerdict strict (option_map (λ m. m.number) refine) (Ok (question_view question.now)) (Ok (planned_view planned.now))) }
+    ensures exact { GivesOne outcome_view result (IsVerdict strict json (option_map (λ m. m.number) refine) (Ok (question_view question.now)) (Ok (planned_view planned.now))) }
     ensures calls { ComesFrom verify_itself result }
     ensures read { is_file_fault result ≡ false }
     ensures names { TellsOfOne ((file paths.entry.request.now, is_of_request) ∷ (file paths.entry.plan.now, is_of_answer) ∷ doubt_subjects paths.entry.request.now paths.entry.book.now) result }
@@ -93,17 +94,22 @@ fn verdict(
     }
     let (request, book) = (paths.request, paths.book);
     let remark = settled(rt, alloc, Call::Verify, request, book, question, strict)?;
-    valid(alloc, planned, remark)
+    valid(alloc, planned, json, remark)
 }
 
 /// The report of an answer that is right.
-fn valid(alloc: Global, planned: &Planned, remark: Option<Remark>) -> Result<Outcome, Refused>
-    ensures exact { GivesUnlessWant outcome_view result (beside (is_some remark) (done (valid_text (planned_view planned.now)))) }
+fn valid(
+    alloc: Global,
+    planned: &Planned,
+    json: bool,
+    remark: Option<Remark>,
+) -> Result<Outcome, Refused>
+    ensures exact { GivesUnlessWant outcome_view result (beside (is_some remark) (done (valid_as json (planned_view planned.now)))) }
     ensures calls { ComesFrom verify_itself result }
     ensures read { is_file_fault result ≡ false }
     ensures remark { IfOk result (λ o. o.remark ≡ remark) }
 {
-    match valid_line(alloc, planned) {
+    match valid_as(alloc, planned, json) {
         Ok(text) => Ok(Outcome {
             text: text.into_bytes(),
             status: Status::Done,
@@ -217,6 +223,17 @@ fn by_tally(
     }
 }
 
+/// The line, or with `json` the JSON text.
+fn valid_as(alloc: Global, planned: &Planned, json: bool) -> Result<String, AllocError>
+    ensures { IfOk result (λ s. string_bytes s ≡ valid_as json (planned_view planned.now)) }
+{
+    if json {
+        valid_json(alloc, planned)
+    } else {
+        valid_line(alloc, planned)
+    }
+}
+
 #[tactic(auto, unfolding(crate::specs::Verify::valid_text))]
 fn valid_line(alloc: Global, planned: &Planned) -> Result<String, AllocError>
     ensures { IfOk result (λ s. string_bytes s ≡ valid_text (planned_view planned.now)) }
@@ -227,5 +244,18 @@ fn valid_line(alloc: Global, planned: &Planned) -> Result<String, AllocError>
             format!(in alloc; "valid cost {cost}\n")
         }
         Planned::NoneExists(_) => String::from_str(alloc, "valid none\n"),
+    }
+}
+
+#[tactic(auto, unfolding(crate::specs::Verify::valid_json))]
+fn valid_json(alloc: Global, planned: &Planned) -> Result<String, AllocError>
+    ensures { IfOk result (λ s. string_bytes s ≡ valid_json (planned_view planned.now)) }
+{
+    match planned {
+        Planned::Emit(_, certificate) => {
+            let cost = certificate.cost;
+            format!(in alloc; "{{\"cost\":{cost},\"valid\":true}}\n")
+        }
+        Planned::NoneExists(_) => String::from_str(alloc, "{\"cost\":null,\"valid\":true}\n"),
     }
 }

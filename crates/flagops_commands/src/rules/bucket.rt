@@ -1,6 +1,6 @@
 //! The command `bucket`: which variant a rule gives to a key.
-ghost use Rattle.std.specs.Prelude.{◌≡◌, ◌||◌, IfOk, IfSome, decimal, string_bytes};
-ghost use Rattle.flagops_commands.specs.Bucket.{eight_hex_digits, three_lines, bucket_text, bucket_report};
+ghost use Rattle.std.specs.Prelude.{◌≡◌, ◌||◌, if◌then◌else◌, IfOk, IfSome, decimal, string_bytes};
+ghost use Rattle.flagops_commands.specs.Bucket.{bucket_json, bucket_report, bucket_text, eight_hex_digits, three_lines, three_members};
 ghost use Rattle.flagops_commands.specs.Calls.{bucket_calls};
 ghost use Rattle.flagops_files.specs.Refusal.{ComesFrom, GivesUnlessWant, is_file_fault};
 ghost use Rattle.flagops_files.specs.Report.{outcome_view};
@@ -12,7 +12,7 @@ use flagops_files::{Call, FileSet, Outcome, Refusal, Refused, Remark, Status, lo
 use murmur_core::hash;
 use std::alloc::{AllocError, Global};
 
-/// The hash of the key, its point on the rule and its variant, a line each.
+/// The hash of the key, its point on the rule and its variant, a line each or with `json` as one JSON text.
 #[tactic(auto, unfolding(crate::specs::Bucket::bucket_report))]
 pub fn bucket<F: FileSet>(
     alloc: Global,
@@ -28,7 +28,7 @@ pub fn bucket<F: FileSet>(
     ensures names { TellsOfOne (bucket_subjects rule.now) result }
 {
     let rule = load_rule(alloc, files, rule)?;
-    match lines(alloc, &rule, key) {
+    match answer(alloc, &rule, key, json) {
         Ok(text) => Ok(Outcome::plain(text.into_bytes(), Status::Done)),
         Err(AllocError) => Err(Refused {
             refusal: Refusal::WantOfMemory(Call::Bucket),
@@ -37,14 +37,18 @@ pub fn bucket<F: FileSet>(
     }
 }
 
-#[tactic(auto, unfolding(crate::specs::Bucket::bucket_text))]
-fn lines(alloc: Global, rule: &Rule, key: &str) -> Result<String, AllocError>
-    ensures { IfOk result (λ s. string_bytes s ≡ bucket_text rule.now key.now) }
+#[tactic(auto, unfolding(crate::specs::Bucket::bucket_json, crate::specs::Bucket::bucket_text))]
+fn answer(alloc: Global, rule: &Rule, key: &str, json: bool) -> Result<String, AllocError>
+    ensures { IfOk result (λ s. string_bytes s ≡ (if json then bucket_json rule.now key.now else bucket_text rule.now key.now)) }
 {
     let point = point(rule.total(), key);
     let digits = eight_hex_digits(alloc, hash(key.as_bytes(), 0))?;
     let name = quoted(alloc, rule.variant_at(point))?;
-    three_lines(alloc, &digits, point, &name)
+    if json {
+        three_members(alloc, &digits, point, &name)
+    } else {
+        three_lines(alloc, &digits, point, &name)
+    }
 }
 
 /// The eight hexadecimal digits of a hash.
@@ -64,4 +68,16 @@ fn three_lines(
         ≡ three_lines (string_bytes digits.now) (decimal point) (string_bytes name.now)) }
 {
     format!(in alloc; "hash {digits}\npoint {point}\nvariant {name}\n")
+}
+
+fn three_members(
+    alloc: Global,
+    digits: &String,
+    point: u32,
+    name: &String,
+) -> Result<String, AllocError>
+    ensures { IfOk result (λ s. string_bytes s
+        ≡ three_members (string_bytes digits.now) (decimal point) (string_bytes name.now)) }
+{
+    format!(in alloc; "{{\"hash\":\"{digits}\",\"point\":{point},\"variant\":{name}}}\n")
 }

@@ -1,8 +1,9 @@
 //! The command `price`: what a new rule costs the keys of a file.
-ghost use Rattle.std.specs.Prelude.{◌≡◌, ◌<◌, ◌≤◌, ◌^◌, ◌++◌, ◌||◌, [], ◌∷◌, false, length, IfOk, IfSome, codes, decimal, map, string_bytes};
+ghost use Rattle.std.specs.Prelude.{◌≡◌, ◌<◌, ◌≤◌, ◌^◌, ◌++◌, ◌||◌, [], ◌∷◌, false, true, length, pos, if◌then◌else◌, IfOk, IfSome, codes, decimal, map, string_bytes};
 ghost use Rattle.bucket_core.specs.Rule.{total_weight};
+ghost use Rattle.flag_text.specs.Shape.{members_are_whole, object, whole};
 ghost use Rattle.flag_text.specs.View.{view, items_view};
-ghost use Rattle.flagops_commands.specs.Price.{request_at, keys_at, keys_in, if_keys, texts_of, are_short, are_taken, exposed, price_report, weighed, weighed_keys, price_text, total_lines, forbidden_line, cost_line};
+ghost use Rattle.flagops_commands.specs.Price.{request_at, keys_at, keys_in, if_keys, texts_of, are_short, are_taken, exposed, price_report, weighed, weighed_keys, price_json, price_lines, price_members, price_text, number_or_null, total_lines, total_members, forbidden_line, cost_line};
 ghost use Rattle.flagops_commands.specs.Calls.{loads_keys, loads_request, notes_keys, price_calls, price_itself};
 ghost use Rattle.flagops_files.specs.Refusal.{ComesFrom, GivesUnlessWant, is_file_fault};
 ghost use Rattle.flagops_files.specs.Report.{outcome_view};
@@ -14,7 +15,7 @@ ghost use Rattle.flagops_commands.specs.Subjects.{is_of_keys, is_of_rules, old_w
 use crate::rules::totals::totals_by_name;
 use book_core::{Book, Exposure, Page};
 use bucket_core::Rule;
-use flag_text::Tree;
+use flag_text::{Tree, print_tree};
 use flagops_files::{
     Call, FileSet, Outcome, PriceMismatch, Refusal, Refused, Remark, Status, TEXT_LIMIT, load,
     load_rule, load_tree, quoted,
@@ -25,7 +26,7 @@ use std::alloc::{AllocError, AllocFailed, Global};
 use std::thread::Threads;
 
 /// The totals of the new rule's names, the first forbidden point, and what the change costs the
-/// keys, a line each.
+/// keys, a line each or with `json` as one JSON text.
 #[tactic(auto, unfolding(crate::specs::Price::price_report))]
 pub fn price<R: Threads + Sync, F: FileSet>(
     rt: &R,
@@ -48,7 +49,7 @@ pub fn price<R: Threads + Sync, F: FileSet>(
     let request = load_request(alloc, files, request)?;
     let path = keys;
     let keys = load_keys(alloc, files, path)?;
-    weigh_keys(rt, alloc, path, keys, &old, &new, request.prices())
+    weigh_keys(rt, alloc, path, keys, &old, &new, request.prices(), json)
 }
 
 /// The request of the file at a path.
@@ -145,8 +146,9 @@ fn weigh_keys<R: Threads + Sync>(
     old: &Rule,
     new: &Rule,
     prices: &Prices,
+    json: bool,
 ) -> Result<Outcome, Refused>
-    ensures exact { GivesUnlessWant outcome_view result (weighed_keys old.now new.now prices.now (map string_bytes keys.items)) }
+    ensures exact { GivesUnlessWant outcome_view result (weighed_keys json old.now new.now prices.now (map string_bytes keys.items)) }
     ensures calls { ComesFrom notes_keys result }
     ensures read { is_file_fault result ≡ false }
     ensures names { TellsOfOne ((file path.now, is_of_keys) ∷ (word old_weights, is_of_rules) ∷ []) result }
@@ -154,10 +156,10 @@ fn weigh_keys<R: Threads + Sync>(
     if are_taken(keys.as_slice()) {
         keys.sort_unstable();
         keys.dedup();
-        return priced(rt, alloc, old, new, prices, keys.as_slice());
+        return priced(rt, alloc, old, new, prices, keys.as_slice(), json);
     }
     let exposure = noted(alloc, path, keys.as_slice())?;
-    priced(rt, alloc, old, new, prices, exposure.inputs())
+    priced(rt, alloc, old, new, prices, exposure.inputs(), json)
 }
 
 /// Whether a page takes all these keys in whatever order they are noted.
@@ -218,9 +220,10 @@ fn priced(
     new: &Rule,
     prices: &Prices,
     inputs: &[String],
+    json: bool,
 ) -> Result<Outcome, Refused>
     requires few { length inputs.now ≤ 1000000 }
-    ensures exact { GivesUnlessWant outcome_view result (weighed old.now new.now prices.now (map string_bytes inputs.now)) }
+    ensures exact { GivesUnlessWant outcome_view result (weighed json old.now new.now prices.now (map string_bytes inputs.now)) }
     ensures calls { ComesFrom price_itself result }
     ensures read { is_file_fault result ≡ false }
     ensures names { TellsOfOne ((word old_weights, is_of_rules) ∷ []) result }
@@ -232,7 +235,7 @@ fn priced(
             remark: Remark::of(lines),
         });
     }
-    match lines(rt, alloc, old, new, prices, inputs) {
+    match answer(rt, alloc, old, new, prices, inputs, json) {
         Ok(text) => Ok(Outcome::plain(text.into_bytes(), Status::Done)),
         Err(AllocError) => Err(Refused {
             refusal: Refusal::WantOfMemory(Call::Price),
@@ -241,24 +244,45 @@ fn priced(
     }
 }
 
-#[tactic(auto, unfolding(crate::specs::Price::price_text))]
-fn lines(
+/// What the change of a rule to one of its total comes to, in lines or as JSON.
+#[tactic(auto, unfolding(crate::specs::Price::price_json, crate::specs::Price::price_text))]
+fn answer(
     rt: &(impl Threads + Sync),
     alloc: Global,
     old: &Rule,
     new: &Rule,
     prices: &Prices,
     inputs: &[String],
+    json: bool,
 ) -> Result<String, AllocError>
     requires few { length inputs.now ≤ 1000000 }
     requires same { total_weight old.now ≡ total_weight new.now }
     requires small { total_weight new.now < 2 ^ 31 }
-    ensures { IfOk result (λ s. string_bytes s ≡ price_text old.now new.now prices.now (map string_bytes inputs.now)) }
+    ensures { IfOk result (λ s. string_bytes s
+        ≡ (if json then price_json old.now new.now prices.now (map string_bytes inputs.now) else price_text old.now new.now prices.now (map string_bytes inputs.now))) }
 {
-    let mut lines = total_lines(alloc, totals_by_name(alloc, new.entries())?.as_slice())?;
-    let forbidden = forbidden_line(alloc, first_forbidden(old, new, prices))?;
+    let totals = totals_by_name(alloc, new.entries())?;
+    let forbidden = first_forbidden(old, new, prices);
+    let cost = switch_cost_of(rt, alloc, old, new, inputs, prices)?;
+    if json {
+        members(alloc, totals.as_slice(), forbidden, cost)
+    } else {
+        lines(alloc, totals.as_slice(), forbidden, cost)
+    }
+}
+
+fn lines(
+    alloc: Global,
+    totals: &[(&str, u64)],
+    forbidden: Option<u32>,
+    cost: u64,
+) -> Result<String, AllocError>
+    ensures { IfOk result (λ s. string_bytes s ≡ price_lines (map (λ e. (e.0.now, e.1)) totals.now) forbidden cost) }
+{
+    let mut lines = total_lines(alloc, totals)?;
+    let forbidden = forbidden_line(alloc, forbidden)?;
     lines.push_str(forbidden.as_str())?;
-    let cost = cost_line(alloc, switch_cost_of(rt, alloc, old, new, inputs, prices)?)?;
+    let cost = cost_line(alloc, cost)?;
     lines.push_str(cost.as_str())?;
     Ok(lines)
 }
@@ -294,4 +318,57 @@ fn cost_line(alloc: Global, cost: u64) -> Result<String, AllocError>
     ensures { IfOk result (λ s. string_bytes s ≡ cost_line cost) }
 {
     format!(in alloc; "cost {cost}\n")
+}
+
+fn members(
+    alloc: Global,
+    totals: &[(&str, u64)],
+    forbidden: Option<u32>,
+    cost: u64,
+) -> Result<String, AllocError>
+    requires { members_are_whole (total_members (map (λ e. (e.0.now, e.1)) totals.now)) ≡ true }
+    ensures { IfOk result (λ s. string_bytes s ≡ price_members (map (λ e. (e.0.now, e.1)) totals.now) forbidden cost) }
+{
+    let totals = print_tree(alloc, &total_tree(alloc, totals)?)?;
+    let forbidden = number_or_null(alloc, forbidden)?;
+    three_members(alloc, cost, &forbidden, &totals)
+}
+
+fn three_members(
+    alloc: Global,
+    cost: u64,
+    forbidden: &String,
+    totals: &String,
+) -> Result<String, AllocError>
+    ensures { IfOk result (λ s. string_bytes s ≡ codes "{\"cost\":" ++ (decimal cost ++ (codes ",\"forbidden\":" ++ (string_bytes forbidden.now ++ (codes ",\"totals\":" ++ (string_bytes totals.now ++ codes "}\n")))))) }
+{
+    format!(in alloc; "{{\"cost\":{cost},\"forbidden\":{forbidden},\"totals\":{totals}}}\n")
+}
+
+fn number_or_null(alloc: Global, number: Option<u32>) -> Result<String, AllocError>
+    ensures { IfOk result (λ s. string_bytes s ≡ number_or_null number) }
+{
+    match number {
+        Some(number) => format!(in alloc; "{number}"),
+        None => String::from_str(alloc, "null"),
+    }
+}
+
+/// The names and their totals, as the members of an object.
+fn total_tree(alloc: Global, totals: &[(&str, u64)]) -> Result<Tree, AllocError>
+    requires { members_are_whole (total_members (map (λ e. (e.0.now, e.1)) totals.now)) ≡ true }
+    ensures { IfOk result (λ t. view t ≡ object (total_members (map (λ e. (e.0.now, e.1)) totals.now))) }
+{
+    let mut members = Vec::with_capacity(alloc, totals.len())?;
+    for (name, total) in totals {
+        members.push((String::from_str(alloc, name)?, whole_tree(*total)))?;
+    }
+    Ok(Tree::Object(members))
+}
+
+fn whole_tree(n: u64) -> Tree
+    requires { n < 2 ^ 53 }
+    ensures { view result ≡ whole (pos n) }
+{
+    Tree::Whole(n as i64)
 }

@@ -19,7 +19,7 @@ returns-then-are_taken-clause-exact g c =
     let distinct = c.dedup.new.self.items in
     let once = dedup_is (λ x y. bytes_eq (string_bytes x) (string_bytes y)) sorted distinct c.dedup.ensures.filtered in
     let same = exposed-apart c.args.keys.items sorted distinct (ap are_taken (sym c.as_slice.ensures.value) ∙ sym c.if-are_taken.ensures) c.sort_unstable.ensures.permutation c.sort_unstable.ensures.sorted once in
-    let weigh = weighed c.args.old.now c.args.new.now c.args.prices.now in
+    let weigh = weighed c.args.json c.args.old.now c.args.new.now c.args.prices.now in
     subst (λ wanted. GivesUnlessWant outcome_view c.priced.result wanted) (ap (λ xs. weigh (map string_bytes xs)) c.as_slice-then-are_taken.ensures.value ∙ sym (ap (λ r. r >>= weigh) same)) c.priced.ensures.exact
 
 pub priced-requires-clause-few : goal.priced-requires-clause-few

@@ -11,8 +11,8 @@ abbrev at_life : Lft → NamedLft
 at_life κ = record { mir = erased; lft = κ }
 
 -- the closure of a thread captures what a worker is given
-pub spawn-spawned-requires-send-F : goal.spawn-spawned-requires-send-F
-spawn-spawned-requires-send-F g c = λ κs within.
+pub spawn_scoped-spawned-requires-send-F : goal.spawn_scoped-spawned-requires-send-F
+spawn_scoped-spawned-requires-send-F g c = λ κs within.
     let sent =
     work_send (param 0 g.row.J) g.J.ShareName c.requires.0 c.requires.1 [] (at_life κs.1.1.1.1.1.0) (at_life κs.1.1.1.1.1.1.0) (param 1 g.row.R) c.requires.2 in
     let given =

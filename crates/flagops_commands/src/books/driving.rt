@@ -1,0 +1,186 @@
+//! Asks that were read: what is refused of them, what they come to, and what a person is told of it.
+ghost use Rattle.std.specs.Prelude.{◌≡◌, false, true, IfErr, IfOk, IsErrAnd, IsOk, OnOk, Err, Ok, [], ◌∷◌, string_bytes};
+ghost use Rattle.flag_defs.specs.Flags.{flags_view};
+ghost use Rattle.flag_text.specs.Shape.{is_whole};
+ghost use Rattle.flag_text.specs.View.{view};
+ghost use Rattle.flagops_drive.specs.Asks.{asks_of};
+ghost use Rattle.flagops_drive.specs.Driven.{drove_view, refusal_of};
+ghost use Rattle.flagops_commands.specs.Calls.{drive_itself};
+ghost use Rattle.flagops_commands.specs.Doubts.{settle};
+ghost use Rattle.flagops_commands.specs.Drive.{IsDroveOf, admitted, doubt_of_asks, recorded};
+ghost use Rattle.flagops_commands.specs.Subjects.{NamesDriven, driven_subjects, is_of_asks};
+ghost use Rattle.flagops_files.specs.Refusal.{ComesFrom, GivesOne, GivesUnlessWant, is_file_fault};
+ghost use Rattle.flagops_files.specs.Told.{Says, TellsOfOne, file};
+ghost use Rattle.flagops_files.specs.declared.refusal.Call.TheVariants as call;
+ghost use Rattle.flagops_files.specs.declared.refusal.Refusal.{Refusal as Reason};
+ghost use Rattle.flagops_files.specs.declared.refusal.Refusal.TheVariants.{Doubted, Drive};
+ghost use Rattle.flagops_remarks.specs.Named.{Names};
+
+use crate::rollouts::doubts::joined;
+use book_core::Book;
+use flag_defs::Flags;
+use flag_text::Tree;
+use flagops_drive::{DriveRefusal, Drove, Endings, Tally, drive_asks, has_unread_ask, refusal_of};
+use flagops_files::{Call, Doubt, Refusal, Refused, Remark};
+use flagops_remarks::{
+    of_asks, of_driven, of_full_book, of_unread_asks, of_unrecorded_asks, of_workers,
+};
+use std::alloc::{AllocError, Global};
+use std::sync::Wait;
+use std::thread::Threads;
+
+/// The asks of a tree, driven; the tree was loaded from a path, and so was the book that was there before.
+pub fn drove<R: Threads + Wait + Sync>(
+    rt: &R,
+    alloc: Global,
+    flags: &Flags,
+    path: &str,
+    tree: &Tree,
+    workers: u16,
+    book: &str,
+    before: Option<Book>,
+    strict: bool,
+    json: bool,
+) -> Result<Drove, Refused>
+    requires { is_whole (view tree.now) ≡ true }
+    ensures exact { GivesOne drove_view result (IsDroveOf (Ok (flags_view flags.now)) (Ok (view tree.now)) (Ok before) workers strict json) }
+    ensures calls { ComesFrom drive_itself result }
+    ensures read { is_file_fault result ≡ false }
+    ensures refused { (e : Reason) → admitted strict (refusal_of (asks_of (view tree.now)) workers) (view tree.now) ≡ Err e → IsErrAnd result (λ r. r.refusal ≡ e) }
+    ensures names { TellsOfOne (driven_subjects path.now book.now) result }
+{
+    let workers = usize::from(workers);
+    check_members(alloc, path, tree, workers, book, strict)?;
+    match drive_asks(rt, alloc, flags, tree, workers, before, json) {
+        Ok(drove) => recorded(alloc, path, drove, strict),
+        Err(refusal) => Err(undriven(alloc, path, tree, workers, book, refusal)),
+    }
+}
+
+/// That no ask has a member that is not read, where such asks are to be refused; what else is known of them before one is
+/// answered is refused first.
+#[tactic(auto, using(flagops_files::proofs::Told::says))]
+fn check_members(
+    alloc: Global,
+    path: &str,
+    tree: &Tree,
+    workers: usize,
+    book: &str,
+    strict: bool,
+) -> Result<(), Refused>
+    requires { is_whole (view tree.now) ≡ true }
+    ensures ok { OnOk result (IsOk (settle call.Drive strict (doubt_of_asks (view tree.now)))) }
+    ensures refused { IfErr result (λ r. admitted strict (refusal_of (asks_of (view tree.now)) workers) (view tree.now) ≡ Err r.refusal) }
+    ensures calls { ComesFrom drive_itself result }
+    ensures read { is_file_fault result ≡ false }
+    ensures names { TellsOfOne (driven_subjects path.now book.now) result }
+{
+    if !strict || !has_unread_ask(tree) {
+        return Ok(());
+    }
+    Err(match refusal_of(tree, workers) {
+        Some(refusal) => undriven(alloc, path, tree, workers, book, refusal),
+        None => Refused {
+            refusal: Refusal::Doubted(Call::Drive, Doubt::Unread),
+            remark: Remark::of(of_unread_asks(alloc, path, tree)),
+        },
+    })
+}
+
+/// What was driven, or that it reached no input, where that is to be refused.
+#[tactic(auto, using(flagops_files::proofs::Told::says))]
+fn recorded(alloc: Global, path: &str, drove: Drove, strict: bool) -> Result<Drove, Refused>
+    ensures exact { GivesUnlessWant drove_view result (recorded strict (drove_view drove)) }
+    ensures calls { ComesFrom drive_itself result }
+    ensures read { is_file_fault result ≡ false }
+    ensures names { TellsOfOne ((file path.now, is_of_asks) ∷ []) result }
+{
+    if strict && drove.tally.reached == 0 {
+        let endings = words_of(&drove.tally.endings);
+        return Err(Refused {
+            refusal: Refusal::Doubted(Call::Drive, Doubt::Unrecorded),
+            remark: Remark::of(of_unrecorded_asks(alloc, path, &endings)),
+        });
+    }
+    Ok(drove)
+}
+
+/// Why asks were not driven, with what is told of it.
+#[tactic(auto, using(flagops_files::proofs::Told::says))]
+fn undriven(
+    alloc: Global,
+    path: &str,
+    tree: &Tree,
+    workers: usize,
+    book: &str,
+    refusal: DriveRefusal,
+) -> Refused
+    ensures refusal { result.refusal ≡ Drive refusal }
+    ensures names { Says (NamesDriven path.now book.now refusal) result.remark }
+{
+    Refused {
+        refusal: Refusal::Drive(refusal),
+        remark: Remark::of(of_refusal(alloc, path, tree, workers, book, refusal)),
+    }
+}
+
+fn of_refusal(
+    alloc: Global,
+    path: &str,
+    tree: &Tree,
+    workers: usize,
+    book: &str,
+    refusal: DriveRefusal,
+) -> Result<String, AllocError>
+    ensures { IfOk result (λ s. NamesDriven path.now book.now refusal (string_bytes s)) }
+{
+    match refusal {
+        DriveRefusal::BadAsks => of_asks(alloc, path, tree),
+        DriveRefusal::Drive(fault) => of_workers(alloc, workers, fault.name()),
+        DriveRefusal::PageFull => of_full_book(alloc, book),
+    }
+}
+
+/// What a person is told of asks that were driven, by the path of their file: of members that are not read, and of what the
+/// asks came to.
+#[tactic(auto, using(flagops_files::proofs::Told::says))]
+pub fn remark_on(alloc: Global, path: &str, tree: &Tree, tally: Tally) -> Remark
+    ensures { Says (Names path.now) result }
+{
+    let remark = Remark::of(lines_on(alloc, path, tally));
+    if has_unread_ask(tree) {
+        let unread = Remark::of(of_unread_asks(alloc, path, tree));
+        joined(path, unread, Some(remark))
+    } else {
+        remark
+    }
+}
+
+fn lines_on(alloc: Global, path: &str, tally: Tally) -> Result<String, AllocError>
+    ensures { IfOk result (λ s. Names path.now (string_bytes s)) }
+{
+    let endings = words_of(&tally.endings);
+    let drive = flagops_remarks::Drive {
+        endings: &endings,
+        reached: tally.reached,
+        had: tally.had,
+        has: tally.inputs,
+    };
+    of_driven(alloc, path, drive)
+}
+
+/// The counts, each with OpenFeature's word.
+fn words_of(endings: &Endings) -> [(&'static str, usize); 10] {
+    [
+        ("TARGETING_MATCH", endings.targeting_match),
+        ("DEFAULT", endings.defaults),
+        ("STATIC", endings.fixed),
+        ("DISABLED", endings.disabled),
+        ("PROVIDER_NOT_READY", endings.not_ready),
+        ("INVALID_CONTEXT", endings.invalid_context),
+        ("FLAG_NOT_FOUND", endings.not_found),
+        ("PARSE_ERROR", endings.parse_error),
+        ("GENERAL", endings.general),
+        ("TYPE_MISMATCH", endings.type_mismatch),
+    ]
+}
