@@ -1,6 +1,9 @@
 //! What is found of the flags of a document.
 ghost use Rattle.std.specs.Prelude.{◌≡◌, ◌||◌, IfOk, true, map, option_and_then, option_map, string_bytes};
+ghost use Rattle.std.specs.Cmp.Lexicographic.{slice_cmp};
 ghost use Rattle.std.specs.List.{list_any};
+ghost use Rattle.std.specs.List.Sorted.{IsStrictlySortedBy};
+ghost use Rattle.std.specs.Ordering.{nat_cmp};
 ghost use Rattle.std.specs.Str.{bytes_eq};
 ghost use Rattle.flag_defs.specs.Flags.{flags_view};
 ghost use Rattle.flag_documents.specs.Document.{flags_in, or_no_members};
@@ -126,14 +129,13 @@ fn doubts_in(definition: Option<&Tree>, flag: &Flag) -> FlagDoubts
     }
 }
 
-/// Whether a key is one of these.
+/// Whether a key is one of these, which rise strictly, by halving.
 fn is_among(keys: &[String], key: &str) -> bool
+    requires { IsStrictlySortedBy (slice_cmp nat_cmp) (map string_bytes keys.now) }
     ensures { result ≡ list_any (bytes_eq key.now) (map string_bytes keys.now) }
 {
-    for other in keys {
-        if key == other.as_str() {
-            return true;
-        }
+    match keys.binary_search_by(|other| other.as_str().cmp(key)) {
+        Ok(_) => true,
+        Err(_) => false,
     }
-    false
 }

@@ -1,6 +1,8 @@
-use Rattle.std.proofs.Common.{◌∙◌, ap, map, string_bytes}
+use Rattle.std.proofs.Common.{◌∙◌, List, String, Global, ap, map, nat_cmp, string_bytes, subst, sym}
 use Rattle.std.proofs.lemmas.List.{map-append}
+use Rattle.std.specs.Cmp.Lexicographic.{slice_cmp}
 use Rattle.std.specs.List.{list_any}
+use Rattle.std.specs.List.Sorted.{IsStrictlySortedBy}
 use Rattle.std.specs.Str.{bytes_eq}
 use Rattle.flag_defs.specs.Flags.{flags_view}
 use Rattle.flag_documents.specs.Document.{flags_in, or_no_members}
@@ -22,3 +24,6 @@ loop-i-preserved c =
     pushed bytes fs c.loop-i.i key d (map judged_view c.loop-i.all.items) _ _ c.at.ensures c.loop-i.invariant
     (same bytes fs key d c.is_broken.result c.doubts_in.result c.is_among.result c.is_broken.ensures unread c.doubts_in.ensures.weight c.doubts_in.ensures.variant c.doubts_in.ensures.never doubled)
     (ap (map judged_view) c.in_ok-push.ensures.items ∙ map-append judged_view c.loop-i.all.items _)
+
+pub is_among-requires : goal.is_among-requires
+is_among-requires c = subst (λ (l : List (String Global)). IsStrictlySortedBy (slice_cmp nat_cmp) (map string_bytes l)) (sym c.as_slice.ensures.value) c.in_ok-doubled.ensures.rising
