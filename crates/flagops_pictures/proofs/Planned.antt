@@ -1,5 +1,5 @@
 -- A plan that is printed and drawn.
-use Rattle.std.proofs.Common.{◌≡◌, ◌⊎◌, false, true, ℕ, List, Option, None, Some, Result, Ok, Err, unwrap_or, refl, ap, ◌∙◌, subst, sym, inl, inr}
+use Rattle.std.proofs.Common.{◌≡◌, ◌⊎◌, Bool, false, true, ℕ, List, Option, None, Some, Result, Ok, Err, unwrap_or, refl, ap, ◌∙◌, subst, sym, inl, inr}
 use Rattle.std.specs.Prelude.{IfErr, IfOk, IfSome, OnErr}
 use Rattle.book_core.specs.Book.{Contents}
 use Rattle.flagops_commands.specs.Plan.{IsPlanOf, IsPlannedOn}

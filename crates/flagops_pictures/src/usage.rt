@@ -1,11 +1,11 @@
 //! What `picture` and `plan --picture` take, in the terms of `clap`.
 ghost use Rattle.std.specs.Prelude.{◌≡◌, IfOk, codes, false};
-ghost use Rattle.clap.specs.Simple.{new_app};
+ghost use Rattle.clap.specs.Simple.{new_app, with_rule};
 ghost use Rattle.clap.specs.Words.{app_of, kind_of, rule_of};
 ghost use Rattle.clap.specs.declared.error.kind.ErrorKind.TheVariants.{InvalidValue};
 ghost use Rattle.flagops_pictures.specs.Words.{picture_app, picture_option, plan_app, ramp_app};
 ghost use Rattle.flagops_ramps.specs.Words.{with_steps};
-ghost use Rattle.flagops_words.specs.Words.{flag, refine_option, required, with_rollout};
+ghost use Rattle.flagops_words.specs.Words.{flag, refine_option, required, strict_flag, with_rollout};
 
 use clap::builder::ValueParser;
 use clap::error::ErrorKind;
@@ -51,6 +51,15 @@ pub(crate) fn plan<'a>(alloc: Global) -> Result<Command<'a>, AllocError>
     let command = Command::new(alloc, "plan").bin_name("flagops plan")?.about(
         "Prints the rule that a rollout request asks for and that switches the fewest, and writes its picture",
     );
+    let picture = picture_file(alloc);
+    let command = rollout(alloc, command)?.arg(picture)?.arg(factor(alloc))?;
+    told(alloc, command)
+}
+
+/// A command with the options that say how its plan is told: `--strict` and `--explain`.
+fn told<'a>(alloc: Global, command: Command<'a>) -> Result<Command<'a>, AllocError>
+    ensures app { IfOk result (λ c. app_of c ≡ with_rule (with_rule (app_of command.entry) strict_flag) (flag (codes "explain"))) }
+{
     let strict = flag(
         alloc,
         "strict",
@@ -61,11 +70,7 @@ pub(crate) fn plan<'a>(alloc: Global) -> Result<Command<'a>, AllocError>
         "explain",
         "Tell in words, beside the plan, what it changes, or what stands in the way of any",
     );
-    rollout(alloc, command)?
-        .arg(picture_file(alloc))?
-        .arg(factor(alloc))?
-        .arg(strict)?
-        .arg(explain)
+    command.arg(strict)?.arg(explain)
 }
 
 /// `--picture FILE`.
