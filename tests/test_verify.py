@@ -153,7 +153,8 @@ class Verify(ProgramTest):
         words = ["verify", "d", "r", "b", "p"]
         plain, ran = run(words, files), run([*words, "--json"], files)
         self.assertEqual((ran.status, ran.out, ran.err), (0, '{"cost":0,"valid":true}\n', plain.err))
-        self.assert_ends([*words, "--json", "--strict"], files, 1, "refused verify 17 Unrecorded\n")
+        strict = run([*words, "--json", "--strict"], files)
+        self.assertEqual((strict.status, strict.out, strict.err), (1, "refused verify 17 Unrecorded\n", plain.err))
 
     def test_files(self):
         for asked, book, plan, report in FILES:
