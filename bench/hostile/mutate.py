@@ -129,6 +129,7 @@ TOKENS = [
     b'{"var":""}', b"[[[[]]]]", b",", b":", b"]", b"}", b"\xef\xbb\xbf", b"/*x*/", b"\n", b"\r",
 ]  # fmt: skip
 REFUSAL = re.compile(r"refused [\w:-]+ .*[A-Z]\w+.*\n")
+DOUBTED = re.compile(r"refused \w+ 1[678] .*\n")
 FOLLOWED = re.compile(r"(snapshot \d+ flags \d+\n)*(ended|stopped \w+)\n")
 ENDS = {"ended": 0, "stopped Limit": 0, "stopped EndedInside": 1, "stopped Frame": 1}
 SHAPES = {
@@ -206,7 +207,8 @@ class Trial:
     def refused(self, tried, ran):
         """What is bad about a refusal: a filter has printed lines before, which read back."""
         lines = lines_of(ran.out)
-        is_named = lines and REFUSAL.fullmatch(lines[-1]) and "WantOfMemory" not in lines[-1] and ran.err.startswith("error: ")
+        opening = "note: " if lines and DOUBTED.fullmatch(lines[-1]) else "error: "
+        is_named = lines and REFUSAL.fullmatch(lines[-1]) and "WantOfMemory" not in lines[-1] and ran.err.startswith(opening)
         if not is_named:
             return "a refusal without its name or its words"
         if tried.words[0] == "record":
