@@ -73,17 +73,18 @@ impl Queue {
         }
     }
 
-    /// Whether a worker takes those that wait whatever it holds.
-    fn is_for_any(self, now: Instant) -> bool {
+    /// How many connections a worker that holds so many may come to hold whatever the others do: twice as many where those that
+    /// wait were left to others for long, else none.
+    fn most(self, now: Instant, held: usize) -> usize {
         match self {
-            Queue::Waits(since) => now.duration_since(since).as_millis() >= PATIENCE_MILLIS,
-            Queue::Empty | Queue::Failed => true,
+            Queue::Waits(since) if now.duration_since(since).as_millis() < PATIENCE_MILLIS => 0,
+            Queue::Empty | Queue::Waits(_) | Queue::Failed => held.saturating_mul(2),
         }
     }
 }
 
-/// Takes of the connections that wait those that are for this worker, and all of them where others have left them for long. Says
-/// what is known of those that wait then.
+/// Takes of the connections that wait those that are for this worker, and more where others have left them for long. Says what
+/// is known of those that wait then.
 pub(crate) fn admit<S: Recording>(
     making: Making,
     now: Instant,
@@ -100,10 +101,10 @@ pub(crate) fn admit<S: Recording>(
     if queue.is_empty() {
         return queue;
     }
-    let is_any = queue.is_for_any(now);
+    let most = queue.most(now, peers.len());
     let mut queue = queue;
     for _ in 0..MAX_PEERS {
-        if !is_any && !share.is_next() {
+        if peers.len() >= most && !share.is_next() {
             return queue;
         }
         match listener.accept() {

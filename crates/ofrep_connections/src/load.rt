@@ -42,12 +42,12 @@ impl<'a> Share<'a> {
         self.held = held;
     }
 
-    /// Whether a further connection is for this worker: it holds at most one more than the mean of all. There is always such a
-    /// worker.
+    /// Whether a further connection is for this worker: it holds at most one, or no more than the mean of all. There is always such
+    /// a worker.
     pub(crate) fn is_next(&self) -> bool {
         let workers = self.load.workers.load(Ordering::SeqCst);
         match self.load.held.load(Ordering::SeqCst).checked_div(workers) {
-            Some(mean) => self.held.saturating_sub(1) <= mean,
+            Some(mean) => self.held <= mean.max(1),
             None => true,
         }
     }
