@@ -124,7 +124,7 @@ class Answers(ServiceTest):
 
     def setUp(self):
         super().setUp()
-        self.start("--log", "log", "--workers", "2", "--poll", "0")
+        self.child = self.start("--log", "log", "--workers", "2", "--poll", "0")
 
     def test_one_flag(self):
         for key in ("mallory", "alice", "bob", ""):
@@ -222,6 +222,20 @@ class Answers(ServiceTest):
             for _ in range(50):
                 self.assertEqual(self.whole_answer(stream), first)
         self.assertEqual(first, compact(color_of("mallory")).encode())
+
+    def test_urgent_data_holds_up_no_request(self):
+        """A read ends before urgent data, though more has come."""
+        body = context("mallory")
+        request = f"POST {FLAGS}/color HTTP/1.1\r\nHost: h\r\nContent-Length: {len(body)}\r\n\r\n".encode() + body
+        with socket.create_connection(("127.0.0.1", self.port), 20) as stream:
+            stream.sendall(request)
+            first = self.whole_answer(stream)
+            self.child.send_signal(signal.SIGSTOP)
+            stream.sendall(request)
+            stream.send(b"!", socket.MSG_OOB)
+            stream.sendall(request)
+            self.child.send_signal(signal.SIGCONT)
+            self.assertEqual([self.whole_answer(stream) for _ in range(2)], [first] * 2)
 
     def whole_answer(self, stream):
         """The body of the next answer on a connection."""
@@ -323,6 +337,30 @@ class Turns(ServiceTest):
             finally:
                 stop.set()
         self.assertTrue(all(each.result() > 0 for each in busy))
+
+
+    def takers(self, child, burst):
+        """How many of 32 connections that wait at once each of four workers takes, by the log that has the note of each."""
+        child.send_signal(signal.SIGSTOP)
+        streams = [http.client.HTTPConnection("127.0.0.1", self.port, timeout=20) for _ in range(32)]
+        for stream in streams:
+            stream.connect()
+        child.send_signal(signal.SIGCONT)
+        for number, stream in enumerate(streams):
+            stream.request("POST", f"{FLAGS}/color", context(f"{burst}-{number}"))
+            self.assertEqual(stream.getresponse().status, 200)
+            stream.close()
+        return [len([line for line in self.notes_of(worker) if f'"color{burst}-' in line]) for worker in range(1, 5)]
+
+    def notes_of(self, worker):
+        with open(os.path.join(self.folder, "log", f"worker-{worker}.log"), encoding="utf-8") as file:
+            return file.read().splitlines()
+
+    def test_workers_share_the_connections(self):
+        """A worker that is woken late, as on a busy machine, finds fewer: one burst of ten is enough."""
+        child = self.start("--log", "log", "--workers", "4", "--poll", "0")
+        shares = (self.takers(child, burst) for burst in range(10))
+        self.assertTrue(any(min(each) >= 4 and sum(each) == 32 for each in shares))
 
 
 class Logs(ServiceTest):

@@ -218,8 +218,7 @@ def calls(trial, library):
         count = service.counted()
         service.ended()
         for place in trial.places(count):
-            # A `recv` of a socket is short only where no more has come, by which the service goes (epoll, edge-triggered).
-            for how in ("fail", "interrupt", *(["short"] if call in ("read", "write", "send") else [])):
+            for how in ("fail", "interrupt", *(["short"] if call in ("read", "write", "recv", "send") else [])):
                 if (call, how) not in (("epoll_wait", "fail"), ("socket", "interrupt"), ("bind", "interrupt"), ("listen", "interrupt")):
                     why, end = trial.run(library, True, CALL=call, CALL_AT=place, CALL_HOW=how)
                     trial.judge(f"{call} {how}: {end}", place, why)

@@ -2,13 +2,17 @@
 //!
 //! A `Recording` service says what each of its answers rests on. [`answer_connections`] serves the
 //! connections of a listener by readiness (`mio`), each a `Connection` of `http_server`: nothing is handed to a socket unless
-//! what every answer of the connection rests on stands by then.
+//! what every answer of the connection rests on stands by then. Workers that share a listener take its connections in turn by
+//! what they hold of their common [`Load`].
 //!
 //! Proved: the one function that writes to a socket has this as its condition, so that each write meets it; and what the service
 //! did is a chain of its answers. `http_server` proves of each connection that its bytes answer the requests that it read.
 #![tactic(auto)]
 
+mod admission;
+mod load;
 mod peer;
 mod work;
 
+pub use load::Load;
 pub use work::answer_connections;

@@ -37,7 +37,8 @@ pub(crate) enum Stay {
 
 impl Peer {
     /// Reads, answers and writes until the socket has nothing for now, or others have to have their turn. A read of fewer bytes
-    /// than `room` took all that had come, so that the socket tells of what comes later.
+    /// than `room` took all that had come, so that the socket tells of what comes later; where no answer came of it the socket is
+    /// asked all the same.
     pub(crate) fn go_on<S: Recording>(&mut self, service: &mut S, room: usize) -> Stay
         requires { AllStand S.stands service.old (history self.old.connection).calls }
         ensures stand { AllStand S.stands service.new (history self.new.connection).calls }
@@ -48,8 +49,9 @@ impl Peer {
             if is_read && !self.connection.wants_write() {
                 return Stay::Waits;
             }
+            let mut all = false;
             match self.move_bytes(service, room) {
-                Ok(all) => is_read = is_read || all,
+                Ok(is_all) => all = is_all,
                 Err(e) if e.kind() == ErrorKind::Interrupted => {}
                 Err(e) if e.kind() == ErrorKind::WouldBlock => return Stay::Waits,
                 Err(_) => return Stay::Leaves,
@@ -58,6 +60,7 @@ impl Peer {
             if self.connection.is_done() {
                 return Stay::Leaves;
             }
+            is_read = is_read || all && self.connection.wants_write();
         }
         Stay::Yields
     }
@@ -67,8 +70,7 @@ impl Peer {
         ensures { self.new.connection ≡ self.old.connection }
     {
         if stay == Stay::Yields {
-            let both = Interest::READABLE | Interest::WRITABLE;
-            let _ = registry.reregister(&mut self.stream, Token(key), both);
+            let _ = registry.reregister(&mut self.stream, Token(key), interest());
         }
     }
 
@@ -89,6 +91,11 @@ impl Peer {
         }
         Ok(false)
     }
+}
+
+/// What the system is to tell of a peer's socket.
+pub(crate) fn interest() -> Interest {
+    Interest::READABLE | Interest::WRITABLE | Interest::PRIORITY
 }
 
 /// Reads once.

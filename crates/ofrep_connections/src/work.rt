@@ -5,8 +5,10 @@ ghost use Rattle.http_server.specs.Exchange.{Call, Chain};
 ghost use Rattle.recorded_answers.specs.Stand.{AllStand};
 ghost use Rattle.ofrep_connections.specs.Stand.{PeersStand};
 
+use crate::admission::{MAX_PEERS, Queue, admit};
+use crate::load::{Load, Share};
 use crate::peer::{Peer, Stay};
-use http_server::{Config, Connection};
+use http_server::Config;
 use mio::event::Event;
 use mio::net::TcpListener;
 use mio::{Events, Interest, Poll, Registry, Token};
@@ -19,14 +21,8 @@ use std::sync::atomic::{AtomicBool, Ordering};
 use std::time::{Clock, Duration, Instant};
 use std::{io, net};
 
-/// The most connections of a worker. A further one is closed.
-const MAX_PEERS: usize = 1024;
-
 /// The token of the listener; those of the peers are below.
 const LISTENER: usize = MAX_PEERS;
-
-/// How long a wait lasts before the flag is looked at.
-const TURN_MILLIS: u64 = 200;
 
 /// A connection that has nothing to do for so long is closed.
 const IDLE_SECONDS: u64 = 60;
@@ -41,22 +37,24 @@ pub(crate) struct Making {
 
 impl Making {
     /// The room that a read of this event's socket leaves none of unless it takes all that there is: none where the peer sends
-    /// no more, since the end of what it sent is told once.
+    /// no more, since the end of what it sent is told once, or urgent data, before which a read ends.
     fn room(&self, event: &Event) -> usize {
-        if event.is_read_closed() || event.is_error() {
+        if event.is_read_closed() || event.is_error() || event.is_priority() {
             return 0;
         }
         self.config.read_size
     }
 }
 
-/// Answers the connections of a listener, which must not block, until the flag is set or the system fails.
+/// Answers connections of a listener, which must not block, until the flag is set or the system fails. Workers that share a
+/// listener share its load: one that holds more connections than others leaves those that wait to them for a moment.
 pub fn answer_connections<S: Recording, R: Net + Clock>(
     rt: &R,
     alloc: Global,
     keys: RandomState,
     config: Config,
     listener: net::TcpListener,
+    load: &Load,
     stop: &AtomicBool,
     service: &mut S,
 ) -> io::Result<()>
@@ -73,16 +71,20 @@ pub fn answer_connections<S: Recording, R: Net + Clock>(
         keys,
         config,
     };
-    turn(
+    let mut share = Share::begin(load);
+    let ended = turn(
         rt,
         making,
         &mut poll,
         &mut events,
         &listener,
+        &mut share,
         &mut peers,
         stop,
         service,
-    )
+    );
+    share.end();
+    ended
 }
 
 fn turn<S: Recording, R: Clock>(
@@ -91,6 +93,7 @@ fn turn<S: Recording, R: Clock>(
     poll: &mut Poll,
     events: &mut Events,
     listener: &TcpListener,
+    share: &mut Share<'_>,
     peers: &mut Slab<Peer>,
     stop: &AtomicBool,
     service: &mut S,
@@ -99,23 +102,35 @@ fn turn<S: Recording, R: Clock>(
     ensures { (calls : List Call) × Chain S.answers service.old calls service.new }
 {
     let mut swept = Instant::now(rt)?;
+    let mut queue = Queue::Empty;
     for _ in 0..u64::MAX {
         if stop.load(Ordering::SeqCst) {
             return Ok(());
         }
-        poll.poll(events, Some(Duration::from_millis(TURN_MILLIS)))?;
+        poll.poll(events, Some(Duration::from_millis(queue.pause_millis())))?;
         let now = Instant::now(rt)?;
         for event in events.iter() {
             answer_event(
                 making,
                 now,
                 poll.registry(),
-                listener,
+                &mut queue,
                 peers,
                 event,
                 service,
             );
         }
+        share.tell(peers.len());
+        queue = admit(
+            making,
+            now,
+            poll.registry(),
+            listener,
+            share,
+            queue,
+            service,
+            peers,
+        );
         if now.duration_since(swept).as_secs() > 0 {
             leave_idle(now, poll.registry(), service, peers);
             swept = now;
@@ -129,7 +144,7 @@ fn answer_event<S: Recording>(
     making: Making,
     now: Instant,
     registry: &Registry,
-    listener: &TcpListener,
+    queue: &mut Queue,
     peers: &mut Slab<Peer>,
     event: &Event,
     service: &mut S,
@@ -140,60 +155,11 @@ fn answer_event<S: Recording>(
 {
     let Token(key) = event.token();
     if key == LISTENER {
-        admit(making, now, registry, listener, service, peers);
+        *queue = queue.called(now);
     } else {
         let room = making.room(event);
         attend(now, registry, peers, key, room, service);
     }
-}
-
-/// Admits the peers that wait.
-fn admit<S: Recording>(
-    making: Making,
-    now: Instant,
-    registry: &Registry,
-    listener: &TcpListener,
-    service: &S,
-    peers: &mut Slab<Peer>,
-)
-    requires { PeersStand S.stands service.now peers.old }
-    ensures { PeersStand S.stands service.now peers.new }
-{
-    for _ in 0..MAX_PEERS {
-        let Ok((stream, _address)) = listener.accept() else {
-            return;
-        };
-        let _ = stream.set_nodelay(true);
-        let connection = Connection::new(making.alloc, making.keys, making.config);
-        let key = peers.vacant_key();
-        if key >= MAX_PEERS {
-            continue;
-        }
-        let mut peer = Peer {
-            stream,
-            connection,
-            active: now,
-        };
-        let both = Interest::READABLE | Interest::WRITABLE;
-        let is_registered = registry
-            .register(&mut peer.stream, Token(key), both)
-            .is_ok();
-        welcome(service, peers, peer, is_registered);
-    }
-}
-
-/// Keeps a peer that is registered. Where memory runs out it is closed.
-fn welcome<S: Recording>(service: &S, peers: &mut Slab<Peer>, peer: Peer, is_registered: bool)
-    requires stand { PeersStand S.stands service.now peers.old }
-    requires own { AllStand S.stands service.now (history peer.connection).calls }
-    ensures { PeersStand S.stands service.now peers.new }
-{
-    // The contract alone names the service.
-    let _ = service;
-    if !is_registered {
-        return;
-    }
-    let _ = peers.insert(peer);
 }
 
 /// Goes on with one peer, and closes its connection where it leaves.

@@ -1,12 +1,14 @@
 //! What the threads of a service tell each other.
+use ofrep_connections::Load;
 use ofrep_worker::Counts;
 use std::sync::atomic::{AtomicBool, AtomicU64, Ordering};
 
-/// What the threads of a service tell each other: what the workers count, which snapshot was published last, and whether
-/// all of them are to end.
+/// What the threads of a service tell each other: what the workers count, how many connections they hold, which snapshot was
+/// published last, and whether all of them are to end.
 #[derive(Drop)]
 pub struct Board {
     pub(crate) counts: Counts,
+    pub(crate) load: Load,
     pub(crate) is_over: AtomicBool,
     published: AtomicU64,
 }
@@ -16,6 +18,7 @@ impl Board {
     pub fn new() -> Board {
         Board {
             counts: Counts::new(),
+            load: Load::new(),
             is_over: AtomicBool::new(false),
             published: AtomicU64::new(0),
         }

@@ -130,6 +130,7 @@ fn answer<J: ShareName, R: Net + Clock>(
         keys,
         config,
         listener,
+        &board.load,
         &board.is_over,
         &mut worker,
     )

@@ -1,5 +1,5 @@
 use Rattle.ofrep_connections.specs.Stand.{PeersStand}
-use Rattle.ofrep_connections.proofs.work.admit.Given as goal
+use Rattle.ofrep_connections.proofs.admission.admit.Given as goal
 
 abbrev pub invariant-loop : goal.invariant-loop
 invariant-loop g l = PeersStand g.S.Recording.stands l.service l.peers

@@ -1,0 +1,161 @@
+//! Which connections a worker takes, and when.
+ghost use Rattle.http_server.specs.Connection.{history};
+ghost use Rattle.recorded_answers.specs.Stand.{AllStand};
+ghost use Rattle.ofrep_connections.specs.Stand.{PeersStand};
+
+use crate::load::Share;
+use crate::peer::{Peer, interest};
+use crate::work::Making;
+use http_server::Connection;
+use mio::net::{TcpListener, TcpStream};
+use mio::{Registry, Token};
+use recorded_answers::Recording;
+use slab::Slab;
+use std::io::{Error, ErrorKind};
+use std::time::Instant;
+
+/// The most connections of a worker. A further one is closed.
+pub(crate) const MAX_PEERS: usize = 1024;
+
+/// How long a wait lasts before the flag is looked at.
+const TURN_MILLIS: u64 = 200;
+
+/// How long a wait lasts where connections are left to other workers.
+const LEFT_MILLIS: u64 = 1;
+
+/// How long a wait lasts where the system gave no connection of those that wait.
+const FAILED_MILLIS: u64 = 10;
+
+/// Connections are left to other workers for so long.
+const PATIENCE_MILLIS: u128 = 4;
+
+/// What a worker knows of the connections that wait. The system tells only once that some do, so it is kept until none does.
+#[derive(Clone, Copy)]
+pub(crate) enum Queue {
+    /// None waits.
+    Empty,
+    /// Some may wait since then.
+    Waits(Instant),
+    /// Some may wait, and the system gave none.
+    Failed,
+}
+
+impl Queue {
+    /// The system tells that a connection waits.
+    pub(crate) fn called(self, now: Instant) -> Queue {
+        match self {
+            Queue::Waits(since) => Queue::Waits(since),
+            Queue::Empty | Queue::Failed => Queue::Waits(now),
+        }
+    }
+
+    /// What is known once a connection could not be taken.
+    fn without(fault: &Error) -> Queue {
+        match fault.kind() {
+            ErrorKind::WouldBlock => Queue::Empty,
+            _ => Queue::Failed,
+        }
+    }
+
+    /// The milliseconds after which a worker that has nothing to do looks again.
+    pub(crate) fn pause_millis(self) -> u64 {
+        match self {
+            Queue::Empty => TURN_MILLIS,
+            Queue::Waits(_) => LEFT_MILLIS,
+            Queue::Failed => FAILED_MILLIS,
+        }
+    }
+
+    fn is_empty(self) -> bool {
+        match self {
+            Queue::Empty => true,
+            Queue::Waits(_) | Queue::Failed => false,
+        }
+    }
+
+    /// How many connections a worker that holds so many may come to hold whatever the others do: twice as many where those that
+    /// wait were left to others for long, else none.
+    fn most(self, now: Instant, held: usize) -> usize {
+        match self {
+            Queue::Waits(since) if now.duration_since(since).as_millis() < PATIENCE_MILLIS => 0,
+            Queue::Empty | Queue::Waits(_) | Queue::Failed => held.saturating_mul(2),
+        }
+    }
+}
+
+/// Takes of the connections that wait those that are for this worker, and more where others have left them for long. Says what
+/// is known of those that wait then.
+pub(crate) fn admit<S: Recording>(
+    making: Making,
+    now: Instant,
+    registry: &Registry,
+    listener: &TcpListener,
+    share: &mut Share<'_>,
+    queue: Queue,
+    service: &S,
+    peers: &mut Slab<Peer>,
+) -> Queue
+    requires { PeersStand S.stands service.now peers.old }
+    ensures { PeersStand S.stands service.now peers.new }
+{
+    if queue.is_empty() {
+        return queue;
+    }
+    let most = queue.most(now, peers.len());
+    let mut queue = queue;
+    for _ in 0..MAX_PEERS {
+        if peers.len() >= most && !share.is_next() {
+            return queue;
+        }
+        match listener.accept() {
+            Ok((stream, _address)) => take(making, now, registry, stream, service, peers),
+            Err(fault) => return Queue::without(&fault),
+        }
+        share.tell(peers.len());
+        queue = Queue::Waits(now);
+    }
+    queue
+}
+
+/// Makes a peer of a connection. Where the worker has as many as it may it is closed.
+fn take<S: Recording>(
+    making: Making,
+    now: Instant,
+    registry: &Registry,
+    stream: TcpStream,
+    service: &S,
+    peers: &mut Slab<Peer>,
+)
+    requires { PeersStand S.stands service.now peers.old }
+    ensures { PeersStand S.stands service.now peers.new }
+{
+    let key = peers.vacant_key();
+    if key >= MAX_PEERS {
+        return;
+    }
+    let _ = stream.set_nodelay(true);
+    let connection = Connection::new(making.alloc, making.keys, making.config);
+    let mut peer = Peer {
+        stream,
+        connection,
+        active: now,
+    };
+    let is_registered = registry
+        .register(&mut peer.stream, Token(key), interest())
+        .is_ok();
+    welcome(service, peers, peer, is_registered);
+}
+
+/// Keeps a peer that is registered. Where memory runs out it is closed.
+fn welcome<S: Recording>(service: &S, peers: &mut Slab<Peer>, peer: Peer, is_registered: bool)
+    requires stand { PeersStand S.stands service.now peers.old }
+    requires own { AllStand S.stands service.now (history peer.connection).calls }
+    ensures { PeersStand S.stands service.now peers.new }
+{
+    // The contract alone names the service.
+    let _ = service;
+    if !is_registered {
+        return;
+    }
+    let _ = peers.insert(peer);
+}
