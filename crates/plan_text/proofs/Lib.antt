@@ -4,5 +4,7 @@ pub mod Orders
 mod PlanLines
 pub mod ReadBack
 pub mod RowsAgain
+mod Tokens
 pub mod Whole
 pub mod WholeAnswers
+mod Writes

@@ -1,24 +1,14 @@
 -- The rows that are written read as what they are written for.
-use Rattle.std.proofs.Common.{◌≡◌, ℕ, ℤ, ◌<◌, ◌≤◌, ◌^◌, List, [], ◌∷◌, map, Some, String, Global, refl, ap, ◌∙◌, arith}
+use Rattle.std.proofs.Common.{◌≡◌, ℕ, ℤ, ◌<◌, ◌≤◌, ◌^◌, List, [], ◌∷◌, Some, String, Global, refl, arith}
 use Rattle.std.specs.List.{All, AllByRecursion}
 use Rattle.std.proofs.lemmas.List.Elements.{recursion_from_All}
 use Rattle.std.proofs.lemmas.Bool.{lt-ltb}
 use Rattle.flag_text.specs.Readers.{as_text}
-use Rattle.flag_text.specs.Shape.{Shape, text, item, levels, items_levels}
-use Rattle.flag_text.specs.View.{view, items_of, items_view}
-use Rattle.flag_text.specs.declared.tree.Tree.{Tree}
+use Rattle.flag_text.specs.Shape.{Shape, text, levels, items_levels}
 use Rattle.bucket_core.specs.Rule.{Entries}
 use Rattle.transport_instance.specs.Certificate.{alpha_view}
 use Rattle.transport_instance.specs.Groups.{GroupKey}
 use Rattle.plan_text.specs.PlanFile.{items_by, alpha_written, beta_written, entry_written, each, alpha_of, beta_of, entry_of}
-
-items_of-map : {X : Type 0} (f : X → Shape) (xs : List X) → items_of (map f xs) ≡ items_by f xs
-items_of-map f [] = refl
-items_of-map f (x ∷ xs) = ap (item (f x)) (items_of-map f xs)
-
--- trees that are written one by one
-pub items_view-rows : {X : Type 0} (f : X → Shape) (ts : List Tree) (xs : List X) → map view ts ≡ map f xs → items_view ts ≡ items_by f xs
-items_view-rows f ts xs e = ap items_of e ∙ items_of-map f xs
 
 pub alpha_again : (rows : List (GroupKey × ℤ)) → AllByRecursion (λ a. a.0.1 < 2 ^ 32) rows → each alpha_of (items_by alpha_written rows) ≡ Some rows
 alpha_again [] h = refl

@@ -24,6 +24,7 @@ mod planned;
 mod print;
 mod read;
 mod rows;
+mod writing;
 
 pub use fault::PlanFileFault;
 pub use planned::Planned;
