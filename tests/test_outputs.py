@@ -1,5 +1,6 @@
 """Outputs that fail midway, and want of memory."""
 import json
+import os
 import resource
 import signal
 import tempfile
@@ -9,6 +10,7 @@ from given import document, request
 from program import ProgramTest, run
 
 HALVES = '[["red",50],["blue",50]]'
+FAILED = "error: the output cannot be written: File too large (os error 27)\n"
 ANSWER = 'hash ba6bd213\npoint 72\nvariant "blue"\n'
 
 # The words, a rule file and what is printed of it.
@@ -58,7 +60,7 @@ def within(bytes_mapped):
 
 class Outputs(ProgramTest):
     def test_an_output_that_fails_has_what_it_took(self):
-        """Its status is 1. An answer that is cut is told in no words, and a refusal is."""
+        """Its status is 1, and the system's word for it is told behind what is told of a refusal."""
         for words, rule, report in REPORTS:
             report = report or run(words, {"f": rule}).out
             for count in range(len(report)):
@@ -66,7 +68,20 @@ class Outputs(ProgramTest):
                     ran = run(words, {"f": rule}, stdout=out, preexec_fn=at_most(count))
                     out.seek(0)
                     self.assertEqual((out.read(), ran.status), (report.encode()[:count], 1))
-                    self.assertEqual(ran.err == "", not report.startswith("refused"))
+                    told, failed = ran.err[: -len(FAILED)], ran.err[-len(FAILED) :]
+                    self.assertEqual((told == "", failed), (not report.startswith("refused"), FAILED))
+
+    def test_a_full_device_is_named(self):
+        with open("/dev/full", "w", encoding="utf-8") as full:
+            ran = run(["bucket", "f", "test"], {"f": HALVES}, stdout=full)
+        self.assertEqual((ran.status, ran.err), (1, "error: the output cannot be written: No space left on device (os error 28)\n"))
+
+    def test_of_a_reader_that_has_gone_nothing_is_told(self):
+        read, written = os.pipe()
+        os.close(read)
+        ran = run(["bucket", "f", "test"], {"f": HALVES}, stdout=written)
+        os.close(written)
+        self.assertEqual((ran.status, ran.err), (1, ""))
 
     def test_want_of_memory_is_a_refusal_of_its_call(self):
         """However much is free, all is as it is where enough is, or a call wants memory and no file is left."""

@@ -43,6 +43,7 @@ use std::process::ExitCode;
 use std::random::RandomSource;
 use std::rt::Files;
 use std::sync::Wait;
+use std::sync::atomic::{AtomicI32, Ordering};
 use std::thread::{self, Builder, Threads};
 use std::time::Clock;
 
@@ -53,15 +54,26 @@ fn main(rt: HostRuntime) -> ExitCode {
     let _are_open = open_standard(&rt);
     let words = asked_words(rt.alloc(), env::args(&rt));
     let input = ReadInlet::new(PersistentInput::new(rt.stdin()));
-    let out = WriteOutlet::new(Persistent::new(rt.stdout()));
-    let err = WriteOutlet::new(Persistent::new(rt.stderr()));
-    match on_stack(&rt, words, input, SystemFiles::new(&rt), out, err) {
+    let (trouble, unread) = (AtomicI32::new(0), AtomicI32::new(0));
+    let out = WriteOutlet::new(Persistent::new(rt.stdout(), &trouble));
+    let err = WriteOutlet::new(Persistent::new(rt.stderr(), &unread));
+    let code = match on_stack(&rt, words, input, SystemFiles::new(&rt), out, err) {
         Some(code) => code,
         None => {
-            let mut out = WriteOutlet::new(Persistent::new(rt.stdout()));
-            let mut err = WriteOutlet::new(Persistent::new(rt.stderr()));
+            let mut out = WriteOutlet::new(Persistent::new(rt.stdout(), &trouble));
+            let mut err = WriteOutlet::new(Persistent::new(rt.stderr(), &unread));
             ExitCode::from(want(&mut out, &mut err, Call::Flagops))
         }
+    };
+    tell_failure(&rt, trouble.load(Ordering::SeqCst));
+    code
+}
+
+/// Tells a person why the output failed, by the number that the system gave the failure: 0 where it did not fail.
+fn tell_failure(rt: &HostRuntime, number: i32) {
+    if number != 0 {
+        let failure = io::Error::from_raw_os_error(number);
+        let _ = eprintln!(rt; "error: the output cannot be written: {failure}");
     }
 }
 
