@@ -1,5 +1,6 @@
 """The command `bucket`: a rule file that is read, or its first fault."""
 import json
+import resource
 import unittest
 
 from program import ProgramTest, run
@@ -69,6 +70,77 @@ RULES = [
     ("[" * 121 + "]" * 121, "test", 1, "refused read_tree 4 TooDeep\n"),
 ]
 
+# A file that is no rule, and its refusal. The last member of a name counts alone; a text is refused as no JSON first, then as
+# too deep, then for a number.
+DEEP = "[" * 120 + "]" * 120
+NOT_JSON, NOT_WHOLE, TOO_DEEP, BAD = "read_tree 1 NotJson", "read_tree 2 NotWhole", "read_tree 4 TooDeep", "read_rule 3 BadRule"
+REFUSED = [
+    ("[" * 127 + "]" * 127, TOO_DEEP),
+    ("[" * 128 + "]" * 128, NOT_JSON),
+    (DEEP, BAD),
+    (f"[{DEEP}]", TOO_DEEP),
+    (f"[1.5,{DEEP}]", TOO_DEEP),
+    (f'{{"a":{DEEP}}}', TOO_DEEP),
+    (f'{{"a":{DEEP},"a":1}}', BAD),
+    (f'{{"a":1,"a":{DEEP}}}', TOO_DEEP),
+    (f'{{"a":{DEEP},"b":1}}', TOO_DEEP),
+    (f'{{"a":{DEEP},"a":-0}}', NOT_WHOLE),
+    (f'[["a",1],{{"b":{{"c":{DEEP[1:-1]}}}}}]', TOO_DEEP),
+    ('{"a":1.5,"a":1}', BAD),
+    ('{"a":1,"a":1.5}', NOT_WHOLE),
+    ('{"a":1.5,"b":1}', NOT_WHOLE),
+    (r'{"a":1.5,"b":2,"\u0061":1}', BAD),
+    ('{"a":{"b":1.5},"a":{"c":1}}', BAD),
+    ('{"a":{"b":1.5,"b":1}}', BAD),
+    ('[{"a":1.5,"a":1},{"b":0.5}]', NOT_WHOLE),
+    ('{"a":1e400,"a":1}', NOT_JSON),
+    ('[["a",1e400]]', NOT_JSON),
+    ('[["a",1.0]]', NOT_WHOLE),
+    ('[["a",1e2]]', NOT_WHOLE),
+    ('[["a",-0]]', NOT_WHOLE),
+    ('[["a",9007199254740992]]', NOT_WHOLE),
+    ('[["a",-9007199254740992]]', NOT_WHOLE),
+    ('[["a",9007199254740991]]', BAD),
+    ('[["a",-9007199254740991]]', BAD),
+    ("1.5", NOT_WHOLE),
+    ("5", BAD),
+    ("null", BAD),
+    ("true", BAD),
+    ('"a"', BAD),
+    ('[["a"],["b",1],[]]', BAD),
+    ('[["a",1,"b"]]', BAD),
+    ('[["a",["b"]]]', BAD),
+    ('[["a",1],{"b":[["c",1]]}]', BAD),
+    ('["a",1]', BAD),
+    ("[[]]", BAD),
+    ("[[[]]]", BAD),
+    ('[["a",1]}', NOT_JSON),
+    ('[["a",1]', NOT_JSON),
+    ('[["a",1]] 1', NOT_JSON),
+    ('[["a",1],]', NOT_JSON),
+    ('[["a" 1]]', NOT_JSON),
+    ('[["a",01]]', NOT_JSON),
+    ('[["a",1.5],', NOT_JSON),
+    ('{"a":1.5', NOT_JSON),
+    ('{"a":1.5,1}', NOT_JSON),
+]
+
+# A piece that is repeated to some 60 MB between a beginning and an end, and what the file is refused for.
+LARGE = [
+    ("[", '["a",1],', "1]", BAD),
+    ("[", "[],", "[]]", BAD),
+    ("[", "1,", "1]", BAD),
+    ("[", "1,", "1.5]", NOT_WHOLE),
+    ("[", "{},", "{}", NOT_JSON),
+    ('{"a":[', '{"name":[1,{"b":null}]},', "2]}", BAD),
+]
+MOST = 500_000_000
+
+
+def least_memory():
+    """No more than this many bytes of addresses."""
+    resource.setrlimit(resource.RLIMIT_AS, (MOST, MOST))
+
 
 def members_of(lines):
     """What the three lines of an answer say."""
@@ -81,6 +153,28 @@ class Bucket(ProgramTest):
         for rule, key, status, report in RULES:
             with self.subTest(rule=rule, key=key):
                 self.assert_ends(["bucket", "f", key], {"f": rule}, status, report)
+
+    def test_refusals(self):
+        for text, refusal in REFUSED:
+            with self.subTest(text=text):
+                self.assert_ends(["bucket", "f", "test"], {"f": text}, 1, f"refused {refusal}\n")
+
+    def test_a_large_file_is_refused_without_a_tree(self):
+        for begin, piece, end, refusal in LARGE:
+            with self.subTest(piece=piece):
+                text = begin + piece * (60_000_000 // len(piece)) + end
+                ran = run(["bucket", "f", "test"], {"f": text}, preexec_fn=least_memory)
+                self.assertEqual((ran.status, ran.out), (1, f"refused {refusal}\n"))
+                self.assertIn("error: ", ran.err)
+
+    def test_names_by_the_million(self):
+        """The members of an object are told apart, of which the last counts."""
+        members = ",".join(f'"{n:06x}":-0' for n in range(1_000_000))
+        again = ",".join(f'"{n:06x}":1' for n in range(1_000_000))
+        for text, refusal in ((f"{{{members}}}", NOT_WHOLE), (f"{{{members},{again}}}", BAD)):
+            with self.subTest(refusal=refusal):
+                ran = run(["bucket", "f", "test"], {"f": text}, preexec_fn=least_memory)
+                self.assertEqual((ran.status, ran.out), (1, f"refused {refusal}\n"))
 
     def test_hashes(self):
         for key, digits in HASHES:

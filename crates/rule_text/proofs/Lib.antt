@@ -1,3 +1,3 @@
-pub mod Flat
-pub mod Rules
-pub mod Turns
+pub mod Extents
+pub mod Found
+pub mod Readings

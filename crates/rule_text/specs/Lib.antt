@@ -1,2 +1,3 @@
-pub mod Listed
+pub mod Buckets
+pub mod Parts
 pub mod Reading

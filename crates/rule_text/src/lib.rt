@@ -11,8 +11,10 @@
 //! reads of the bytes, and each refusal of the text and of the rule in its order.
 #![tactic(auto)]
 
+mod buckets;
 mod fault;
-mod listed;
+mod number;
+mod part;
 mod read;
 
 pub use fault::RuleTextFault;

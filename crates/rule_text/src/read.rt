@@ -1,15 +1,18 @@
 //! From the bytes of a text to a rule.
-ghost use Rattle.std.specs.Prelude.{◌≡◌, ◌<◌, ◌≤◌, ◌↔◌, false, length, Ok, None, IfOk, IfSome, IsErrOf};
-ghost use Rattle.std.specs.Str.{IsUtf8, is_utf8};
+ghost use Rattle.std.specs.Prelude.{◌≡◌, ◌≢◌, ◌<◌, ◌≤◌, ◌↔◌, false, length, Err, IfOk, IsErrOf};
+ghost use Rattle.std.specs.Str.{is_utf8};
+ghost use Rattle.serde_json.specs.Read.{read};
+ghost use Rattle.flag_text.specs.Reading.{if_json, if_whole};
 ghost use Rattle.flag_text.specs.declared.fault.TextFault.TheVariants as texts;
 ghost use Rattle.bucket_core.specs.Rule.{entries_view};
-ghost use Rattle.rule_text.specs.Listed.{IsListed};
-ghost use Rattle.rule_text.specs.Reading.{rule_of_text, GivesUnlessShort};
+ghost use Rattle.rule_text.specs.Buckets.{lent};
+ghost use Rattle.rule_text.specs.Reading.{of_tree, rule_of_text, GivesUnlessShort};
 
+use crate::buckets::read_buckets;
 use crate::fault::RuleTextFault;
-use crate::listed::listed;
-use bucket_core::{Rule, read_rule};
-use flag_text::{TextFault, read_tree};
+use bucket_core::Rule;
+use flag_text::TextFault;
+use json::Scratch;
 use simdutf8::basic;
 use std::alloc::{AllocError, Global};
 
@@ -17,8 +20,8 @@ use std::alloc::{AllocError, Global};
 /// a weight from 0 to 2147483647, which is 1 where it is left out. `max` is the most bytes that are read.
 ///
 /// Refusals, in this order: those of `flag_text`'s `read_tree`, then those of `bucket_core`'s `read_rule`. `TooLarge`,
-/// and `NotJson` of bytes that are not UTF-8, take no memory. The cost is two passes over the bytes of such a list, and
-/// a copy of each name; of any other text that of `read_tree` beside it.
+/// and `NotJson` of bytes that are not UTF-8, take no memory. No tree is made: the cost is two passes over the bytes, a
+/// copy of each name, and a search for each name of an object's member.
 pub fn read_rule_text(alloc: Global, bytes: &[u8], max: usize) -> Result<Rule, RuleTextFault>
     ensures exact { GivesUnlessShort result (rule_of_text bytes.now max) }
     ensures large { IsErrOf result (RuleTextFault.Text texts.TooLarge) ↔ (max < length bytes.now) }
@@ -27,20 +30,30 @@ pub fn read_rule_text(alloc: Global, bytes: &[u8], max: usize) -> Result<Rule, R
     if bytes.len() > max {
         return Err(RuleTextFault::Text(TextFault::TooLarge));
     }
-    if let Some(entries) = entries_of(alloc, bytes)? {
-        return Ok(Rule::make(alloc, entries)?);
+    match basic::from_utf8(bytes) {
+        Ok(text) => rule_in(alloc, text),
+        Err(_) => Err(RuleTextFault::Text(TextFault::NotJson)),
     }
-    let tree = read_tree(alloc, bytes, max)?;
-    Ok(read_rule(alloc, &tree)?)
 }
 
-/// The entries of bytes that are a list of literal buckets. Of any others there may be none.
-fn entries_of(alloc: Global, bytes: &[u8]) -> Result<Option<Vec<(String, u64)>>, AllocError>
-    ensures listed { IfOk result (λ o. IfSome o (λ v. IsUtf8 bytes.now × IsListed bytes.now (entries_view v.items))) }
-    ensures no_text { is_utf8 bytes.now ≡ false → result ≡ Ok None }
+/// The rule that a JSON text stands for.
+fn rule_in(alloc: Global, text: &str) -> Result<Rule, RuleTextFault>
+    ensures exact { GivesUnlessShort result (of_tree (if_whole (if_json (read text.now)))) }
+    ensures kind { result ≢ Err (RuleTextFault.Text texts.TooLarge) }
 {
-    match basic::from_utf8(bytes) {
-        Ok(text) => listed(alloc, text),
-        Err(_) => Ok(None),
+    let mut scratch = Scratch::new(alloc);
+    let buckets = read_buckets(alloc, text, &mut scratch)?;
+    let entries = owned(alloc, buckets.as_slice())?;
+    Ok(Rule::make(alloc, entries)?)
+}
+
+/// The entries, with a copy of each name.
+fn owned(alloc: Global, buckets: &[(&str, u64)]) -> Result<Vec<(String, u64)>, AllocError>
+    ensures { IfOk result (λ v. entries_view v.items ≡ lent buckets.now) }
+{
+    let mut entries = Vec::with_capacity(alloc, buckets.len())?;
+    for (name, weight) in buckets {
+        entries.push((String::from_str(alloc, *name)?, *weight))?;
     }
+    Ok(entries)
 }

@@ -1,22 +1,19 @@
-use Rattle.std.proofs.Common.{◌≡◌, Err, ap, ◌∙◌, arith, rules}
-use Rattle.std.specs.Str.{IsUtf8}
-use Rattle.bucket_core.specs.Reading.{rule_of_entries}
-use Rattle.bucket_core.specs.Rule.{entries_view}
-use Rattle.rule_text.specs.Listed.{IsListed}
-use Rattle.rule_text.specs.Reading.{of_rule}
-use Rattle.rule_text.specs.declared.fault.RuleTextFault.TheVariants.{Rule}
-use Rattle.rule_text.proofs.Rules.{listed_rule, refused_rule}
+use Rattle.std.proofs.Common.{◌≡◌, ap, sym, ◌∙◌, arith}
+use Rattle.serde_json.specs.Read.{read}
+use Rattle.flag_text.specs.Reading.{if_json, if_whole}
+use Rattle.flag_text.proofs.Readings.{doc_of-utf8, doc_of-none, no_utf8}
+use Rattle.rule_text.specs.Reading.{of_tree, rule_of_text}
 use Rattle.rule_text.proofs.read.read_rule_text.Goals as goal
 
-pub returns-in_err-make-clause-exact : goal.returns-in_err-make-clause-exact
-returns-in_err-make-clause-exact c =
-    let es = entries_view c.in-Some.entries.items in
-    let got : IsUtf8 c.args.bytes.now × IsListed c.args.bytes.now es = search rules in
-    let is : c.from_residual-in_err-make.result ≡ Err (Rule c.in_err-make.field-0.0) = search rules in
-    refused_rule c.from_residual-in_err-make.result c.in_err-make.field-0.0 (rule_of_entries es) _ is c.in_err-make.ensures.exact (listed_rule c.args.bytes.now c.args.max es (omega arith) got.0 got.1)
+pub returns-in-Ok-clause-exact : goal.returns-in-Ok-clause-exact
+returns-in-Ok-clause-exact c =
+    let read_as = c.in-Ok.ensures in
+    let same : of_tree (if_whole (if_json (read c.in-Ok.text.now))) ≡ rule_of_text c.args.bytes.now c.args.max =
+    ap (λ r. of_tree (if_whole r)) (ap (λ bytes. if_json (read bytes)) read_as.0 ∙ sym (doc_of-utf8 c.args.bytes.now c.args.max (omega arith) read_as.1)) in
+    rw (← same) c.rule_in.ensures.exact
 
-pub returns-in-Some-clause-exact : goal.returns-in-Some-clause-exact
-returns-in-Some-clause-exact c =
-    let es = entries_view c.in-Some.entries.items in
-    let got : IsUtf8 c.args.bytes.now × IsListed c.args.bytes.now es = search rules in
-    listed_rule c.args.bytes.now c.args.max es (omega arith) got.0 got.1 ∙ ap of_rule c.in_ok-make.ensures.exact
+pub returns-in-Ok-clause-no_text : goal.returns-in-Ok-clause-no_text
+returns-in-Ok-clause-no_text c = λ _ other. absurd (no_utf8 c.args.bytes.now c.in-Ok.ensures.1 other)
+
+pub returns-in-Err-clause-exact : goal.returns-in-Err-clause-exact
+returns-in-Err-clause-exact c = λ _. ap (λ r. of_tree (if_whole r)) (doc_of-none c.args.bytes.now c.args.max (omega arith) (λ u. absurd (c.in-Err.ensures u)))

@@ -1,0 +1,114 @@
+//! The literal buckets that a JSON text is a list of, with no tree in between.
+ghost use Rattle.std.specs.Prelude.{◌≡◌, ◌≢◌, length, cond, Err, IfOk, IfErr, option_map, Some, None};
+ghost use Rattle.json.specs.Json.{value, items, parse_map};
+ghost use Rattle.serde_json.specs.Data.{Data};
+ghost use Rattle.serde_json.specs.Read.{converted, max_depth, of_items, of_json, read};
+ghost use Rattle.flag_text.specs.Reading.{if_json, if_whole, items_shape, shape_of};
+ghost use Rattle.rule_text.specs.Buckets.{GivesLent, buckets_in, found_in, found_of, lent, or_bad_rule, so_far, with_bucket};
+ghost use Rattle.rule_text.specs.declared.fault.RuleTextFault.TheVariants.{Text};
+ghost use Rattle.flag_text.specs.declared.fault.TextFault.TheVariants as texts;
+
+use crate::fault::RuleTextFault;
+use crate::part::{Extent, part_from, read_part};
+use bucket_core::RuleFault;
+use flag_text::TextFault;
+use json::{Reader, Scratch, Token};
+use std::alloc::{AllocError, Global};
+
+/// How deep lists and objects of a JSON text nest at most, as `serde_json` reads it.
+const MAX_DEPTH: usize = 127;
+
+/// What was found in a text: its literal buckets, where it is a list of them alone, and its extent.
+type Found<'a> = (Option<Vec<(&'a str, u64)>>, Extent);
+
+/// The names and weights of a JSON text that is a list of literal buckets. Names lie in the text, or in `scratch` where they
+/// have escapes.
+///
+/// Refusals, in this order: `NotJson`, `TooDeep`, `NotWhole`, `BadRule`.
+pub(crate) fn read_buckets<'a>(
+    alloc: Global,
+    text: &'a str,
+    scratch: &'a mut Scratch,
+) -> Result<Vec<(&'a str, u64)>, RuleTextFault>
+    ensures exact { GivesLent result (buckets_in (if_whole (if_json (read text.now)))) }
+    ensures kind { result ≢ Err (Text texts.TooLarge) }
+{
+    let mut reader = Reader::new(text, scratch)?;
+    let (found, extent) = read_whole(alloc, &mut reader)?;
+    if reader.next().is_some() {
+        return Err(RuleTextFault::Text(TextFault::NotJson));
+    }
+    judged(found, extent)
+}
+
+/// What was found, or what a text with it is refused for.
+fn judged<'a>(
+    found: Option<Vec<(&'a str, u64)>>,
+    extent: Extent,
+) -> Result<Vec<(&'a str, u64)>, RuleTextFault>
+    ensures exact { GivesLent result (cond extent.deep (Err (Text texts.TooDeep)) (cond extent.other (Err (Text texts.NotWhole)) (or_bad_rule (option_map (λ v. lent v.items) found.entry)))) }
+    ensures kind { result ≢ Err (Text texts.TooLarge) }
+{
+    if extent.deep {
+        return Err(RuleTextFault::Text(TextFault::TooDeep));
+    }
+    if extent.other {
+        return Err(RuleTextFault::Text(TextFault::NotWhole));
+    }
+    found.ok_or(RuleTextFault::Rule(RuleFault::BadRule))
+}
+
+/// Reads the value of a text.
+fn read_whole<'a>(alloc: Global, reader: &mut Reader<'a>) -> Result<Found<'a>, TextFault>
+    ensures ok { IfOk result (λ f. (d : Data) × (converted of_json (value max_depth reader.old) ≡ Some (d, reader.new)) × ((option_map (λ v. lent v.items) f.0, f.1) ≡ found_in (shape_of d))) }
+    ensures err { result ≡ Err TextFault.NotJson → converted of_json (value max_depth reader.old) ≡ None }
+    ensures kind { IfErr result (λ e. e ≢ TextFault.WantOfMemory → e ≡ TextFault.NotJson) }
+{
+    let token = reader.next().ok_or(TextFault::NotJson)?;
+    if let Token::BeginArray = token {
+        return read_list(alloc, reader);
+    }
+    let part = part_from(alloc, token, reader, MAX_DEPTH)?;
+    Ok((None, part.extent))
+}
+
+/// Reads the items of the list that a text is, and its end.
+fn read_list<'a>(alloc: Global, reader: &mut Reader<'a>) -> Result<Found<'a>, TextFault>
+    ensures ok { IfOk result (λ f. parse_map (λ ds. found_of (items_shape ds)) (converted of_items (items (value 126) (length reader.old) reader.old)) ≡ Some ((option_map (λ v. lent v.items) f.0, f.1), reader.new)) }
+    ensures err { result ≡ Err TextFault.NotJson → converted of_items (items (value 126) (length reader.old) reader.old) ≡ None }
+    ensures kind { IfErr result (λ e. e ≢ TextFault.WantOfMemory → e ≡ TextFault.NotJson) }
+{
+    let mut found = Vec::new(alloc);
+    let mut is_rule = true;
+    let mut extent = Extent::none();
+    'buckets: while !reader.take_end_array() {
+        let item = read_part(alloc, reader, MAX_DEPTH - 1)?;
+        is_rule = keep(&mut found, is_rule, item.bucket)?;
+        extent = extent.and(item.extent);
+    }
+    Ok((found_if(is_rule, found), extent.around(MAX_DEPTH - 1)))
+}
+
+/// Keeps a bucket behind those that were found, while each item is one.
+fn keep<'a>(
+    found: &mut Vec<(&'a str, u64)>,
+    is_rule: bool,
+    bucket: Option<(&'a str, u64)>,
+) -> Result<bool, AllocError>
+    ensures { IfOk result (λ b. so_far b (lent found.new.items) ≡ with_bucket (so_far is_rule (lent found.old.items)) (option_map (λ e. (e.0.now, e.1)) bucket.entry)) }
+{
+    match bucket {
+        Some(bucket) if is_rule => {
+            found.push(bucket)?;
+            Ok(true)
+        }
+        _ => Ok(false),
+    }
+}
+
+/// The buckets that were found, where each item was one.
+fn found_if<'a>(is_rule: bool, found: Vec<(&'a str, u64)>) -> Option<Vec<(&'a str, u64)>>
+    ensures { option_map (λ v. lent v.items) result ≡ so_far is_rule (lent found.entry.items) }
+{
+    if is_rule { Some(found) } else { None }
+}
