@@ -5,9 +5,9 @@
 
 Those of a GROUP (targeting, evaluation, documents, records, rules, evaluations, plans) whose names hold a WORD, or all.
 A run is bad where it is ended by a signal, answers another than the row's, or takes more than a second of a processor and one for each
-megabyte of what it read and printed, or more than 60 MB and 60 bytes for each byte read or printed. Prints a row for each: what it
-is, the bytes read and printed, the answer, the time and the memory. The last line is 'N cases, M bad'; ends with 1 where M is
-not 0."""
+megabyte of what it read and printed, or more than 60 MB and 60 bytes for each byte read or printed, or more than 500 MB. Prints a
+row for each: what it is, the bytes read and printed, the answer, the time and the memory. The last line is 'N cases, M bad'; ends
+with 1 where M is not 0."""
 import json
 import os
 import sys
@@ -16,7 +16,7 @@ from typing import NamedTuple
 
 from forks import Forks
 
-SECONDS, MEGABYTES, PER_BYTE = 1.0, 60, 60
+SECONDS, MEGABYTES, PER_BYTE, MOST_MEGABYTES = 1.0, 60, 60, 500
 
 FLAG = {"state": "ENABLED", "variants": {"on": True, "off": False}, "defaultVariant": "off"}
 
@@ -215,10 +215,11 @@ def limits_of_rules():
 
 def costly_evaluations():
     """Texts that are handed on, made or compared, members that are sought."""
-    key = json.dumps({"targetingKey": "k" * 60_000})
-    for sites in (1_000, 3_000):
+    for length, sites in ((60_000, 1_000), (60_000, 3_000), (65_000, 4_900)):
         many = [{"fractional": [["on"]]}] * sites
-        yield resolved(f"a key of 60 KB at {sites:,} sites", {"if": [{"in": ["z", many]}, "on", "off"]}, key)
+        key = json.dumps({"targetingKey": "k" * length})
+        yield resolved(f"a key of {length // 1000} KB at {sites:,} sites", {"if": [{"in": ["z", many]}, "on", "off"]}, key, '{"code":null')
+    key = json.dumps({"targetingKey": "k" * 60_000})
     by_var = [{"fractional": [{"var": "targetingKey"}, ["on", 1], ["off", 1]]}] * 1000
     yield resolved("a key of 60 KB read at 1,000 sites", {"if": [{"in": ["z", by_var]}, "on", "off"]}, key)
     names = [{"k": "n" * 100}] * 300
@@ -295,7 +296,7 @@ def main(group="", word=""):
             status, first, printed, spent, taken = run(forks, row, folder)
             read = sum(len(text) for text in row.files.values())
             is_slow = spent > SECONDS + (read + printed) / 1e6
-            is_large = taken > MEGABYTES + PER_BYTE * (read + printed) / 1e6
+            is_large = taken > min(MOST_MEGABYTES, MEGABYTES + PER_BYTE * (read + printed) / 1e6)
             is_bad = status < 0 or is_slow or is_large or not first.startswith(row.begins)
             cases, bad = cases + 1, bad + is_bad
             print(f"| {row.name} | {read:,} | {printed:,} | {status} `{first[:60]}` | {spent:.2f} | {taken:.0f} |{' BAD' if is_bad else ''}", flush=True)

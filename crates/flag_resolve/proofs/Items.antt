@@ -1,32 +1,59 @@
--- The trees that a resolution is printed from.
-use Rattle.std.proofs.Common.{◌≡◌, ℕ, ◌+◌, ◌<◌, true, List, [], ◌∷◌, ◌++◌, length, get_or, map, take, add-one, refl, sym, ap, ap₂, ◌∙◌}
-use Rattle.std.proofs.Math.Seq.{take-suc}
-use Rattle.std.proofs.lemmas.List.{map-append}
-use Rattle.flag_text.specs.Shape.{Shape, is_whole, items_are_whole}
-use Rattle.flag_text.specs.View.{view, items_view}
+-- The text of a resolution, piece by piece.
+use Rattle.std.proofs.Common.{◌≡◌, List, [], ◌∷◌, ◌++◌, true, map, option_map, string_bytes, codes, append_assoc, refl, sym, ap, ◌∙◌}
+use Rattle.json.specs.Print.{escape_byte}
+use Rattle.serde_json.specs.Written.{compact_text, items_text}
+use Rattle.flag_text.specs.Printing.{data_of, items_data, text_of}
+use Rattle.flag_text.specs.Shape.{Shape, list, text, is_whole, items_are_whole}
+use Rattle.flag_text.specs.View.{view, items_of, items_view}
 use Rattle.flag_text.specs.declared.tree.Tree.{Tree}
 use Rattle.flag_text.proofs.Bools.{both, left, right}
 use Rattle.logic_evaluator.specs.Views.{reach_view}
 use Rattle.logic_evaluator.specs.declared.meter.Reached.{Reached}
-use Rattle.flag_resolve.specs.Printing.{details, reach_shape}
-use Rattle.flag_resolve.specs.Views.{reached_shape}
+use Rattle.flag_resolve.specs.Printing.{back, details, front, list_text, others_text, reach_shape, resolution_text, text_or_null}
+use Rattle.flag_resolve.specs.Views.{reached_shape, resolution_view}
+use Rattle.flag_resolve.specs.Words.{code_word, reason_word}
+use Rattle.flag_resolve.specs.declared.resolution.Resolution.{Resolution}
+
+others_written : (ts : List Shape) → items_text true (items_data (items_of ts)) ≡ others_text ts
+unfolding text_of
+others_written [] = refl
+others_written (t ∷ ts) = ap (λ s. 44 ∷ (compact_text (data_of t) ++ s)) (others_written ts)
+
+list_written : (ts : List Shape) → text_of (list (items_of ts)) ≡ list_text ts
+unfolding text_of
+list_written [] = refl
+list_written (t ∷ ts) = ap (λ s. 91 ∷ (compact_text (data_of t) ++ s)) (others_written ts)
+
+parts : (code reached reason value variant : Shape) →
+    codes "{\"code\":" ++ (text_of code ++ (codes ",\"reached\":" ++ (text_of reached ++ back reason value variant))) ≡ text_of (details code reached reason value variant)
+unfolding text_of escape_byte
+parts code reached reason value variant = refl
+
+details_written : (code reached reason value variant : Shape) → front code ++ (text_of reached ++ back reason value variant) ≡ text_of (details code reached reason value variant)
+details_written code reached reason value variant =
+    let rest = text_of reached ++ back reason value variant in
+    append_assoc (codes "{\"code\":") (text_of code ++ codes ",\"reached\":") rest
+    ∙ (ap (λ s. codes "{\"code\":" ++ s) (append_assoc (text_of code) (codes ",\"reached\":") rest)
+    ∙ parts code reached reason value variant)
 
 -- trees that may be printed, and one more
 pub whole_push : (ts : List Tree) (t : Tree) → items_are_whole (items_view ts) ≡ true → is_whole (view t) ≡ true → items_are_whole (items_view (ts ++ t ∷ [])) ≡ true
 whole_push [] t all one = both _ _ one refl
 whole_push (u ∷ ts) t all one = both _ _ (left _ _ all) (whole_push ts t (right _ _ all) one)
 
--- the trees of the sites before one, and its own
-pub reached_push : (ts : List Tree) (rs : List Reached) (i : ℕ) (t : Tree) (r : Reached) → i < length rs → r ≡ get_or rs i r → map view ts ≡ map reached_shape (take i rs) → view t ≡ reached_shape r → map view (ts ++ t ∷ []) ≡ map reached_shape (take (i + 1) rs)
-reached_push ts rs i t r within at all one =
-    let more : take (i + 1) rs ≡ take i rs ++ r ∷ [] = ap (λ n. take n rs) (add-one i) ∙ take-suc rs i r within ∙ ap (λ x. take i rs ++ x ∷ []) (sym at) in
-    map-append view ts (t ∷ []) ∙ ap₂ (λ us u. us ++ u ∷ []) all one ∙ sym (ap (map reached_shape) more ∙ map-append reached_shape (take i rs) (r ∷ []))
-
-pub reached_shapes : (rs : List Reached) → map reached_shape rs ≡ map reach_shape (map reach_view rs)
+reached_shapes : (rs : List Reached) → map reached_shape rs ≡ map reach_shape (map reach_view rs)
 reached_shapes [] = refl
 reached_shapes (r ∷ rs) = ap (λ us. reached_shape r ∷ us) (reached_shapes rs)
 
--- a resolution's object may be printed where its parts may
-pub whole_details : (code reached reason value variant : Shape) → is_whole code ≡ true → is_whole reached ≡ true → is_whole reason ≡ true → is_whole value ≡ true → is_whole variant ≡ true
-    → is_whole (details code reached reason value variant) ≡ true
-whole_details code reached reason value variant c d e f g = rw (c, d, e, f, g) refl
+-- the pieces are the whole text
+pub resolution_written : (r : Resolution) →
+    (front (text_or_null (option_map code_word r.code)) ++ list_text (map reached_shape r.reached.items)) ++ back (text (reason_word r.reason)) (view r.value) (text_or_null (option_map string_bytes r.variant))
+    ≡ resolution_text (resolution_view r)
+unfolding resolution_text
+resolution_written r =
+    let start = front (text_or_null (option_map code_word r.code)) in
+    let end = back (text (reason_word r.reason)) (view r.value) (text_or_null (option_map string_bytes r.variant)) in
+    append_assoc start _ end
+    ∙ (ap (λ ts. start ++ (list_text ts ++ end)) (reached_shapes r.reached.items)
+    ∙ (ap (λ s. start ++ (s ++ end)) (sym (list_written (map reach_shape (map reach_view r.reached.items))))
+    ∙ details_written (text_or_null (option_map code_word r.code)) (list (items_of (map reach_shape (map reach_view r.reached.items)))) (text (reason_word r.reason)) (view r.value) (text_or_null (option_map string_bytes r.variant))))

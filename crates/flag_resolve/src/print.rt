@@ -1,11 +1,11 @@
 //! From a resolution to its text.
-ghost use Rattle.std.specs.Prelude.{◌≡◌, true, map, option_copied, option_map, string_bytes, IfOk};
-ghost use Rattle.flag_text.specs.Shape.{is_whole, items_are_whole, list};
-ghost use Rattle.flag_text.specs.View.{view, items_of, items_view};
-ghost use Rattle.logic_evaluator.specs.Views.{reach_view};
-ghost use Rattle.flag_resolve.specs.Printing.{details, text_or_null, reach_shape, resolution_shape, resolution_text};
+ghost use Rattle.std.specs.Prelude.{◌≡◌, ◌++◌, true, map, option_copied, option_map, string_bytes, IfOk, OnOk};
+ghost use Rattle.flag_text.specs.Printing.{text_of};
+ghost use Rattle.flag_text.specs.Shape.{is_whole, text};
+ghost use Rattle.flag_text.specs.View.{view};
+ghost use Rattle.flag_resolve.specs.Printing.{back, front, list_text, others_text, resolution_text, text_or_null};
 ghost use Rattle.flag_resolve.specs.Views.{reached_shape, resolution_view};
-ghost use Rattle.flag_resolve.specs.Words.{code_word};
+ghost use Rattle.flag_resolve.specs.Words.{code_word, reason_word};
 
 use crate::code::Code;
 use crate::resolution::Resolution;
@@ -14,50 +14,32 @@ use logic_eval::Reached;
 use std::alloc::{AllocError, Global};
 
 /// The resolution as a JSON object without blanks: its code, the sites that were reached, its reason, its value and its
-/// variant. It fails only where memory runs out.
-#[tactic(auto, unfolding(crate::specs::Printing::resolution_text))]
+/// variant. It fails only where memory runs out. Beside the text it takes what one site's text needs, however many were
+/// reached.
 pub fn print_resolution(alloc: Global, resolution: &Resolution) -> Result<String, AllocError>
     ensures { IfOk result (λ s. string_bytes s ≡ resolution_text (resolution_view resolution.now)) }
 {
-    print_tree(alloc, &tree_of(alloc, resolution)?)
+    let mut text = front(alloc, resolution.code)?;
+    push_reached(alloc, &mut text, resolution.reached.as_slice())?;
+    let back = back(alloc, resolution)?;
+    text.push_str(back.as_str())?;
+    Ok(text)
 }
 
-fn tree_of(alloc: Global, resolution: &Resolution) -> Result<Tree, AllocError>
-    ensures value { IfOk result (λ t. view t ≡ resolution_shape (resolution_view resolution.now)) }
-    ensures whole { IfOk result (λ t. is_whole (view t) ≡ true) }
+fn front(alloc: Global, code: Option<Code>) -> Result<String, AllocError>
+    ensures { IfOk result (λ s. string_bytes s ≡ front (text_or_null (option_map code_word code))) }
 {
-    let code = text_or_null(alloc, word_of(resolution.code))?;
-    let reached = reached_tree(alloc, resolution.reached.as_slice())?;
-    let reason = text_or_null(alloc, Some(resolution.reason.as_str()))?;
-    let value = resolution.value.copy(alloc)?;
-    let variant = text_or_null(alloc, name_of(&resolution.variant))?;
-    details(alloc, code, reached, reason, value, variant)
+    let code = word_text(alloc, word_of(code))?;
+    format!(in alloc; "{{\"code\":{code},\"reached\":")
 }
 
-#[tactic(auto, using(crate::proofs::Items::whole_details))]
-fn details(
-    alloc: Global,
-    code: Tree,
-    reached: Tree,
-    reason: Tree,
-    value: Tree,
-    variant: Tree,
-) -> Result<Tree, AllocError>
-    requires code { is_whole (view code) ≡ true }
-    requires reached { is_whole (view reached) ≡ true }
-    requires reason { is_whole (view reason) ≡ true }
-    requires value { is_whole (view value) ≡ true }
-    requires variant { is_whole (view variant) ≡ true }
-    ensures value { IfOk result (λ t. view t ≡ details (view code) (view reached) (view reason) (view value) (view variant)) }
-    ensures whole { IfOk result (λ t. is_whole (view t) ≡ true) }
+fn back(alloc: Global, resolution: &Resolution) -> Result<String, AllocError>
+    ensures { IfOk result (λ s. string_bytes s ≡ back (text (reason_word resolution.now.reason)) (view resolution.now.value) (text_or_null (option_map string_bytes resolution.now.variant))) }
 {
-    let mut members = Vec::with_capacity(alloc, 5)?;
-    members.push((String::from_str(alloc, "code")?, code))?;
-    members.push((String::from_str(alloc, "reached")?, reached))?;
-    members.push((String::from_str(alloc, "reason")?, reason))?;
-    members.push((String::from_str(alloc, "value")?, value))?;
-    members.push((String::from_str(alloc, "variant")?, variant))?;
-    Ok(Tree::Object(members))
+    let reason = word_text(alloc, Some(resolution.reason.as_str()))?;
+    let value = print_tree(alloc, &resolution.value)?;
+    let variant = word_text(alloc, name_of(&resolution.variant))?;
+    format!(in alloc; ",\"reason\":{reason},\"value\":{value},\"variant\":{variant}}}")
 }
 
 fn word_of(code: Option<Code>) -> Option<&'static str>
@@ -78,22 +60,40 @@ fn name_of(variant: &Option<String>) -> Option<&str>
     }
 }
 
-fn reached_tree(alloc: Global, reached: &[Reached]) -> Result<Tree, AllocError>
-    ensures value { IfOk result (λ t. view t ≡ list (items_of (map reach_shape (map reach_view reached.now)))) }
-    ensures whole { IfOk result (λ t. is_whole (view t) ≡ true) }
+// The list of the sites that were reached.
+fn push_reached(alloc: Global, out: &mut String, reached: &[Reached]) -> Result<(), AllocError>
+    ensures { OnOk result (string_bytes out.new ≡ string_bytes out.old ++ list_text (map reached_shape reached.now)) }
 {
-    Ok(Tree::List(reached_trees(alloc, reached)?))
+    match reached {
+        [] => out.push_str("[]"),
+        [first, ..] => {
+            push_reach(alloc, out, "[", first)?;
+            push_others(alloc, out, &reached[1..])
+        }
+    }
 }
 
-fn reached_trees(alloc: Global, reached: &[Reached]) -> Result<Vec<Tree>, AllocError>
-    ensures value { IfOk result (λ v. map view v.items ≡ map reached_shape reached.now) }
-    ensures whole { IfOk result (λ v. items_are_whole (items_view v.items) ≡ true) }
+fn push_others(alloc: Global, out: &mut String, reached: &[Reached]) -> Result<(), AllocError>
+    ensures { OnOk result (string_bytes out.new ≡ string_bytes out.old ++ others_text (map reached_shape reached.now)) }
 {
-    let mut trees = Vec::with_capacity(alloc, reached.len())?;
     for reach in reached {
-        trees.push(reach_tree(alloc, reach)?)?;
+        push_reach(alloc, out, ",", reach)?;
     }
-    Ok(trees)
+    out.push_str("]")
+}
+
+fn push_reach(
+    alloc: Global,
+    out: &mut String,
+    before: &str,
+    reach: &Reached,
+) -> Result<(), AllocError>
+    ensures { OnOk result (string_bytes out.new ≡ string_bytes out.old ++ (before.now ++ text_of (reached_shape reach.now))) }
+{
+    let tree = reach_tree(alloc, reach)?;
+    let text = print_tree(alloc, &tree)?;
+    out.push_str(before)?;
+    out.push_str(text.as_str())
 }
 
 fn reach_tree(alloc: Global, reach: &Reached) -> Result<Tree, AllocError>
@@ -105,6 +105,13 @@ fn reach_tree(alloc: Global, reach: &Reached) -> Result<Tree, AllocError>
     parts.push(Tree::Text(String::from_str(alloc, reach.input.as_str())?))?;
     parts.push(Tree::Whole(i64::from(reach.total)))?;
     Ok(Tree::List(parts))
+}
+
+fn word_text(alloc: Global, word: Option<&str>) -> Result<String, AllocError>
+    ensures { IfOk result (λ s. string_bytes s ≡ text_of (text_or_null (option_copied word.entry))) }
+{
+    let tree = text_or_null(alloc, word)?;
+    print_tree(alloc, &tree)
 }
 
 fn text_or_null(alloc: Global, text: Option<&str>) -> Result<Tree, AllocError>

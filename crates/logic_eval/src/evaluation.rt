@@ -47,6 +47,7 @@ pub fn eval(
         alloc,
         left: MOST_UNITS,
         reached: Vec::new(alloc),
+        default: None,
     };
     let tree = evaluated(&mut meter, expr.root(), context, &flagd)?;
     let Meter { reached, .. } = meter;

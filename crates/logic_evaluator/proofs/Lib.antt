@@ -16,6 +16,7 @@ pub mod Paths
 pub mod Names
 pub mod Chains
 pub mod Choices
+mod Joined
 pub mod Branching
 pub mod Answered
 pub mod Alike

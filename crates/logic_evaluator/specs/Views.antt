@@ -1,5 +1,6 @@
 -- What the evaluator's types are seen as.
 use Rattle.std.specs.Prelude.{ℕ, pos, Result, Some, None, String, [], ◌∷◌, List, ◌++◌, map, string_bytes, Option, option_map}
+use Rattle.std.specs.Arc.{arc_value}
 use Rattle.std.specs.Borrow.{Bor}
 use Rattle.std.specs.List.{slice_split}
 use Rattle.flag_text.specs.Shape.{Shape, object, text, whole, Members, member}
@@ -28,7 +29,7 @@ use Rattle.logic_evaluator.specs.declared.value.Value.{Value}
 use Rattle.logic_evaluator.specs.declared.value.Value.TheVariants.{Lent, Made}
 
 abbrev pub reach_view : Reached → Reach
-reach_view r = record { site = r.site; input = string_bytes r.input; total = r.total }
+reach_view r = record { site = r.site; input = string_bytes (arc_value r.input); total = r.total }
 
 abbrev pub progress : Meter → Progress
 progress m = (m.left, map reach_view m.reached.items)

@@ -1,6 +1,8 @@
 //! Which name a site gives its input.
-ghost use Rattle.std.specs.Prelude.{◌≡◌, ◌<◌, ◌^◌, map, option_map, option_copied, IfOk, IfSome, Some, string_bytes};
+ghost use Rattle.std.specs.Prelude.{◌≡◌, ◌<◌, ◌^◌, ◌++◌, map, option_map, option_copied, IfOk, IfSome, Some, string_bytes};
+ghost use Rattle.std.specs.Arc.{arc_value};
 ghost use Rattle.std.specs.Option.{option_map_or};
+ghost use Rattle.std.specs.Str.{bytes_eq};
 ghost use Rattle.bucket_core.specs.Reading.{weight_of, bucket_with};
 ghost use Rattle.bucket_core.specs.Rule.{Entries, at, total_weight};
 ghost use Rattle.flag_text.specs.Outcome.{GivesUnless};
@@ -9,6 +11,7 @@ ghost use Rattle.flag_text.specs.View.{view};
 ghost use Rattle.logic_evaluator.specs.declared.fault.EvalFault.TheVariants.{WantOfMemory};
 ghost use Rattle.logic_evaluator.specs.Budget.{Follows};
 ghost use Rattle.logic_evaluator.specs.Fractional.{entries_of, buckets_of, input_result, decided};
+ghost use Rattle.logic_evaluator.specs.Text.{made};
 ghost use Rattle.logic_evaluator.specs.Views.{progress, default_view, input_view, share_view};
 
 use crate::fault::EvalFault;
@@ -19,6 +22,7 @@ use crate::text::MOST_BYTES;
 use bucket_core::{point, weight_of};
 use flag_text::Tree;
 use std::alloc::{AllocError, Global};
+use std::sync::Arc;
 
 const MAX_TOTAL: u64 = bucket_core::MAX_TOTAL as u64;
 
@@ -38,7 +42,7 @@ pub(crate) fn decide(
     if total == 0 {
         return Ok(Tree::Null);
     }
-    let Some(input) = input_text(meter.alloc, &input, subject)? else {
+    let Some(input) = input_text(meter.alloc, &mut meter.default, &input, subject)? else {
         return Ok(Tree::Null);
     };
     let name = name_at(shares, point(total, input.as_str()));
@@ -57,26 +61,64 @@ fn chosen(alloc: Global, name: Option<&str>) -> Result<Tree, AllocError>
 }
 
 // The text that is hashed, where there is one.
-fn input_text(alloc: Global, input: &Input, subject: Subject) -> Result<Option<String>, EvalFault>
-    ensures exact { GivesUnless WantOfMemory (option_map string_bytes) result (input_result (input_view (default_view subject.entry) input.now)) }
+fn input_text(
+    alloc: Global,
+    default: &mut Option<Arc<String>>,
+    input: &Input,
+    subject: Subject,
+) -> Result<Option<Arc<String>>, EvalFault>
+    ensures exact { GivesUnless WantOfMemory (option_map (λ t. string_bytes (arc_value t))) result (input_result (input_view (default_view subject.entry) input.now)) }
 {
     match input {
         Input::Given(value) => match value.tree() {
-            Tree::Text(text) => Ok(Some(text.clone()?)),
+            Tree::Text(text) => Ok(Some(Arc::new(alloc, text.clone()?)?)),
             _ => Ok(None),
         },
         Input::Default => match subject.key {
-            Some(key) => {
-                let mut text = String::from_str(alloc, subject.flag)?;
-                text.push_str(key)?;
-                if text.len() > MOST_BYTES {
-                    return Err(EvalFault::TextTooLong);
-                }
-                Ok(Some(text))
-            }
+            Some(key) => Ok(Some(default_text(alloc, default, subject.flag, key)?)),
             None => Ok(None),
         },
     }
+}
+
+// The default input, unless it is too long. It is made once, however many sites it reaches.
+fn default_text(
+    alloc: Global,
+    default: &mut Option<Arc<String>>,
+    flag: &str,
+    key: &str,
+) -> Result<Arc<String>, EvalFault>
+    ensures exact { GivesUnless WantOfMemory (λ t. string_bytes (arc_value t)) result (made (flag.now ++ key.now)) }
+{
+    if flag.len() + key.len() > MOST_BYTES {
+        return Err(EvalFault::TextTooLong);
+    }
+    if let Some(text) = default {
+        if is_joined(text.as_str(), flag, key) {
+            return Ok(text.clone()?);
+        }
+    }
+    let text = Arc::new(alloc, joined(alloc, flag, key)?)?;
+    *default = Some(text.clone()?);
+    Ok(text)
+}
+
+fn is_joined(text: &str, flag: &str, key: &str) -> bool
+    ensures { result ≡ bytes_eq text.now (flag.now ++ key.now) }
+{
+    match text.as_bytes().strip_prefix(flag.as_bytes()) {
+        Some(rest) => rest == key.as_bytes(),
+        None => false,
+    }
+}
+
+fn joined(alloc: Global, flag: &str, key: &str) -> Result<String, AllocError>
+    ensures { IfOk result (λ s. string_bytes s ≡ flag.now ++ key.now) }
+{
+    let mut text = String::with_capacity(alloc, flag.len() + key.len())?;
+    text.push_str(flag)?;
+    text.push_str(key)?;
+    Ok(text)
 }
 
 // The total weight, where each name is a text, each weight is a whole number from 0 to 2^31-1 and the total is one.

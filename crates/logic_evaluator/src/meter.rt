@@ -12,14 +12,15 @@ use crate::fault::EvalFault;
 use crate::scope::{Root, Scope};
 use flag_text::Tree;
 use std::alloc::Global;
+use std::sync::Arc;
 
 /// A site that an evaluation reached.
 #[derive(Debug, Drop)]
 pub struct Reached {
     /// The number of the site, in preorder from 0.
     pub site: u32,
-    /// The hash input.
-    pub input: String,
+    /// The hash input: the sites that the default one reaches share it.
+    pub input: Arc<String>,
     /// The total weight of the site's rule.
     pub total: u32,
 }
@@ -33,6 +34,8 @@ pub struct Meter {
     pub left: u64,
     /// The sites that it reached so far, in their order.
     pub reached: Vec<Reached>,
+    /// The default hash input, once a site was reached by it.
+    pub default: Option<Arc<String>>,
 }
 
 impl Meter {

@@ -1,4 +1,5 @@
 use Rattle.std.proofs.Common.{◌≡◌, ◌≢◌, ◌++◌, ◌∷◌, [], ℕ, List, Option, Some, Ok, Result, map, string_bytes, option_map, ap, sym, refl, ◌∙◌, rules}
+use Rattle.std.specs.Arc.{arc_value}
 use Rattle.std.specs.Prelude.{option_copied}
 use Rattle.bucket_core.specs.Point.{point_of}
 use Rattle.bucket_core.specs.Rule.{Entries, at}
@@ -27,17 +28,17 @@ returns-in_err-input c = let z : c.in-Some.total ≢ 0 = search rules in record 
 
 pub returns-in_default-2 : goal.returns-in_default-2
 returns-in_default-2 c = record {
-  exact = decided_without c.args.site (input_view (default_view c.args.subject) c.args.input) (map share_view c.args.shares.now) (progress c.args.meter.now) c.in-Some.total c.in-Some.ensures.value (c.in_ok-input.ensures.exact ∙ ap (λ (o : Option _). let r : Result (Option (List ℕ)) _ = Ok (option_map string_bytes o) in r) c.in_default-2.is) ∙ ap (λ s. Ok (s, progress c.args.meter.now)) (sym view_null);
+  exact = decided_without c.args.site (input_view (default_view c.args.subject) c.args.input) (map share_view c.args.shares.now) (progress c.args.meter.now) c.in-Some.total c.in-Some.ensures.value (c.in_ok-input.ensures.exact ∙ ap (λ (o : Option _). let r : Result (Option (List ℕ)) _ = Ok (option_map (λ t. string_bytes (arc_value t)) o) in r) c.in_default-2.is) ∙ ap (λ s. Ok (s, progress c.args.meter.now)) (sym view_null);
 }
 
 pub returns : goal.returns
 returns c =
     let z : c.in-Some.total ≢ 0 = search rules in
-    let s : List ℕ = string_bytes c.in-Some-2.input in
+    let s : List ℕ = string_bytes (arc_value c.in-Some-2.input) in
     let g : input_result (input_view (default_view c.args.subject) c.args.input) ≡ Ok (Some s) =
-    c.in_ok-input.ensures.exact ∙ ap (λ (o : Option _). let r : Result (Option (List ℕ)) _ = Ok (option_map string_bytes o) in r) c.in-Some-2.is in
+    c.in_ok-input.ensures.exact ∙ ap (λ (o : Option _). let r : Result (Option (List ℕ)) _ = Ok (option_map (λ t. string_bytes (arc_value t)) o) in r) c.in-Some-2.is in
     let named : (r : Entries) → entries_of (map share_view c.args.shares.now) ≡ Some r → option_copied c.name_at-name.result ≡ at r (point_of c.in-Some.total s) =
-    λ r e. c.name_at-name.ensures r e ∙ ap (at r) (c.point.ensures.value ∙ ap (point_of c.in-Some.total) c.as_str.ensures.value) in
+    λ r e. c.name_at-name.ensures r e ∙ ap (at r) (c.point.ensures.value ∙ ap (point_of c.in-Some.total) (c.as_str.ensures.value ∙ ap string_bytes c.deref.ensures)) in
     let site : Reach = record { site = c.args.site; input = s; total = c.in-Some.total } in
     let grown : map reach_view c.push.new.self.items ≡ map reach_view c.args.meter.now.reached.items ++ site ∷ [] =
     pushed reach_view c.args.meter.now.reached.items c.push.new.self.items _ site c.in_ok-push.ensures.items refl in record {
