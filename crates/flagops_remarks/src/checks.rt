@@ -58,29 +58,43 @@ fn put_rule_fault(
         CheckFault::Forbidden(point) => put_forbidden(lines, place, rule, *point),
         _ => put_numbers_fault(lines, certificate.cost, fault),
     }
-    put_moved(lines, place, rule, certificate);
+    if !put_moved(lines, place, rule, certificate) && is_of_the_rule(fault) {
+        lines.put(
+            "\n  what 'plan' prints fits its request: the document or the request has moved on since",
+        );
+    }
 }
 
-/// That the rule of the site is not the one that was planned on, where that shows: it is the rule of the plan, or it has
+/// Whether it is of the rule alone that is planned, whatever the numbers beside it: `plan` prints none such.
+fn is_of_the_rule(fault: &CheckFault) -> bool {
+    matches!(
+        fault,
+        CheckFault::Weight | CheckFault::Totals | CheckFault::Forbidden(_)
+    )
+}
+
+/// That the rule of the site is not the one that was planned on, and whether that shows: it is the rule of the plan, or it has
 /// other variants than the groups of the plan.
-fn put_moved(lines: &mut Lines, place: Place<'_>, rule: &Rule, certificate: &Certificate) {
+fn put_moved(lines: &mut Lines, place: Place<'_>, rule: &Rule, certificate: &Certificate) -> bool {
     let entries = place.entries(lines);
     if entries.as_slice() == rule.entries() {
         lines.put("\n  the site has the rule of this plan already: the document may have moved on");
-        return;
+        return true;
     }
     let variants = place.variants(lines);
-    if let Some(name) = moved(
+    let Some(name) = moved(
         variants.as_slice(),
         entries.as_slice(),
         certificate.alpha.as_slice(),
-    ) {
-        lines.put("\n  the document has moved on: ");
-        lines.put_name(name);
-        lines.put(
-            " has points in the rule of the site or in the one that was planned on, and not in both",
-        );
-    }
+    ) else {
+        return false;
+    };
+    lines.put("\n  the document has moved on: ");
+    lines.put_name(name);
+    lines.put(
+        " has points in the rule of the site or in the one that was planned on, and not in both",
+    );
+    true
 }
 
 /// The first variant that has points in the entries and is of no group, or the other way round.
