@@ -1,7 +1,7 @@
 -- Numbers that are dealt out to points, stretch by stretch.
 use Rattle.std.proofs.Common.{◌≡◌, ◌==◌, ℕ, zero, suc, ◌+◌, ◌-◌, ◌*◌, ◌<◌, ◌≤◌, List, [], ◌∷◌, ◌++◌, length, take, get_or, set, sum, sum_by, count_by, cond, replicate, refl, sym, ap, ◌∙◌, subst, arith, append_assoc, length-append}
 use Rattle.std.proofs.lemmas.Bool.{eq-eqb}
-use Rattle.std.proofs.lemmas.List.{append-nil, take_all, length-set, length-replicate}
+use Rattle.std.proofs.lemmas.List.{append-nil, length-set, length-replicate}
 use Rattle.std.proofs.lemmas.List.Elements.{All-nil, All-append, All-replicate}
 use Rattle.std.proofs.lemmas.List.Folds.{sum_by-replicate}
 use Rattle.std.proofs.lemmas.List.Sums.{sum_by-cons, sum_by-append, sum_by-take-le, count_by_more_yes}
@@ -48,12 +48,6 @@ deals_name width g w n numbers items within few = record {
   spent = omega (arith, row_less width numbers g w n within few);
   tallies = λ groups tally counts is shape group. omega (arith, tally_less groups width tally counts numbers g w n is shape group within few, sum_by-replicate (counts g) n w);
 }
-
--- what stands in a list that was made longer by so many of one name
-pub made_longer : (items longer : List ℕ) (n m k w : ℕ) → n ≡ length items + m → k ≡ length items → longer ≡ take n items ++ replicate (n - k) w → longer ≡ items ++ replicate m w
-made_longer items longer n m k w to from is =
-    let more : n - k ≡ m = omega (arith, to, from) in
-    is ∙ (ap (λ xs. xs ++ replicate (n - k) w) (take_all n items (omega (arith, to))) ∙ ap (λ j. items ++ replicate j w) more)
 
 -- ---- points beside the names that they are given
 

@@ -1,5 +1,5 @@
 //! Dealing: each point is given one of the names that its group has left.
-ghost use Rattle.std.specs.Prelude.{◌≡◌, ◌≤◌, ◌<◌, ◌+◌, ◌*◌, ◌^◌, ℕ, IfOk, OnOk, length, sum, count_by, ◌==◌, slice_index};
+ghost use Rattle.std.specs.Prelude.{◌≡◌, ◌≤◌, ◌<◌, ◌+◌, ◌*◌, ◌^◌, ◌++◌, ℕ, IfOk, OnOk, length, replicate, sum, count_by, ◌==◌, slice_index};
 ghost use Rattle.std.specs.List.{All};
 ghost use Rattle.assignment_rule.specs.Dealing.{row, IsDealt, DealsTo};
 
@@ -193,8 +193,18 @@ fn deal_run(
         let next = next(&left[start..start + names], stretch.base, name);
         let many = rest.min(left[start + next] as usize);
         left[start + next] -= many as u32;
-        items.resize(items.len() + many, next as u32)?;
+        push_many(items, next as u32, many)?;
         rest -= many;
+    }
+    Ok(())
+}
+
+/// Adds the name so many times. Stretches are short, so that each is pushed.
+fn push_many(items: &mut Vec<u32>, name: u32, many: usize) -> Result<(), AllocError>
+    ensures { OnOk result (items.new.items ≡ items.old.items ++ replicate many name) }
+{
+    for _ in 0..many {
+        items.push(name)?;
     }
     Ok(())
 }

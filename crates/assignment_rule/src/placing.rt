@@ -1,5 +1,6 @@
-//! Where groups stand, which is found by halving.
+//! Where groups stand: beside the last one of the name, or found by halving.
 ghost use Rattle.std.specs.Prelude.{◌≡◌, ◌≤◌, ◌<◌, ℕ, Some, IfOk, OnOk, length, slice_get, slice_index};
+ghost use Rattle.std.specs.Bool.{OnTrue};
 ghost use Rattle.std.specs.Cmp.Lexicographic.{slice_cmp};
 ghost use Rattle.std.specs.List.{All, Contains};
 ghost use Rattle.std.specs.List.Sorted.{IsStrictlySortedBy};
@@ -45,7 +46,7 @@ pub(crate) fn groups_of(
 }
 
 /// Adds the groups of points in a row that have this name, on each of which so many inputs fall. A group is looked up where
-/// the number is another than at the point before.
+/// the number is another than at the point before, first as far from the last one as the numbers are apart.
 fn push_groups(
     points: &mut Vec<u32>,
     groups: &[((&str, u32), u32)],
@@ -64,12 +65,47 @@ fn push_groups(
     let mut group = group_of(groups, name, known);
     for count in counts {
         if *count != known {
+            group = group_beside(groups, name, *count, known, group);
             known = *count;
-            group = group_of(groups, name, known);
         }
         points.push(group as u32)?;
     }
     Ok(())
+}
+
+/// The place of the group of this name and number of inputs, where another group of the name is known with its place: mostly
+/// as far from it as the numbers are apart, since the groups of a name stand by their numbers.
+fn group_beside(
+    groups: &[((&str, u32), u32)],
+    name: &str,
+    count: u32,
+    known: u32,
+    place: usize,
+) -> usize
+    requires few { length groups.now ≤ max_planned_total }
+    requires rise { IsStrictlySortedBy group_cmp (keys_of (rows_view groups.now)) }
+    requires known { place < length groups.now }
+    requires stands { Contains (keys_of (rows_view groups.now)) (name.now, count) }
+    ensures within { result < length groups.now }
+    ensures place { slice_get (keys_of (rows_view groups.now)) result ≡ Some (name.now, count) }
+{
+    let guess = (place + count as usize).saturating_sub(known as usize);
+    if stands_at(groups, guess, name, count) {
+        guess
+    } else {
+        group_of(groups, name, count)
+    }
+}
+
+/// Whether the group of this name and number of inputs stands at the place.
+fn stands_at(groups: &[((&str, u32), u32)], place: usize, name: &str, count: u32) -> bool
+    ensures within { OnTrue result (place < length groups.now) }
+    ensures place { OnTrue result (slice_get (keys_of (rows_view groups.now)) place ≡ Some (name.now, count)) }
+{
+    match groups.get(place) {
+        Some(((other, number), _)) => *number == count && *other == name,
+        None => false,
+    }
 }
 
 /// The place of the group of this name and number of inputs.

@@ -2,7 +2,7 @@
 use Rattle.std.proofs.Common.{◌≡◌, ◌≤◌, ◌<◌, drop, ◌+◌, ◌-◌, ◌*◌, ◌++◌, ℕ, replicate, get_or, set, sym, subst, arith}
 use Rattle.std.proofs.lemmas.List.{length-take}
 use Rattle.assignment_rule.specs.Dealing.{DealsTo}
-use Rattle.assignment_rule.proofs.Dealt.{deals_name, deals_both, made_longer}
+use Rattle.assignment_rule.proofs.Dealt.{deals_name, deals_both}
 use Rattle.assignment_rule.proofs.dealing.deal_run.Goals as goal
 
 pub loop-rest-preserved : goal.loop-rest-preserved
@@ -19,10 +19,10 @@ loop-rest-preserved c =
     let within : next < names = omega (arith, c.next-next.ensures.within, row_long) in
     let one = deals_name names g next many l.left l.items.items within few in
     let both = deals_both names g (c.args.points - l.rest) many c.args.left.now l.left (set l.left i (get_or l.left i 0 - many)) c.args.items.now.items l.items.items (l.items.items ++ replicate many next) l.invariant.so_far one in
-    let longer = made_longer l.items.items c.resize.new.self.items (c.len.result + many) many l.items.len next (omega (arith, c.len.ensures, l.items.ok)) (omega (arith, l.items.ok)) c.in_ok-resize.ensures.items in
+    let longer = c.in_ok-push_many.ensures in
     let so_many : c.args.points - l.rest + many ≡ c.args.points - (l.rest - many) = omega (arith, asked, l.invariant.below) in
     record {
       below = omega (arith, l.invariant.below);
-      so_far = subst (λ n. DealsTo names g n c.args.left.now (set l.left i (get_or l.left i 0 - many)) c.args.items.now.items c.resize.new.self.items) so_many
+      so_far = subst (λ n. DealsTo names g n c.args.left.now (set l.left i (get_or l.left i 0 - many)) c.args.items.now.items c.push_many.new.items.items) so_many
           (subst (λ xs. DealsTo names g (c.args.points - l.rest + many) c.args.left.now (set l.left i (get_or l.left i 0 - many)) c.args.items.now.items xs) (sym longer) both);
     }

@@ -22,11 +22,11 @@ loop-count-preserved c =
     let count : ℕ = get_or c.args.counts.now l.count-index 0 in
     let known : c.if-count-known.known ≡ count = elim c.if-count-known.branch [ then-count-known w ↦ w.known-is | else-count-known w ↦ w.known-is ∙ sym w.if-count-known.false ] in
     let here : slice_get keys c.if-count-known.group ≡ Some (name, count) = elim c.if-count-known.branch [
-      | then-count-known w ↦ ap (slice_get keys) w.group-is ∙ w.group_of-group-then-count-known.ensures.place
+      | then-count-known w ↦ ap (slice_get keys) w.group-is ∙ w.group_beside-group.ensures.place
       | else-count-known w ↦ ap (slice_get keys) w.group-is ∙ (l.invariant.known ∙ ap (λ n. Some (name, n)) (sym w.if-count-known.false))
     ] in
     let inside : c.if-count-known.group < length c.args.groups.now = elim c.if-count-known.branch [
-      | then-count-known w ↦ omega (arith, w.group-is, w.group_of-group-then-count-known.ensures.within)
+      | then-count-known w ↦ omega (arith, w.group-is, w.group_beside-group.ensures.within)
       | else-count-known w ↦ omega (arith, w.group-is, l.invariant.inside)
     ] in
     record {
