@@ -13,7 +13,8 @@ use Rattle.transport_instance.specs.Groups.{group_cmp}
 use Rattle.transport_instance.specs.declared.certificate.CutKind.{CutKind}
 use Rattle.transport_instance.specs.declared.certificate.CutKind.TheVariants.{Over, Under}
 use Rattle.plan_text.specs.Answer.{Answer, emit, none_exists, IsOrdered, FitsFile}
-use Rattle.plan_text.specs.PlanFile.{max_plan, items_by, alpha_written, beta_written, entry_written, planned_written, alpha_in, beta_in, cost_in, rule_in, planned_of, if_plan, if_tree, answer_of}
+use Rattle.bucket_core.specs.Canonical.{IsCanonical}
+use Rattle.plan_text.specs.PlanFile.{max_plan, rises, items_by, alpha_written, beta_written, entry_written, planned_written, alpha_in, beta_in, cost_in, rule_in, planned_of, if_plan, if_tree, answer_of}
 use Rattle.plan_text.proofs.Orders.{rises-sorted, canonical_rule-same, weights_small}
 use Rattle.plan_text.proofs.RowsAgain.{alpha_again, beta_again, entries_again, names_again, rows_levels}
 
@@ -22,15 +23,19 @@ pub cost_small : (rule : Entries) (c : DualPrices) → is_whole (planned_written
 cost_small rule c h =
     ltb-true c.cost (2 ^ 53) (left _ _ (right (items_are_whole (items_by beta_written c.beta)) _ (right (items_are_whole (items_by alpha_written c.alpha)) _ h)))
 
-emit_again : (rule : Entries) (c : DualPrices) → is_whole (planned_written (emit rule c)) ≡ true → IsOrdered (emit rule c) → FitsFile (emit rule c) → planned_of (planned_written (emit rule c)) ≡ Some (emit rule c)
-emit_again rule c whole ordered fits =
+pub emit_by_tests : (rule : Entries) (c : DualPrices) → is_whole (planned_written (emit rule c)) ≡ true → rises group_cmp (keys_of c.alpha) ≡ true → rises (slice_cmp nat_cmp) (keys_of c.beta) ≡ true → IsCanonical rule → FitsFile (emit rule c)
+    → planned_of (planned_written (emit rule c)) ≡ Some (emit rule c)
+emit_by_tests rule c whole groups names canonical fits =
     let t = planned_written (emit rule c) in
-    let alpha : alpha_in t ≡ Some c.alpha = rw (alpha_again c.alpha fits.1, rises-sorted group_cmp (keys_of c.alpha) ordered.1) refl in
-    let beta : beta_in t ≡ Some c.beta = rw (beta_again c.beta, rises-sorted (slice_cmp nat_cmp) (keys_of c.beta) ordered.2) refl in
+    let alpha : alpha_in t ≡ Some c.alpha = rw (alpha_again c.alpha fits.1, groups) refl in
+    let beta : beta_in t ≡ Some c.beta = rw (beta_again c.beta, names) refl in
     let small : ltb c.cost (2 ^ 53) ≡ true = lt-ltb c.cost (2 ^ 53) (cost_small rule c whole) in
     let cost : cost_in t ≡ Some c.cost = rw small refl in
-    let entries : rule_in t ≡ Some rule = rw (entries_again rule (weights_small (2 ^ 31) rule fits.0.small), canonical_rule-same rule fits.0 ordered.0) refl in
+    let entries : rule_in t ≡ Some rule = rw (entries_again rule (weights_small (2 ^ 31) rule fits.0.small), canonical_rule-same rule fits.0 canonical) refl in
     rw (alpha, beta, cost, entries) refl
+
+emit_again : (rule : Entries) (c : DualPrices) → is_whole (planned_written (emit rule c)) ≡ true → IsOrdered (emit rule c) → FitsFile (emit rule c) → planned_of (planned_written (emit rule c)) ≡ Some (emit rule c)
+emit_again rule c whole ordered fits = emit_by_tests rule c whole (rises-sorted group_cmp (keys_of c.alpha) ordered.1) (rises-sorted (slice_cmp nat_cmp) (keys_of c.beta) ordered.2) ordered.0 fits
 
 set_again : (kind : CutKind) (names : List (List ℕ)) → IsOrdered (none_exists kind names) → planned_of (planned_written (none_exists kind names)) ≡ Some (none_exists kind names)
 set_again Over names ordered = rw (names_again names, rises-sorted (slice_cmp nat_cmp) names ordered) refl

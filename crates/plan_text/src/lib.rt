@@ -20,10 +20,12 @@
 mod fault;
 mod form;
 mod order;
+mod plain;
 mod planned;
 mod print;
 mod read;
 mod rows;
+mod scan;
 mod writing;
 
 pub use fault::PlanFileFault;

@@ -44,7 +44,7 @@ pub fn print_planned_line(alloc: Global, planned: &Planned) -> Result<Vec<u8>, P
 }
 
 /// The text of an answer, without a tree of it.
-fn planned_text(alloc: Global, planned: &Planned) -> Result<Vec<u8>, AllocError>
+pub(crate) fn planned_text(alloc: Global, planned: &Planned) -> Result<Vec<u8>, AllocError>
     requires whole { IsWhole (planned_view planned.now) }
     ensures text { IfOk result (λ v. v.items ≡ text_of (planned_written (planned_view planned.now))) }
     ensures reads_back { IfOk result (λ v. length v.items ≤ max_plan → tree_of v.items max_plan ≡ Ok (planned_written (planned_view planned.now))) }

@@ -11,6 +11,7 @@ ghost use Rattle.plan_text.specs.PlanFile.{max_plan, canonical_rule, items_in, a
 use crate::fault::PlanFileFault;
 use crate::form::{Form, form_in, has_rule_member};
 use crate::order::{alpha_rises, beta_rises, names_rise};
+use crate::plain::plain_of;
 use crate::planned::Planned;
 use crate::rows::{read_alpha, read_beta, read_entries, read_names};
 use bucket_core::{Rule, RuleFault};
@@ -24,7 +25,8 @@ pub(crate) const MAX_PLAN: usize = 64 << 20;
 const COSTS: i64 = 1 << 53;
 
 /// The answer that the bytes of a plan file hold: a canonical rule with its certificate, whose groups and names rise
-/// strictly, or a set of names that rise strictly. What is read may be printed. It takes time linear in the bytes.
+/// strictly, or a set of names that rise strictly. What is read may be printed. It takes time linear in the bytes; a file
+/// that was printed of a rule is read without a tree.
 ///
 /// It refuses more than 67108864 bytes with `TooLarge`, and then all else with `BadPlan`. The first, and the second of bytes
 /// that are not UTF-8, take no memory.
@@ -34,6 +36,9 @@ pub fn read_planned(alloc: Global, bytes: &[u8]) -> Result<Planned, PlanFileFaul
     ensures no_text { length bytes.now ≤ max_plan → is_utf8 bytes.now ≡ false → IsErrOf result PlanFileFault.BadPlan }
     ensures whole { IfOk result (λ p. IsWhole (planned_view p)) }
 {
+    if let Some(planned) = plain_of(alloc, bytes)? {
+        return Ok(planned);
+    }
     let tree = read_tree(alloc, bytes, MAX_PLAN)?;
     planned_of(alloc, &tree)
 }

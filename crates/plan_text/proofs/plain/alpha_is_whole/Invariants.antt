@@ -1,0 +1,9 @@
+use Rattle.std.proofs.Common.{◌≡◌, drop}
+use Rattle.flag_text.specs.Shape.{items_are_whole}
+use Rattle.transport_instance.specs.Certificate.{alpha_view}
+use Rattle.plan_text.specs.PlanFile.{items_by, alpha_written}
+use Rattle.plan_text.proofs.plain.alpha_is_whole.Given as goal
+
+-- the rest answers as the whole
+abbrev pub invariant-loop-row : goal.invariant-loop-row
+invariant-loop-row l = items_are_whole (items_by alpha_written (alpha_view (drop l.row-index l.alpha))) ≡ items_are_whole (items_by alpha_written (alpha_view l.alpha))
