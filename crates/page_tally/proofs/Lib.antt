@@ -7,3 +7,4 @@ mod Pointed
 mod Joined
 mod Paging
 mod Filed
+mod Lacking

@@ -27,7 +27,7 @@ same_end (x ∷ xs) (suc m) zero e =
     absurd (omega (arith, long, length-drop m xs))
 same_end (x ∷ xs) (suc m) (suc n) e = same_end xs m n e
 
-end_of_end : (xs ys zs : List ℕ) → IsEndOf xs ys → IsEndOf ys zs → IsEndOf xs zs
+pub end_of_end : (xs ys zs : List ℕ) → IsEndOf xs ys → IsEndOf ys zs → IsEndOf xs zs
 end_of_end xs ys zs p q = (p.0 + q.0, q.1 ∙ ap (drop q.0) p.1 ∙ drop-drop q.0 p.0 xs)
 
 -- ---- runs that follow on one another
@@ -40,7 +40,7 @@ last-both : (xs ys : Inputs) (last : List ℕ) → last_of_run last (xs ++ ys) �
 last-both [] ys last = refl
 last-both (x ∷ xs) ys last = last-both xs ys x
 
-lines-append : (xs ys : Inputs) (after : List FileLine) → with_lines (xs ++ ys) after ≡ with_lines xs (with_lines ys after)
+pub lines-append : (xs ys : Inputs) (after : List FileLine) → with_lines (xs ++ ys) after ≡ with_lines xs (with_lines ys after)
 lines-append [] ys after = refl
 lines-append (x ∷ xs) ys after = ap (λ ls. adds x ∷ ls) (lines-append xs ys after)
 

@@ -1,9 +1,11 @@
 pub mod File
 pub mod Folding
+pub mod Foreign
 pub mod Inputs
 pub mod Lines
 pub mod Parts
 pub mod Plain
 pub mod Points
 pub mod Runs
+pub mod Stretch
 pub mod Tally

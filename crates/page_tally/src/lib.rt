@@ -4,12 +4,14 @@
 //! exposure in the book of the file, or that file's first fault (`Tally`). It is a fold over the lines that keeps of
 //! those before the page, the last input, the line's number and the counts (`Folding`), and a run of lines at fault in
 //! nothing changes only these (`Runs`). Long runs are read in parts by all processors, each part before it is known what
-//! stands before it (`Parts`), and counted by the points of their inputs (`Points`).
+//! stands before it (`Parts`), and counted by the points of their inputs (`Points`). [`BookFile::has_foreign`] says whether an
+//! input of a page is none of its flag (`Foreign`).
 #![tactic(auto)]
 
 mod ascii;
 mod counter;
 mod file;
+mod foreign;
 mod input;
 mod line;
 mod lines;
@@ -19,6 +21,7 @@ mod plain;
 mod read;
 mod recorded;
 mod run;
+mod stretch;
 
 pub use file::BookFile;
 pub use read::read_tally;

@@ -44,7 +44,7 @@ pub(crate) fn read_parts<'a, R: Threads>(
 }
 
 /// The bytes from the first line on that begins behind the first of so many parts of those before the stop.
-fn behind_first<'a>(bytes: &'a [u8], stop: usize, parts: usize) -> &'a [u8]
+pub(crate) fn behind_first<'a>(bytes: &'a [u8], stop: usize, parts: usize) -> &'a [u8]
     requires { 0 < parts }
     ensures { IsEndOf bytes.now result.now }
 {

@@ -17,7 +17,7 @@ use std::alloc::Global;
 use std::thread::{Threads, available_parallelism};
 
 /// So many bytes of a page are read before any is read in parts.
-const ALONE: usize = 1 << 18;
+pub(crate) const ALONE: usize = 1 << 18;
 
 /// The most parts that are read at the same time.
 const MOST_PARTS: usize = 8;
@@ -165,7 +165,7 @@ fn part_ahead<'a, R: Threads>(
 }
 
 /// As many parts as processors, up to a number beyond which joining them costs more than it spares.
-fn parts_wanted(rt: &impl Threads) -> usize {
+pub(crate) fn parts_wanted(rt: &impl Threads) -> usize {
     match available_parallelism(rt) {
         Ok(processors) => processors.get().min(MOST_PARTS),
         Err(_) => 1,
