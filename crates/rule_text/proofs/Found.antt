@@ -1,6 +1,5 @@
 -- The buckets that were found in a text, and what the text is refused for.
-use denote.Ref.{Bor}
-use Rattle.std.proofs.Common.{◌≡◌, ◌≢◌, ℕ, Bool, true, false, true≢false, cond, nat_lt, List, [], ◌∷◌, ◌++◌, Vec, Global, Option, Some, None, option_map, option_and_then, pos, ◌^◌, subst, Result, Ok, Err, refl, sym, ap, ap₂, ◌∙◌, append-nil, append_assoc}
+use Rattle.std.proofs.Common.{◌≡◌, ◌≢◌, ℕ, Bool, true, false, true≢false, cond, nat_lt, List, [], ◌∷◌, ◌++◌, String, Vec, Global, Option, Some, None, option_map, option_and_then, pos, ◌^◌, subst, Result, Ok, Err, refl, sym, ap, ap₂, ◌∙◌, append-nil, append_assoc}
 use Rattle.std.specs.Prelude.{ℤ}
 use Rattle.json.specs.Json as json
 use Rattle.json.specs.Lex.{tokens}
@@ -22,7 +21,7 @@ use Rattle.bucket_core.specs.Reading.{bucket_of, buckets_of, rule_of_buckets, ru
 use Rattle.bucket_core.specs.Rule.{Entries}
 use Rattle.bucket_core.specs.declared.fault.RuleFault.{RuleFault}
 use Rattle.bucket_core.specs.declared.fault.RuleFault.TheVariants.{WantOfMemory}
-use Rattle.rule_text.specs.Buckets.{or_bad_rule, buckets_in, GivesLent, found_in, found_of, so_far, with_bucket}
+use Rattle.rule_text.specs.Buckets.{or_bad_rule, buckets_in, GivesEntries, found_in, found_of, so_far, with_bucket}
 use Rattle.rule_text.specs.Parts.{extent_at, both}
 use Rattle.rule_text.specs.Reading.{of_rule, of_tree, is_want, GivesUnlessShort}
 use Rattle.rule_text.specs.declared.fault.RuleTextFault.{RuleTextFault}
@@ -111,8 +110,8 @@ pub no_json : (text : List ℕ) → read text ≡ None → buckets_in (if_whole 
 no_json text e = ap (λ o. buckets_in (if_whole (if_json o))) e
 
 -- the fault of a value that was not read
-pub no_value : (text : List ℕ) (reader : List Token) (e : TextFault) (r : Result (Vec (Bor (List ℕ) × ℕ) Global) RuleTextFault) → reader ≡ tokens text → r ≡ Err (Text e) → (e ≢ texts.WantOfMemory → e ≡ NotJson)
-    → (e ≡ NotJson → converted of_json (json.value max_depth reader) ≡ None) → GivesLent r (buckets_in (if_whole (if_json (read text))))
+pub no_value : (text : List ℕ) (reader : List Token) (e : TextFault) (r : Result (Vec (String Global × ℕ) Global) RuleTextFault) → reader ≡ tokens text → r ≡ Err (Text e) → (e ≢ texts.WantOfMemory → e ≡ NotJson)
+    → (e ≡ NotJson → converted of_json (json.value max_depth reader) ≡ None) → GivesEntries r (buckets_in (if_whole (if_json (read text))))
 no_value text reader e (Ok v) starts is kind none = absurd (cc)
 no_value text reader e (Err f) starts is kind none = λ no.
     let same : f ≡ Text e = cc in

@@ -1,12 +1,11 @@
 -- The literal buckets of a tree, or what they are refused for (but for `buckets_in`, in private contracts alone).
-use denote.Ref.{Bor}
-use Rattle.std.specs.Prelude.{◌≡◌, ℕ, Bool, false, cond, List, [], ◌∷◌, ◌++◌, map, Vec, Option, Some, None, option_map, option_and_then, Result, Ok, Err}
+use Rattle.std.specs.Prelude.{◌≡◌, ℕ, Bool, false, cond, List, [], ◌∷◌, ◌++◌, String, Vec, Option, Some, None, option_map, option_and_then, Result, Ok, Err}
 use Rattle.std.specs.declared.alloc.Global.{Global}
 use Rattle.flag_text.specs.Readers.{as_list}
 use Rattle.flag_text.specs.Shape.{Shape, list, Items, levels, has_other}
 use Rattle.flag_text.specs.declared.fault.TextFault.{TextFault}
 use Rattle.bucket_core.specs.Reading.{buckets_of}
-use Rattle.bucket_core.specs.Rule.{Entries}
+use Rattle.bucket_core.specs.Rule.{Entries, entries_view}
 use Rattle.bucket_core.specs.declared.fault.RuleFault.TheVariants.{BadRule}
 use Rattle.rule_text.specs.Parts.{extent_at}
 use Rattle.rule_text.specs.Reading.{is_want}
@@ -24,14 +23,10 @@ abbrev pub buckets_in : Result Shape TextFault → Result Entries RuleTextFault
 buckets_in (Ok t) = or_bad_rule (option_and_then buckets_of (as_list t))
 buckets_in (Err e) = Err (Text e)
 
--- entries whose names are lent
-abbrev pub lent : List (Bor (List ℕ) × ℕ) → Entries
-lent es = map (λ e. (e.0.now, e.1)) es
-
 -- What was returned is what the definition gives, unless memory ran out.
-abbrev pub GivesLent : Result (Vec (Bor (List ℕ) × ℕ) Global) RuleTextFault → Result Entries RuleTextFault → Type 0
-GivesLent (Ok v) wanted = wanted ≡ Ok (lent v.items)
-GivesLent (Err e) wanted = is_want e ≡ false → wanted ≡ Err e
+abbrev pub GivesEntries : Result (Vec (String Global × ℕ) Global) RuleTextFault → Result Entries RuleTextFault → Type 0
+GivesEntries (Ok v) wanted = wanted ≡ Ok (entries_view v.items)
+GivesEntries (Err e) wanted = is_want e ≡ false → wanted ≡ Err e
 
 -- the buckets of a tree at the top of a text, and its extent
 abbrev pub found_in : Shape → Option Entries × Extent

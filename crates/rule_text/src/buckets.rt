@@ -4,7 +4,8 @@ ghost use Rattle.json.specs.Json.{value, items, parse_map};
 ghost use Rattle.serde_json.specs.Data.{Data};
 ghost use Rattle.serde_json.specs.Read.{converted, max_depth, of_items, of_json, read};
 ghost use Rattle.flag_text.specs.Reading.{if_json, if_whole, items_shape, shape_of};
-ghost use Rattle.rule_text.specs.Buckets.{GivesLent, buckets_in, found_in, found_of, lent, or_bad_rule, so_far, with_bucket};
+ghost use Rattle.bucket_core.specs.Rule.{entries_view};
+ghost use Rattle.rule_text.specs.Buckets.{GivesEntries, buckets_in, found_in, found_of, or_bad_rule, so_far, with_bucket};
 ghost use Rattle.rule_text.specs.declared.fault.RuleTextFault.TheVariants.{Text};
 ghost use Rattle.flag_text.specs.declared.fault.TextFault.TheVariants as texts;
 
@@ -19,21 +20,17 @@ use std::alloc::{AllocError, Global};
 const MAX_DEPTH: usize = 127;
 
 /// What was found in a text: its literal buckets, where it is a list of them alone, and its extent.
-type Found<'a> = (Option<Vec<(&'a str, u64)>>, Extent);
+type Found = (Option<Vec<(String, u64)>>, Extent);
 
-/// The names and weights of a JSON text that is a list of literal buckets. Names lie in the text, or in `scratch` where they
-/// have escapes.
+/// The names and weights of a JSON text that is a list of literal buckets.
 ///
 /// Refusals, in this order: `NotJson`, `TooDeep`, `NotWhole`, `BadRule`.
-pub(crate) fn read_buckets<'a>(
-    alloc: Global,
-    text: &'a str,
-    scratch: &'a mut Scratch,
-) -> Result<Vec<(&'a str, u64)>, RuleTextFault>
-    ensures exact { GivesLent result (buckets_in (if_whole (if_json (read text.now)))) }
+pub(crate) fn read_buckets(alloc: Global, text: &str) -> Result<Vec<(String, u64)>, RuleTextFault>
+    ensures exact { GivesEntries result (buckets_in (if_whole (if_json (read text.now)))) }
     ensures kind { result ≢ Err (Text texts.TooLarge) }
 {
-    let mut reader = Reader::new(text, scratch)?;
+    let mut scratch = Scratch::new(alloc);
+    let mut reader = Reader::new(text, &mut scratch)?;
     let (found, extent) = read_whole(alloc, &mut reader)?;
     if reader.next().is_some() {
         return Err(RuleTextFault::Text(TextFault::NotJson));
@@ -42,11 +39,11 @@ pub(crate) fn read_buckets<'a>(
 }
 
 /// What was found, or what a text with it is refused for.
-fn judged<'a>(
-    found: Option<Vec<(&'a str, u64)>>,
+fn judged(
+    found: Option<Vec<(String, u64)>>,
     extent: Extent,
-) -> Result<Vec<(&'a str, u64)>, RuleTextFault>
-    ensures exact { GivesLent result (cond extent.deep (Err (Text texts.TooDeep)) (cond extent.other (Err (Text texts.NotWhole)) (or_bad_rule (option_map (λ v. lent v.items) found.entry)))) }
+) -> Result<Vec<(String, u64)>, RuleTextFault>
+    ensures exact { GivesEntries result (cond extent.deep (Err (Text texts.TooDeep)) (cond extent.other (Err (Text texts.NotWhole)) (or_bad_rule (option_map (λ v. entries_view v.items) found)))) }
     ensures kind { result ≢ Err (Text texts.TooLarge) }
 {
     if extent.deep {
@@ -59,8 +56,8 @@ fn judged<'a>(
 }
 
 /// Reads the value of a text.
-fn read_whole<'a>(alloc: Global, reader: &mut Reader<'a>) -> Result<Found<'a>, TextFault>
-    ensures ok { IfOk result (λ f. (d : Data) × (converted of_json (value max_depth reader.old) ≡ Some (d, reader.new)) × ((option_map (λ v. lent v.items) f.0, f.1) ≡ found_in (shape_of d))) }
+fn read_whole(alloc: Global, reader: &mut Reader<'_>) -> Result<Found, TextFault>
+    ensures ok { IfOk result (λ f. (d : Data) × (converted of_json (value max_depth reader.old) ≡ Some (d, reader.new)) × ((option_map (λ v. entries_view v.items) f.0, f.1) ≡ found_in (shape_of d))) }
     ensures err { result ≡ Err TextFault.NotJson → converted of_json (value max_depth reader.old) ≡ None }
     ensures kind { IfErr result (λ e. e ≢ TextFault.WantOfMemory → e ≡ TextFault.NotJson) }
 {
@@ -73,8 +70,8 @@ fn read_whole<'a>(alloc: Global, reader: &mut Reader<'a>) -> Result<Found<'a>, T
 }
 
 /// Reads the items of the list that a text is, and its end.
-fn read_list<'a>(alloc: Global, reader: &mut Reader<'a>) -> Result<Found<'a>, TextFault>
-    ensures ok { IfOk result (λ f. parse_map (λ ds. found_of (items_shape ds)) (converted of_items (items (value 126) (length reader.old) reader.old)) ≡ Some ((option_map (λ v. lent v.items) f.0, f.1), reader.new)) }
+fn read_list(alloc: Global, reader: &mut Reader<'_>) -> Result<Found, TextFault>
+    ensures ok { IfOk result (λ f. parse_map (λ ds. found_of (items_shape ds)) (converted of_items (items (value 126) (length reader.old) reader.old)) ≡ Some ((option_map (λ v. entries_view v.items) f.0, f.1), reader.new)) }
     ensures err { result ≡ Err TextFault.NotJson → converted of_items (items (value 126) (length reader.old) reader.old) ≡ None }
     ensures kind { IfErr result (λ e. e ≢ TextFault.WantOfMemory → e ≡ TextFault.NotJson) }
 {
@@ -83,23 +80,24 @@ fn read_list<'a>(alloc: Global, reader: &mut Reader<'a>) -> Result<Found<'a>, Te
     let mut extent = Extent::none();
     'buckets: while !reader.take_end_array() {
         let item = read_part(alloc, reader, MAX_DEPTH - 1)?;
-        is_rule = keep(&mut found, is_rule, item.bucket)?;
+        is_rule = keep(alloc, &mut found, is_rule, item.bucket)?;
         extent = extent.and(item.extent);
     }
     Ok((found_if(is_rule, found), extent.around(MAX_DEPTH - 1)))
 }
 
 /// Keeps a bucket behind those that were found, while each item is one.
-fn keep<'a>(
-    found: &mut Vec<(&'a str, u64)>,
+fn keep(
+    alloc: Global,
+    found: &mut Vec<(String, u64)>,
     is_rule: bool,
-    bucket: Option<(&'a str, u64)>,
+    bucket: Option<(&str, u64)>,
 ) -> Result<bool, AllocError>
-    ensures { IfOk result (λ b. so_far b (lent found.new.items) ≡ with_bucket (so_far is_rule (lent found.old.items)) (option_map (λ e. (e.0.now, e.1)) bucket.entry)) }
+    ensures { IfOk result (λ b. so_far b (entries_view found.new.items) ≡ with_bucket (so_far is_rule (entries_view found.old.items)) (option_map (λ e. (e.0.now, e.1)) bucket.entry)) }
 {
     match bucket {
-        Some(bucket) if is_rule => {
-            found.push(bucket)?;
+        Some((name, weight)) if is_rule => {
+            found.push((String::from_str(alloc, name)?, weight))?;
             Ok(true)
         }
         _ => Ok(false),
@@ -107,8 +105,8 @@ fn keep<'a>(
 }
 
 /// The buckets that were found, where each item was one.
-fn found_if<'a>(is_rule: bool, found: Vec<(&'a str, u64)>) -> Option<Vec<(&'a str, u64)>>
-    ensures { option_map (λ v. lent v.items) result ≡ so_far is_rule (lent found.entry.items) }
+fn found_if(is_rule: bool, found: Vec<(String, u64)>) -> Option<Vec<(String, u64)>>
+    ensures { option_map (λ v. entries_view v.items) result ≡ so_far is_rule (entries_view found.items) }
 {
     if is_rule { Some(found) } else { None }
 }

@@ -4,17 +4,14 @@ ghost use Rattle.std.specs.Str.{is_utf8};
 ghost use Rattle.serde_json.specs.Read.{read};
 ghost use Rattle.flag_text.specs.Reading.{if_json, if_whole};
 ghost use Rattle.flag_text.specs.declared.fault.TextFault.TheVariants as texts;
-ghost use Rattle.bucket_core.specs.Rule.{entries_view};
-ghost use Rattle.rule_text.specs.Buckets.{lent};
 ghost use Rattle.rule_text.specs.Reading.{of_tree, rule_of_text, GivesUnlessShort};
 
 use crate::buckets::read_buckets;
 use crate::fault::RuleTextFault;
 use bucket_core::Rule;
 use flag_text::TextFault;
-use json::Scratch;
 use simdutf8::basic;
-use std::alloc::{AllocError, Global};
+use std::alloc::Global;
 
 /// The rule that the bytes of a JSON text stand for: a list of literal buckets, each a list of a name, or of a name and
 /// a weight from 0 to 2147483647, which is 1 where it is left out. `max` is the most bytes that are read.
@@ -41,19 +38,6 @@ fn rule_in(alloc: Global, text: &str) -> Result<Rule, RuleTextFault>
     ensures exact { GivesUnlessShort result (of_tree (if_whole (if_json (read text.now)))) }
     ensures kind { result ≢ Err (RuleTextFault.Text texts.TooLarge) }
 {
-    let mut scratch = Scratch::new(alloc);
-    let buckets = read_buckets(alloc, text, &mut scratch)?;
-    let entries = owned(alloc, buckets.as_slice())?;
+    let entries = read_buckets(alloc, text)?;
     Ok(Rule::make(alloc, entries)?)
-}
-
-/// The entries, with a copy of each name.
-fn owned(alloc: Global, buckets: &[(&str, u64)]) -> Result<Vec<(String, u64)>, AllocError>
-    ensures { IfOk result (λ v. entries_view v.items ≡ lent buckets.now) }
-{
-    let mut entries = Vec::with_capacity(alloc, buckets.len())?;
-    for (name, weight) in buckets {
-        entries.push((String::from_str(alloc, *name)?, *weight))?;
-    }
-    Ok(entries)
 }

@@ -3,7 +3,8 @@ use Rattle.json.specs.Json.{value}
 use Rattle.json.specs.Reads.{token_of}
 use Rattle.json.specs.Token.{Token}
 use Rattle.serde_json.specs.Read.{converted, max_depth, of_json}
-use Rattle.rule_text.specs.Buckets.{GivesLent, lent}
+use Rattle.rule_text.specs.Buckets.{GivesEntries}
+use Rattle.bucket_core.specs.Rule.{entries_view}
 use Rattle.rule_text.specs.declared.fault.RuleTextFault.TheVariants.{Text}
 use Rattle.rule_text.proofs.Found.{judged_text, no_json, no_value, whole_and_more, whole_read}
 use Rattle.rule_text.proofs.buckets.read_buckets.Goals as goal
@@ -29,5 +30,5 @@ returns-clause-exact c =
     let none : c.read_whole.new.reader ≡ [] = search rules in
     let d = c.in_ok-found.ensures.ok in
     let read_as = whole_read c.args.text.now d.0 (ap (λ ts. converted of_json (value max_depth ts)) (sym c.in_ok-reader.ensures.ok) ∙ d.1 ∙ ap (λ ts. Some (d.0, ts)) none) in
-    let is = judged_text c.args.text.now d.0 (option_map (λ v. lent v.items) c.in_ok-found.found) c.in_ok-found.extent read_as d.2 in
-    subst (GivesLent c.judged.result) (sym is) c.judged.ensures.exact
+    let is = judged_text c.args.text.now d.0 (option_map (λ v. entries_view v.items) c.in_ok-found.found) c.in_ok-found.extent read_as d.2 in
+    subst (GivesEntries c.judged.result) (sym is) c.judged.ensures.exact
