@@ -107,6 +107,55 @@ pub fn of_unrecorded(
     lines.headed(Opening::Note, path)
 }
 
+/// Of a request whose page has these inputs in the book, of which some are none of its flag: they do not begin with its key.
+pub fn of_foreign(
+    alloc: Global,
+    path: &str,
+    page: &Page,
+    inputs: &[String],
+) -> Result<String, AllocError>
+    ensures names { IfOk result (λ s. Names path.now (string_bytes s)) }
+{
+    let mut lines = Lines::new(alloc);
+    lines.put(" has inputs on the page of the request that are none of its flag: ");
+    lines.put_shown(&count_lacking(inputs, page.flag.as_str()));
+    lines.put(" of ");
+    lines.put_shown(&inputs.len());
+    lines.put(" do not begin with its key\n  flag ");
+    lines.put_name(page.flag.as_str());
+    lines.put(", ");
+    put_page(&mut lines, page);
+    if let Some(first) = first_lacking(inputs, page.flag.as_str()) {
+        lines.put("; the first is ");
+        lines.put_name(first);
+    }
+    lines.put(
+        "\n  where \"by\" is null an input is the flag's key with the targeting key behind it\n",
+    );
+    lines.headed(Opening::Note, path)
+}
+
+/// How many of the inputs do not begin with a key.
+fn count_lacking(inputs: &[String], key: &str) -> usize {
+    let mut count: usize = 0;
+    for input in inputs {
+        if !input.as_bytes().starts_with(key.as_bytes()) {
+            count = count.saturating_add(1);
+        }
+    }
+    count
+}
+
+/// The first that does not.
+fn first_lacking<'a>(inputs: &'a [String], key: &str) -> Option<&'a str> {
+    for input in inputs {
+        if !input.as_bytes().starts_with(key.as_bytes()) {
+            return Some(input.as_str());
+        }
+    }
+    None
+}
+
 /// The pages of the same flag, or that there is none.
 fn put_others(lines: &mut Lines, others: &[&Page]) {
     for i in 0..others.len() {

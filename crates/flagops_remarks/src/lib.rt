@@ -44,7 +44,7 @@ mod way;
 mod wrongs;
 
 pub use asks::{Drive, of_asks, of_driven, of_unread_asks, of_unrecorded_asks, of_workers};
-pub use books::{of_book, of_full_book, of_other_file, of_unrecorded};
+pub use books::{of_book, of_foreign, of_full_book, of_other_file, of_unrecorded};
 pub use breaches::of_breaches;
 pub use checks::of_check;
 pub use documents::of_document;
