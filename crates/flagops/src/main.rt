@@ -18,6 +18,7 @@ ghost use Rattle.flagops_commands.specs.Ended.{ComplainsAt};
 
 mod family;
 mod outputs;
+mod watching;
 
 use family::{Family, family_of, helped};
 use flag_text::{Outlet, WriteOutlet};
@@ -33,11 +34,12 @@ use flagops_service::ofrep;
 use flagops_streams::PersistentInput;
 use line_batches::{Inlet, ReadInlet};
 use outputs::Persistent;
+use progress::{BesideLine, Counted, Progress, TerminalLine};
 use std::alloc::Global;
 use std::convert::AsStr;
 use std::env::{self, Args};
 use std::fs::File;
-use std::io::{self, Read};
+use std::io::{self, IsTerminal, Read};
 use std::net::{Net, TcpListener, TcpStream};
 use std::process::ExitCode;
 use std::random::RandomSource;
@@ -46,6 +48,7 @@ use std::sync::Wait;
 use std::sync::atomic::{AtomicI32, Ordering};
 use std::thread::{self, Builder, Threads};
 use std::time::Clock;
+use watching::{Watch, Watcher, is_filter, work_of};
 
 /// The bytes of the stack that the commands run on: more than the deepest of documents, contexts and plans take.
 const STACK: usize = 4 * 1024 * 1024;
@@ -53,11 +56,25 @@ const STACK: usize = 4 * 1024 * 1024;
 fn main(rt: HostRuntime) -> ExitCode {
     let _are_open = open_standard(&rt);
     let words = asked_words(rt.alloc(), env::args(&rt));
-    let input = ReadInlet::new(PersistentInput::new(rt.stdin()));
+    let work = work_of(&words, rt.stdin().is_terminal());
+    let goes_on = is_filter(&words) && !rt.stdout().is_terminal();
+    let progress = Progress::new();
+    let line = TerminalLine::new(rt.stderr(), work.is_some() && rt.stderr().is_terminal());
+    let watch = Watch {
+        rt: &rt,
+        progress: &progress,
+        line: &line,
+        work: work.unwrap_or(""),
+    };
+    let input = Counted::new(PersistentInput::new(rt.stdin()), Some(progress.input()));
+    let input = ReadInlet::new(input);
+    let files = SystemFiles::watched(&rt, &progress);
     let (trouble, unread) = (AtomicI32::new(0), AtomicI32::new(0));
-    let out = WriteOutlet::new(Persistent::new(rt.stdout(), &trouble));
-    let err = WriteOutlet::new(Persistent::new(rt.stderr(), &unread));
-    let code = match on_stack(&rt, words, input, SystemFiles::new(&rt), out, err) {
+    let out = Persistent::new(rt.stdout(), &trouble);
+    let out = WriteOutlet::new(BesideLine::new(&rt, &line, out, goes_on));
+    let err = Persistent::new(rt.stderr(), &unread);
+    let err = WriteOutlet::new(BesideLine::new(&rt, &line, err, false));
+    let code = match on_stack(&rt, words, input, files, out, err, &watch) {
         Some(code) => code,
         None => {
             let mut out = WriteOutlet::new(Persistent::new(rt.stdout(), &trouble));
@@ -78,13 +95,14 @@ fn tell_failure(rt: &HostRuntime, number: i32) {
 }
 
 /// Does what the words ask for on a stack of its own, where there is memory for one.
-fn on_stack<R, D, S, I, F, O, E>(
+fn on_stack<R, D, S, I, F, O, E, W>(
     rt: &R,
     words: io::Result<Vec<S>>,
     input: I,
     files: F,
     out: O,
     err: E,
+    watcher: &W,
 ) -> Option<ExitCode>
 where
     R: AllocGlobal
@@ -101,6 +119,7 @@ where
     F: FileSet + Send + Drop,
     O: Outlet + Send + Drop,
     E: Outlet + Send + Drop,
+    W: Watcher,
     requires in_whole { I.is_broken input ≡ false }
     requires out_whole { O.is_broken out ≡ false }
     requires err_whole { E.is_broken err ≡ false }
@@ -109,16 +128,19 @@ where
         requires { (I.is_broken input ≡ false) × (O.is_broken out ≡ false) × (E.is_broken err ≡ false) }
     {
         let (mut input, mut files, mut out, mut err) = (input, files, out, err);
-        flagops(rt, words, &mut input, &mut files, &mut out, &mut err)
+        let code = flagops(rt, words, &mut input, &mut files, &mut out, &mut err);
+        watcher.end();
+        code
     };
-    spawned(rt, commands)
+    spawned(rt, commands, watcher)
 }
 
-/// What a call gives on a stack of its own, where there is memory for one.
-fn spawned<R: Threads + Wait, C: FnOnce() -> ExitCode + Send + Drop>(
-    rt: &R,
-    commands: C,
-) -> Option<ExitCode>
+/// What a call gives on a stack of its own, where there is memory for one. The watcher follows it from this thread.
+fn spawned<R, C, W>(rt: &R, commands: C, watcher: &W) -> Option<ExitCode>
+where
+    R: Threads + Wait,
+    C: FnOnce() -> ExitCode + Send + Drop,
+    W: Watcher,
     requires { C.pre commands }
 {
     thread::scope(
@@ -131,7 +153,10 @@ fn spawned<R: Threads + Wait, C: FnOnce() -> ExitCode + Send + Drop>(
                 .stack_size(STACK)
                 .spawn_scoped(scope, commands)
             {
-                Ok(thread) => Some(thread.join(rt)),
+                Ok(thread) => {
+                    watcher.follow();
+                    Some(thread.join(rt))
+                }
                 Err(_) => None,
             }
         },

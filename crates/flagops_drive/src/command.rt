@@ -11,12 +11,14 @@ ghost use Rattle.flagops_drive.specs.declared.fault.DriveRefusal.{DriveRefusal a
 
 use crate::asks::{ask_items, asks_in};
 use crate::fault::DriveRefusal;
+use crate::gate::CountingGate;
 use crate::lines::{Counts, lines};
 use crate::tally::{Endings, Tally, inputs_before};
 use book_core::{Book, print_book};
-use book_share::{DriveFault, Driven, OpenGate, drive};
+use book_share::{DriveFault, Driven, drive};
 use flag_defs::Flags;
 use flag_text::Tree;
+use progress::Meter;
 use std::alloc::Global;
 use std::sync::Wait;
 use std::thread::Threads;
@@ -54,7 +56,8 @@ pub fn refusal_of(asks: &Tree, workers: usize) -> Option<DriveRefusal>
 /// before, if one is given. The counts are printed as an object in one line, or a line each. It is refused with BadAsks, then
 /// with NoWorkers and TooManyWorkers (more than 64), whatever memory is left, and at last with PageFull where the two have
 /// more than 1000000 inputs of a page. A refusal comes after all workers have ended. Cost: as `resolve` for each ask, as a
-/// note for each input that it reaches, and as another for each input that is added to the book from before.
+/// note for each input that it reaches, and as another for each input that is added to the book from before. Each ask that is
+/// answered moves the meter on, where there is one.
 #[tactic(auto, using(crate::proofs::Refused::bad_asks, crate::proofs::Refused::bad_asks_first, crate::proofs::Refused::bad_workers, crate::proofs::Refused::bad_workers_first, crate::proofs::Refused::none_first, crate::proofs::Refused::same_asks))]
 pub fn drive_asks<R: Threads + Wait + Sync>(
     rt: &R,
@@ -64,6 +67,7 @@ pub fn drive_asks<R: Threads + Wait + Sync>(
     workers: usize,
     before: Option<Book>,
     json: bool,
+    meter: Option<&Meter>,
 ) -> Result<Drove, DriveRefusal>
     requires { is_whole (view asks.now) ≡ true }
     ensures driven { Drives (flags_view flags.now) (asks_of_shape (view asks.now)) workers before json result }
@@ -76,7 +80,7 @@ pub fn drive_asks<R: Threads + Wait + Sync>(
     if let Some(fault) = fault_of(workers) {
         return Err(DriveRefusal::Drive(fault));
     }
-    drive_items(rt, alloc, flags, items, workers, before, json)
+    drive_items(rt, alloc, flags, items, workers, before, json, meter)
 }
 
 /// Answers the asks that the items of a file are.
@@ -88,6 +92,7 @@ fn drive_items<R: Threads + Wait + Sync>(
     workers: usize,
     before: Option<Book>,
     json: bool,
+    meter: Option<&Meter>,
 ) -> Result<Drove, DriveRefusal>
     requires whole { items_are_whole (items_view items.now) ≡ true }
     requires few { length items.now < 2 ^ 32 }
@@ -95,7 +100,8 @@ fn drive_items<R: Threads + Wait + Sync>(
     ensures tally { IfOk result (IsTallied before json) }
 {
     let asks = asks_in(alloc, items)?;
-    match drive(rt, alloc, flags, asks.as_slice(), workers, &OpenGate) {
+    let gate = CountingGate::new(meter, asks.len());
+    match drive(rt, alloc, flags, asks.as_slice(), workers, &gate) {
         Ok(driven) => output_of(alloc, driven, before, json),
         Err(fault) => Err(DriveRefusal::Drive(fault)),
     }

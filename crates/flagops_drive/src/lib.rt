@@ -12,7 +12,7 @@
 //!
 //! let flags = read_flags(alloc, br#"{"flags":{}}"#)?;
 //! let asks = br#"[{"key":"color","want":"text","default":"d","context":{"key":"test"},"moment":0}]"#;
-//! let drove = drive_asks(&rt, alloc, &flags, &read_tree(alloc, asks, 1000)?, 8, None, false)?;
+//! let drove = drive_asks(&rt, alloc, &flags, &read_tree(alloc, asks, 1000)?, 8, None, false, None)?;
 //! ```
 //!
 //! Proved, over the definitions of `specs/`: the asks are those of `Asks.asks_of`, and are refused with BadAsks exactly where
@@ -26,6 +26,7 @@
 mod asks;
 mod command;
 mod fault;
+mod gate;
 mod lines;
 mod parts;
 mod reading;

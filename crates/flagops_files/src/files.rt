@@ -3,6 +3,7 @@ ghost use Rattle.std.specs.Prelude.{◌≡◌, ◌≤◌, ◌+◌, ℕ, List, Op
 ghost use Rattle.flag_text.specs.Outcome.{GivesUnless};
 ghost use Rattle.flagops_files.specs.Files.{Holding, first_piece, load_book_of, load_notes_of, load_of, is_unreadable, is_unwritable, Stores, KeepsOthers, load_number, load_name, store_number, store_name};
 
+use progress::Meter;
 use std::alloc::{AllocError, Global};
 use std::io;
 use thiserror::Error;
@@ -127,6 +128,11 @@ pub trait FileSet {
     /// Why the last call that answered `Unreadable` or `Unwritable` did, in the system's words, where they are known. It is
     /// for people.
     fn trouble(&self) -> Option<io::Error> {
+        None
+    }
+
+    /// What asks that are answered over these files move on, where someone watches. It is for people.
+    fn meter(&self) -> Option<&Meter> {
         None
     }
 

@@ -1,9 +1,11 @@
 //! The files of the system.
-ghost use Rattle.std.specs.Prelude.{◌≡◌, ◌≤◌, ◌+◌, None, false, length, IfOk};
+ghost use Rattle.std.specs.Prelude.{◌≡◌, ◌≤◌, ◌+◌, ◌||◌, None, Ok, false, length, IfOk};
+ghost use Rattle.flagops_files.specs.Files.{is_unreadable};
 
 use crate::beginning::{may_begin_record, may_note};
 use crate::files::{FIRST_PIECE, FileSet, LoadFault, NOTES_PIECE, StoreFault};
 use crate::replacing::{plain_file, replace};
+use progress::{Counted, Meter, Progress};
 use std::alloc::{AllocError, Global};
 use std::fs::OpenFile;
 use std::io::{ErrorKind, Read};
@@ -15,6 +17,7 @@ use std::{fs, io};
 #[derive(Drop)]
 pub struct SystemFiles<'a, R> {
     rt: &'a R,
+    progress: Option<&'a Progress>,
     failed: bool,
     trouble: Option<io::Error>,
 }
@@ -26,8 +29,47 @@ impl<'a, R: Files> SystemFiles<'a, R> {
     {
         SystemFiles {
             rt,
+            progress: None,
             failed: false,
             trouble: None,
+        }
+    }
+
+    /// The same, for someone who watches the progress of what is read and answered.
+    pub fn watched(rt: &'a R, progress: &'a Progress) -> SystemFiles<'a, R>
+        ensures { ⟦<SystemFiles<'a, R> as FileSet>⟧.has_failed result ≡ false }
+    {
+        SystemFiles {
+            rt,
+            progress: Some(progress),
+            failed: false,
+            trouble: None,
+        }
+    }
+
+    /// The file at the path is read from here on. What counts its bytes, where someone watches.
+    fn begin(&self, alloc: Global, path: &str) -> Option<&'a Meter> {
+        let progress = self.progress?;
+        progress.begin_file(alloc, path, 0);
+        Some(progress.file())
+    }
+
+    /// What was read, or why it was not.
+    fn loaded(&mut self, outcome: io::Result<Vec<u8>>) -> Result<Vec<u8>, LoadFault>
+        ensures read { IfOk result (λ v. outcome ≡ Ok v) }
+        ensures failed { self.new.failed ≡ (self.old.failed || is_unreadable result) }
+    {
+        if let Some(progress) = self.progress {
+            progress.end_file();
+        }
+        match outcome {
+            Ok(bytes) => Ok(bytes),
+            Err(e) if e.kind() == ErrorKind::OutOfMemory => Err(LoadFault::WantOfMemory),
+            Err(e) => {
+                self.failed = true;
+                self.trouble = Some(e);
+                Err(LoadFault::Unreadable)
+            }
         }
     }
 }
@@ -38,27 +80,13 @@ impl<'a, R: Files> FileSet for SystemFiles<'a, R> {
     ghost has_failed = { λ s. s.failed };
 
     fn read(&mut self, alloc: Global, path: &str, max: u64) -> Result<Vec<u8>, LoadFault> {
-        match read_front(self.rt, alloc, read_from(path), max) {
-            Ok(bytes) => Ok(bytes),
-            Err(e) if e.kind() == ErrorKind::OutOfMemory => Err(LoadFault::WantOfMemory),
-            Err(e) => {
-                self.failed = true;
-                self.trouble = Some(e);
-                Err(LoadFault::Unreadable)
-            }
-        }
+        let meter = self.begin(alloc, path);
+        self.loaded(read_front(self.rt, alloc, read_from(path), max, meter))
     }
 
     fn read_book(&mut self, alloc: Global, path: &str, max: u64) -> Result<Vec<u8>, LoadFault> {
-        match read_book_front(self.rt, alloc, read_from(path), max) {
-            Ok(bytes) => Ok(bytes),
-            Err(e) if e.kind() == ErrorKind::OutOfMemory => Err(LoadFault::WantOfMemory),
-            Err(e) => {
-                self.failed = true;
-                self.trouble = Some(e);
-                Err(LoadFault::Unreadable)
-            }
-        }
+        let meter = self.begin(alloc, path);
+        self.loaded(read_book_front(self.rt, alloc, read_from(path), max, meter))
     }
 
     fn read_notes(
@@ -68,15 +96,8 @@ impl<'a, R: Files> FileSet for SystemFiles<'a, R> {
         passing: bool,
         max: u64,
     ) -> Result<Vec<u8>, LoadFault> {
-        match read_notes_front(self.rt, alloc, read_from(path), passing, max) {
-            Ok(bytes) => Ok(bytes),
-            Err(e) if e.kind() == ErrorKind::OutOfMemory => Err(LoadFault::WantOfMemory),
-            Err(e) => {
-                self.failed = true;
-                self.trouble = Some(e);
-                Err(LoadFault::Unreadable)
-            }
-        }
+        let meter = self.begin(alloc, path);
+        self.loaded(read_notes_front(self.rt, alloc, read_from(path), passing, max, meter))
     }
 
     fn front(&self, alloc: Global, path: &str) -> Result<Option<Vec<u8>>, AllocError> {
@@ -89,6 +110,13 @@ impl<'a, R: Files> FileSet for SystemFiles<'a, R> {
 
     fn trouble(&self) -> Option<io::Error> {
         self.trouble
+    }
+
+    fn meter(&self) -> Option<&Meter> {
+        match self.progress {
+            Some(progress) => Some(progress.asks()),
+            None => None,
+        }
     }
 
     fn write(&mut self, alloc: Global, path: &str, bytes: &[u8]) -> Result<(), StoreFault> {
@@ -114,12 +142,31 @@ fn written_to(path: &str) -> &str {
     if path == "-" { "/dev/stdout" } else { path }
 }
 
-/// The bytes of the file at the path, cut after `max + 1`.
-fn read_front<R: Files>(rt: &R, alloc: Global, path: &str, max: u64) -> io::Result<Vec<u8>>
-    ensures { IfOk result (λ v. length v.items ≤ max + 1) }
-{
+/// The file at the path, whose bytes the meter counts, and how many they are, as far as the system knows it.
+fn opened<'a, R: Files>(
+    rt: &R,
+    path: &str,
+    meter: Option<&'a Meter>,
+) -> io::Result<(Counted<'a, R::File>, u64)> {
     let file = fs::open(rt, path)?;
     let len = file.metadata()?.len();
+    if let Some(meter) = meter {
+        meter.begin(len);
+    }
+    Ok((Counted::new(file, meter), len))
+}
+
+/// The bytes of the file at the path, cut after `max + 1`.
+fn read_front<R: Files>(
+    rt: &R,
+    alloc: Global,
+    path: &str,
+    max: u64,
+    meter: Option<&Meter>,
+) -> io::Result<Vec<u8>>
+    ensures { IfOk result (λ v. length v.items ≤ max + 1) }
+{
+    let (file, len) = opened(rt, path, meter)?;
     let limit = max.saturating_add(1);
     let mut bytes = Vec::with_capacity(alloc, len.min(limit) as usize)?;
     file.take(limit).read_to_end(&mut bytes)?;
@@ -129,10 +176,16 @@ fn read_front<R: Files>(rt: &R, alloc: Global, path: &str, max: u64) -> io::Resu
 }
 
 /// The bytes of the book file at the path, cut after `max + 1`, or the first piece of a file that does not begin as a book or a tally.
-fn read_book_front<R: Files>(rt: &R, alloc: Global, path: &str, max: u64) -> io::Result<Vec<u8>> {
-    let file = fs::open(rt, path)?;
+fn read_book_front<R: Files>(
+    rt: &R,
+    alloc: Global,
+    path: &str,
+    max: u64,
+    meter: Option<&Meter>,
+) -> io::Result<Vec<u8>> {
+    let (file, len) = opened(rt, path, meter)?;
     let limit = max.saturating_add(1);
-    let len = file.metadata()?.len().min(limit);
+    let len = len.min(limit);
     let mut bytes = Vec::with_capacity(alloc, FIRST_PIECE as usize)?;
     let mut file = file.take(FIRST_PIECE);
     file.read_to_end(&mut bytes)?;
@@ -153,11 +206,12 @@ fn read_notes_front<R: Files>(
     path: &str,
     passing: bool,
     max: u64,
+    meter: Option<&Meter>,
 ) -> io::Result<Vec<u8>> {
-    let file = fs::open(rt, path)?;
+    let (file, len) = opened(rt, path, meter)?;
     let piece = NOTES_PIECE as u64;
     let limit = max.saturating_add(1);
-    let len = file.metadata()?.len().min(limit);
+    let len = len.min(limit);
     let mut bytes = Vec::with_capacity(alloc, len.min(piece) as usize)?;
     let mut file = file.take(piece);
     file.read_to_end(&mut bytes)?;

@@ -54,7 +54,17 @@ pub fn drive<R: Threads + Wait + Sync, F: FileSet>(
     let tree = load_tree(alloc, files, asks, TEXT_LIMIT)?;
     let before = book_before(alloc, files, book, add)?;
     let drove = drove(
-        rt, alloc, &flags, asks, &tree, workers, book, before, strict, json,
+        rt,
+        alloc,
+        &flags,
+        asks,
+        &tree,
+        workers,
+        book,
+        before,
+        strict,
+        json,
+        files.meter(),
     )?;
     let remark = remark_on(alloc, asks, &tree, drove.tally);
     written(alloc, files, book, drove, remark)

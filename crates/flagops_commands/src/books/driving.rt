@@ -25,11 +25,13 @@ use flagops_files::{Call, Doubt, Refusal, Refused, Remark};
 use flagops_remarks::{
     of_asks, of_driven, of_full_book, of_unread_asks, of_unrecorded_asks, of_workers,
 };
+use progress::Meter;
 use std::alloc::{AllocError, Global};
 use std::sync::Wait;
 use std::thread::Threads;
 
-/// The asks of a tree, driven; the tree was loaded from a path, and so was the book that was there before.
+/// The asks of a tree, driven; the tree was loaded from a path, and so was the book that was there before. Each ask that is
+/// answered moves the meter on, where there is one.
 pub fn drove<R: Threads + Wait + Sync>(
     rt: &R,
     alloc: Global,
@@ -41,6 +43,7 @@ pub fn drove<R: Threads + Wait + Sync>(
     before: Option<Book>,
     strict: bool,
     json: bool,
+    meter: Option<&Meter>,
 ) -> Result<Drove, Refused>
     requires { is_whole (view tree.now) ≡ true }
     ensures exact { GivesOne drove_view result (IsDroveOf (Ok (flags_view flags.now)) (Ok (view tree.now)) (Ok before) workers strict json) }
@@ -51,7 +54,7 @@ pub fn drove<R: Threads + Wait + Sync>(
 {
     let workers = usize::from(workers);
     check_members(alloc, path, tree, workers, book, strict)?;
-    match drive_asks(rt, alloc, flags, tree, workers, before, json) {
+    match drive_asks(rt, alloc, flags, tree, workers, before, json, meter) {
         Ok(drove) => recorded(alloc, path, drove, strict),
         Err(refusal) => Err(undriven(alloc, path, tree, workers, book, refusal)),
     }
