@@ -83,6 +83,19 @@ class Replacing(unittest.TestCase):
             self.assertEqual(reader.communicate()[0].decode(), BOOK)
         self.assertTrue(stat.S_ISFIFO(os.stat(self.path("pipe")).st_mode))
 
+    def test_the_standard_output_is_written_in_its_place(self):
+        """Behind what stands there, and what is printed behind it, whether it is a file or a pipe."""
+        for mode in ("wb", "ab"):
+            with self.subTest(mode=mode):
+                with open(self.path("all"), mode) as out:
+                    subprocess.run([PROGRAM, "book", "-", self.path("b")], stdout=out, check=True)
+                with open(self.path("all"), encoding="utf-8") as file:
+                    texts = file.read()
+                one = OLD + "inputs 0\nfiles 1\n"
+                self.assertEqual(texts, one if mode == "wb" else one + one)
+        piped = subprocess.run([PROGRAM, "book", "-", self.path("b")], stdout=subprocess.PIPE, encoding="utf-8", check=True)
+        self.assertEqual(piped.stdout, one)
+
     def test_a_full_disk(self):
         disk = self.path("disk")
         os.mkdir(disk)

@@ -8,7 +8,7 @@ use crate::replacing::{plain_file, replace};
 use progress::{Counted, Meter, Progress};
 use std::alloc::{AllocError, Global};
 use std::fs::OpenFile;
-use std::io::{ErrorKind, Read};
+use std::io::{ErrorKind, Print, Read};
 use std::rt::Files;
 use std::{fs, io};
 
@@ -22,7 +22,7 @@ pub struct SystemFiles<'a, R> {
     trouble: Option<io::Error>,
 }
 
-impl<'a, R: Files> SystemFiles<'a, R> {
+impl<'a, R: Files + Print> SystemFiles<'a, R> {
     /// The files of the runtime, of which no call has failed yet.
     pub fn new(rt: &'a R) -> SystemFiles<'a, R>
         ensures { ⟦<SystemFiles<'a, R> as FileSet>⟧.has_failed result ≡ false }
@@ -74,7 +74,7 @@ impl<'a, R: Files> SystemFiles<'a, R> {
     }
 }
 
-impl<'a, R: Files> FileSet for SystemFiles<'a, R> {
+impl<'a, R: Files + Print> FileSet for SystemFiles<'a, R> {
     ghost holding = { λ _. None };
 
     ghost has_failed = { λ s. s.failed };
@@ -120,7 +120,7 @@ impl<'a, R: Files> FileSet for SystemFiles<'a, R> {
     }
 
     fn write(&mut self, alloc: Global, path: &str, bytes: &[u8]) -> Result<(), StoreFault> {
-        match replace(self.rt, alloc, written_to(path), bytes) {
+        match written(self.rt, alloc, path, bytes) {
             Ok(()) => Ok(()),
             Err(e) if e.kind() == ErrorKind::OutOfMemory => Err(StoreFault::WantOfMemory),
             Err(e) => {
@@ -137,9 +137,19 @@ fn read_from(path: &str) -> &str {
     if path == "-" { "/dev/stdin" } else { path }
 }
 
-/// Where the file at a path is written to: `-` is the standard output.
+/// Where the file at a path that is written lies: `-` is the standard output.
 fn written_to(path: &str) -> &str {
     if path == "-" { "/dev/stdout" } else { path }
+}
+
+/// Makes the bytes the file at a path, or writes them to the standard output: to the one that is open, since a file that is
+/// opened anew has a place of its own, at which what the command prints would be written over.
+fn written<R: Files + Print>(rt: &R, alloc: Global, path: &str, bytes: &[u8]) -> io::Result<()> {
+    if path == "-" {
+        rt.write_all(bytes)
+    } else {
+        replace(rt, alloc, path, bytes)
+    }
 }
 
 /// The file at the path, whose bytes the meter counts, and how many they are, as far as the system knows it.
