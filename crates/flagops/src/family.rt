@@ -111,6 +111,31 @@ pub fn helped(alloc: Global, words: Vec<String>) -> io::Result<Vec<String>>
     }
 }
 
+/// The words, with `--explain` behind `plan` where what is told is read at a terminal.
+pub fn explained(alloc: Global, words: Vec<String>, is_terminal: bool) -> io::Result<Vec<String>> {
+    if !is_terminal || !is_plan(words.as_slice()) {
+        return Ok(words);
+    }
+    let mut explained = Vec::with_capacity(alloc, words.len().saturating_add(1))?;
+    for word in words {
+        explained.push(word)?;
+        if explained.len() == 1 {
+            explained.push(String::from_str(alloc, "--explain")?)?;
+        }
+    }
+    Ok(explained)
+}
+
+/// Whether the words ask for `plan`, and do not ask for words beside it by themselves.
+fn is_plan(words: &[String]) -> bool {
+    match words {
+        [] => false,
+        [first, ..] => {
+            first.as_str() == "plan" && !words.iter().any(|word| word.as_str() == "--explain")
+        }
+    }
+}
+
 /// The command whose help the words ask for by `help NAME`, where it reads its words by itself.
 fn help_for(words: &[String]) -> Option<&str>
     ensures { option_map (λ s. s.now) result ≡ help_for (map string_bytes words.now) }

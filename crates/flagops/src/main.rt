@@ -20,7 +20,7 @@ mod family;
 mod outputs;
 mod watching;
 
-use family::{Family, family_of, helped};
+use family::{Family, explained, family_of, helped};
 use flag_text::{Outlet, WriteOutlet};
 use flagops_books::book;
 use flagops_checks::check;
@@ -55,7 +55,7 @@ const STACK: usize = 4 * 1024 * 1024;
 
 fn main(rt: HostRuntime) -> ExitCode {
     let _are_open = open_standard(&rt);
-    let words = asked_words(rt.alloc(), env::args(&rt));
+    let words = asked_words(rt.alloc(), env::args(&rt), rt.stderr().is_terminal());
     let work = work_of(&words, rt.stdin().is_terminal());
     let goes_on = is_filter(&words) && !rt.stdout().is_terminal();
     let progress = Progress::new();
@@ -163,9 +163,14 @@ where
     )
 }
 
-/// The words that are asked, behind the program's name.
-fn asked_words(alloc: Global, words: io::Result<Args>) -> io::Result<Vec<String>> {
-    helped(alloc, behind_name(alloc, words)?)
+/// The words that are asked, behind the program's name. At a terminal `plan` tells what it comes to.
+fn asked_words(
+    alloc: Global,
+    words: io::Result<Args>,
+    is_terminal: bool,
+) -> io::Result<Vec<String>> {
+    let words = helped(alloc, behind_name(alloc, words)?)?;
+    explained(alloc, words, is_terminal)
 }
 
 /// The words behind the first, which is the program's name.
