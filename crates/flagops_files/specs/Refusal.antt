@@ -21,7 +21,7 @@ use Rattle.flagops_files.specs.declared.refusal.Refusal.{Refusal}
 use Rattle.flagops_files.specs.declared.refused.Refused.{Refused}
 use Rattle.flagops_files.specs.declared.refusal.Refusal.TheVariants.{WantOfMemory, Load, LongBook, ReadTree, ReadRule, ReadRequest, Note, Price, ReadFlags, ReadBook, ReadTally, FullBook, ReadPlanned, Verify, Apply, Keep, Plan, PrintPlanned, Drive, Store, Doubted}
 use Rattle.flagops_files.specs.declared.refusal.Doubt.{Doubt}
-use Rattle.flagops_files.specs.declared.refusal.Doubt.TheVariants.{Unread, Unrecorded}
+use Rattle.flagops_files.specs.declared.refusal.Doubt.TheVariants.{Unread, Unrecorded, Foreign}
 use Rattle.flagops_files.specs.declared.refusal.PriceMismatch.{PriceMismatch}
 use Rattle.flagops_files.specs.declared.refusal.PriceMismatch.TheVariants.{Weight, BadKeys}
 
@@ -139,10 +139,12 @@ mismatch_name BadKeys = codes "BadKeys"
 abbrev pub doubt_number : Doubt → ℕ
 doubt_number Unread = 16
 doubt_number Unrecorded = 17
+doubt_number Foreign = 18
 
 abbrev pub doubt_name : Doubt → List ℕ
 doubt_name Unread = codes "Unread"
 doubt_name Unrecorded = codes "Unrecorded"
+doubt_name Foreign = codes "Foreign"
 
 -- the number and the name of its fault
 abbrev pub number_of : Refusal → ℕ

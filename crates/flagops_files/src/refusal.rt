@@ -133,6 +133,8 @@ pub enum Doubt {
     Unread,
     /// The book has no input on the page of the request, so no recorded user counts.
     Unrecorded,
+    /// The book has an input on that page which is none of its flag.
+    Foreign,
 }
 
 impl Doubt {
@@ -143,6 +145,7 @@ impl Doubt {
         match self {
             Doubt::Unread => 16,
             Doubt::Unrecorded => 17,
+            Doubt::Foreign => 18,
         }
     }
 
@@ -153,6 +156,7 @@ impl Doubt {
         match self {
             Doubt::Unread => "Unread",
             Doubt::Unrecorded => "Unrecorded",
+            Doubt::Foreign => "Foreign",
         }
     }
 }
