@@ -13,12 +13,51 @@ DOUBTS = [
     (UNREAD, EMPTY_BOOK, "16 Unread", 'note: "request" has a member that is not read:\n  "forbiden"; perhaps "forbid" is meant\nnote: "book"'),
 ]
 
+# A flag whose operation has no bucketing expression, so that each input of its page is its key with a targeting key behind it.
+KEYED = (
+    '{"flags":{"color":{"state":"ENABLED","variants":{"red":"r","blue":"b"},"defaultVariant":"red",'
+    '"targeting":{"fractional":[["red",5],["blue",5]]}}}}'
+)
+PAGE = '{"by":null,"flag":"color","site":0}'
+LATER = '{"by":null,"flag":"colors","site":0}'
+EXPRESSED = '{"by":"{\\"var\\":[\\"key\\"]}","flag":"color","site":0}'
+LONG = [f'"color{n:07}"' for n in range(60_000)]
+
+# The lines of a book behind the first one, and how many of the page's inputs are told as none of the flag's, with the first.
+BOOKS = [
+    ([PAGE, '"color"', '"colorann"', '"colors"'], None),
+    ([PAGE, '"\\u0063olorann"', ' "colorbob"'], None),
+    ([PAGE, '"ann"', '"bob"', '"colorann"'], ("2 of 3", "ann")),
+    ([PAGE, '"colo"', '"colorann"'], ("1 of 2", "colo")),
+    ([PAGE, '""', '"colorann"', '"dora"'], ("2 of 3", "")),
+    ([PAGE, '"colorann"', '"dora"'], ("1 of 2", "dora")),
+    ([PAGE, '"colorann"', '"\\u0064ora"'], ("1 of 2", "dora")),
+    ([PAGE, '"Color"', '"colorann"'], ("1 of 2", "Color")),
+    ([PAGE, '"colorann"', LATER, '"ann"'], None),
+    (['{"by":null,"flag":"a","site":0}', '"zoe"', PAGE, '"colorann"'], None),
+    (['{"by":null,"flag":"a","site":0}', '"a"', PAGE, '"zoe"', EXPRESSED, '"ann"'], ("1 of 1", "zoe")),
+    ([PAGE, '"colorann"', EXPRESSED, '"ann"', '"zoe"'], None),
+    ([PAGE, *LONG], None),
+    ([PAGE, *LONG, '"zoe"'], ("1 of 60001", "zoe")),
+    ([PAGE, *LONG[:30_000], '"color003\\u0030000"', *LONG[30_001:], LATER, '"a"'], None),
+    (['{"by":null,"flag":"a","site":0}', *LONG, PAGE, *LONG, '"zoe"', LATER, '"a"'], ("1 of 60001", "zoe")),
+]
+
 BROKEN = '{"flags":{"a":{"state":"on","variants":{"x":true}},"b":{"state":"ENABLED","variants":{"x":true}}}}'
 GOOD = '{"flags":{"b":{"state":"ENABLED","variants":{"x":true}}}}'
 
 
 def files(asked, book):
     return {"document": document(FIVES), "request": asked, "book": book, "plan": plan_of(rule=CHEAPEST)}
+
+
+def foreign_note(count, first):
+    """What is told of so many inputs that do not begin with the flag's key."""
+    return (
+        f'note: "book" has inputs on the page of the request that are none of its flag: {count} do not begin with its key\n'
+        f'  flag "color", "site":0, "by":null; the first is "{first}"\n'
+        '  where "by" is null an input is the flag\'s key with the targeting key behind it\n'
+    )
 
 
 class Strict(ProgramTest):
@@ -54,6 +93,45 @@ class Strict(ProgramTest):
                     strict = run([words[0], "--strict", *words[1:]], given)
                     self.assertEqual((strict.status, strict.out), (1, f"refused {call} {doubt}\n"))
                     self.assertEqual((strict.err, strict.files), (plain.err, given))
+
+    def test_inputs_of_another_flag(self):
+        """They count as ever, and are told; with `--strict` the answer is refused, and no file is changed."""
+        for lines, told in BOOKS:
+            book = "\n".join(['{"book":1}', *lines]) + "\n"
+            given = {"document": KEYED, "request": RED_3, "book": book}
+            planned = run(["plan", "document", "request", "book"], given)
+            given["plan"] = planned.out
+            note = "" if told is None else foreign_note(*told)
+            self.assertEqual((planned.status, planned.err), (0, note))
+            for call, words in [
+                ("plan", ["plan", "document", "request", "book"]),
+                ("verify", ["verify", "document", "request", "book", "plan"]),
+                ("apply", ["apply", "--keep", "document", "plan", "request", "book"]),
+                ("apply", ["apply", "--keep", "--write", "document", "plan", "request", "book"]),
+            ]:
+                with self.subTest(words=words, told=told, lines=lines[:4]):
+                    plain = run(words, given)
+                    self.assertEqual((plain.status, plain.err), (0, note))
+                    strict = run([words[0], "--strict", *words[1:]], given)
+                    refused = (1, f"refused {call} 18 Foreign\n", note, given)
+                    wanted = tuple(plain[i] for i in (2, 0, 1, 3)) if told is None else refused
+                    self.assertEqual((strict.status, strict.out, strict.err, strict.files), wanted)
+
+    def test_a_member_that_is_not_read_and_inputs_of_another_flag(self):
+        """Both are told, and the refusal has the first."""
+        given = {"document": KEYED, "request": UNREAD, "book": f'{{"book":1}}\n{PAGE}\n"ann"\n'}
+        strict = run(["plan", "--strict", "document", "request", "book"], given)
+        self.assertEqual((strict.status, strict.out), (1, "refused plan 16 Unread\n"))
+        self.assertTrue(strict.err.endswith("is meant\n" + foreign_note("1 of 1", "ann")), strict.err)
+
+    def test_a_tally_has_no_inputs(self):
+        """Nothing is doubted of those that it counts, and the plan is the book's."""
+        given = {"document": KEYED, "request": RED_3, "book": f'{{"book":1}}\n{PAGE}\n"ann"\n'}
+        given["tally"] = run(["tally", "document", "color", "0"], given, input='["color",0,null,"ann"]\n').out
+        planned = run(["plan", "document", "request", "book"], given)
+        self.assertEqual(planned.err, foreign_note("1 of 1", "ann"))
+        strict = run(["plan", "--strict", "document", "request", "tally"], given)
+        self.assertEqual((strict.status, strict.out, strict.err), (0, planned.out, ""))
 
     def test_check(self):
         for text, status in [(BROKEN, 1), (GOOD, 0)]:

@@ -41,6 +41,8 @@ named request book c doubt.Unread Short told = inl (refl, tt)
 named request book c doubt.Unread (Lines lines) told = inl (refl, told)
 named request book c doubt.Unrecorded Short told = inr (inl (refl, tt))
 named request book c doubt.Unrecorded (Lines lines) told = inr (inl (refl, told))
+named request book c doubt.Foreign Short told = inr (inl (refl, tt))
+named request book c doubt.Foreign (Lines lines) told = inr (inl (refl, told))
 
 -- lines that begin with a name do so with more behind them
 pub named_still : (name lines more whole : List ℕ) → Names name lines → whole ≡ lines ++ more → Names name whole

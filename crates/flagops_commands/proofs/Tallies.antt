@@ -1,7 +1,7 @@
 -- What is answered on the tally of a page of a book is answered on the book.
-use Rattle.std.proofs.Common.{◌≡◌, ◌≢◌, ◌∙◌, ℕ, List, [], ◌∷◌, length, Bool, Option, Some, None, unwrap_or, refl, sym, ap, subst}
+use Rattle.std.proofs.Common.{◌≡◌, ◌≢◌, ◌||◌, ◌∙◌, ℕ, List, [], ◌∷◌, length, Bool, false, Option, Some, None, unwrap_or, refl, sym, ap, ap₂, subst}
 use Rattle.std.proofs.Math.Dec.{eqb-suc-zero}
-use Rattle.std.specs.Prelude.{Result, Ok, Err, OnOk, nat_eq, option_and_then}
+use Rattle.std.specs.Prelude.{Result, Ok, Err, OnOk, nat_eq, option_and_then, is_some}
 use Rattle.std.specs.Map.{lookup}
 use Rattle.std.specs.Result.{result_ok}
 use Rattle.std.specs.Str.{bytes_eq}
@@ -16,6 +16,7 @@ use Rattle.flag_documents.specs.Flag.{targeting_in}
 use Rattle.logic_ast.specs.Expression.{Expression}
 use Rattle.logic_ast.specs.Sites.{parts_at}
 use Rattle.logic_ast.specs.declared.fault.LogicFault.{LogicFault}
+use Rattle.page_tally.specs.Foreign.{has_foreign}
 use Rattle.plan_text.specs.Answer.{Answer, planned_view}
 use Rattle.plan_text.specs.declared.planned.Planned.{Planned}
 use Rattle.price_core.specs.Request.{Asked, asked_of}
@@ -36,13 +37,16 @@ use Rattle.tally_core.specs.Law.{IsTallyOf}
 use Rattle.tally_core.specs.Tally.{PageTally}
 use Rattle.flagops_commands.proofs.Asked.{asked_is, placed, refused_alike}
 use Rattle.flagops_commands.proofs.Valid.{outcome_over}
-use Rattle.flagops_commands.specs.Doubts.{doubt_of, first_doubt, is_unread, settle}
-use Rattle.flagops_commands.specs.Plan.{IsPlanOf, report_planned}
-use Rattle.flagops_commands.specs.Tallies.{TalliesPlanAsBooks, TalliesTellAsBooks, over}
+use Rattle.flagops_commands.specs.Doubts.{doubt_of, first_doubt, is_unread, recorded_doubt, settle}
+use Rattle.flagops_commands.specs.Foreign.{is_foreign, is_mixed}
+use Rattle.flagops_commands.specs.Plan.{IsPlanOf, ReadsBack, plan_report, report_planned}
+use Rattle.flagops_commands.specs.Tallies.{TalliesPlanAsAnyBooks, TalliesPlanAsBooks, TalliesTellAsAnyBooks, TalliesTellAsBooks, over}
 use Rattle.flagops_commands.specs.Unrecorded.{is_bare, is_unrecorded, page_asked, page_in}
 use Rattle.flagops_commands.specs.Verify.{told}
+use Rattle.flagops_files.specs.Report.{Report, beside}
 use Rattle.flagops_files.specs.declared.refusal.Call.TheVariants as call
 use Rattle.flagops_files.specs.declared.refusal.Doubt.{Doubt}
+use Rattle.flagops_files.specs.declared.refusal.Refusal.{Refusal}
 use Rattle.flagops_files.specs.declared.evidence.Evidence.TheVariants.{Book, Tally}
 
 refused : {X E : Type 0} {e : E} {x : X} → Err e ≡ Ok x → ⊥
@@ -91,9 +95,16 @@ unrecorded_alike refining flags request book t p of h =
     let page = page_is refining flags request t p h in
     ap (is_bare (Tally t)) page ∙ (ap (λ n. nat_eq n 0) of.inputs ∙ (none_or_some (inputs_on book t.page) ∙ sym (ap (is_bare (Book book)) page)))
 
-doubted_alike : (refining : Refining) (flags : Definitions) (request : List ℕ) (book : Contents) (t : PageTally) (p : TallyProblem) → IsTallyOf (inputs_on book t.page) t → tally_problem_of refining flags request t ≡ Ok p
-    → doubt_of (over flags request (Tally t)) ≡ doubt_of (over flags request (Book book))
-doubted_alike refining flags request book t p of h = ap (first_doubt (is_unread request)) (unrecorded_alike refining flags request book t p of h)
+foreign_alike : (refining : Refining) (flags : Definitions) (request : List ℕ) (book : Contents) (t : PageTally) (p : TallyProblem) → has_foreign t.page (inputs_on book t.page) ≡ false → tally_problem_of refining flags request t ≡ Ok p
+    → is_foreign (over flags request (Tally t)) ≡ is_foreign (over flags request (Book book))
+foreign_alike refining flags request book t p own h =
+    let page = page_is refining flags request t p h in
+    ap (is_mixed (Tally t)) page ∙ (sym own ∙ sym (ap (is_mixed (Book book)) page))
+
+doubted_alike : (refining : Refining) (flags : Definitions) (request : List ℕ) (book : Contents) (t : PageTally) (p : TallyProblem) → IsTallyOf (inputs_on book t.page) t → has_foreign t.page (inputs_on book t.page) ≡ false
+    → tally_problem_of refining flags request t ≡ Ok p → doubt_of (over flags request (Tally t)) ≡ doubt_of (over flags request (Book book))
+doubted_alike refining flags request book t p of own h =
+    ap (first_doubt (is_unread request)) (ap₂ recorded_doubt (unrecorded_alike refining flags request book t p of h) (foreign_alike refining flags request book t p own h))
 
 -- ---- answers
 
@@ -138,11 +149,11 @@ module _ (asks : TalliesAskAsBooks) (refining : Refining) (flags : Definitions) 
       let alike = asks refining flags request book t p of is in
       plan_back counts p (inputs_on book t.page) it alike.1 (subst (λ (b : Result Problem RolloutFault). IsPlanned b it) alike.0 plan)
 
-  planned_beside : (strict explain : Bool) (r : Result TallyProblem RolloutFault) (it : Result Planned RolloutFault) → tally_problem_of refining flags request t ≡ r → IsTallyPlanned r it
+  planned_beside : has_foreign t.page (inputs_on book t.page) ≡ false → (strict explain : Bool) (r : Result TallyProblem RolloutFault) (it : Result Planned RolloutFault) → tally_problem_of refining flags request t ≡ r → IsTallyPlanned r it
       → report_planned explain (settle call.Plan strict (doubt_of (over flags request (Tally t)))) it ≡ report_planned explain (settle call.Plan strict (doubt_of (over flags request (Book book)))) it
-  planned_beside strict explain r (Err e) is plan = refl
-  planned_beside strict explain (Err f) (Ok a) is plan = absurd plan
-  planned_beside strict explain (Ok p) (Ok a) is plan = ap (λ (d : Option Doubt). report_planned explain (settle call.Plan strict d) (Ok a)) (doubted_alike refining flags request book t p of is)
+  planned_beside own strict explain r (Err e) is plan = refl
+  planned_beside own strict explain (Err f) (Ok a) is plan = absurd plan
+  planned_beside own strict explain (Ok p) (Ok a) is plan = ap (λ (d : Option Doubt). report_planned explain (settle call.Plan strict d) (Ok a)) (doubted_alike refining flags request book t p of own is)
 
   module _ (answer : Answer) (verdict : Result (Unit {0}) VerifyFault) where
     told_to : (r : Result TallyProblem RolloutFault) → tally_problem_of refining flags request t ≡ r → IsTallyOutcome r answer verdict → IsOutcome (problem_of refining flags request book) answer verdict
@@ -157,16 +168,16 @@ module _ (asks : TalliesAskAsBooks) (refining : Refining) (flags : Definitions) 
         let alike = asks refining flags request book t p of is in
         subst (λ (b : Result Problem RolloutFault). IsShown b answer) (sym alike.0) (shown (inputs_on book t.page) alike.1)
 
-  told_beside : (strict json : Bool) (answer : Answer) (verdict : Result (Unit {0}) VerifyFault) (r : Result TallyProblem RolloutFault) → tally_problem_of refining flags request t ≡ r → IsTallyOutcome r answer verdict
+  told_beside : has_foreign t.page (inputs_on book t.page) ≡ false → (strict json : Bool) (answer : Answer) (verdict : Result (Unit {0}) VerifyFault) (r : Result TallyProblem RolloutFault) → tally_problem_of refining flags request t ≡ r → IsTallyOutcome r answer verdict
       → told json (settle call.Verify strict (doubt_of (over flags request (Tally t)))) answer verdict ≡ told json (settle call.Verify strict (doubt_of (over flags request (Book book)))) answer verdict
-  told_beside strict json answer (Err e) r is outcome = refl
-  told_beside strict json answer (Ok u) (Err f) is outcome = absurd outcome
-  told_beside strict json answer (Ok u) (Ok p) is outcome = ap (λ (d : Option Doubt). told json (settle call.Verify strict d) answer (Ok u)) (doubted_alike refining flags request book t p of is)
+  told_beside own strict json answer (Err e) r is outcome = refl
+  told_beside own strict json answer (Ok u) (Err f) is outcome = absurd outcome
+  told_beside own strict json answer (Ok u) (Ok p) is outcome = ap (λ (d : Option Doubt). told json (settle call.Verify strict d) answer (Ok u)) (doubted_alike refining flags request book t p of own is)
 
 -- ---- the laws
 
 pub plans_alike : PlansAreByCounts → TalliesAskAsBooks → TalliesPlanAsBooks
-plans_alike counts asks strict explain refine flags request book t r of apart = (to, from)
+plans_alike counts asks strict explain refine flags request book t r of apart own = (to, from)
   where
     refining : Refining
     refining = Times (unwrap_or refine 1)
@@ -175,7 +186,7 @@ plans_alike counts asks strict explain refine flags request book t r of apart = 
     to (it, may, is, back) = (
       it,
       record { answers = planned_to asks refining flags request book t of apart (tally_problem_of refining flags request t) it refl may.answers; ordered = may.ordered; whole = may.whole },
-      is ∙ planned_beside asks refining flags request book t of apart strict explain (tally_problem_of refining flags request t) it refl may.answers,
+      is ∙ planned_beside asks refining flags request book t of apart own strict explain (tally_problem_of refining flags request t) it refl may.answers,
       back,
     )
 
@@ -184,26 +195,101 @@ plans_alike counts asks strict explain refine flags request book t r of apart = 
         let plan = planned_back asks refining flags request book t of apart counts (tally_problem_of refining flags request t) it refl may.answers in (
           it,
           record { answers = plan; ordered = may.ordered; whole = may.whole },
-          is ∙ sym (planned_beside asks refining flags request book t of apart strict explain (tally_problem_of refining flags request t) it refl plan),
+          is ∙ sym (planned_beside asks refining flags request book t of apart own strict explain (tally_problem_of refining flags request t) it refl plan),
           back,
         )
 
 pub tells_alike : TalliesAskAsBooks → TalliesTellAsBooks
-tells_alike asks strict json None flags request book t answer r of apart (verdict, may, is) =
+tells_alike asks strict json None flags request book t answer r of apart own (verdict, may, is) =
     let refining = refining_for answer in (
       verdict,
       record {
         told = told_to asks refining flags request book t of apart answer verdict (tally_problem_of refining flags request t) refl may.told;
         shown = on_ok verdict (shown_to asks refining flags request book t of apart answer verdict (tally_problem_of refining flags request t) refl) may.shown;
       },
-      is ∙ told_beside asks refining flags request book t of apart strict json answer verdict (tally_problem_of refining flags request t) refl may.told,
+      is ∙ told_beside asks refining flags request book t of apart own strict json answer verdict (tally_problem_of refining flags request t) refl may.told,
     )
-tells_alike asks strict json (Some m) flags request book t answer r of apart (verdict, may, is) =
+tells_alike asks strict json (Some m) flags request book t answer r of apart own (verdict, may, is) =
     let refining = Times m in (
       verdict,
       record {
         told = told_to asks refining flags request book t of apart answer verdict (tally_problem_of refining flags request t) refl may.told;
         shown = on_ok verdict (shown_to asks refining flags request book t of apart answer verdict (tally_problem_of refining flags request t) refl) may.shown;
       },
-      is ∙ told_beside asks refining flags request book t of apart strict json answer verdict (tally_problem_of refining flags request t) refl may.told,
+      is ∙ told_beside asks refining flags request book t of apart own strict json answer verdict (tally_problem_of refining flags request t) refl may.told,
+    )
+
+-- ---- where no doubt is refused they differ in what is told
+
+told_again : (b c : Bool) (r : Result Report Refusal) → beside b r ≡ beside b (beside c r)
+told_again b c (Ok report) = refl
+told_again b c (Err e) = refl
+
+noted_planned : (explain : Bool) (d e : Option Doubt) (it : Result Planned RolloutFault) → beside (explain || is_some e) (report_planned explain (settle call.Plan false d) it) ≡ report_planned explain (settle call.Plan false e) it
+noted_planned explain d e (Err f) = refl
+noted_planned explain d e (Ok p) = sym (told_again (explain || is_some e) (explain || is_some d) (plan_report (planned_view p)))
+
+noted_told : (json : Bool) (d e : Option Doubt) (answer : Answer) (verdict : Result (Unit {0}) VerifyFault) → beside (is_some e) (told json (settle call.Verify false d) answer verdict) ≡ told json (settle call.Verify false e) answer verdict
+noted_told json d e answer (Err f) = refl
+noted_told json d e answer (Ok u) = refl
+
+reads_beside : (it : Result Planned RolloutFault) (b : Bool) (r : Result Report Refusal) → ReadsBack it r → ReadsBack it (beside b r)
+reads_beside (Err e) b r back = tt
+reads_beside (Ok p) b (Err e) back = tt
+reads_beside (Ok p) b (Ok report) back = back
+
+pub plans_as_any : PlansAreByCounts → TalliesAskAsBooks → TalliesPlanAsAnyBooks
+plans_as_any counts asks explain refine flags request book t r of apart = (to, from)
+  where
+    refining : Refining
+    refining = Times (unwrap_or refine 1)
+
+    on_tally : Option Doubt
+    on_tally = doubt_of (over flags request (Tally t))
+
+    on_book : Option Doubt
+    on_book = doubt_of (over flags request (Book book))
+
+    to : IsPlanOf false explain refine (Ok (over flags request (Tally t))) r → (noted : Bool) × IsPlanOf false explain refine (Ok (over flags request (Book book))) (beside noted r)
+    to (it, may, is, back) = (
+      explain || is_some on_book,
+      it,
+      record { answers = planned_to asks refining flags request book t of apart (tally_problem_of refining flags request t) it refl may.answers; ordered = may.ordered; whole = may.whole },
+      ap (beside (explain || is_some on_book)) is ∙ noted_planned explain on_tally on_book it,
+      reads_beside it (explain || is_some on_book) r back,
+    )
+
+    from : IsPlanOf false explain refine (Ok (over flags request (Book book))) r → (noted : Bool) × IsPlanOf false explain refine (Ok (over flags request (Tally t))) (beside noted r)
+    from (it, may, is, back) = (
+      explain || is_some on_tally,
+      it,
+      record { answers = planned_back asks refining flags request book t of apart counts (tally_problem_of refining flags request t) it refl may.answers; ordered = may.ordered; whole = may.whole },
+      ap (beside (explain || is_some on_tally)) is ∙ noted_planned explain on_book on_tally it,
+      reads_beside it (explain || is_some on_tally) r back,
+    )
+
+pub tells_as_any : TalliesAskAsBooks → TalliesTellAsAnyBooks
+tells_as_any asks json None flags request book t answer r of apart (verdict, may, is) =
+    let refining = refining_for answer in
+    let on_tally = doubt_of (over flags request (Tally t)) in
+    let on_book = doubt_of (over flags request (Book book)) in (
+      is_some on_book,
+      verdict,
+      record {
+        told = told_to asks refining flags request book t of apart answer verdict (tally_problem_of refining flags request t) refl may.told;
+        shown = on_ok verdict (shown_to asks refining flags request book t of apart answer verdict (tally_problem_of refining flags request t) refl) may.shown;
+      },
+      ap (beside (is_some on_book)) is ∙ noted_told json on_tally on_book answer verdict,
+    )
+tells_as_any asks json (Some m) flags request book t answer r of apart (verdict, may, is) =
+    let refining = Times m in
+    let on_tally = doubt_of (over flags request (Tally t)) in
+    let on_book = doubt_of (over flags request (Book book)) in (
+      is_some on_book,
+      verdict,
+      record {
+        told = told_to asks refining flags request book t of apart answer verdict (tally_problem_of refining flags request t) refl may.told;
+        shown = on_ok verdict (shown_to asks refining flags request book t of apart answer verdict (tally_problem_of refining flags request t) refl) may.shown;
+      },
+      ap (beside (is_some on_book)) is ∙ noted_told json on_tally on_book answer verdict,
     )

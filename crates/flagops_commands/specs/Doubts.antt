@@ -5,6 +5,7 @@ use Rattle.flag_text.specs.Shape.{Shape}
 use Rattle.flag_text.specs.declared.fault.TextFault.{TextFault}
 use Rattle.unread_members.specs.Unread.{unread_of}
 use Rattle.unread_members.specs.declared.reader.Reader.TheVariants as reader
+use Rattle.flagops_commands.specs.Foreign.{is_foreign}
 use Rattle.flagops_commands.specs.Unrecorded.{is_unrecorded}
 use Rattle.flagops_files.specs.Loading.{max_text}
 use Rattle.flagops_files.specs.Question.{Question}
@@ -25,12 +26,16 @@ has_unread (Err e) = false
 abbrev pub is_unread : List ℕ → Bool
 is_unread bytes = has_unread (tree_of bytes max_text)
 
-abbrev pub first_doubt : Bool → Bool → Option Doubt
-first_doubt unread unrecorded = if unread then Some doubt.Unread else (if unrecorded then Some doubt.Unrecorded else None)
+-- what is doubted of what was recorded: there is no input, or one is none of the flag
+abbrev pub recorded_doubt : Bool → Bool → Option Doubt
+recorded_doubt unrecorded foreign = if unrecorded then Some doubt.Unrecorded else (if foreign then Some doubt.Foreign else None)
 
--- the first that is doubted of a question: a member of its request is not read, or no recorded input counts
+abbrev pub first_doubt : Bool → Option Doubt → Option Doubt
+first_doubt unread recorded = if unread then Some doubt.Unread else recorded
+
+-- the first that is doubted of a question: a member of its request is not read, no recorded input counts, or one that does is none of the flag
 abbrev pub doubt_of : Question → Option Doubt
-doubt_of q = first_doubt (is_unread q.request) (is_unrecorded q)
+doubt_of q = first_doubt (is_unread q.request) (recorded_doubt (is_unrecorded q) (is_foreign q))
 
 -- whether a person is told of a doubt; with `--strict` the call refuses it
 abbrev pub settle : Call → Bool → Option Doubt → Result Bool Refusal
@@ -42,6 +47,7 @@ settle c true (Some d) = Err (Doubted c d)
 abbrev pub NamesDoubt : List ℕ → List ℕ → Doubt → List ℕ → Type 0
 NamesDoubt request book doubt.Unread lines = Names request lines
 NamesDoubt request book doubt.Unrecorded lines = Names book lines
+NamesDoubt request book doubt.Foreign lines = Names book lines
 
 -- and so does what is said beside an answer, of one of the two
 abbrev pub NamesDoubted : List ℕ → List ℕ → List ℕ → Type 0
@@ -51,10 +57,11 @@ abbrev pub is_of_unread : Refusal → Bool
 is_of_unread (Doubted c doubt.Unread) = true
 is_of_unread e = false
 
-abbrev pub is_of_unrecorded : Refusal → Bool
-is_of_unrecorded (Doubted c doubt.Unrecorded) = true
-is_of_unrecorded e = false
+abbrev pub is_of_recorded : Refusal → Bool
+is_of_recorded (Doubted c doubt.Unrecorded) = true
+is_of_recorded (Doubted c doubt.Foreign) = true
+is_of_recorded e = false
 
--- a request is refused for a member that is not read, and a book for a page that has no input
+-- a request is refused for a member that is not read, and a book for a page that has no input, or one that is none of its flag
 abbrev pub doubt_subjects : List ℕ → List ℕ → Subjects
-doubt_subjects request book = (file request, is_of_unread) ∷ (file book, is_of_unrecorded) ∷ []
+doubt_subjects request book = (file request, is_of_unread) ∷ (file book, is_of_recorded) ∷ []

@@ -6,6 +6,7 @@ pub mod Completions
 pub mod Doubts
 pub mod Drive
 pub mod Ended
+pub mod Foreign
 pub mod Keep
 pub mod Passed
 pub mod Plan

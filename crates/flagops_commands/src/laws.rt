@@ -1,6 +1,6 @@
 //! What the definitions of the commands amount to.
 ghost use Rattle.flagops_commands.specs.Passed.{UnreadIsPassedOver};
-ghost use Rattle.flagops_commands.specs.Tallies.{TalliesPlanAsBooks, TalliesTellAsBooks};
+ghost use Rattle.flagops_commands.specs.Tallies.{TalliesPlanAsAnyBooks, TalliesPlanAsBooks, TalliesTellAsAnyBooks, TalliesTellAsBooks};
 ghost use Rattle.flagops_commands.specs.Valid.{PlansAreValid};
 
 use rollout::tallies_plan_as_books;
@@ -17,10 +17,14 @@ pub fn unread_members_are_passed_over()
 {}
 
 /// On a book and on the tally of a page of it `plan` may report the same, and what `verify` tells on the tally it may tell on
-/// the book, unless the tally is refused as that of another page or total than the request's. A law: it computes nothing.
+/// the book, unless the tally is refused as that of another page or total than the request's, or the page has an input that is
+/// none of its flag. Where it has, they differ only in that a person is told, or that `--strict` refuses. A law: it computes
+/// nothing.
 pub fn tallies_answer_as_books()
     ensures plans { TalliesPlanAsBooks }
     ensures verdicts { TalliesTellAsBooks }
+    ensures any_plans { TalliesPlanAsAnyBooks }
+    ensures any_verdicts { TalliesTellAsAnyBooks }
 {
     tallies_plan_as_books();
 }

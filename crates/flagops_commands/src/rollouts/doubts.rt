@@ -6,7 +6,7 @@ ghost use Rattle.flagops_files.specs.Refusal.{GivesUnlessWant, call_of, is_file_
 ghost use Rattle.flagops_files.specs.Told.{Says, TellsOfOne};
 ghost use Rattle.flagops_remarks.specs.Named.{Names};
 
-use crate::rollouts::unrecorded::unrecorded;
+use crate::rollouts::recorded::doubt_of_recorded;
 use flag_text::{TextFault, read_tree};
 use flagops_files::{Call, Doubt, Question, Refusal, Refused, Remark, TEXT_LIMIT};
 use flagops_remarks::of_unread;
@@ -88,8 +88,8 @@ fn doubted<R: Threads>(
     ensures notes { IfOk result (λ o. IfSome o (λ d. Says (NamesDoubt request.now book.now d.doubt) d.remark)) }
 {
     let unread = unread(alloc, request, question.request.as_slice())?;
-    let unrecorded = unrecorded(rt, alloc, book, question)?;
-    Ok(first_of(request, book, unread, unrecorded))
+    let recorded = doubt_of_recorded(rt, alloc, book, question)?;
+    Ok(first_of(request, book, unread, recorded))
 }
 
 /// The first of two doubts, with what is told of both.
@@ -97,23 +97,26 @@ fn first_of(
     request: &str,
     book: &str,
     unread: Option<Remark>,
-    unrecorded: Option<Remark>,
+    recorded: Option<NotedDoubt>,
 ) -> Option<NotedDoubt>
     requires unread { IfSome unread (Says (Names request.now)) }
-    requires unrecorded { IfSome unrecorded (Says (Names book.now)) }
-    ensures doubt { option_map (λ d. d.doubt) result ≡ first_doubt (is_some unread) (is_some unrecorded) }
+    requires recorded { IfSome recorded (λ d. Says (NamesDoubt request.now book.now d.doubt) d.remark) }
+    ensures doubt { option_map (λ d. d.doubt) result ≡ first_doubt (is_some unread) (option_map (λ d. d.doubt) recorded) }
     ensures notes { IfSome result (λ d. Says (NamesDoubt request.now book.now d.doubt) d.remark) }
 {
-    match (unread, unrecorded) {
-        (Some(remark), more) => Some(NotedDoubt {
+    match unread {
+        Some(remark) => Some(NotedDoubt {
             doubt: Doubt::Unread,
-            remark: joined(request, remark, more),
+            remark: joined(request, remark, remark_in(recorded)),
         }),
-        (None, Some(remark)) => Some(NotedDoubt {
-            doubt: Doubt::Unrecorded,
-            remark,
-        }),
-        (None, None) => None,
+        None => recorded,
+    }
+}
+
+fn remark_in(noted: Option<NotedDoubt>) -> Option<Remark> {
+    match noted {
+        Some(NotedDoubt { remark, .. }) => Some(remark),
+        None => None,
     }
 }
 

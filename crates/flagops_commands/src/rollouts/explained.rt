@@ -7,7 +7,7 @@ ghost use Rattle.flagops_remarks.specs.Named.{Names};
 
 use crate::rollouts::doubts::joined;
 use crate::rollouts::plan::factor_of;
-use crate::rollouts::unrecorded::page_asked;
+use crate::rollouts::recorded::page_asked;
 use flagops_files::{Evidence, Question, Remark};
 use flagops_remarks::of_planned;
 use flagops_words::Factor;
