@@ -1,9 +1,10 @@
 -- What is told of a doubt, and what becomes of an answer that is doubted.
-use Rattle.std.proofs.Common.{◌≡◌, ◌||◌, ◌++◌, List, [], ◌∷◌, ℕ, Bool, false, Option, inl, inr, refl, ap, subst, sym, ◌∙◌}
+use Rattle.std.proofs.Common.{◌≡◌, ◌||◌, ◌++◌, List, [], ◌∷◌, ℕ, Bool, false, Option, Some, None, IfSome, inl, inr, refl, ap, subst, sym, ◌∙◌}
 use Rattle.std.specs.Prelude.{IfOk, Result, Ok, Err}
 use Rattle.std.proofs.lemmas.List.{append_assoc}
 use Rattle.plan_text.specs.Answer.{Answer, planned_view}
 use Rattle.plan_text.specs.declared.planned.Planned.{Planned}
+use Rattle.flagops_commands.specs.declared.rollouts.doubts.NotedDoubt.{NotedDoubt}
 use Rattle.flagops_commands.specs.Doubts.{NamesDoubt, NamesDoubted, doubt_of, doubt_subjects, settle}
 use Rattle.flagops_commands.specs.Plan.{Holds, IsPlanOf, MayBePlanned, plan_report}
 use Rattle.flagops_commands.specs.Verify.{IsVerdict, MayBeTold, valid_as}
@@ -43,6 +44,11 @@ named request book c doubt.Unrecorded Short told = inr (inl (refl, tt))
 named request book c doubt.Unrecorded (Lines lines) told = inr (inl (refl, told))
 named request book c doubt.Foreign Short told = inr (inl (refl, tt))
 named request book c doubt.Foreign (Lines lines) told = inr (inl (refl, told))
+
+-- what is told of a doubt beside each request is told beside this one
+pub for_request : (request book : List ℕ) (o : Option NotedDoubt) → IfSome o (λ d. (r : List ℕ) → Says (NamesDoubt r book d.doubt) d.remark) → IfSome o (λ d. Says (NamesDoubt request book d.doubt) d.remark)
+for_request request book None told = tt
+for_request request book (Some d) told = told request
 
 -- lines that begin with a name do so with more behind them
 pub named_still : (name lines more whole : List ℕ) → Names name lines → whole ≡ lines ++ more → Names name whole

@@ -1,11 +1,12 @@
 -- What was loaded in turn, driven and then stored, as the report of `drive`.
-use Rattle.std.proofs.Common.{◌≡◌, ℕ, Bool, List, Option, Some, None, true, false, IfSome, is_some, inl, inr, refl, ap, ◌∙◌, subst, sym}
+use Rattle.std.proofs.Common.{◌≡◌, ◌≢◌, ℕ, Bool, List, Option, Some, None, true, false, IfSome, is_some, inl, inr, refl, ap, ◌∙◌, subst, sym}
 use Rattle.std.specs.Prelude.{IsErrOf, IsOk, Result, Ok, Err, option_map}
 use Rattle.book_core.specs.Book.{Contents}
 use Rattle.flag_documents.specs.Document.{Definitions}
 use Rattle.flag_text.specs.Shape.{Shape}
 use Rattle.flagops_drive.specs.Asks.{Ask, asks_of}
 use Rattle.flagops_drive.specs.Driven.{Drove, IsDriveOf, refusal_of, workers_refusal}
+use Rattle.flagops_drive.specs.Fault.{want}
 use Rattle.flagops_drive.specs.declared.fault.DriveRefusal.{DriveRefusal}
 use Rattle.flagops_drive.specs.declared.fault.DriveRefusal.TheVariants as reason
 use Rattle.flagops_files.specs.Documents.{IsDocumentAt}
@@ -101,6 +102,22 @@ undriven_first strict (Some x) t d ok first e is =
     let same : d ≡ x = same_reason d x (first x refl) in
     let refused : Drive x ≡ e = cc in
     ap Drive same ∙ refused
+
+-- what is refused of asks is what comes of them, or the first that is refused before one is answered
+is_so : {d : DriveRefusal} → is_want (Drive d) ≡ false → d ≢ want
+is_so h same = let b : is_want (Drive want) ≡ false = ap (λ (x : DriveRefusal). is_want (Drive x)) (sym same) ∙ h in cc
+
+module _ (strict : Bool) (t : Shape) (flags : Definitions) (workers : ℕ) (before : Option Contents) (json : Bool) (d : DriveRefusal) where
+  settled_so : (s : Result Bool Refusal) → IsOk s → IsDriveOf flags (asks_of t) workers before json (Err d) → IsAnswered s flags t before workers strict json (Err (Drive d))
+  settled_so (Ok noted) ok is = (Err d, is, refl)
+  settled_so (Err e) ok is = not_ok e ok
+
+  pub undriven_so : {X : Type 0} (o : Option DriveRefusal) → IsOk (settle call.Drive strict (doubt_of_asks t)) → ((first : DriveRefusal) → o ≡ Some first → IsErrOf {T = X} (Err d) first)
+      → (d ≢ want → IsDriveOf flags (asks_of t) workers before json (Err d)) → is_want (Drive d) ≡ false → IsAnswered (admitted strict o t) flags t before workers strict json (Err (Drive d))
+  undriven_so None ok first drives wanted = settled_so (settle call.Drive strict (doubt_of_asks t)) ok (drives (is_so wanted))
+  undriven_so (Some x) ok first drives wanted =
+      let same : d ≡ x = same_reason d x (first x refl) in
+      ap (λ (e : DriveRefusal). Err (Drive e)) same
 
 -- asks that are not refused before one is answered
 admits : (strict : Bool) (o : Option DriveRefusal) (t : Shape) (noted : Bool) → admitted strict o t ≡ Ok noted → settle call.Drive strict (doubt_of_asks t) ≡ Ok noted
