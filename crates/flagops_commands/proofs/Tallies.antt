@@ -251,41 +251,53 @@ plans_as_any counts asks explain refine flags request book t r of apart = (to, f
     on_book = doubt_of (over flags request (Book book))
 
     to : IsPlanOf false explain refine (Ok (over flags request (Tally t))) r → (noted : Bool) × IsPlanOf false explain refine (Ok (over flags request (Book book))) (beside noted r)
-    to (it, may, is, back) = (explain || is_some on_book, (
-      it,
-      record { answers = planned_to asks refining flags request book t of apart (tally_problem_of refining flags request t) it refl may.answers; ordered = may.ordered; whole = may.whole },
-      ap (beside (explain || is_some on_book)) is ∙ noted_planned explain on_tally on_book it,
-      reads_beside it (explain || is_some on_book) r back,
-    ))
+    to (it, may, is, back) = (
+      explain || is_some on_book,
+      (
+        it,
+        record { answers = planned_to asks refining flags request book t of apart (tally_problem_of refining flags request t) it refl may.answers; ordered = may.ordered; whole = may.whole },
+        ap (beside (explain || is_some on_book)) is ∙ noted_planned explain on_tally on_book it,
+        reads_beside it (explain || is_some on_book) r back,
+      ),
+    )
 
     from : IsPlanOf false explain refine (Ok (over flags request (Book book))) r → (noted : Bool) × IsPlanOf false explain refine (Ok (over flags request (Tally t))) (beside noted r)
-    from (it, may, is, back) = (explain || is_some on_tally, (
-      it,
-      record { answers = planned_back asks refining flags request book t of apart counts (tally_problem_of refining flags request t) it refl may.answers; ordered = may.ordered; whole = may.whole },
-      ap (beside (explain || is_some on_tally)) is ∙ noted_planned explain on_book on_tally it,
-      reads_beside it (explain || is_some on_tally) r back,
-    ))
+    from (it, may, is, back) = (
+      explain || is_some on_tally,
+      (
+        it,
+        record { answers = planned_back asks refining flags request book t of apart counts (tally_problem_of refining flags request t) it refl may.answers; ordered = may.ordered; whole = may.whole },
+        ap (beside (explain || is_some on_tally)) is ∙ noted_planned explain on_book on_tally it,
+        reads_beside it (explain || is_some on_tally) r back,
+      ),
+    )
 
 pub tells_as_any : TalliesAskAsBooks → TalliesTellAsAnyBooks
 tells_as_any asks json None flags request book t answer r of apart (verdict, may, is) =
     let refining = refining_for answer in
     let on_tally = doubt_of (over flags request (Tally t)) in
-    let on_book = doubt_of (over flags request (Book book)) in (is_some on_book, (
-      verdict,
-      record {
-        told = told_to asks refining flags request book t of apart answer verdict (tally_problem_of refining flags request t) refl may.told;
-        shown = on_ok verdict (shown_to asks refining flags request book t of apart answer verdict (tally_problem_of refining flags request t) refl) may.shown;
-      },
-      ap (beside (is_some on_book)) is ∙ noted_told json on_tally on_book answer verdict,
-    ))
+    let on_book = doubt_of (over flags request (Book book)) in (
+      is_some on_book,
+      (
+        verdict,
+        record {
+          told = told_to asks refining flags request book t of apart answer verdict (tally_problem_of refining flags request t) refl may.told;
+          shown = on_ok verdict (shown_to asks refining flags request book t of apart answer verdict (tally_problem_of refining flags request t) refl) may.shown;
+        },
+        ap (beside (is_some on_book)) is ∙ noted_told json on_tally on_book answer verdict,
+      ),
+    )
 tells_as_any asks json (Some m) flags request book t answer r of apart (verdict, may, is) =
     let refining = Times m in
     let on_tally = doubt_of (over flags request (Tally t)) in
-    let on_book = doubt_of (over flags request (Book book)) in (is_some on_book, (
-      verdict,
-      record {
-        told = told_to asks refining flags request book t of apart answer verdict (tally_problem_of refining flags request t) refl may.told;
-        shown = on_ok verdict (shown_to asks refining flags request book t of apart answer verdict (tally_problem_of refining flags request t) refl) may.shown;
-      },
-      ap (beside (is_some on_book)) is ∙ noted_told json on_tally on_book answer verdict,
-    ))
+    let on_book = doubt_of (over flags request (Book book)) in (
+      is_some on_book,
+      (
+        verdict,
+        record {
+          told = told_to asks refining flags request book t of apart answer verdict (tally_problem_of refining flags request t) refl may.told;
+          shown = on_ok verdict (shown_to asks refining flags request book t of apart answer verdict (tally_problem_of refining flags request t) refl) may.shown;
+        },
+        ap (beside (is_some on_book)) is ∙ noted_told json on_tally on_book answer verdict,
+      ),
+    )
