@@ -108,6 +108,11 @@ class ServiceTest(unittest.TestCase):
         self.assertEqual(text.decode(), compact(told))
         return status, told
 
+    def every(self, body):
+        """The status and the body of a request for every flag that fails."""
+        status, _, told = self.ask("POST", FLAGS, body)
+        return status, json.loads(told)
+
     def notes(self, folder="log"):
         """The lines of all logs, which are whole."""
         lines = []
@@ -156,6 +161,21 @@ class Answers(ServiceTest):
             with self.subTest(body):
                 status, told = self.flag("color", body)
                 self.assertEqual((status, told["errorCode"], told["key"]), (400, code, "color"))
+
+    def test_the_way_to_a_number_that_is_not_whole(self):
+        deep = b'{"context":{"a":' + b"[" * 100 + b"0.5" + b"]" * 100 + b"}}"
+        rows = [
+            (b'{"context":{"a":{"b":[1,1e3]}}}', "context.a.b[1]"),
+            (b'{"x":0.5,"context":{"b":-0,"a":[[],{"c":9007199254740992}]}}', "context.a[1].c"),
+            (b'{"context":{"say \\"hi\\"":0.5}}', 'context.say "hi"'),
+            (b'{"context":{"a":{"' + b"n" * 300 + b'":0.5}}}', "context.a.."),
+            (deep, "context.a" + "[0]" * 34 + ".."),
+        ]
+        for body, way in rows:
+            with self.subTest(body):
+                for status, told in (self.flag("color", body), self.every(body)):
+                    self.assertEqual((status, told["errorCode"]), (400, "INVALID_CONTEXT"))
+                    self.assertEqual(told["errorDetails"], f"`{way}` is a number that is not whole")
 
     def test_every_flag(self):
         status, headers, body = self.ask("POST", FLAGS, context("mallory"))

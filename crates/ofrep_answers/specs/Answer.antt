@@ -21,7 +21,7 @@ use Rattle.ofrep_bodies.specs.Bodies.{failure, flags_shape}
 use Rattle.ofrep_bodies.specs.Evaluation.{body_of, status_of}
 use Rattle.ofrep_bodies.specs.Failure.{code_status}
 use Rattle.ofrep_contexts.specs.Context.{context_of}
-use Rattle.ofrep_contexts.specs.Fault.{details_of}
+use Rattle.ofrep_contexts.specs.Way.{details_in}
 use Rattle.ofrep_contexts.specs.declared.fault.ContextFault.{ContextFault}
 use Rattle.ofrep_contexts.specs.declared.fault.ContextFault.TheVariants.{WantOfMemory, TooLarge, NotJson, BodyNotObject, NotObject, TooDeep, NotWhole}
 use Rattle.ofrep_requests.specs.Request.{key_in, method_at, place_of}
@@ -89,21 +89,21 @@ failed key None details = too_large
 failed key (Some code) details = bare (code_status code) (json (text_of (failure key code details)))
 
 -- a body without a context: 413, or 400 with what is wrong
-abbrev pub without_context : Option (List ℕ) → ContextFault → Answered
-without_context key fault = failed key (fault_code fault) (details_of fault)
+abbrev pub without_context : Option (List ℕ) → List ℕ → ContextFault → Answered
+without_context key body fault = failed key (fault_code fault) (details_in body fault)
 
 -- ---- one flag
 
 abbrev pub one_told : List ℕ → Resolved → Answered
 one_told key r = record { status = status_of r; allow = None; tag = None; body = json (text_of (body_of key r)); reached = reached_at key r.reached }
 
-abbrev pub one_in : Definitions → ℕ → List ℕ → Result Shape ContextFault → Answered
-one_in flags moment key (Ok context) = one_told key (evaluation flags key context moment)
-one_in flags moment key (Err fault) = without_context (Some key) fault
+abbrev pub one_in : Definitions → ℕ → List ℕ → List ℕ → Result Shape ContextFault → Answered
+one_in flags moment key body (Ok context) = one_told key (evaluation flags key context moment)
+one_in flags moment key body (Err fault) = without_context (Some key) body fault
 
 abbrev pub one_flag : Definitions → ℕ → Option (List ℕ) → List ℕ → Answered
 one_flag flags moment None body = nothing_here
-one_flag flags moment (Some key) body = one_in flags moment key (context_of body)
+one_flag flags moment (Some key) body = one_in flags moment key body (context_of body)
 
 -- ---- every flag
 
@@ -121,15 +121,15 @@ tagged fields body reached = record {
   reached = reached;
 }
 
-abbrev pub every_in : Definitions → ℕ → List (List ℕ) → Result Shape ContextFault → Answered
-every_in flags moment fields (Ok context) = tagged fields (text_of (flags_shape (bodies flags context moment flags))) (reached_in flags context moment flags)
-every_in flags moment fields (Err fault) = without_context None fault
+abbrev pub every_in : Definitions → ℕ → List (List ℕ) → List ℕ → Result Shape ContextFault → Answered
+every_in flags moment fields body (Ok context) = tagged fields (text_of (flags_shape (bodies flags context moment flags))) (reached_in flags context moment flags)
+every_in flags moment fields body (Err fault) = without_context None body fault
 
 -- ---- every request
 
 abbrev pub answer_at : Definitions → ℕ → Asked → Place → Answered
 answer_at flags moment r OneFlag = one_flag flags moment (key_in r.path) r.body
-answer_at flags moment r EveryFlag = every_in flags moment r.if_none_match (context_of r.body)
+answer_at flags moment r EveryFlag = every_in flags moment r.if_none_match r.body (context_of r.body)
 answer_at flags moment r Health = healthy
 answer_at flags moment r Metrics = bare 200 counts
 answer_at flags moment r Nowhere = nothing_here

@@ -42,7 +42,7 @@ pub(crate) fn every_flag(
     body: &[u8],
 ) -> Result<Answer, AllocError>
     requires moment { moment < 2 ^ 53 }
-    ensures exact { IfOk result (λ a. answer_view a ≡ spec.every_in (flags_view flags.now) moment (map (λ field. field.now) if_none_match.now) (context_of body.now)) }
+    ensures exact { IfOk result (λ a. answer_view a ≡ spec.every_in (flags_view flags.now) moment (map (λ field. field.now) if_none_match.now) body.now (context_of body.now)) }
     ensures large { max_body < length body.now → IsOk result }
 {
     match read_context(alloc, body) {
@@ -51,7 +51,7 @@ pub(crate) fn every_flag(
             tagged(alloc, if_none_match, told)
         }
         Err(ContextFault::WantOfMemory) => Err(AllocError),
-        Err(fault) => without_context(alloc, None, fault),
+        Err(fault) => without_context(alloc, None, body, fault),
     }
 }
 

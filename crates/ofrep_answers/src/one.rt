@@ -16,7 +16,7 @@ use flag_defs::Flags;
 use flag_resolve::Code;
 use flag_text::{Tree, print_tree};
 use ofrep_bodies::{code_status, evaluation_text, failure_body, status_of};
-use ofrep_contexts::{ContextFault, read_context};
+use ofrep_contexts::{ContextFault, details_in, read_context};
 use ofrep_requests::key_in;
 use std::alloc::{AllocError, Global};
 
@@ -46,12 +46,12 @@ fn one_in(
     body: &[u8],
 ) -> Result<Answer, AllocError>
     requires moment { moment < 2 ^ 53 }
-    ensures { IfOk result (λ a. answer_view a ≡ spec.one_in (flags_view flags.now) moment key.now (context_of body.now)) }
+    ensures { IfOk result (λ a. answer_view a ≡ spec.one_in (flags_view flags.now) moment key.now body.now (context_of body.now)) }
 {
     match read_context(alloc, body) {
         Ok(context) => one_told(alloc, flags, moment, key, &context),
         Err(ContextFault::WantOfMemory) => Err(AllocError),
-        Err(fault) => without_context(alloc, Some(key), fault),
+        Err(fault) => without_context(alloc, Some(key), body, fault),
     }
 }
 
@@ -83,17 +83,18 @@ fn one_told(
     })
 }
 
-/// The answer to a body without a context: that of this fault, for one flag or for every flag.
+/// The answer to this body without a context: that of its fault, for one flag or for every flag.
 pub(crate) fn without_context(
     alloc: Global,
     key: Option<&str>,
+    body: &[u8],
     fault: ContextFault,
 ) -> Result<Answer, AllocError>
-    ensures exact { IfOk result (λ a. answer_view a ≡ spec.without_context (option_copied key.entry) fault) }
+    ensures exact { IfOk result (λ a. answer_view a ≡ spec.without_context (option_copied key.entry) body.now fault) }
     ensures large { fault ≡ ContextFault.TooLarge → IsOk result }
 {
     match fault_code(fault) {
-        Some(code) => failed(alloc, key, code, fault.details()),
+        Some(code) => failed(alloc, key, code, details_in(alloc, body, fault)?.as_str()),
         None => Ok(Answer::too_large(alloc)),
     }
 }

@@ -60,7 +60,7 @@ fn context_in(alloc: Global, context: Option<Tree>) -> Result<Tree, ContextFault
 }
 
 /// The member of this name, taken out of the members.
-fn member_named(mut members: Vec<(String, Tree)>, name: &str) -> Option<Tree>
+pub(crate) fn member_named(mut members: Vec<(String, Tree)>, name: &str) -> Option<Tree>
     requires { members_are_tidy (members_view members.items) ≡ true }
     ensures value { option_map view result ≡ find_member name.now (members_view members.items) }
     ensures tidy { IfSome result (λ t. is_tidy (view t) ≡ true) }

@@ -7,7 +7,10 @@
 #![tactic(auto)]
 
 mod context;
+mod details;
 mod fault;
+mod way;
 
 pub use context::{MAX_BODY, read_context};
+pub use details::details_in;
 pub use fault::ContextFault;

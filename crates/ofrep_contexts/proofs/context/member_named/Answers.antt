@@ -1,4 +1,4 @@
-use Rattle.std.proofs.Common.{◌≡◌, true, Option, Some, IfSome, rules, subst, sym, ap, ◌∙◌}
+use Rattle.std.proofs.Common.{◌≡◌, true, Option, Some, IfSome, rules, subst, ap, ◌∙◌}
 use Rattle.flag_text.specs.Readers.{find_member}
 use Rattle.flag_text.specs.Shape.{Shape, is_tidy, names_rise}
 use Rattle.flag_text.specs.View.{view, members_view}
