@@ -44,7 +44,7 @@ TAKEN = {
     ("crates/flagops_checks/src/command.rt", "Some(Remark::Short)"): (1, "`is_short` is set only where there was no memory for lines"),
     ("crates/flagops_checks/src/gathering.rt", "refusal: Refusal::WantOfMemory(Call::Check),"): (1, "`out_of_memory` tells of an `AllocError`; its calls are looked for"),
     ("crates/flagops_checks/src/gathering.rt", "remark: Remark::Short,"): (1, "the same"),
-    ("crates/flagops_checks/src/judging.rt", "Err(_) => Err(AllocError),"): (1, "the document was read as flags, so it is a tree, and is read again"),
+    ("crates/flagops_checks/src/names.rt", "Err(_) => Err(AllocError),"): (1, "the document was read as flags, so it is a tree, and is read again"),
     ("crates/flagops/src/main.rt", "ExitCode::from(want(&mut out, &mut err, Call::Flagops))"): (1, "there is no memory for the stack that the commands run on"),
     ("crates/flagops_pictures/src/command.rt", "Err(call) => want(out, err, call),"): (1, "`answer` gives a call there only where that call ran out of memory"),
     ("crates/flagops_pictures/src/planning.rt", "Err(call) => want(out, err, call),"): (1, "`answer` gives a call there only where that call ran out of memory"),

@@ -144,6 +144,7 @@ def colored(targeting, more=""):
 # Documents whose flag is good and doubted, with what is told behind its key.
 DOUBTS = [
     ('{"flags":{"color":{},"color":{"state":"ENABLED","variants":{"red":1}}}}', ["stands more than once, and its last definition counts (Doubled)"]),
+    (r'{"flags":{"color":{},"col\u006fr":{"state":"ENABLED","variants":{"red":1}}}}', ["stands more than once, and its last definition counts (Doubled)"]),
     (colored("{}", ',"defaultvarient":"red"'), ['has a member that is not read: "defaultvarient" (perhaps "defaultVariant" is meant) (Unread)']),
     (colored("{}", ',"colour":1,"x":2'), ['has a member that is not read: "colour" "x" (Unread)']),
     (colored('{"fractional":[["red",2147483648],["blue",1]]}'), ["has a bucket whose weight is no whole number from 0 to 2147483647: targeting.fractional[0] (Weight)"]),
@@ -177,6 +178,9 @@ PLAIN = [
     colored('{"var":"name"}'),
     colored('{"fractional":[[{"var":"name"},1]]}'),
     '{"$schema":"s","metadata":{},"$evaluators":{},"flags":{"color":{"state":"ENABLED","variants":{"red":1},"metadata":{}}}}',
+    # The names are those that the escapes stand for, and of members of one name the last counts.
+    r'{"flags":{"color":{"st\u0061te":"ENABLED","variants":{"red":1}}}}',
+    '{"flags":{"color":{"colour":1},"color":{}},"flags":{"color":{"state":"DISABLED","state":"ENABLED","variants":{"red":1}}}}',
 ]
 
 UNREAD = '{"evaluators":{},"flags":{}}'

@@ -2,5 +2,9 @@ pub mod Ending
 mod Flagged
 mod Following
 mod Matched
+mod Null
+mod Once
+mod Plainly
 mod Printed
 mod Spoken
+mod Taken

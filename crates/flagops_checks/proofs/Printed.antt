@@ -4,7 +4,7 @@ use Rattle.flag_text.specs.Shape.{is_whole, items_are_whole, text}
 use Rattle.flag_text.specs.View.{items_of}
 use Rattle.flagops_checks.specs.Judged.{Judged}
 use Rattle.flagops_checks.specs.Printed.{document_shape, keys_in}
-use Rattle.flagops_checks.specs.declared.json.Listed.TheVariants.{Broken, Doubted, Good}
+use Rattle.flagops_checks.specs.declared.objects.Listed.TheVariants.{Broken, Doubted, Good}
 
 whole_texts : (keys : List (List ℕ)) → items_are_whole (items_of (map text keys)) ≡ true
 whole_texts [] = refl

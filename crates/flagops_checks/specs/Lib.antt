@@ -2,6 +2,8 @@ pub mod Calls
 pub mod Documents
 pub mod Ended
 pub mod Judged
+pub mod Names
+pub mod Plain
 pub mod Printed
 pub mod Report
 pub mod Step

@@ -6,8 +6,8 @@ use Rattle.flag_text.specs.Shape.{Shape, text, list, object, no_members, member}
 use Rattle.flag_text.specs.View.{items_of}
 use Rattle.flagops_checks.specs.Judged.{Checked, Judged, is_doubted}
 use Rattle.flagops_checks.specs.declared.form.Form.{Form}
-use Rattle.flagops_checks.specs.declared.json.Listed.{Listed}
-use Rattle.flagops_checks.specs.declared.json.Listed.TheVariants.{Broken, Doubted, Good}
+use Rattle.flagops_checks.specs.declared.objects.Listed.{Listed}
+use Rattle.flagops_checks.specs.declared.objects.Listed.TheVariants.{Broken, Doubted, Good}
 
 -- how documents are printed: as JSON, and whether there is one alone
 abbrev pub form_of : Bool → List (List ℕ) → Form

@@ -11,7 +11,7 @@ use flag_text::Tree;
 pub(crate) struct Checked<'a> {
     pub(crate) path: &'a str,
     pub(crate) bytes: &'a [u8],
-    /// The tree of the bytes.
+    /// A tree with the members that are not read.
     pub(crate) document: &'a Tree,
     pub(crate) flags: Vec<Judged<'a>>,
     /// Whether a member of the document is not read.

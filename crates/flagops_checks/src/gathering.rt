@@ -11,7 +11,8 @@ ghost use Rattle.flagops_files.specs.Told.{TellsOf, TellsOfOne, file};
 
 use crate::checked::Checked;
 use crate::form::Form;
-use crate::judging::{judge, tree_of};
+use crate::judging::judge;
+use crate::names::names_of;
 use crate::printing::push_document;
 use crate::told::Told;
 use flag_defs::Flags;
@@ -84,13 +85,13 @@ fn with_flags(
 ) -> Result<Gathered, AllocError>
     ensures { IfOk result (Adds form (checked path.now bytes.now (flags_view flags.now)) all) }
 {
-    let document = tree_of(alloc, bytes)?;
+    let names = names_of(alloc, bytes)?;
     let checked = Checked {
         path,
         bytes,
-        document: &document,
-        flags: judge(alloc, bytes, &document, flags)?,
-        is_unread: Reader::Document.unread(&document).is_some(),
+        document: &names.document,
+        flags: judge(alloc, &names, flags)?,
+        is_unread: Reader::Document.unread(&names.document).is_some(),
     };
     with_checked(alloc, form, all, &checked)
 }

@@ -12,15 +12,14 @@ ghost use Rattle.flag_doubts.specs.Doubts.{gives_foreign, gives_none, is_weighed
 ghost use Rattle.flag_text.specs.Readers.{find_member};
 ghost use Rattle.flag_text.specs.Shape.{is_tidy, names_rise};
 ghost use Rattle.flag_text.specs.View.{members_view, view};
-ghost use Rattle.flagops_checks.specs.Judged.{definition_of, flag_doubts, has, is_doubted, is_unread, judged, judged_view, tree_in};
+ghost use Rattle.flagops_checks.specs.Judged.{definition_of, flag_doubts, has, is_doubted, is_unread, judged, judged_view};
+ghost use Rattle.flagops_checks.specs.Names.{AreKnown};
 
+use crate::names::Names;
 use flag_defs::{Flag, Flags};
-use flag_doubts::{Doubt, FlagDoubts, doubled_keys, doubts_of};
-use flag_text::{Tree, member_by_halving, read_doc};
+use flag_doubts::{Doubt, FlagDoubts, doubts_of};
+use flag_text::{Tree, member_by_halving};
 use std::alloc::{AllocError, Global};
-
-/// The most bytes of a document.
-const LIMIT: usize = 4_194_304;
 
 /// What is found of a flag.
 #[derive(Clone, Copy)]
@@ -58,30 +57,16 @@ impl Judged<'_> {
     }
 }
 
-/// The tree of the bytes of a document that was read before.
-pub(crate) fn tree_of(alloc: Global, bytes: &[u8]) -> Result<Tree, AllocError>
-    ensures tree { IfOk result (λ t. view t ≡ tree_in bytes.now) }
-    ensures tidy { IfOk result (λ t. is_tidy (view t) ≡ true) }
-{
-    match read_doc(alloc, bytes, LIMIT) {
-        Ok(tree) => Ok(tree),
-        Err(_) => Err(AllocError),
-    }
-}
-
 /// What is found of each of the flags of a document, in the order of their keys.
 pub(crate) fn judge<'a>(
     alloc: Global,
-    bytes: &[u8],
-    document: &'a Tree,
+    names: &'a Names<'_>,
     flags: &'a Flags,
 ) -> Result<Vec<Judged<'a>>, AllocError>
-    requires tidy { is_tidy (view document.now) ≡ true }
-    requires tree { view document.now ≡ tree_in bytes.now }
-    ensures { IfOk result (λ v. map judged_view v.items ≡ map (judged bytes.now) (flags_view flags.now)) }
+    requires { AreKnown names.now }
+    ensures { IfOk result (λ v. map judged_view v.items ≡ map (judged names.now.bytes.now) (flags_view flags.now)) }
 {
-    let doubled = doubled_keys(alloc, bytes)?;
-    let definitions = definitions_in(document);
+    let definitions = definitions_in(&names.document);
     let mut all = Vec::with_capacity(alloc, flags.len())?;
     for i in 0..flags.len() {
         let (key, flag) = flags.at(i);
@@ -92,7 +77,7 @@ pub(crate) fn judge<'a>(
             definition,
             is_broken: flag.is_broken(),
             doubts: doubts_in(definition, flag),
-            is_doubled: is_among(doubled.as_slice(), key),
+            is_doubled: is_among(names.doubled.as_slice(), key),
         })?;
     }
     Ok(all)

@@ -4,8 +4,8 @@ ghost use Rattle.flagops_checks.specs.Judged.{judged_view};
 ghost use Rattle.flagops_checks.specs.Printed.{document_line, document_text, flag_line, flag_lines, good_or_broken};
 
 use crate::form::Form;
-use crate::json::push_object;
 use crate::judging::Judged;
+use crate::objects::push_object;
 use flag_text::push_text;
 use std::alloc::{AllocError, Global};
 

@@ -5,7 +5,6 @@ use Rattle.std.specs.List.{list_any}
 use Rattle.std.specs.List.Sorted.{IsStrictlySortedBy}
 use Rattle.std.specs.Str.{bytes_eq}
 use Rattle.flag_defs.specs.Flags.{flags_view}
-use Rattle.flag_documents.specs.Document.{flags_in, or_no_members}
 use Rattle.flag_documents.specs.Flag.{flag_view}
 use Rattle.flag_text.specs.Readers.{find_member}
 use Rattle.flagops_checks.specs.Judged.{is_unread, judged_view}
@@ -14,16 +13,15 @@ use Rattle.flagops_checks.proofs.judging.judge.Goals as goal
 
 pub loop-i-preserved : goal.loop-i-preserved
 loop-i-preserved c =
-    let bytes = c.args.bytes.now in
+    let bytes = c.args.names.now.bytes.now in
     let fs = flags_view c.args.flags.now in
     let key = c.at.result.0.now in
     let d = flag_view c.at.result.1.now in
-    let definitions = c.definitions_in-definitions.ensures.members ∙ ap (λ t. or_no_members (flags_in t)) c.requires.tree in
-    let unread = c.doubts_in.ensures.unread ∙ ap is_unread (c.member_by_halving-definition.ensures.found ∙ ap (find_member key) definitions) in
-    let doubled = c.is_among.ensures ∙ (ap (λ l. list_any (bytes_eq key) (map string_bytes l)) c.as_slice.ensures.value ∙ c.in_ok-doubled.ensures.doubled key) in
+    let unread = c.doubts_in.ensures.unread ∙ ap is_unread (c.member_by_halving-definition.ensures.found ∙ ap (find_member key) c.definitions_in-definitions.ensures.members) ∙ c.requires.definitions key in
+    let doubled = c.is_among.ensures ∙ (ap (λ l. list_any (bytes_eq key) (map string_bytes l)) c.as_slice.ensures.value ∙ c.requires.doubled key) in
     pushed bytes fs c.loop-i.i key d (map judged_view c.loop-i.all.items) _ _ c.at.ensures c.loop-i.invariant
     (same bytes fs key d c.is_broken.result c.doubts_in.result c.is_among.result c.is_broken.ensures unread c.doubts_in.ensures.weight c.doubts_in.ensures.variant c.doubts_in.ensures.never doubled)
     (ap (map judged_view) c.in_ok-push.ensures.items ∙ map-append judged_view c.loop-i.all.items _)
 
 pub is_among-requires : goal.is_among-requires
-is_among-requires c = subst (λ (l : List (String Global)). IsStrictlySortedBy (slice_cmp nat_cmp) (map string_bytes l)) (sym c.as_slice.ensures.value) c.in_ok-doubled.ensures.rising
+is_among-requires c = subst (λ (l : List (String Global)). IsStrictlySortedBy (slice_cmp nat_cmp) (map string_bytes l)) (sym c.as_slice.ensures.value) c.requires.rising
