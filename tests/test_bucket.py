@@ -134,7 +134,7 @@ LARGE = [
     ("[", "{},", "{}", NOT_JSON),
     ('{"a":[', '{"name":[1,{"b":null}]},', "2]}", BAD),
 ]
-MOST = 500_000_000
+MOST = 1_000_000_000
 
 
 def least_memory():
