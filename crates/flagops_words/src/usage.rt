@@ -65,7 +65,7 @@ const STATUSES: &str =
     "Of documents: 'flagops check' tells which flags are good and which are broken or doubted.\nIn steps: 'flagops ramp' plans a rollout of several steps, 'flagops verify-ramp' checks its plans,\n'flagops apply --step N' gives the document after a step.\nDrawn: 'flagops picture' prints a plan as SVG, with --ramp those of several steps;\n'flagops plan --picture FILE' writes the picture of what it plans.\nOf records: 'flagops book' writes the book of several books and logs, with --torn past lines that are no notes;\n'flagops record' prints the hash inputs that contexts reach, 'flagops tally' counts them by their points,\n'flagops join' makes one tally of several.\nOn the network: 'flagops ofrep' answers OpenFeature's SDKs over HTTP; 'flagops serve' publishes flag documents\nto subscribers, 'flagops follow' prints what comes.\nEach tells its words with --help, as 'flagops ramp --help'.\n\nStatus: 0 done, 1 refused, a broken or doubted flag at check --strict, or the output failed, 2 words that are no command, 3 no rule fits.\nWhat was refused, where, and what to change is told on the error outlet; docs/REFUSALS.md has each line\nthat begins with 'refused', docs/FORMATS.md the files with examples, demo/README.md a first rollout.";
 
 /// The version of the program, and the kit that it is proved with (`rt version`), a line each.
-const VERSION: &str = "0.1.0\nproved with rattle-kit-13b logic dac8208d650f15bf";
+const VERSION: &str = "0.1.0\nproved with rattle-kit-13f logic dac8208d650f15bf";
 
 /// The program without its commands.
 fn program<'a>(alloc: Global) -> Result<Command<'a>, AllocError>
