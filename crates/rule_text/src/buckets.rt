@@ -20,6 +20,10 @@ use std::alloc::{AllocError, Global};
 /// How deep lists and objects of a JSON text nest at most, as `serde_json` reads it.
 pub(crate) const MAX_DEPTH: usize = 127;
 
+/// A text with more lists than this is judged before an entry is kept, which costs a second reading of its tokens: the entries
+/// of fewer take no more than 350 MB beside a text of 64 MiB.
+const MANY_LISTS: usize = 1 << 22;
+
 /// What was found in a text: its literal buckets, where it is a list of them alone, and its extent.
 type Found = (Option<Vec<(String, u64)>>, Extent);
 
@@ -31,13 +35,22 @@ pub(crate) fn read_buckets(alloc: Global, text: &str) -> Result<Vec<(String, u64
     ensures kind { result ≢ Err (Text texts.TooLarge) }
 {
     let mut scratch = Scratch::new(alloc);
-    let count = look(alloc, text, &mut scratch)?;
+    let count = if lists_in(text) > MANY_LISTS {
+        look(alloc, text, &mut scratch)?
+    } else {
+        0
+    };
     let mut reader = Reader::new(text, &mut scratch)?;
     let (found, extent) = read_whole(alloc, &mut reader, count)?;
     if reader.next().is_some() {
         return Err(RuleTextFault::Text(TextFault::NotJson));
     }
     judged(found, extent)
+}
+
+/// How many lists a text has at most: one for each bracket that may begin one.
+fn lists_in(text: &str) -> usize {
+    text.as_bytes().iter().filter(|b| **b == b'[').count()
 }
 
 /// What was found, or what a text with it is refused for.
