@@ -5,6 +5,7 @@ pub mod Deep
 pub mod Expanded
 pub mod Faults
 pub mod Followed
+pub mod Foreseen
 pub mod Heads
 pub mod Inlined
 pub mod Known

@@ -66,8 +66,13 @@ mutual
   items-counted : (ts : Items) → items_are_whole ts ≡ true → items_bytes ts ≡ capped (length (items_text true (items_data ts)) - 1)
   items-counted no_items h = refl
   items-counted (item t ts) h =
-      omega (arith, tree-counted t (left (is_whole t) (items_are_whole ts) h), items-counted ts (right (is_whole t) (items_are_whole ts) h),
-          length-append (compact_text (data_of t)) (items_text true (items_data ts)), closing_items (items_data ts))
+      omega (
+        arith,
+        tree-counted t (left (is_whole t) (items_are_whole ts) h),
+        items-counted ts (right (is_whole t) (items_are_whole ts) h),
+        length-append (compact_text (data_of t)) (items_text true (items_data ts)),
+        closing_items (items_data ts),
+      )
 
   members-counted : (ms : Members) → members_are_whole ms ≡ true → members_bytes ms ≡ capped (length (members_text true (members_data ms)) - 1)
   members-counted no_members h = refl
