@@ -1,3 +1,4 @@
+pub mod Alone
 pub mod Bytes
 pub mod Clear
 pub mod Counted
