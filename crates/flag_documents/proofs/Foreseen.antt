@@ -1,10 +1,10 @@
 -- What is foreseen of definitions, one by one and together.
-use Rattle.std.proofs.Common.{◌≡◌, ◌<◌, ℕ, zero, suc, List, [], ◌∷◌, ◌++◌, length, get_or, codes, Option, Some, None, refl, sym, ap, subst, arith}
+use Rattle.std.proofs.Common.{◌≡◌, ◌<◌, ℕ, zero, suc, List, [], ◌∷◌, ◌++◌, length, get_or, codes, Some, None, refl, sym, ap, subst, arith}
 use Rattle.flag_text.specs.Readers.{as_object}
 use Rattle.flag_text.specs.Shape.{Shape, object, Members}
 use Rattle.flag_text.specs.View.{view, members_view}
 use Rattle.flag_text.proofs.Views.{Named}
-use Rattle.flag_documents.specs.Definition.{broken, Means, or_null}
+use Rattle.flag_documents.specs.Definition.{or_null}
 use Rattle.flag_documents.specs.Foreseen.{forecast_bytes, Decides, Foresees, AllForesee, least_sum}
 use Rattle.flag_documents.specs.Outline.{Outline, outline_of}
 use Rattle.flag_documents.specs.Targeting.{IsForecast, IsGoodTargeting}

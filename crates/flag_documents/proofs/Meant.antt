@@ -1,5 +1,5 @@
 -- What definitions mean, one by one and together.
-use Rattle.std.proofs.Common.{◌≡◌, ◌≤◌, ◌<◌, ℕ, zero, suc, ◌+◌, List, [], ◌∷◌, ◌++◌, length, drop, get_or, string_bytes, codes, Vec, Global, Bool, true, false, ◌&&◌, ◌||◌, cond, nat_lt, Option, Some, None, Result, Err, Ok, Less, Ordering, inl, inr, refl, sym, ap, ◌∙◌, subst, arith}
+use Rattle.std.proofs.Common.{◌≡◌, ◌≤◌, ◌<◌, ℕ, zero, suc, List, [], ◌∷◌, ◌++◌, length, get_or, string_bytes, codes, Vec, Global, Bool, true, false, ◌&&◌, ◌||◌, cond, nat_lt, Option, Some, None, Result, Err, Ok, Less, Ordering, inl, inr, refl, sym, ap, ◌∙◌, subst, arith}
 use Rattle.std.specs.Prelude.{◌≢◌, option_and_then}
 use Rattle.std.specs.Cmp.Lexicographic.{slice_cmp}
 use Rattle.std.specs.List.{AllByRecursion}
@@ -22,7 +22,7 @@ use Rattle.flag_documents.specs.Foreseen.{forecast_bytes}
 use Rattle.flag_documents.specs.Flag.{entries_view, flag_view, is_definition, member_names}
 use Rattle.flag_documents.specs.Least.{least, members_least}
 use Rattle.flag_documents.specs.Outline.{Outline, outline_of, rules_with}
-use Rattle.flag_documents.specs.Targeting.{IsForecast, IsGoodTargeting}
+use Rattle.flag_documents.specs.Targeting.{IsForecast}
 use Rattle.flag_documents.specs.Weighing.{DefinitionTakes, AllTake, AreLight, IsAmong}
 use Rattle.flag_text.specs.Reading.{doc_of}
 use Rattle.flag_text.specs.declared.fault.TextFault.{TextFault}

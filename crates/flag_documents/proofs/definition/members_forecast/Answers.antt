@@ -1,4 +1,4 @@
-use Rattle.std.proofs.Common.{codes, option_map, ap, sym, subst, ◌∙◌}
+use Rattle.std.proofs.Common.{option_map, ap, sym, subst, ◌∙◌}
 use Rattle.flag_text.proofs.Halving.{names_rise-tidy}
 use Rattle.flag_text.specs.Shape.{is_tidy}
 use Rattle.flag_text.specs.View.{members_view}
