@@ -53,9 +53,6 @@ not_object evaluators (object ms) h = cc
 pub not_object-takes : (evaluators : Members) (t : Shape) → as_object t ≡ None → DefinitionTakes evaluators t 0
 not_object-takes evaluators t h = (broken, not_object evaluators t h, refl, omega arith)
 
-pub object-takes : (evaluators : Members) (t : Shape) (ms : Members) (n : ℕ) → as_object t ≡ Some ms → DefinitionTakes evaluators (object ms) n → DefinitionTakes evaluators t n
-object-takes evaluators t ms n is h = subst (λ x. DefinitionTakes evaluators x n) (sym (is_object t ms is)) h
-
 pub object-means : (evaluators : Members) (t : Shape) (ms : Members) (d : Definition) → as_object t ≡ Some ms → Means evaluators (object ms) d → Means evaluators t d
 object-means evaluators t ms d is h = subst (λ x. Means evaluators x d) (sym (is_object t ms is)) h
 
