@@ -15,8 +15,8 @@ use std::alloc::Global;
 
 impl Flags {
     /// Copies of flags that others hold, under their keys. `TooLarge` for more than 10,000 flags, which takes no memory, and
-    /// for flags that are printed in more than 4,194,304 bytes: they are printed one by one as long as they fit, and only
-    /// then copied. The condition is keys that rise strictly as bytes.
+    /// for flags that are printed in more than 4,194,304 bytes: their bytes are counted first, and only
+    /// then are they copied. The condition is keys that rise strictly as bytes.
     pub fn copied(alloc: Global, entries: &[(&str, &Flag)]) -> Result<Flags, DefFault>
         requires { IsStrictlySortedBy (slice_cmp nat_cmp) (keys_of (lent_view entries.now)) }
         ensures exact { GivesUnless DefFault.WantOfMemory flags_view result (limited (lent_view entries.now)) }

@@ -29,7 +29,7 @@ pub(crate) fn limited(alloc: Global, flags: Vec<(String, Flag)>) -> Result<Flags
     Ok(Flags { flags })
 }
 
-/// Whether flags are printed in more bytes than a document may have. They are printed one by one, as long as they fit.
+/// Whether flags are printed in more bytes than a document may have. None is printed for it.
 fn weighs_too_much(alloc: Global, flags: &[(String, Flag)]) -> Result<bool, AllocError>
     requires { IsStrictlySortedBy (slice_cmp nat_cmp) (keys_of (entries_view flags.now)) }
     ensures { IfOk result (λ b. b ≡ nat_lt max_bytes (length (printed (entries_view flags.now)))) }

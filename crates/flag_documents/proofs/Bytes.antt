@@ -15,7 +15,7 @@ use Rattle.serde_json.specs.Data as json
 use Rattle.serde_json.specs.Written.{compact_text, members_text}
 use Rattle.flag_text.proofs.Bools.{left, right}
 use Rattle.flag_text.specs.Printing.{data_of, members_data, text_of}
-use Rattle.flag_text.specs.Shape.{Shape, object, Members, no_members, member, comes_first, is_whole, members_are_whole}
+use Rattle.flag_text.specs.Shape.{Shape, Members, no_members, member, comes_first, is_whole, members_are_whole}
 use Rattle.flag_documents.specs.Definition.{Definition}
 use Rattle.flag_documents.specs.Document.{Definitions, definition_written, definitions_written, max_bytes, printed}
 use Rattle.flag_documents.specs.Flag.{flag_view, is_definition}

@@ -36,7 +36,7 @@ object_same s None a ms h e = ap (option_map object) e
 object_same s (Some name) a ms h e = cc
 
 mutual
-  same : (s : List ℕ → Option Shape) (t : Shape) → has_reference t ≡ false → replaced s t ≡ Some t
+  pub same : (s : List ℕ → Option Shape) (t : Shape) → has_reference t ≡ false → replaced s t ≡ Some t
   same s null h = refl
   same s (boolean b) h = refl
   same s (whole n) h = refl

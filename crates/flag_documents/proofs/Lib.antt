@@ -1,3 +1,4 @@
+pub mod Alone
 pub mod Bytes
 pub mod Clear
 pub mod Counted
@@ -5,6 +6,7 @@ pub mod Deep
 pub mod Expanded
 pub mod Faults
 pub mod Followed
+pub mod Foreseen
 pub mod Heads
 pub mod Inlined
 pub mod Known

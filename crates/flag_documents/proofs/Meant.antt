@@ -1,5 +1,5 @@
 -- What definitions mean, one by one and together.
-use Rattle.std.proofs.Common.{◌≡◌, ◌≤◌, ◌<◌, ℕ, zero, suc, ◌+◌, List, [], ◌∷◌, ◌++◌, length, drop, get_or, string_bytes, codes, Vec, Global, Bool, true, false, ◌&&◌, ◌||◌, cond, nat_lt, Option, Some, None, Result, Err, Ok, Less, Ordering, inl, inr, refl, sym, ap, ◌∙◌, subst, arith}
+use Rattle.std.proofs.Common.{◌≡◌, ◌≤◌, ◌<◌, ℕ, zero, suc, List, [], ◌∷◌, ◌++◌, length, get_or, string_bytes, codes, Vec, Global, Bool, true, false, ◌&&◌, ◌||◌, cond, nat_lt, Option, Some, None, Result, Err, Ok, Less, Ordering, inl, inr, refl, sym, ap, ◌∙◌, subst, arith}
 use Rattle.std.specs.Prelude.{◌≢◌, option_and_then}
 use Rattle.std.specs.Cmp.Lexicographic.{slice_cmp}
 use Rattle.std.specs.List.{AllByRecursion}
@@ -14,16 +14,15 @@ use Rattle.flag_text.specs.View.{view, members_view}
 use Rattle.flag_text.proofs.Bools.{left, right, Holds}
 use Rattle.flag_text.proofs.Halving.{is_tidy-find_member}
 use Rattle.flag_text.proofs.Views.{Named}
-use Rattle.logic_ast.proofs.Readings.{dropped}
 use Rattle.logic_ast.specs.Expression.{Expression}
 use Rattle.logic_ast.specs.Writing.{written}
 use Rattle.flag_documents.specs.Definition.{Definition, broken, good, Means, or_null, member_count}
 use Rattle.flag_documents.specs.Document.{Definitions, AllMean, FlagsMean, definition_written, definitions_written, with_default, with_targeting, state_text, or_no_members, evaluators_in, printed, max_flags, max_bytes, flags_in, TextMeans, DocumentMeans}
+use Rattle.flag_documents.specs.Foreseen.{forecast_bytes}
 use Rattle.flag_documents.specs.Flag.{entries_view, flag_view, is_definition, member_names}
 use Rattle.flag_documents.specs.Least.{least, members_least}
-use Rattle.flag_documents.specs.Measure.{plus}
 use Rattle.flag_documents.specs.Outline.{Outline, outline_of, rules_with}
-use Rattle.flag_documents.specs.Targeting.{IsForecast, IsGoodTargeting}
+use Rattle.flag_documents.specs.Targeting.{IsForecast}
 use Rattle.flag_documents.specs.Weighing.{DefinitionTakes, AllTake, AreLight, IsAmong}
 use Rattle.flag_text.specs.Reading.{doc_of}
 use Rattle.flag_text.specs.declared.fault.TextFault.{TextFault}
@@ -53,9 +52,6 @@ not_object evaluators (object ms) h = cc
 
 pub not_object-takes : (evaluators : Members) (t : Shape) → as_object t ≡ None → DefinitionTakes evaluators t 0
 not_object-takes evaluators t h = (broken, not_object evaluators t h, refl, omega arith)
-
-pub object-takes : (evaluators : Members) (t : Shape) (ms : Members) (n : ℕ) → as_object t ≡ Some ms → DefinitionTakes evaluators (object ms) n → DefinitionTakes evaluators t n
-object-takes evaluators t ms n is h = subst (λ x. DefinitionTakes evaluators x n) (sym (is_object t ms is)) h
 
 pub object-means : (evaluators : Members) (t : Shape) (ms : Members) (d : Definition) → as_object t ≡ Some ms → Means evaluators (object ms) d → Means evaluators t d
 object-means evaluators t ms d is h = subst (λ x. Means evaluators x d) (sym (is_object t ms is)) h
@@ -115,20 +111,10 @@ targeting_longer o e =
 pub none-takes : (evaluators ms : Members) → outline_of ms ≡ None → DefinitionTakes evaluators (object ms) 0
 none-takes evaluators ms h = (broken, broken_outline evaluators ms h, refl, omega arith)
 
-abbrev pub forecast_bytes : Forecast → ℕ
-forecast_bytes forecast.Broken = 0
-forecast_bytes forecast.Without = 0
-forecast_bytes (forecast.With n) = n
-
 pub forecast-takes : (evaluators ms : Members) (o : Outline) (w : Forecast) → outline_of ms ≡ Some o → IsForecast evaluators (or_null (found (codes "targeting") ms)) w → DefinitionTakes evaluators (object ms) (forecast_bytes w)
 forecast-takes evaluators ms o forecast.Broken h w = (broken, broken_targeting evaluators ms w, refl, omega arith)
 forecast-takes evaluators ms o forecast.Without h w = (good (rules_with o None), good_with evaluators ms o None h w, refl, omega arith)
 forecast-takes evaluators ms o (forecast.With n) h w = (good (rules_with o (Some w.0)), good_with evaluators ms o (Some w.0) h w.1, w.3, omega (arith, w.2, targeting_longer o w.0))
-
-pub good_forecast : (evaluators : Members) (t : Shape) (w : Forecast) → (w ≡ forecast.Broken → ⊥) → IsForecast evaluators t w → IsGoodTargeting evaluators t
-good_forecast evaluators t forecast.Broken n h = absurd (n refl)
-good_forecast evaluators t forecast.Without n h = (None, h)
-good_forecast evaluators t (forecast.With k) n h = (Some h.0, h.1)
 
 -- ---- all definitions
 
@@ -138,10 +124,6 @@ all_mean_push evaluators [] m [] e a k h = (k, h, tt)
 all_mean_push evaluators [] m (f ∷ es) e a k h = absurd a
 all_mean_push evaluators (n ∷ ms) m [] e a k h = absurd a
 all_mean_push evaluators (n ∷ ms) m (f ∷ es) e a k h = (a.0, a.1, all_mean_push evaluators ms m es e a.2 k h)
-
-pub one_more-takes : (evaluators : Members) (ms : List Named) (i : ℕ) (x : Named) (bytes total new : ℕ) → i < length ms → x ≡ get_or ms i x → DefinitionTakes evaluators (view x.1) bytes
-    → AllTake evaluators (members_view (drop (i + 1) ms)) total → new ≡ plus bytes total → AllTake evaluators (members_view (drop i ms)) new
-one_more-takes evaluators ms i x bytes total new low is one all sum = subst (λ xs. AllTake evaluators (members_view xs) new) (sym (dropped ms i x low is)) (bytes, total, one, all, sum)
 
 -- they mean these, which are printed in so many bytes at least
 abbrev pub AllHaveLeast : Members → Members → ℕ → Type 0

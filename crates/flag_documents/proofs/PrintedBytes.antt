@@ -1,12 +1,12 @@
 -- What is counted of a tree are the bytes of its text, up to the most that is counted.
-use Rattle.std.proofs.Common.{◌≡◌, ◌≤◌, ◌<◌, ℕ, ◌+◌, ◌-◌, pos, negsuc, List, [], ◌∷◌, ◌++◌, length, Bool, true, false, cond, nat_lt, refl, sym, ap, ◌∙◌, arith}
+use Rattle.std.proofs.Common.{◌≡◌, ◌≤◌, ℕ, ◌+◌, ◌-◌, pos, negsuc, List, [], ◌∷◌, length, Bool, true, false, cond, nat_lt, refl, ap, ◌∙◌, arith}
 use Rattle.std.proofs.Math.ListN.{length-append}
 use Rattle.std.proofs.lemmas.List.Concat.{flat_map-cons}
 use Rattle.json.specs.Print.{escape_byte, escape_letter, escape, quoted}
 use Rattle.serde_json.specs.Data as json
 use Rattle.serde_json.specs.Written.{compact_text, items_text, members_text}
 use Rattle.flag_text.proofs.Bools.{left, right}
-use Rattle.flag_text.specs.Printing.{data_of, items_data, members_data, text_of}
+use Rattle.flag_text.specs.Printing.{data_of, items_data, members_data}
 use Rattle.flag_text.specs.Shape.{Shape, null, boolean, whole, other, text, list, object, Items, no_items, item, Members, no_members, member, comes_first, is_whole, items_are_whole, members_are_whole}
 use Rattle.flag_documents.specs.Definition.{Definition}
 use Rattle.flag_documents.specs.Document.{definition_written}
@@ -14,7 +14,7 @@ use Rattle.flag_documents.specs.Flag.{is_definition}
 use Rattle.flag_documents.specs.Lent.{entry_bytes}
 use Rattle.flag_documents.specs.Measure.{capped}
 use Rattle.flag_documents.specs.PrintedBytes.{escaped_bytes, text_bytes, with_member, tree_bytes, items_bytes, members_bytes}
-use Rattle.flag_documents.proofs.Bytes.{in_front, member_bytes, member_text-bytes, alone-bytes}
+use Rattle.flag_documents.proofs.Bytes.{in_front, member_text-bytes, alone-bytes}
 use Rattle.flag_documents.proofs.Printed.{whole_definition}
 
 -- ---- texts

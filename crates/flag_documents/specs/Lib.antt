@@ -5,6 +5,7 @@ pub mod Document
 pub mod Entries
 pub mod Fault
 pub mod Flag
+pub mod Foreseen
 pub mod Inlining
 pub mod Law
 pub mod Least

@@ -5,9 +5,10 @@ ghost use Rattle.flag_text.specs.View.{view as tree_view, members_view};
 ghost use Rattle.logic_ast.specs.Expr.{view};
 ghost use Rattle.flag_documents.specs.Definition.{Means, good};
 ghost use Rattle.flag_documents.specs.Flag.{flag_view};
+ghost use Rattle.flag_documents.specs.Foreseen.{Foresees};
 ghost use Rattle.flag_documents.specs.Outline.{outline_view, rules_with};
 ghost use Rattle.flag_documents.specs.Rules.{are_rules};
-ghost use Rattle.flag_documents.specs.Weighing.{DefinitionTakes, IsWeighed};
+ghost use Rattle.flag_documents.specs.Weighing.{IsWeighed};
 
 use crate::flag::Flag;
 use crate::forecast::{Forecast, targeting_forecast};
@@ -20,43 +21,42 @@ use flag_text::{Tree, member_by_halving};
 use logic_ast::Expr;
 use std::alloc::{AllocError, Global};
 
-/// In how many bytes the inlined form of a definition's targeting is printed at least. Nothing is expanded.
-pub(crate) fn least_bytes(definition: &Tree, evaluators: &Evaluators<'_>) -> u32
+/// What is known of a definition before the references of its targeting are replaced: `Broken` where it breaks any rule.
+/// Nothing is expanded.
+pub(crate) fn definition_forecast(definition: &Tree, evaluators: &Evaluators<'_>) -> Forecast
     requires { is_tidy (tree_view definition.now) ≡ true }
-    ensures { DefinitionTakes (members_view evaluators.now) (tree_view definition.now) result }
+    ensures { Foresees (members_view evaluators.now) (tree_view definition.now) result }
 {
     match definition.as_object() {
-        Some(members) => least_of_members(members, evaluators),
-        None => 0,
+        Some(members) => members_forecast(members, evaluators),
+        None => Forecast::Broken,
     }
 }
 
-fn least_of_members(members: &[(String, Tree)], evaluators: &Evaluators<'_>) -> u32
+fn members_forecast(members: &[(String, Tree)], evaluators: &Evaluators<'_>) -> Forecast
     requires { members_are_tidy (members_view members.now) ≡ true }
-    ensures { DefinitionTakes (members_view evaluators.now) (object (members_view members.now)) result }
+    ensures { Foresees (members_view evaluators.now) (object (members_view members.now)) result }
 {
     let Some(_outline) = outline_of(members) else {
-        return 0;
+        return Forecast::Broken;
     };
-    match targeting_forecast(member_by_halving(members, "targeting"), evaluators) {
-        Forecast::With(bytes) => bytes,
-        Forecast::Broken => 0,
-        Forecast::Without => 0,
-    }
+    targeting_forecast(member_by_halving(members, "targeting"), evaluators)
 }
 
-/// The flag of a definition. The condition is that it was weighed with all others of its document.
+/// The flag of a definition of which this is foreseen. The condition is that it was weighed with all others of its document.
 pub(crate) fn read_flag(
     alloc: Global,
     definition: &Tree,
+    forecast: Forecast,
     evaluators: &Evaluators<'_>,
 ) -> Result<Flag, AllocError>
     requires tidy { is_tidy (tree_view definition.now) ≡ true }
+    requires foreseen { Foresees (members_view evaluators.now) (tree_view definition.now) forecast }
     requires weighed { IsWeighed (members_view evaluators.now) (tree_view definition.now) }
     ensures { IfOk result (λ f. Means (members_view evaluators.now) (tree_view definition.now) (flag_view f)) }
 {
     match definition.as_object() {
-        Some(members) => read_members(alloc, members, evaluators),
+        Some(members) => read_members(alloc, members, forecast, evaluators),
         None => Ok(Flag { rules: None }),
     }
 }
@@ -64,19 +64,21 @@ pub(crate) fn read_flag(
 fn read_members(
     alloc: Global,
     members: &[(String, Tree)],
+    forecast: Forecast,
     evaluators: &Evaluators<'_>,
 ) -> Result<Flag, AllocError>
     requires tidy { members_are_tidy (members_view members.now) ≡ true }
+    requires foreseen { Foresees (members_view evaluators.now) (object (members_view members.now)) forecast }
     requires weighed { IsWeighed (members_view evaluators.now) (object (members_view members.now)) }
     ensures { IfOk result (λ f. Means (members_view evaluators.now) (object (members_view members.now)) (flag_view f)) }
 {
     let Some(outline) = outline_of(members) else {
         return Ok(Flag { rules: None });
     };
-    let targeting = member_by_halving(members, "targeting");
-    if let Forecast::Broken = targeting_forecast(targeting, evaluators) {
+    if let Forecast::Broken = forecast {
         return Ok(Flag { rules: None });
     }
+    let targeting = member_by_halving(members, "targeting");
     let targeting = read_targeting(alloc, targeting, evaluators)?;
     good_flag(alloc, outline, targeting)
 }

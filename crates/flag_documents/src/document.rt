@@ -12,11 +12,13 @@ ghost use Rattle.flag_documents.specs.Document.{AllMean, DocumentMeans, FlagsMea
 ghost use Rattle.flag_documents.specs.Entries.{HoldsLimited};
 ghost use Rattle.flag_documents.specs.Fault.{of_text};
 ghost use Rattle.flag_documents.specs.Flag.{entries_view};
-ghost use Rattle.flag_documents.specs.Weighing.{AllTake, AreLight};
+ghost use Rattle.flag_documents.specs.Foreseen.{AllForesee, least_sum};
+ghost use Rattle.flag_documents.specs.Weighing.{AreLight};
 
-use crate::definition::{least_bytes, read_flag};
+use crate::definition::{definition_forecast, read_flag};
 use crate::fault::DefFault;
 use crate::flag::Flag;
+use crate::forecast::Forecast;
 use crate::limits::{MAX_BYTES, MAX_FLAGS};
 use crate::measure::plus;
 use crate::table::Evaluators;
@@ -96,46 +98,63 @@ fn read_definitions(
     ensures means { HoldsLimited (FlagsMean (members_view evaluators.now) (Some (members_view definitions.now))) result }
     ensures rising { IfOk result (λ v. IsStrictlySortedBy (slice_cmp nat_cmp) (keys_of (entries_view v.items))) }
 {
-    let least = least_of_all(definitions, evaluators);
+    let forecasts = forecasts_of(alloc, definitions, evaluators)?;
+    let least = least_of_all(forecasts.as_slice());
     if definitions.len() > MAX_FLAGS {
         return Err(DefFault::TooLarge);
     }
     if least as usize > MAX_BYTES {
         return Err(DefFault::TooLarge);
     }
-    let flags = read_all(alloc, definitions, evaluators)?;
+    let flags = read_all(alloc, definitions, forecasts.as_slice(), evaluators)?;
     Ok(flags)
 }
 
-/// In how many bytes the inlined forms of all targetings together are printed at least, up to the most that is counted.
-fn least_of_all(definitions: &[(String, Tree)], evaluators: &Evaluators<'_>) -> u32
+/// What is known of each definition before a reference is replaced.
+fn forecasts_of(
+    alloc: Global,
+    definitions: &[(String, Tree)],
+    evaluators: &Evaluators<'_>,
+) -> Result<Vec<Forecast>, AllocError>
     requires { members_are_tidy (members_view definitions.now) ≡ true }
-    ensures { AllTake (members_view evaluators.now) (members_view definitions.now) result }
+    ensures { IfOk result (λ v. AllForesee (members_view evaluators.now) (members_view definitions.now) v.items) }
+{
+    let mut forecasts = Vec::with_capacity(alloc, definitions.len())?;
+    for (_, definition) in definitions {
+        forecasts.push(definition_forecast(definition, evaluators))?;
+    }
+    Ok(forecasts)
+}
+
+/// In how many bytes the inlined forms of all targetings together are printed at least, up to the most that is counted.
+fn least_of_all(forecasts: &[Forecast]) -> u32
+    ensures { result ≡ least_sum forecasts.now }
 {
     let mut least = 0;
-    let mut left = definitions.len();
-    while left > 0 {
-        left -= 1;
-        let bytes = least_bytes(&definitions[left].1, evaluators);
-        least = plus(bytes, least);
+    // From the back, as the definition adds them up: it folds from the right.
+    for i in (0..forecasts.len()).rev() {
+        least = plus(forecasts[i].bytes(), least);
     }
     least
 }
 
-/// The flags of all definitions, under their keys. The condition is that they are few, and that what their targetings take
-/// when they are expanded was added up and found small.
+/// The flags of all definitions, under their keys, of which this is foreseen. The condition is that they are few, and that
+/// what their targetings take when they are expanded was added up and found small.
 fn read_all(
     alloc: Global,
     definitions: &[(String, Tree)],
+    forecasts: &[Forecast],
     evaluators: &Evaluators<'_>,
 ) -> Result<Vec<(String, Flag)>, AllocError>
     requires tidy { members_are_tidy (members_view definitions.now) ≡ true }
+    requires foreseen { AllForesee (members_view evaluators.now) (members_view definitions.now) forecasts.now }
     requires light { AreLight (members_view evaluators.now) (members_view definitions.now) }
     ensures { IfOk result (λ v. AllMean (members_view evaluators.now) (members_view definitions.now) (entries_view v.items)) }
 {
     let mut flags = Vec::with_capacity(alloc, definitions.len())?;
-    for (key, definition) in definitions {
-        let flag = read_flag(alloc, definition, evaluators)?;
+    for i in 0..definitions.len() {
+        let (key, definition) = &definitions[i];
+        let flag = read_flag(alloc, definition, forecasts[i], evaluators)?;
         flags.push((key.clone()?, flag))?;
     }
     Ok(flags)

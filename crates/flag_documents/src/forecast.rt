@@ -3,6 +3,7 @@ ghost use Rattle.std.specs.Prelude.{◌≡◌, true, option_map};
 ghost use Rattle.flag_text.specs.Shape.{is_tidy};
 ghost use Rattle.flag_text.specs.View.{view, members_view};
 ghost use Rattle.flag_documents.specs.Definition.{or_null};
+ghost use Rattle.flag_documents.specs.Foreseen.{forecast_bytes};
 ghost use Rattle.flag_documents.specs.Targeting.{IsForecast, end_forecast, is_nothing};
 
 use crate::measure::Measure;
@@ -18,6 +19,19 @@ pub(crate) enum Forecast {
     Without,
     /// It is an expression that is printed in so many bytes at least.
     With(u32),
+}
+
+impl Forecast {
+    /// In how many bytes the targeting is printed at least.
+    pub(crate) fn bytes(self) -> u32
+        ensures { result ≡ forecast_bytes self }
+    {
+        match self {
+            Forecast::With(bytes) => bytes,
+            Forecast::Broken => 0,
+            Forecast::Without => 0,
+        }
+    }
 }
 
 /// What is known of the targeting that a flag's definition has, where it has one. Nothing is expanded, and it takes time

@@ -9,6 +9,7 @@ ghost use Rattle.flag_documents.specs.Weighing.{HasWeighed};
 
 use crate::expand::expanded;
 use crate::forecast::is_nothing;
+use crate::references::has_reference;
 use crate::table::Evaluators;
 use flag_text::Tree;
 use logic_ast::{Expr, LogicFault, read_expr};
@@ -31,12 +32,26 @@ pub(crate) fn read_targeting(
     ensures { IfOk result (λ e. HasTargeting (members_view evaluators.now) (or_null (option_map (λ t. tree_view t.now) targeting.entry)) (option_map view e)) }
 {
     match targeting {
-        Some(tree) => {
-            let form = expanded(alloc, tree, evaluators, MAX_LEVELS)?;
-            read_form(alloc, &form)
-        }
+        Some(tree) => read_tree(alloc, tree, evaluators),
         None => Ok(None),
     }
+}
+
+/// The same of a tree. One without references is read as it stands.
+fn read_tree(
+    alloc: Global,
+    tree: &Tree,
+    evaluators: &Evaluators<'_>,
+) -> Result<Option<Expr>, AllocError>
+    requires weighed { HasWeighed (members_view evaluators.now) (tree_view tree.now) }
+    requires good { IsGoodTargeting (members_view evaluators.now) (tree_view tree.now) }
+    ensures { IfOk result (λ e. HasTargeting (members_view evaluators.now) (tree_view tree.now) (option_map view e)) }
+{
+    if !has_reference(tree) {
+        return read_form(alloc, tree);
+    }
+    let form = expanded(alloc, tree, evaluators, MAX_LEVELS)?;
+    read_form(alloc, &form)
 }
 
 /// The expression of a targeting without references, where it has one.

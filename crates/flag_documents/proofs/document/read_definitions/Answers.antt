@@ -1,22 +1,32 @@
+use Rattle.std.proofs.Common.{ap, ◌∙◌}
 use Rattle.flag_text.proofs.Halving.{names_rise-tidy}
 use Rattle.flag_text.specs.View.{members_view}
 use Rattle.flag_documents.specs.Flag.{entries_view}
+use Rattle.flag_documents.specs.Foreseen.{least_sum}
+use Rattle.flag_documents.proofs.Foreseen.{summed-take}
 use Rattle.flag_documents.proofs.Meant.{light, many_meant, heavy_meant, rise_meant}
 use Rattle.flag_documents.proofs.document.read_definitions.Goals as goal
 
 pub returns-then-definitions-gt-MAX_FLAGS-clause-means : goal.returns-then-definitions-gt-MAX_FLAGS-clause-means
 returns-then-definitions-gt-MAX_FLAGS-clause-means c = λ _.
-    many_meant (members_view c.args.evaluators.now) c.args.definitions.now c.least_of_all-least.result c.least_of_all-least.ensures c.if-definitions-gt-MAX_FLAGS.true
+    let evaluators = members_view c.args.evaluators.now in
+    let ds = c.args.definitions.now in
+    let take = summed-take evaluators ds c.in_ok-forecasts.forecasts.items c.least_of_all-least.result (c.least_of_all-least.ensures ∙ ap least_sum c.as_slice.ensures.value) c.in_ok-forecasts.ensures in
+    many_meant evaluators ds c.least_of_all-least.result take c.if-definitions-gt-MAX_FLAGS.true
 
 pub returns-then-least-gt-MAX_BYTES-clause-means : goal.returns-then-least-gt-MAX_BYTES-clause-means
 returns-then-least-gt-MAX_BYTES-clause-means c = λ _.
-    heavy_meant (members_view c.args.evaluators.now) c.args.definitions.now c.least_of_all-least.result (names_rise-tidy (members_view c.args.definitions.now) c.requires)
-    c.least_of_all-least.ensures
-    c.if-least-gt-MAX_BYTES.true
+    let evaluators = members_view c.args.evaluators.now in
+    let ds = c.args.definitions.now in
+    let take = summed-take evaluators ds c.in_ok-forecasts.forecasts.items c.least_of_all-least.result (c.least_of_all-least.ensures ∙ ap least_sum c.as_slice.ensures.value) c.in_ok-forecasts.ensures in
+    heavy_meant evaluators ds c.least_of_all-least.result (names_rise-tidy (members_view ds) c.requires) take c.if-least-gt-MAX_BYTES.true
 
 pub read_all-requires-clause-light : goal.read_all-requires-clause-light
 read_all-requires-clause-light c =
-    light (members_view c.args.evaluators.now) c.args.definitions.now c.least_of_all-least.result c.least_of_all-least.ensures c.if-least-gt-MAX_BYTES.false c.if-definitions-gt-MAX_FLAGS.false
+    let evaluators = members_view c.args.evaluators.now in
+    let ds = c.args.definitions.now in
+    let take = summed-take evaluators ds c.in_ok-forecasts.forecasts.items c.least_of_all-least.result (c.least_of_all-least.ensures ∙ ap least_sum c.as_slice.ensures.value) c.in_ok-forecasts.ensures in
+    light evaluators ds c.least_of_all-least.result take c.if-least-gt-MAX_BYTES.false c.if-definitions-gt-MAX_FLAGS.false
 
 pub returns-clause-rising : goal.returns-clause-rising
 returns-clause-rising c =
