@@ -1,5 +1,6 @@
 """The command `drive`: its lines, the book that it writes, and its refusals."""
 import json
+import resource
 import time
 import unittest
 
@@ -102,6 +103,17 @@ class Drive(ProgramTest):
         for workers in ["1", "2", "8"]:
             with self.subTest(workers=workers):
                 self.assert_driven(workers, ASKS, report, BOOK)
+
+    def test_workers_have_a_stack_of_their_own(self):
+        """The deepest targeting is evaluated by eight workers where the system would give a thread 128 KB."""
+        targeting = True
+        for _ in range(49):
+            targeting = {"!": [targeting]}
+        files = driven({"if": [targeting, "a", "a"]}, {}, 40)
+        small = {"preexec_fn": lambda: resource.setrlimit(resource.RLIMIT_STACK, (131_072, 131_072))}
+        told = [run(["drive", "d", "a", workers, "b"], files, **how) for workers, how in (("1", {}), ("8", small))]
+        self.assertEqual([ran.status for ran in told], [0, 0])
+        self.assertEqual(told[0], told[1])
 
     def test_a_refusal_leaves_no_book(self):
         for workers, asks, refusal in REFUSALS:

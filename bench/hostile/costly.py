@@ -202,6 +202,9 @@ def limits_of_rules():
         yield Row(f"a rule of the weight {weight + 1:,}", ["bucket", "rule", "k"], {"rule": f'[["a",{weight}],["b",1]]'}, begins)
     for name, text in (("lists", "[" + "[]," * 1_000_000 + "1]"), ("numbers", "[" + "1," * 1_000_000 + "1]"), ("brackets", "[" * 3_000_000)):
         yield Row(f"a rule of {name} by the million", ["bucket", "rule", "k"], {"rule": text}, "refused read_")
+    for bucket in ('["a"],', '["abcdefg",10],'):
+        text = "[" + bucket * (60_000_000 // len(bucket)) + "1]"
+        yield Row(f"60 MB of buckets {bucket} and a last item that is none", ["bucket", "rule", "k"], {"rule": text}, "refused read_rule 3 BadRule")
     priced = {"old": '[["a",1]]', "new": '[["b",1]]', "request": '{"plan":1,"flag":"a","totals":{},"price":1}'}
     for name, keys, begins in (
         ("a key of 1,024 bytes", ["k" * 1024], "total"),

@@ -14,10 +14,10 @@ use crate::reach::Refusal;
 use crate::worker::{Job, Part, Round, work};
 use book_lock::{BookName, Seat};
 use flag_resolve::Resolution;
+use sized_threads::map_vec;
 use std::alloc::{AllocError, Global};
 use std::collections::VecDeque;
 use std::sync::Wait;
-use std::thread;
 use std::thread::Threads;
 
 /// What all workers made: their seats, the answers of each, and what full pages refused.
@@ -50,8 +50,8 @@ fn jobs_of<L: BookName>(
     Ok(jobs)
 }
 
-/// What each worker makes of its asks. All run at once: each in a thread of its own, or the last of those for which none
-/// can be made in the caller's.
+/// What each worker makes of its asks. All run at once: each in a thread of its own, whose stack has a fixed size, or the last of
+/// those for which none can be made in the caller's.
 pub(crate) fn parts_of<L: BookName + Send + Sync, G: Gate, R: Threads + Wait + Sync>(
     rt: &R,
     alloc: Global,
@@ -66,7 +66,7 @@ pub(crate) fn parts_of<L: BookName + Send + Sync, G: Gate, R: Threads + Wait + S
     ensures started { IfOk result (λ parts. All (λ r. HasStarted r) parts.items) }
 {
     let jobs = jobs_of(alloc, seats, round.step)?;
-    thread::map_vec(
+    map_vec(
         rt,
         jobs,
         &|job: Job<L>| -> Result<Part<L>, DriveFault>
