@@ -39,7 +39,7 @@ TAKEN = {
     ("crates/flagops_books/src/command.rt", "Err(call) => want(out, err, call),"): (1, "`answer` gives a call there only where that call ran out of memory"),
     ("crates/flagops_books/src/uniting.rt", "refusal: Refusal::WantOfMemory(Call::Book),"): (1, "`out_of_memory` tells of an `AllocError` or a fault's want; its calls are looked for"),
     ("crates/flagops_books/src/uniting.rt", "remark: Remark::Short,"): (1, "the same"),
-    ("crates/flag_doubts/src/doubled.rt", "Err(_) => Err(AllocError),"): (1, "what is no JSON stands in the arm before; the faults that are left are want of memory, and those of a tape and of a strict reading"),
+    ("crates/flag_doubts/src/repeated.rt", "Err(_) => Err(AllocError),"): (1, "what is no JSON stands in the arm before; the faults that are left are want of memory, and those of a tape and of a strict reading"),
     ("crates/flagops_checks/src/command.rt", "Err(call) => want(out, err, call),"): (1, "`answer` gives a call there only where that call ran out of memory"),
     ("crates/flagops_checks/src/command.rt", "Some(Remark::Short)"): (1, "`is_short` is set only where there was no memory for lines"),
     ("crates/flagops_checks/src/gathering.rt", "refusal: Refusal::WantOfMemory(Call::Check),"): (1, "`out_of_memory` tells of an `AllocError`; its calls are looked for"),

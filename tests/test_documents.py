@@ -141,15 +141,33 @@ def colored(targeting, more=""):
     return f'{{"flags":{{"color":{{"state":"ENABLED",{variants},"targeting":{targeting}{more}}}}}}}'
 
 
+NEVER = "has a targeting that never gives a variant (Never)"
+
+
+def weighed(place):
+    """What is told of weights, with the place of the operation and what it weighs."""
+    return f"has a fractional that gives nobody a variant: {place} (Weight)"
+
+
+def foreign(place):
+    """What is told of a result, with its place and what stands there."""
+    return f"can come to what names none of its variants: {place} (Variant)"
+
+
+def repeated(place):
+    """What is told of a member that stands more than once, with its place."""
+    return f"has a member that stands more than once, and the last counts: {place} (Repeated)"
+
+
 # Documents whose flag is good and doubted, with what is told behind its key.
 DOUBTS = [
     ('{"flags":{"color":{},"color":{"state":"ENABLED","variants":{"red":1}}}}', ["stands more than once, and its last definition counts (Doubled)"]),
     (r'{"flags":{"color":{},"col\u006fr":{"state":"ENABLED","variants":{"red":1}}}}', ["stands more than once, and its last definition counts (Doubled)"]),
     (colored("{}", ',"defaultvarient":"red"'), ['has a member that is not read: "defaultvarient" (perhaps "defaultVariant" is meant) (Unread)']),
     (colored("{}", ',"colour":1,"x":2'), ['has a member that is not read: "colour" "x" (Unread)']),
-    (colored('{"fractional":[["red",2147483648],["blue",1]]}'), ["has a bucket whose weight is no whole number from 0 to 2147483647: targeting.fractional[0] (Weight)"]),
-    (colored('{"fractional":[{"var":"k"},["red",1],["blue",-1]]}'), ["has a bucket whose weight is no whole number from 0 to 2147483647: targeting.fractional[2] (Weight)"]),
-    (colored('{"if":[{"==":[{"fractional":[["a",-1]]},"a"]},"red","blue"]}'), ["has a bucket whose weight is no whole number from 0 to 2147483647: targeting.if[0].==[0].fractional[0] (Weight)"]),
+    (colored('{"fractional":[["red",2147483648],["blue",1]]}'), ["has a fractional that gives nobody a variant: targeting.fractional[0] weighs no whole number from 0 to 2147483647 (Weight)"]),
+    (colored('{"fractional":[{"var":"k"},["red",1],["blue",-1]]}'), ["has a fractional that gives nobody a variant: targeting.fractional[2] weighs no whole number from 0 to 2147483647 (Weight)"]),
+    (colored('{"if":[{"==":[{"fractional":[["a",-1]]},"a"]},"red","blue"]}'), ["has a fractional that gives nobody a variant: targeting.if[0].==[0].fractional[0] weighs no whole number from 0 to 2147483647 (Weight)"]),
     (colored('{"fractional":[["red",1],["blu",1]]}'), ['can come to what names none of its variants: targeting.fractional[1] is "blu" (Variant)']),
     (colored('{"if":[{"var":"a"},"red",{"var":"b"},{"fractional":[{"var":"k"},["blu",1],["red",1]]},"blue"]}'), ['can come to what names none of its variants: targeting.if[3].fractional[1] is "blu" (Variant)']),
     (colored('{"if":[{"var":"a"},"red",7]}'), ["can come to what names none of its variants: targeting.if[2] is no name (Variant)"]),
@@ -162,12 +180,50 @@ DOUBTS = [
         colored('{"fractional":[["blu",-1]]}', ',"y":0'),
         [
             'has a member that is not read: "y" (Unread)',
-            "has a bucket whose weight is no whole number from 0 to 2147483647: targeting.fractional[0] (Weight)",
+            "has a fractional that gives nobody a variant: targeting.fractional[0] weighs no whole number from 0 to 2147483647 (Weight)",
             'can come to what names none of its variants: targeting.fractional[0] is "blu" (Variant)',
             "has a targeting that never gives a variant (Never)",
         ],
     ),
+    # Literal weights that sum to more than a rule may have, whatever the others are, and to nothing.
+    (colored('{"fractional":[["red",2147483647],["blue",1]]}'), [weighed("targeting.fractional weighs more than 2147483647")]),
+    (colored('{"fractional":[{"var":"k"},["red",{"var":"n"}],["blue",2147483647],["red",2]]}'), [weighed("targeting.fractional weighs more than 2147483647")]),
+    (colored('{"fractional":[["red",0],["blue",0]]}'), [weighed("targeting.fractional weighs 0")]),
+    (colored('{"if":[{"var":"a"},"red",{"fractional":[[{"var":"b"},0]]}]}'), [weighed("targeting.if[2].fractional weighs 0")]),
+    (colored('{"fractional":[{"fractional":[["k",0]]},["red"],["blue"]]}'), [weighed("targeting.fractional[0].fractional weighs 0")]),
+    (colored('{"fractional":[]}'), [weighed("targeting.fractional weighs 0"), NEVER]),
+    # Operations that give no name of a variant, whatever their arguments are.
+    (colored('{"==":[{"var":"a"},1]}'), [foreign("targeting is true or false"), NEVER]),
+    (colored('{"+":[{"var":"a"},1]}'), [foreign("targeting is no name"), NEVER]),
+    (colored('{"map":[{"var":"a"},"red"]}'), [foreign("targeting is no name"), NEVER]),
+    (colored('{"if":[{"var":"a"},"red",{"in":["b",{"var":"c"}]}]}'), [foreign("targeting.if[2] is true or false")]),
+    (colored('{"and":[{"!":[{"var":"a"}]},"red"]}'), [foreign("targeting.and[0] is true or false")]),
+    (colored('{"fractional":[["red",1],[{"max":[1,2]},1]]}'), [foreign("targeting.fractional[1] is no name")]),
+    # Members that stand more than once in the definition.
+    ('{"flags":{"color":{"state":"DISABLED","state":"ENABLED","variants":{"red":1}}}}', [repeated("state")]),
+    (r'{"flags":{"color":{"state":"DISABLED","st\u0061te":"ENABLED","variants":{"red":1}}}}', [repeated("state")]),
+    (colored("{}", ',"targeting":{}'), [repeated("targeting")]),
+    ('{"flags":{"color":{"state":"ENABLED","variants":{"red":1,"blue":2,"red":3}}}}', [repeated("variants.red")]),
+    ('{"flags":{"color":{"state":"ENABLED","variants":{"a b":1,"a b":2}}}}', [repeated('variants["a b"]')]),
+    ('{"flags":{"color":{"state":"ENABLED","variants":{"red":{"x":[1,{"y":1,"y":2}]}}}}}', [repeated("variants.red.x[1].y")]),
+    (colored('{"if":[{"==":[{"var":"a"},1],"==":[{"var":"a"},2]},"red","blue"]}'), [repeated('targeting.if[0]["=="]')]),
+    (
+        '{"flags":{"color":{},"color":{"state":"ENABLED","state":"ENABLED","variants":{"red":1},"x":0}}}',
+        ["stands more than once, and its last definition counts (Doubled)", repeated("state"), 'has a member that is not read: "x" (Unread)'],
+    ),
 ]
+
+# Operations that always give `true` or `false`, those that always give a number or a list, and the others.
+TESTS = [
+    '{"!":[1]}', '{"!!":[1]}', '{"==":[1,1]}', '{"===":[1,1]}', '{"!=":[1,1]}', '{"!==":[1,1]}', '{"<":[1,2]}', '{"<=":[1,2]}', '{">":[1,2]}',
+    '{">=":[1,2]}', '{"all":[[],true]}', '{"none":[[],true]}', '{"some":[[],true]}', '{"in":["a","b"]}', '{"starts_with":["a","b"]}',
+    '{"ends_with":["a","b"]}', '{"sem_ver":["1.0.0","=","1.0.0"]}',
+]
+NUMBERS_AND_LISTS = [
+    '{"+":[1]}', '{"-":[1]}', '{"*":[1]}', '{"%":[1,1]}', '{"max":[1]}', '{"min":[1]}', '{"missing":["a"]}', '{"missing_some":[1,["a"]]}',
+    '{"map":[[],1]}', '{"filter":[[],1]}', '{"merge":[1]}',
+]
+COMPUTED = ['{"var":"a"}', '{"reduce":[[],1]}', '{"cat":["r"]}', '{"substr":["r",0]}']
 
 # Documents of which nothing is doubted.
 PLAIN = [
@@ -180,10 +236,23 @@ PLAIN = [
     '{"$schema":"s","metadata":{},"$evaluators":{},"flags":{"color":{"state":"ENABLED","variants":{"red":1},"metadata":{}}}}',
     # The names are those that the escapes stand for, and of members of one name the last counts.
     r'{"flags":{"color":{"st\u0061te":"ENABLED","variants":{"red":1}}}}',
-    '{"flags":{"color":{"colour":1},"color":{}},"flags":{"color":{"state":"DISABLED","state":"ENABLED","variants":{"red":1}}}}',
+    # What weights that are computed sum to, only an evaluation tells.
+    colored('{"fractional":[["red",0],["blue",{"var":"n"}]]}'),
+    colored('{"fractional":[["red",2147483647],["blue",{"var":"n"}]]}'),
+    # The same names in other objects.
+    '{"flags":{"color":{"state":"ENABLED","variants":{"state":1,"color":2},"defaultVariant":"state"},"state":{"state":"DISABLED","variants":{"state":1}}},"$evaluators":{"color":{"var":"flags"}}}',
 ]
 
 UNREAD = '{"evaluators":{},"flags":{}}'
+
+# Documents in which a member stands more than once beside the definitions of flags, with its place.
+REPEATED = [
+    ('{"flags":{"a":{"colour":1},"a":{}},"flags":{}}', "flags"),
+    ('{"$evaluators":{"v":{"var":"a"}},"flags":{},"$evaluators":{}}', "$evaluators"),
+    ('{"$evaluators":{"v":{"var":"a"},"w":1,"v":{"var":"b"}},"flags":{}}', "$evaluators.v"),
+    ('{"$evaluators":{"is new":{"==":[{"var":"a","var":"b"},1]}},"flags":{}}', '$evaluators["is new"]["=="][0].var'),
+    ('{"metadata":{"x":1,"x":2},"flags":{}}', "metadata.x"),
+]
 
 
 class Documents(ProgramTest):
@@ -232,6 +301,31 @@ class Documents(ProgramTest):
             with self.subTest(document=document):
                 ran = run(["check", "--strict", "d"], {"d": document})
                 self.assertEqual((ran.status, ran.err), (0, ""))
+
+    def test_results_of_operations(self):
+        """A test names the variants `true` and `false`, where there is one of them; a number and a list name none."""
+        truth = '{"flags":{"color":{"state":"ENABLED","variants":{"%s":1,"off":2},"defaultVariant":"off","targeting":%s}}}'
+        for targetings, doubts, others in [
+            (TESTS, [foreign("targeting is true or false"), NEVER], []),
+            (NUMBERS_AND_LISTS, [foreign("targeting is no name"), NEVER], [foreign("targeting is no name"), NEVER]),
+            (COMPUTED, [], []),
+        ]:
+            for targeting in targetings:
+                with self.subTest(targeting=targeting):
+                    told = "".join(f'note: "d": flag "color" {doubt}\n' for doubt in doubts)
+                    self.assertEqual(run(["check", "d"], {"d": colored(targeting)}).err, told)
+                    told = "".join(f'note: "d": flag "color" {doubt}\n' for doubt in others)
+                    for name in ["true", "false"]:
+                        self.assertEqual(run(["check", "d"], {"d": truth % (name, targeting)}).err, told)
+
+    def test_a_member_of_a_document_that_stands_twice(self):
+        for document, place in REPEATED:
+            with self.subTest(document=document):
+                ran = run(["check", "d"], {"d": document})
+                self.assertEqual((ran.status, ran.out, ran.err), (0, "", f'note: "d" {repeated(place)}\n'))
+                self.assertEqual(run(["check", "--strict", "d"], {"d": document}), ran._replace(status=1))
+                lists = '{"broken":[],"document":"d","doubted":[],"good":[]}\n'
+                self.assertEqual(run(["check", "--json", "d"], {"d": document}), ran._replace(out=lists))
 
     def test_a_member_of_a_document_that_is_not_read(self):
         told = 'note: "d" has a member that is not read:\n  "evaluators"; perhaps "$evaluators" is meant\n'

@@ -6,3 +6,4 @@ pub mod Keys
 pub mod Matches
 pub mod Sites
 pub mod Told
+pub mod Twins

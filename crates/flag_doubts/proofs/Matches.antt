@@ -1,5 +1,5 @@
 -- A targeting that never gives a variant matches for nobody.
-use Rattle.std.proofs.Common.{◌≡◌, ◌≢◌, inl, inr, ℕ, Bool, true, false, not, ◌||◌, cond, nat_lt, is_none, is_some, List, [], ◌∷◌, Option, Some, None, option_map, option_and_then, Result, Ok, Err, IfOk, refl, sym, ap, ◌∙◌, subst}
+use Rattle.std.proofs.Common.{◌≡◌, ◌≢◌, inl, inr, ℕ, Bool, true, false, not, ◌||◌, cond, nat_lt, is_none, is_some, codes, List, [], ◌∷◌, Option, Some, None, option_map, option_and_then, Result, Ok, Err, IfOk, refl, sym, ap, ◌∙◌, subst}
 use Rattle.std.specs.List.{list_any}
 use Rattle.flag_documents.specs.Definition.{Definition, broken, good}
 use Rattle.flag_documents.specs.Flag.{variant_of}
@@ -18,9 +18,9 @@ use Rattle.logic_evaluator.specs.Scope.{Situation, default_input, root_scope}
 use Rattle.logic_evaluator.specs.declared.fault.EvalFault.{EvalFault}
 use Rattle.logic_evaluator.specs.declared.fault.EvalFault.TheVariants.{TooLong}
 use Rattle.flag_doubts.proofs.Told.{Gives, told}
-use Rattle.flag_doubts.specs.Doubts.{gives_none, may_be_variant, never_gives, passes}
+use Rattle.flag_doubts.specs.Doubts.{gives_none, has_truth, may_be_variant, never_gives, passes}
 use Rattle.flag_doubts.specs.Laws.{EachValueIsAnOutcome, IsAmong, NeverMatches}
-use Rattle.flag_doubts.specs.Outcomes.{Outcome, named, nameless, computed, outcomes}
+use Rattle.flag_doubts.specs.Outcomes.{Outcome, named, nameless, truth, computed, outcomes}
 
 -- ---- from a run to its value
 
@@ -56,10 +56,15 @@ no_variant d s h = go (variant_of s d) h
     go None e = refl
     go (Some t) e = absurd (cc e)
 
+no_truth : (d : Definition) (b : Bool) → has_truth d ≡ false → option_and_then (variant_named d) (name_in (boolean b)) ≡ None
+no_truth d true none = no_variant d (codes "true") (neither (is_some (variant_of (codes "true") d)) _ none).0
+no_truth d false none = no_variant d (codes "false") (neither (is_some (variant_of (codes "true") d)) _ none).1
+
 none_named : (d : Definition) (os : List Outcome) (v : Shape) → list_any (may_be_variant d) os ≡ false → IsAmong os v → option_and_then (variant_named d) (name_in v) ≡ None
 none_named d [] v none e = ap (λ t. option_and_then (variant_named d) (name_in t)) e
 none_named d (named s ∷ os) v none (inl e) = ap (option_and_then (variant_named d)) e ∙ no_variant d s (neither _ _ none).0
 none_named d (nameless ∷ os) v none (inl e) = ap (option_and_then (variant_named d)) e
+none_named d (truth ∷ os) v none (inl (b, e)) = ap (λ t. option_and_then (variant_named d) (name_in t)) e ∙ no_truth d b (neither (has_truth d) _ none).0
 none_named d (computed ∷ os) v none (inl e) = absurd (cc none)
 none_named d (o ∷ os) v none (inr h) = none_named d os v (neither (may_be_variant d o) _ none).1 h
 

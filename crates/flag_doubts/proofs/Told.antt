@@ -1,5 +1,5 @@
 -- What an evaluation gives is among the outcomes of its expression.
-use Rattle.std.proofs.Common.{◌≡◌, inl, inr, ℕ, ◌-◌, ◌==◌, nat_lt, Bool, true, false, cond, List, [], ◌∷◌, ◌++◌, Option, Some, None, option_map, option_and_then, Result, Ok, Err, IfOk, refl, sym, ap, ◌∙◌, subst}
+use Rattle.std.proofs.Common.{◌≡◌, inl, inr, ℕ, ℤ, ◌-◌, ◌==◌, nat_lt, Bool, true, false, not, cond, List, [], ◌∷◌, ◌++◌, Option, Some, None, option_map, option_and_then, Result, Ok, Err, IfOk, refl, sym, ap, ◌∙◌, subst}
 use Rattle.std.proofs.lemmas.Bool.{ltb-false, ltb-true}
 use Rattle.std.proofs.lemmas.List.Elements.{All-nil, All-cons}
 use Rattle.std.proofs.lemmas.Result.{IfOk-weaker}
@@ -17,19 +17,22 @@ use Rattle.logic_ast.specs.Expression.{Expression, literal, list, operation, fra
 use Rattle.logic_ast.specs.declared.operator.Operator.{Operator}
 use Rattle.logic_ast.specs.declared.operator.Operator.TheVariants as op
 use Rattle.logic_evaluator.proofs.Choices.{buckets_entries}
-use Rattle.logic_evaluator.proofs.Runs.{Runs, runs-gives, runs-faults, runs-cost, runs-reach, runs-bind}
+use Rattle.logic_evaluator.proofs.Runs.{Runs, runs-ends, runs-gives, runs-faults, runs-cost, runs-reach, runs-bind}
 use Rattle.logic_evaluator.specs.Comparison.{bool_eq}
 use Rattle.logic_evaluator.specs.Evaluation.{meaning, meanings, bucket_meaning, bucket_meanings, pair, pairs}
 use Rattle.logic_evaluator.specs.Fractional.{by_buckets, by_input, buckets_of, chosen, decided}
 use Rattle.logic_evaluator.specs.Fractional as fractions
-use Rattle.logic_evaluator.specs.Operators.{Meaning, conditional, first_of_truth}
+use Rattle.logic_evaluator.specs.Arithmetic.{if_number}
+use Rattle.logic_evaluator.specs.Operators.{Meaning, all_of, applied, as_list, conditional, first_of_truth, is_empty, kept, mapped, none_of, occurs, over, over_items, some_of, strict}
 use Rattle.logic_evaluator.specs.Operators as operators
-use Rattle.logic_evaluator.specs.Run.{Reach, Run, reached_of}
-use Rattle.logic_evaluator.specs.Scope.{size}
+use Rattle.logic_evaluator.specs.Run.{Reach, Run, gives, reached_of, ◌>>=◌}
+use Rattle.logic_evaluator.specs.Lists.{items_in}
+use Rattle.logic_evaluator.specs.Number.{number_of}
+use Rattle.logic_evaluator.specs.Scope.{missing_unless, size}
 use Rattle.logic_evaluator.specs.Truth.{is_true}
 use Rattle.logic_evaluator.specs.declared.fault.EvalFault.{EvalFault}
 use Rattle.flag_doubts.specs.Laws.{IsAmong}
-use Rattle.flag_doubts.specs.Outcomes.{Outcome, named, nameless, computed, literal_outcomes, literal_name, outcomes, all_outcomes, branches, names, name}
+use Rattle.flag_doubts.specs.Outcomes.{Outcome, named, nameless, truth, computed, literal_outcomes, literal_name, given_by, given_outcome, outcomes, all_outcomes, branches, names, name}
 use Rattle.flag_doubts.specs.Outcomes as spec
 
 abbrev pub Anything : {A : Type 0} → A → Type 0
@@ -183,13 +186,83 @@ literal_named (shape.object ms) s e = cc
 among_named : (os : List Outcome) (v : Shape) → IsAmong os v → Named os v
 among_named os v h s e = subst (IsAmong os) e h
 
+-- ---- operations that give the same kind of value, whatever their arguments are
+
+abbrev GivenBy : Operator → Shape → Type 0
+GivenBy o v = IsAmong (given_outcome (given_by o) ∷ []) v
+
+nothing_given : (o : Operator) → Gives (GivenBy o) (let r : Run Shape = gives null in r)
+nothing_given o = runs-gives Anything (GivenBy o) null (among_null (given_outcome (given_by o) ∷ []) null refl)
+
+strict_told : (o : Operator) (ms : List Meaning) (scope : Shape) → ((vs : List Shape) → IfOk (applied o scope vs) (GivenBy o)) → Gives (GivenBy o) (strict o ms scope)
+strict_told o ms scope h = runs-bind Anything Anything (GivenBy o) _ _ (any _) (λ vs _. runs-ends Anything (GivenBy o) (applied o scope vs) (h vs))
+
+number_told : (n : Option ℤ) → IfOk (if_number n) (IsAmong (nameless ∷ []))
+number_told None = tt
+number_told (Some n) = inl refl
+
+missing_told : (scope : Shape) (n : Option ℤ) (ts : List Shape) → IfOk (missing_unless scope n ts) (IsAmong (nameless ∷ []))
+missing_told scope None ts = tt
+missing_told scope (Some n) ts = inl refl
+
+over_told : (o : Operator) (ms : List Meaning) (scope : Shape) → ((body : Meaning) (ts : List Shape) → Gives (GivenBy o) (over_items o body ts)) → Gives (GivenBy o) (over o ms scope)
+over_told o [] scope h = nothing_given o
+over_told o (items ∷ []) scope h = nothing_given o
+over_told o (items ∷ body ∷ rest) scope h = runs-bind Anything Anything (GivenBy o) _ _ (any _) (λ v _. h body (items_in v))
+
+listed : (r : Run (List Shape)) → Gives (IsAmong (nameless ∷ [])) (r >>= as_list)
+listed r = runs-bind Anything Anything (IsAmong (nameless ∷ [])) _ _ (any r) (λ vs _. runs-gives Anything (IsAmong (nameless ∷ [])) (shape.list (items_of vs)) (inl refl))
+
+tested : (r : Run Bool) (f : Bool → Bool) → Gives (IsAmong (truth ∷ [])) (r >>= λ b. gives (boolean (f b)))
+tested r f = runs-bind Anything Anything (IsAmong (truth ∷ [])) _ _ (any r) (λ b _. runs-gives Anything (IsAmong (truth ∷ [])) (boolean (f b)) (inl (f b, refl)))
+
+all_told : (body : Meaning) (ts : List Shape) → Gives (IsAmong (truth ∷ [])) (all_of body ts)
+all_told body ts = either (IsAmong (truth ∷ [])) (is_empty ts) _ _ (runs-gives Anything (IsAmong (truth ∷ [])) (boolean false) (inl (false, refl))) (tested (occurs false body ts) not)
+
+given_told : (o : Operator) (ms : List Meaning) (scope : Shape) → Gives (GivenBy o) (operators.operated o ms scope)
+given_told op.Var ms scope = gives_computed _
+given_told op.If ms scope = gives_computed _
+given_told op.And ms scope = gives_computed _
+given_told op.Or ms scope = gives_computed _
+given_told op.Reduce ms scope = gives_computed _
+given_told op.Cat ms scope = gives_computed _
+given_told op.Substr ms scope = gives_computed _
+given_told op.Missing ms scope = strict_told op.Missing ms scope (λ vs. inl refl)
+given_told op.MissingSome ms scope = strict_told op.MissingSome ms scope (λ vs. missing_told scope (number_of (operators.argument 0 vs)) (items_in (operators.argument 1 vs)))
+given_told op.Merge ms scope = strict_told op.Merge ms scope (λ vs. inl refl)
+given_told op.Add ms scope = strict_told op.Add ms scope (λ vs. number_told _)
+given_told op.Subtract ms scope = strict_told op.Subtract ms scope (λ vs. number_told _)
+given_told op.Multiply ms scope = strict_told op.Multiply ms scope (λ vs. number_told _)
+given_told op.Remainder ms scope = strict_told op.Remainder ms scope (λ vs. number_told _)
+given_told op.Max ms scope = strict_told op.Max ms scope (λ vs. number_told _)
+given_told op.Min ms scope = strict_told op.Min ms scope (λ vs. number_told _)
+given_told op.Map ms scope = over_told op.Map ms scope (λ body ts. listed (mapped body ts))
+given_told op.Filter ms scope = over_told op.Filter ms scope (λ body ts. listed (kept body ts))
+given_told op.AllOf ms scope = over_told op.AllOf ms scope all_told
+given_told op.SomeOf ms scope = over_told op.SomeOf ms scope (λ body ts. tested (occurs true body ts) (λ b. b))
+given_told op.NoneOf ms scope = over_told op.NoneOf ms scope (λ body ts. tested (occurs true body ts) not)
+given_told op.Not ms scope = strict_told op.Not ms scope (λ vs. inl (_, refl))
+given_told op.Truth ms scope = strict_told op.Truth ms scope (λ vs. inl (_, refl))
+given_told op.Equal ms scope = strict_told op.Equal ms scope (λ vs. inl (_, refl))
+given_told op.StrictEqual ms scope = strict_told op.StrictEqual ms scope (λ vs. inl (_, refl))
+given_told op.NotEqual ms scope = strict_told op.NotEqual ms scope (λ vs. inl (_, refl))
+given_told op.StrictNotEqual ms scope = strict_told op.StrictNotEqual ms scope (λ vs. inl (_, refl))
+given_told op.Less ms scope = strict_told op.Less ms scope (λ vs. inl (_, refl))
+given_told op.LessOrEqual ms scope = strict_told op.LessOrEqual ms scope (λ vs. inl (_, refl))
+given_told op.Greater ms scope = strict_told op.Greater ms scope (λ vs. inl (_, refl))
+given_told op.GreaterOrEqual ms scope = strict_told op.GreaterOrEqual ms scope (λ vs. inl (_, refl))
+given_told op.In ms scope = strict_told op.In ms scope (λ vs. inl (_, refl))
+given_told op.StartsWith ms scope = strict_told op.StartsWith ms scope (λ vs. inl (_, refl))
+given_told op.EndsWith ms scope = strict_told op.EndsWith ms scope (λ vs. inl (_, refl))
+given_told op.SemVer ms scope = strict_told op.SemVer ms scope (λ vs. inl (_, refl))
+
 operated_told : (d : Option (List ℕ)) (o : Operator) (es : Expressions) (scope : Shape) → Gives (IsAmong (branches es)) (conditional (meanings d es) scope)
     → Gives (IsAmong (all_outcomes es)) (first_of_truth false (meanings d es) scope) → Gives (IsAmong (all_outcomes es)) (first_of_truth true (meanings d es) scope)
     → Gives (IsAmong (spec.operated o (branches es) (all_outcomes es))) (operators.operated o (meanings d es) scope)
 operated_told d op.If es scope branch falsy truthy = branch
 operated_told d op.And es scope branch falsy truthy = falsy
 operated_told d op.Or es scope branch falsy truthy = truthy
-operated_told d o es scope branch falsy truthy = gives_computed _
+operated_told d o es scope branch falsy truthy = given_told o (meanings d es) scope
 
 module _ (d : Option (List ℕ)) where
   mutual

@@ -1,5 +1,5 @@
 -- What is doubted of a flag that may still be good: it is read, but it is hardly meant so.
-use Rattle.std.specs.Prelude.{ℕ, List, codes, Bool, true, false, not, is_none, is_some, Option, Some, None}
+use Rattle.std.specs.Prelude.{ℕ, List, codes, Bool, true, false, not, ◌||◌, is_none, is_some, Option, Some, None}
 use Rattle.std.specs.List.{list_any}
 use Rattle.flag_text.specs.Shape.{Shape}
 use Rattle.flag_documents.specs.Definition.{Definition}
@@ -7,10 +7,10 @@ use Rattle.flag_documents.specs.Flag.{targeting_in, variant_of}
 use Rattle.logic_ast.specs.Expression.{Expression}
 use Rattle.unread_members.specs.Unread.{unread_of}
 use Rattle.unread_members.specs.declared.reader.Reader.TheVariants as reader
-use Rattle.flag_doubts.specs.Outcomes.{Outcome, named, nameless, computed, outcomes}
+use Rattle.flag_doubts.specs.Outcomes.{Outcome, named, nameless, truth, computed, outcomes}
 use Rattle.flag_doubts.specs.Weights.{has_bad_site}
 use Rattle.flag_doubts.specs.declared.doubt.Doubt.{Doubt}
-use Rattle.flag_doubts.specs.declared.doubt.Doubt.TheVariants.{Unread, Weight, Variant, Never, Doubled}
+use Rattle.flag_doubts.specs.declared.doubt.Doubt.TheVariants.{Unread, Weight, Variant, Never, Doubled, Repeated}
 
 abbrev pub name_of : Doubt → List ℕ
 name_of Unread = codes "Unread"
@@ -18,17 +18,24 @@ name_of Weight = codes "Weight"
 name_of Variant = codes "Variant"
 name_of Never = codes "Never"
 name_of Doubled = codes "Doubled"
+name_of Repeated = codes "Repeated"
+
+-- `true` or `false` names a variant of the flag
+abbrev pub has_truth : Definition → Bool
+has_truth d = is_some (variant_of (codes "true") d) || is_some (variant_of (codes "false") d)
 
 -- it names no variant of the flag
 abbrev pub is_foreign : Definition → Outcome → Bool
 is_foreign d (named s) = is_none (variant_of s d)
 is_foreign d nameless = true
+is_foreign d truth = not (has_truth d)
 is_foreign d computed = false
 
 -- it names a variant of the flag, or may name one
 abbrev pub may_be_variant : Definition → Outcome → Bool
 may_be_variant d (named s) = is_some (variant_of s d)
 may_be_variant d nameless = false
+may_be_variant d truth = has_truth d
 may_be_variant d computed = true
 
 -- something that the expression can result in names no variant

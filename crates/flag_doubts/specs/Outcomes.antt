@@ -3,12 +3,15 @@ use Rattle.std.specs.Prelude.{ℕ, List, [], ◌∷◌, ◌++◌, codes, true, f
 use Rattle.flag_text.specs.Shape.{Shape, null, boolean, text}
 use Rattle.logic_ast.specs.Expression.{Expression, literal, list, operation, fractional, Expressions, no_expressions, expression, Buckets, no_buckets, bucket, Bucket, literal_bucket, computed_bucket}
 use Rattle.logic_ast.specs.declared.operator.Operator.{Operator}
-use Rattle.logic_ast.specs.declared.operator.Operator.TheVariants.{If, And, Or}
+use Rattle.logic_ast.specs.declared.operator.Operator.TheVariants as op
+use Rattle.flag_doubts.specs.declared.given.Given.{Given}
+use Rattle.flag_doubts.specs.declared.given.Given.TheVariants.{Computed, NoName, Truth}
 
--- a name, a value that is none, or what only an evaluation tells
+-- a name, a value that is none, `true` or `false`, or what only an evaluation tells
 pub data Outcome : Type 0 where
   named : List ℕ → Outcome
   nameless : Outcome
+  truth : Outcome
   computed : Outcome
 
 -- A text names a variant, and so do `true` and `false`; null leaves it at the default variant (flagd: targeting).
@@ -24,12 +27,51 @@ abbrev pub literal_name : Shape → Outcome
 literal_name (text s) = named s
 literal_name t = nameless
 
+-- What an operation gives, whatever its arguments are (JsonLogic; flagd: custom operations): a test gives `true` or `false`,
+-- arithmetic a number, and these a list. Of the others only an evaluation tells.
+abbrev pub given_by : Operator → Given
+given_by op.Not = Truth
+given_by op.Truth = Truth
+given_by op.Equal = Truth
+given_by op.StrictEqual = Truth
+given_by op.NotEqual = Truth
+given_by op.StrictNotEqual = Truth
+given_by op.Less = Truth
+given_by op.LessOrEqual = Truth
+given_by op.Greater = Truth
+given_by op.GreaterOrEqual = Truth
+given_by op.AllOf = Truth
+given_by op.NoneOf = Truth
+given_by op.SomeOf = Truth
+given_by op.In = Truth
+given_by op.StartsWith = Truth
+given_by op.EndsWith = Truth
+given_by op.SemVer = Truth
+given_by op.Add = NoName
+given_by op.Subtract = NoName
+given_by op.Multiply = NoName
+given_by op.Remainder = NoName
+given_by op.Max = NoName
+given_by op.Min = NoName
+given_by op.Missing = NoName
+given_by op.MissingSome = NoName
+given_by op.Map = NoName
+given_by op.Filter = NoName
+given_by op.Merge = NoName
+given_by o = Computed
+
+-- a number or a list names no variant
+abbrev pub given_outcome : Given → Outcome
+given_outcome Truth = truth
+given_outcome NoName = nameless
+given_outcome Computed = computed
+
 -- `if` results in one of its branches, `and` and `or` in one of their arguments
 abbrev pub operated : Operator → List Outcome → List Outcome → List Outcome
-operated If branches arguments = branches
-operated And branches arguments = arguments
-operated Or branches arguments = arguments
-operated o branches arguments = computed ∷ []
+operated op.If branches arguments = branches
+operated op.And branches arguments = arguments
+operated op.Or branches arguments = arguments
+operated o branches arguments = given_outcome (given_by o) ∷ []
 
 -- What comes out of an expression, null left out. A list names no variant.
 abbrev mutual

@@ -8,31 +8,15 @@ ghost use Rattle.std.specs.Ordering.{nat_cmp};
 ghost use Rattle.std.specs.Str.{bytes_eq};
 ghost use Rattle.json.specs.Find.{get};
 ghost use Rattle.json.specs.Value.{members_view, value_view};
-ghost use Rattle.flag_doubts.specs.Doubled.{count_of, is_doubled, member_names, names_in};
+ghost use Rattle.flag_doubts.specs.Doubled.{count_of, member_names, names_in};
 
-use json::{Error, Scratch, Value};
+use json::Value;
 use std::alloc::{AllocError, Global};
 use std::collections::BTreeSet;
 
-/// The keys that stand more than once in the object `flags` of a document, each once and in the order of their bytes: none
-/// where the bytes are no document. Of several members `flags` the last counts, and it is the one whose flags are read.
-///
-/// It fails only where memory runs out, and takes as much as a tree of the document.
-pub fn doubled_keys(alloc: Global, bytes: &[u8]) -> Result<Vec<String>, AllocError>
-    ensures doubled { IfOk result (λ v. (key : List ℕ) → list_any (bytes_eq key) (map string_bytes v.items) ≡ is_doubled bytes.now key) }
-    ensures rising { IfOk result (λ v. IsStrictlySortedBy (slice_cmp nat_cmp) (map string_bytes v.items)) }
-{
-    let mut scratch = Scratch::new(alloc);
-    match Value::from_slice(alloc, bytes, &mut scratch) {
-        Ok(document) => doubled_in(alloc, &document),
-        Err(Error::Invalid) => Ok(Vec::new(alloc)),
-        // Want of memory: the other faults are those of a tape and of a strict reading.
-        Err(_) => Err(AllocError),
-    }
-}
-
-/// The same of a document's value.
-fn doubled_in(alloc: Global, document: &Value<'_>) -> Result<Vec<String>, AllocError>
+/// The keys that stand more than once in the object `flags` of a document, each once and in the order of their bytes. Of several
+/// members `flags` the last counts, and it is the one whose flags are read.
+pub(crate) fn doubled_in(alloc: Global, document: &Value<'_>) -> Result<Vec<String>, AllocError>
     ensures doubled { IfOk result (λ v. (key : List ℕ) → list_any (bytes_eq key) (map string_bytes v.items) ≡ nat_lt 1 (count_of key (names_in (get (codes "flags") (value_view document.now))))) }
     ensures rising { IfOk result (λ v. IsStrictlySortedBy (slice_cmp nat_cmp) (map string_bytes v.items)) }
 {

@@ -7,14 +7,17 @@ ghost use Rattle.flag_doubts.specs.Doubts.{name_of};
 pub enum Doubt {
     /// Its definition has a member that nobody reads.
     Unread,
-    /// A bucket's weight is a literal, and no whole number from 0 to 2^31-1.
+    /// A bucket's weight is a literal, and no whole number from 0 to 2^31-1, or the literal weights of buckets sum to more, or
+    /// each is 0.
     Weight,
-    /// Its targeting can result in a literal that names none of its variants.
+    /// Its targeting can result in what names none of its variants.
     Variant,
     /// Its targeting can never give a variant.
     Never,
     /// Its key stands more than once in the document.
     Doubled,
+    /// A member stands more than once in its definition.
+    Repeated,
 }
 
 impl Doubt {
@@ -28,6 +31,7 @@ impl Doubt {
             Doubt::Variant => "Variant",
             Doubt::Never => "Never",
             Doubt::Doubled => "Doubled",
+            Doubt::Repeated => "Repeated",
         }
     }
 }

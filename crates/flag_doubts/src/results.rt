@@ -6,9 +6,11 @@ ghost use Rattle.flag_documents.specs.Definition.{Definition};
 ghost use Rattle.flag_documents.specs.Flag.{flag_view, is_broken};
 ghost use Rattle.logic_ast.specs.Expression.{Expression, computed_bucket};
 ghost use Rattle.logic_ast.specs.View.{node_view, nodes_view, buckets_view};
-ghost use Rattle.flag_doubts.specs.Outcomes.{named, nameless, computed, literal_outcomes, literal_name, operated, outcomes, all_outcomes, branches, names, name};
+ghost use Rattle.flag_doubts.specs.Outcomes.{named, nameless, truth, computed, given_by, given_outcome, literal_outcomes, literal_name, operated, outcomes, all_outcomes, branches, names, name};
+ghost use Rattle.flag_doubts.specs.Doubts.{has_truth};
 ghost use Rattle.flag_doubts.specs.Views.{is_sought};
 
+use crate::given::{Given, given_by};
 use flag_documents::Flag;
 use flag_text::Tree;
 use logic_ast::{Bucket, Node, Operator};
@@ -44,6 +46,29 @@ impl Sought {
         }
     }
 
+    /// Whether this is what a value stands for that is `true` or `false`.
+    fn is_truth(self, flag: &Flag) -> bool
+        requires good { is_broken (flag_view flag.now) ≡ false }
+        ensures { result ≡ is_sought self (flag_view flag.now) truth }
+    {
+        match self {
+            Sought::Foreign => !has_truth(flag),
+            Sought::Variant => has_truth(flag),
+        }
+    }
+
+    /// Whether this is what a value stands for that an operation gives.
+    fn is_given(self, operator: Operator, flag: &Flag) -> bool
+        requires good { is_broken (flag_view flag.now) ≡ false }
+        ensures { result ≡ is_sought self (flag_view flag.now) (given_outcome (given_by operator)) }
+    {
+        match given_by(operator) {
+            Given::Truth => self.is_truth(flag),
+            Given::NoName => self.is_nameless(),
+            Given::Computed => self.is_computed(),
+        }
+    }
+
     /// Whether this is what a value stands for that is computed.
     fn is_computed(self) -> bool
         ensures { (d : Definition) → result ≡ is_sought self d computed }
@@ -53,6 +78,14 @@ impl Sought {
             Sought::Variant => true,
         }
     }
+}
+
+/// Whether `true` or `false` names a variant.
+pub fn has_truth(flag: &Flag) -> bool
+    requires good { is_broken (flag_view flag.now) ≡ false }
+    ensures { result ≡ has_truth (flag_view flag.now) }
+{
+    flag.variant("true").is_some() || flag.variant("false").is_some()
 }
 
 // Each function below tells whether what is sought is among the results of its node or nodes. The condition is that the flag
@@ -69,7 +102,7 @@ pub(crate) fn is_result(node: &Node, sought: Sought, flag: &Flag) -> bool
         Node::Operation(operator, arguments) => match operator {
             Operator::If => is_branch(arguments, sought, flag),
             Operator::And | Operator::Or => is_argument(arguments, sought, flag),
-            _ => sought.is_computed(),
+            _ => sought.is_given(*operator, flag),
         },
         Node::Fractional { buckets, .. } => is_name(buckets, sought, flag),
     }

@@ -5,6 +5,7 @@ use Rattle.flag_documents.specs.Definition.{Definition}
 use Rattle.flag_documents.specs.Document.{Definitions}
 use Rattle.flag_documents.specs.Flag.{is_broken}
 use Rattle.flag_doubts.specs.Doubled.{is_doubled}
+use Rattle.flag_doubts.specs.Repeated.{is_repeated}
 use Rattle.flag_doubts.specs.declared.doubt.FlagDoubts.{FlagDoubts}
 use Rattle.flagops_checks.specs.Judged.{Judged, flag_doubts, judged, tree_in}
 
@@ -30,7 +31,8 @@ module _ (bytes : List ℕ) (fs : Definitions) where
       let whole : before ++ (judged bytes (key, d) ∷ rest) ≡ map (judged bytes) fs = ap (λ (l : List Judged). before ++ l) (sym next) ∙ goes in
       rw (more, is, append_assoc before (judged bytes (key, d) ∷ []) rest) whole
 
-  pub same : (key : List ℕ) (d : Definition) (broken : Bool) (doubts : FlagDoubts) (doubled : Bool) → broken ≡ is_broken d → doubts.unread ≡ (flag_doubts (tree_in bytes) key d).unread
+  pub same : (key : List ℕ) (d : Definition) (broken : Bool) (doubts : FlagDoubts) (doubled repeated : Bool) → broken ≡ is_broken d → doubts.unread ≡ (flag_doubts (tree_in bytes) key d).unread
       → doubts.weight ≡ (flag_doubts (tree_in bytes) key d).weight → doubts.variant ≡ (flag_doubts (tree_in bytes) key d).variant → doubts.never ≡ (flag_doubts (tree_in bytes) key d).never
-      → doubled ≡ is_doubled bytes key → (let j : Judged = record { key = key; is_broken = broken; doubts = doubts; is_doubled = doubled } in j) ≡ judged bytes (key, d)
-  same key d broken doubts doubled b u w v n t = rw (← b, ← u, ← w, ← v, ← n, ← t) refl
+      → doubled ≡ is_doubled bytes key → repeated ≡ is_repeated bytes key
+      → (let j : Judged = record { key = key; is_broken = broken; doubts = doubts; is_doubled = doubled; is_repeated = repeated } in j) ≡ judged bytes (key, d)
+  same key d broken doubts doubled repeated b u w v n t r = rw (← b, ← u, ← w, ← v, ← n, ← t, ← r) refl

@@ -3,7 +3,6 @@ mod Flagged
 mod Following
 mod Matched
 mod Null
-mod Once
 mod Plainly
 mod Printed
 mod Spoken

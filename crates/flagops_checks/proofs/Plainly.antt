@@ -4,11 +4,10 @@ use Rattle.std.specs.Cmp.Lexicographic.{slice_cmp}
 use Rattle.std.specs.Ordering.{match_ordering, nat_cmp}
 use Rattle.std.specs.Prelude.{Err}
 use Rattle.std.specs.Str.{bytes_eq, is_utf8}
-use Rattle.json.specs.Find.{get, get_member, later_or}
 use Rattle.json.specs.Json as json
 use Rattle.json.specs.Lex.{tokens}
 use Rattle.json.specs.Token.{Token}
-use Rattle.json.proofs.Found.{Some_inj, document-BeginsWith, not_found}
+use Rattle.json.proofs.Found.{Some_inj, not_found}
 use Rattle.serde_json.specs.Data as parsed
 use Rattle.serde_json.specs.Read.{max_depth, number_of, of_items, of_json, of_members, read}
 use Rattle.flag_text.proofs.Halving.{same_name}
@@ -21,45 +20,8 @@ use Rattle.unread_members.specs.Unread.{first_unread, reads, unread_of}
 use Rattle.unread_members.specs.declared.reader.Reader.{Reader}
 use Rattle.unread_members.specs.declared.reader.Reader.TheVariants as reader
 use Rattle.flag_documents.specs.Document.{max_bytes, or_no_members}
-use Rattle.flag_doubts.specs.Doubled.{count_of, json_of, names_in}
 use Rattle.flagops_checks.specs.Judged.{definition_of, is_unread, or_null, tree_in}
 use Rattle.flagops_checks.specs.Plain.{ArePlainFlags, AreRead, Each, IsPlain, IsPlainDefinition, IsPlainDocument, IsPlainMember, IsRead, OfObject}
-
--- ---- keys
-
-abbrev Found : Option json.Json → Type 0
-Found None = Unit {0}
-Found (Some j) = OfObject ArePlainFlags j
-
-later : (j : json.Json) (o : Option json.Json) → Found o → (b : Bool) → (b ≡ true → OfObject ArePlainFlags j) → Found (later_or o (cond b (Some j) None))
-later j (Some i) f b g = f
-later j None f true g = g refl
-later j None f false g = tt
-
-plain_found : (ms : json.Members) → Each IsPlainMember ms → Found (get_member (codes "flags") ms)
-plain_found json.no_members h = tt
-plain_found (json.member k j ms) h = later j (get_member (codes "flags") ms) (plain_found ms h.1) (bytes_eq k (codes "flags")) h.0.1
-
-found_once : (key : List ℕ) (o : Option json.Json) → Found o → nat_lt 1 (count_of key (names_in o)) ≡ false
-found_once key None f = refl
-found_once key (Some json.null) f = refl
-found_once key (Some (json.boolean b)) f = refl
-found_once key (Some (json.number s)) f = refl
-found_once key (Some (json.string s)) f = refl
-found_once key (Some (json.array js)) f = refl
-found_once key (Some (json.object ms)) f = f.0 key
-
-flags_once : (key : List ℕ) (j : json.Json) → IsPlainDocument j → nat_lt 1 (count_of key (names_in (get (codes "flags") j))) ≡ false
-flags_once key json.null h = refl
-flags_once key (json.boolean b) h = refl
-flags_once key (json.number s) h = refl
-flags_once key (json.string s) h = refl
-flags_once key (json.array js) h = refl
-flags_once key (json.object ms) h = found_once key (get_member (codes "flags") ms) (plain_found ms h)
-
-once_in : (key : List ℕ) (o : Option json.Json) → ((j : json.Json) → o ≡ Some j → IsPlainDocument j) → nat_lt 1 (count_of key (names_in (option_and_then (get (codes "flags")) o))) ≡ false
-once_in key None h = refl
-once_in key (Some j) h = flags_once key j (h j refl)
 
 picked : {A : Type 0} (b : Bool) (o : Option A) (a : A) → cond b o None ≡ Some a → o ≡ Some a
 picked true o a e = e
@@ -127,7 +89,7 @@ definition_read k =
     (λ ms es e p. each_read (IsRead reader.Definition) (IsReadData reader.Definition) (λ l j d is read. read) ms parsed.no_members es e p tt)
 
 flags_read : (j : json.Json) (d : parsed.Data) → of_json j ≡ Some d → OfObject ArePlainFlags j → DataObject (DataEach IsPlainData) d
-flags_read = object_read ArePlainFlags (DataEach IsPlainData) (λ ms es e p. each_read IsPlainDefinition IsPlainData definition_read ms parsed.no_members es e p.1 tt)
+flags_read = object_read ArePlainFlags (DataEach IsPlainData) (λ ms es e p. each_read IsPlainDefinition IsPlainData definition_read ms parsed.no_members es e p tt)
 
 document_read : (j : json.Json) (d : parsed.Data) → of_json j ≡ Some d → IsPlainDocument j → DataObject (DataEach IsMemberData) d
 document_read =
@@ -216,8 +178,5 @@ module _ (bytes : List ℕ) (plain : (d : ℕ) (j : json.Json) (r : List Token) 
   tree : IsPlainTree (tree_in bytes)
   tree = plain_doc (nat_lt max_bytes (length bytes)) (reading.json_of bytes) from_text
 
-  from_json : (j : json.Json) → json_of bytes ≡ Some j → IsPlainDocument j
-  from_json j e = let begins = document-BeginsWith bytes j (picked (is_utf8 bytes) (json.document bytes) j e) in plain begins.0 j begins.1 begins.2
-
   pub plainly : IsPlain bytes
-  plainly = record { once = λ key. once_in key (json_of bytes) from_json; document = tree.0; definitions = tree.1 }
+  plainly = record { document = tree.0; definitions = tree.1 }

@@ -6,8 +6,9 @@ use Rattle.flag_documents.specs.Document.{Definitions, flags_in, max_bytes, or_n
 use Rattle.flag_documents.specs.Flag as documents
 use Rattle.flag_doubts.specs.Doubled as doubled
 use Rattle.flag_doubts.specs.Doubts as doubts
+use Rattle.flag_doubts.specs.Repeated as repeated
 use Rattle.flag_doubts.specs.declared.doubt.Doubt.{Doubt}
-use Rattle.flag_doubts.specs.declared.doubt.Doubt.TheVariants.{Doubled, Never, Unread, Variant, Weight}
+use Rattle.flag_doubts.specs.declared.doubt.Doubt.TheVariants.{Doubled, Never, Repeated, Unread, Variant, Weight}
 use Rattle.flag_doubts.specs.declared.doubt.FlagDoubts.{FlagDoubts}
 use Rattle.flag_text.specs.Reading.{doc_of}
 use Rattle.flag_text.specs.Readers.{find_member}
@@ -18,19 +19,22 @@ use Rattle.flagops_checks.specs.declared.judging.Judged as code
 use Rattle.unread_members.specs.Unread.{unread_of}
 use Rattle.unread_members.specs.declared.reader.Reader.TheVariants as reader
 
--- a flag: its key, whether it is broken, what is doubted of it by itself, and whether its key stands twice
+-- a flag: its key, whether it is broken, what is doubted of it by itself, and whether its key stands twice, or a member of its
+-- definition
 pub record Judged : Type 0 where
   pub key : List ℕ
   pub is_broken : Bool
   pub doubts : FlagDoubts
   pub is_doubled : Bool
+  pub is_repeated : Bool
 
 abbrev pub judged_view : code.Judged → Judged
-judged_view j = record { key = j.key.now; is_broken = j.is_broken; doubts = j.doubts; is_doubled = j.is_doubled }
+judged_view j = record { key = j.key.now; is_broken = j.is_broken; doubts = j.doubts; is_doubled = j.is_doubled; is_repeated = is_some j.repeated }
 
 -- this is doubted of it
 abbrev pub has : Doubt → Judged → Bool
 has Doubled j = j.is_doubled
+has Repeated j = j.is_repeated
 has Unread j = j.doubts.unread
 has Weight j = j.doubts.weight
 has Variant j = j.doubts.variant
@@ -38,7 +42,7 @@ has Never j = j.doubts.never
 
 -- something is
 abbrev pub is_doubted : Judged → Bool
-is_doubted j = has Doubled j || (has Unread j || (has Weight j || (has Variant j || has Never j)))
+is_doubted j = has Doubled j || (has Repeated j || (has Unread j || (has Weight j || (has Variant j || has Never j))))
 
 -- the tree of the bytes of a document
 abbrev pub or_null : Result Shape TextFault → Shape
@@ -71,29 +75,38 @@ judged bytes f = record {
   is_broken = documents.is_broken f.1;
   doubts = flag_doubts (tree_in bytes) f.0 f.1;
   is_doubled = doubled.is_doubled bytes f.0;
+  is_repeated = repeated.is_repeated bytes f.0;
 }
 
--- a document: its path, its bytes, its flags in the order of their keys, and whether a member of it is not read
+-- a document: its path, its bytes, its flags in the order of their keys, and whether a member of it is not read, or one stands
+-- twice in it or in what stands beside its flags
 pub record Checked : Type 0 where
   pub path : List ℕ
   pub bytes : List ℕ
   pub flags : List Judged
   pub is_unread : Bool
+  pub is_repeated : Bool
 
 abbrev pub checked : List ℕ → List ℕ → Definitions → Checked
-checked path bytes flags = record { path = path; bytes = bytes; flags = map (judged bytes) flags; is_unread = is_some (unread_of reader.Document (tree_in bytes)) }
+checked path bytes flags = record {
+  path = path;
+  bytes = bytes;
+  flags = map (judged bytes) flags;
+  is_unread = is_some (unread_of reader.Document (tree_in bytes));
+  is_repeated = repeated.has_repeated bytes;
+}
 
 abbrev pub checked_view : code_checked.Checked → Checked
-checked_view c = record { path = c.path.now; bytes = c.bytes.now; flags = map judged_view c.flags.items; is_unread = c.is_unread }
+checked_view c = record { path = c.path.now; bytes = c.bytes.now; flags = map judged_view c.flags.items; is_unread = c.is_unread; is_repeated = is_some c.repeated }
 
 -- one of its flags is broken
 abbrev pub has_broken : Checked → Bool
 has_broken c = list_any (λ j. j.is_broken) c.flags
 
--- one of its flags is doubted, or a member of it is not read
+-- one of its flags is doubted, or a member of it is not read or stands twice
 abbrev pub has_doubted : Checked → Bool
-has_doubted c = c.is_unread || list_any is_doubted c.flags
+has_doubted c = c.is_unread || (c.is_repeated || list_any is_doubted c.flags)
 
--- a flag of one of these documents is broken or doubted, or a member of one is not read
+-- a flag of one of these documents is broken or doubted, or a member of one is not read or stands twice
 abbrev pub are_wrong : List Checked → Bool
 are_wrong cs = list_any (λ c. has_broken c || has_doubted c) cs

@@ -1,12 +1,11 @@
--- Documents whose names leave nothing to doubt: for private clauses.
-use Rattle.std.specs.Prelude.{◌≡◌, ◌≤◌, ℕ, length, List, codes, true, false, nat_lt, Some, None}
+-- Documents of which each member is read: for private clauses.
+use Rattle.std.specs.Prelude.{◌≡◌, ◌≤◌, ℕ, length, List, codes, true, false, Some, None}
 use Rattle.std.specs.Str.{bytes_eq}
 use Rattle.json.specs.Json.{Json, null, boolean, number, string, array, object, Members, no_members, member, value, members}
 use Rattle.json.specs.Token.{Token}
 use Rattle.unread_members.specs.Unread.{reads, unread_of}
 use Rattle.unread_members.specs.declared.reader.Reader.{Reader}
 use Rattle.unread_members.specs.declared.reader.Reader.TheVariants as reader
-use Rattle.flag_doubts.specs.Doubled.{count_of, is_doubled, member_names}
 use Rattle.flagops_checks.specs.Judged.{definition_of, is_unread, tree_in}
 
 -- each of these members is such
@@ -34,12 +33,8 @@ AreRead ms = Each (IsRead reader.Definition) ms
 abbrev pub IsPlainDefinition : List ℕ → Json → Type 0
 IsPlainDefinition k j = OfObject AreRead j
 
--- no name stands twice
-abbrev pub AreOnce : Members → Type 0
-AreOnce ms = (key : List ℕ) → nat_lt 1 (count_of key (member_names ms)) ≡ false
-
 abbrev pub ArePlainFlags : Members → Type 0
-ArePlainFlags ms = AreOnce ms × Each IsPlainDefinition ms
+ArePlainFlags ms = Each IsPlainDefinition ms
 
 -- the member of a document is read, and where it has flags, they are plain
 abbrev pub IsPlainMember : List ℕ → Json → Type 0
@@ -56,8 +51,7 @@ TakesValue P old new = (length new ≤ length old) × ((d : ℕ) (j : Json) (r :
 abbrev pub TakesMembers : (Members → Type 0) → List Token → List Token → Type 0
 TakesMembers P old new = (length new ≤ length old) × ((d n : ℕ) (ms : Members) (r : List Token) → members (value d) n old ≡ Some (ms, r) → (new ≡ r) × P ms)
 
--- in a document of these bytes no flag's key stands twice, and each member of it and of its definitions is read
+-- in a document of these bytes each member of it and of its definitions is read
 pub record IsPlain (bytes : List ℕ) : Type 0 where
-  pub once : (key : List ℕ) → is_doubled bytes key ≡ false
   pub document : unread_of reader.Document (tree_in bytes) ≡ None
   pub definitions : (key : List ℕ) → is_unread (definition_of (tree_in bytes) key) ≡ false

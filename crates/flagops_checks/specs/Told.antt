@@ -2,7 +2,7 @@
 use Rattle.std.specs.Prelude.{◌≡◌, ℕ, Bool, true, false, List, [], ◌∷◌, ◌++◌, codes, map, if◌then◌else◌}
 use Rattle.flag_doubts.specs.Doubts.{name_of}
 use Rattle.flag_doubts.specs.declared.doubt.Doubt.{Doubt}
-use Rattle.flag_doubts.specs.declared.doubt.Doubt.TheVariants.{Doubled, Never, Unread, Variant, Weight}
+use Rattle.flag_doubts.specs.declared.doubt.Doubt.TheVariants.{Doubled, Never, Repeated, Unread, Variant, Weight}
 use Rattle.flag_text.specs.Printing.{text_of}
 use Rattle.flag_text.specs.Shape.{text}
 use Rattle.flagops_checks.specs.Calls.{check_calls}
@@ -25,8 +25,9 @@ LineIf false path key d lines = lines ≡ []
 -- such a line for each doubt that a flag has, in this order, and nothing else
 abbrev pub FlagLines : List ℕ → Judged → List ℕ → Type 0
 FlagLines path j lines =
-    (doubled unread weight variant never : List ℕ) × LineIf j.is_doubled path j.key Doubled doubled × LineIf j.doubts.unread path j.key Unread unread × LineIf j.doubts.weight path j.key Weight weight
-    × LineIf j.doubts.variant path j.key Variant variant × LineIf j.doubts.never path j.key Never never × (lines ≡ doubled ++ (unread ++ (weight ++ (variant ++ never))))
+    (doubled repeated unread weight variant never : List ℕ) × LineIf j.is_doubled path j.key Doubled doubled × LineIf j.is_repeated path j.key Repeated repeated
+    × LineIf j.doubts.unread path j.key Unread unread × LineIf j.doubts.weight path j.key Weight weight × LineIf j.doubts.variant path j.key Variant variant × LineIf j.doubts.never path j.key Never never
+    × (lines ≡ doubled ++ (repeated ++ (unread ++ (weight ++ (variant ++ never)))))
 
 -- such lines for each flag, in the order of the keys, and nothing else
 unfoldable pub DoubtLines : List ℕ → List Judged → List ℕ → Type 0
@@ -46,10 +47,20 @@ abbrev pub UnreadPart : Bool → List ℕ → List ℕ → Type 0
 UnreadPart true path lines = Names path lines
 UnreadPart false path lines = lines ≡ []
 
+-- the line of a doubt of a document itself: its path as a JSON text, why, and the doubt by its name
+abbrev pub IsDocumentLine : List ℕ → Doubt → List ℕ → Type 0
+IsDocumentLine path d line = (why : List ℕ) × (line ≡ codes "note: " ++ (text_of (text path) ++ (codes " " ++ (why ++ (codes " (" ++ (name_of d ++ codes ")\n"))))))
+
+-- where a member stands twice in the document or beside its flags, such a line
+abbrev pub RepeatedPart : Bool → List ℕ → List ℕ → Type 0
+RepeatedPart true path line = IsDocumentLine path Repeated line
+RepeatedPart false path line = line ≡ []
+
 -- what is told of a document
 unfoldable pub TellsDocument : Form → Checked → List ℕ → Type 0
 TellsDocument form c lines =
-    (broken unread doubts : List ℕ) × BrokenPart (has_broken c) form c.path c.bytes broken × UnreadPart c.is_unread c.path unread × DoubtLines c.path c.flags doubts × (lines ≡ broken ++ (unread ++ doubts))
+    (broken unread repeated doubts : List ℕ) × BrokenPart (has_broken c) form c.path c.bytes broken × UnreadPart c.is_unread c.path unread × RepeatedPart c.is_repeated c.path repeated
+    × DoubtLines c.path c.flags doubts × (lines ≡ broken ++ (unread ++ (repeated ++ doubts)))
 
 -- of all, one behind the other
 abbrev pub TellsAll : Form → List Checked → List ℕ → Type 0

@@ -16,6 +16,8 @@ pub(crate) struct Checked<'a> {
     pub(crate) flags: Vec<Judged<'a>>,
     /// Whether a member of the document is not read.
     pub(crate) is_unread: bool,
+    /// The place of a member that stands more than once in it, or in what stands beside its flags.
+    pub(crate) repeated: Option<&'a str>,
 }
 
 impl Checked<'_> {
@@ -26,11 +28,14 @@ impl Checked<'_> {
         one_is_broken(self.flags.as_slice())
     }
 
-    /// Whether a flag is broken or doubted, or a member of the document is not read.
+    /// Whether a flag is broken or doubted, or a member of the document is not read or stands more than once.
     pub(crate) fn is_wrong(&self) -> bool
         ensures { result ≡ (has_broken (checked_view self.now) || has_doubted (checked_view self.now)) }
     {
-        self.has_broken() || self.is_unread || one_is_doubted(self.flags.as_slice())
+        self.has_broken()
+            || self.is_unread
+            || self.repeated.is_some()
+            || one_is_doubted(self.flags.as_slice())
     }
 }
 

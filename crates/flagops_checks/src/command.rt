@@ -24,8 +24,8 @@ use std::convert::AsStr;
 
 /// Does what the words after the program's name ask of `check`, which is the first of them, and gives the status to end with: it
 /// prints which flags of the documents are good and which are broken, and tells why on `err`, with what is doubted of them. With
-/// `--strict` the status is 1 where a flag is broken or doubted, or a member of a document is not read. The first document that
-/// is refused refuses the command: its line is printed with status 1, and nothing else. Files are only read.
+/// `--strict` the status is 1 where a flag is broken or doubted, or a member of a document is not read or stands more than once.
+/// The first document that is refused refuses the command: its line is printed with status 1, and nothing else. Files are only read.
 pub fn check<R: AllocGlobal, S: AsStr, F: FileSet, O: Outlet, E: Outlet>(
     rt: &R,
     words: &[S],

@@ -25,7 +25,7 @@ use unread_members::Reader;
 pub(crate) struct Gathered {
     pub(crate) text: Vec<u8>,
     pub(crate) told: Told,
-    /// Whether a flag is broken or doubted, or a member of a document is not read.
+    /// Whether a flag is broken or doubted, or a member of a document is not read or stands more than once.
     pub(crate) is_wrong: bool,
 }
 
@@ -92,6 +92,7 @@ fn with_flags(
         document: &names.document,
         flags: judge(alloc, &names, flags)?,
         is_unread: Reader::Document.unread(&names.document).is_some(),
+        repeated: names.place(),
     };
     with_checked(alloc, form, all, &checked)
 }

@@ -33,6 +33,8 @@ pub(crate) struct Judged<'a> {
     pub(crate) doubts: FlagDoubts,
     /// Whether the key stands more than once in the document.
     pub(crate) is_doubled: bool,
+    /// The place of a member that stands more than once in the definition.
+    pub(crate) repeated: Option<&'a str>,
 }
 
 impl Judged<'_> {
@@ -42,6 +44,7 @@ impl Judged<'_> {
     {
         match doubt {
             Doubt::Doubled => self.is_doubled,
+            Doubt::Repeated => self.repeated.is_some(),
             Doubt::Unread => self.doubts.unread,
             Doubt::Weight => self.doubts.weight,
             Doubt::Variant => self.doubts.variant,
@@ -53,7 +56,7 @@ impl Judged<'_> {
     pub(crate) fn is_doubted(&self) -> bool
         ensures { result ≡ is_doubted (judged_view self.now) }
     {
-        self.is_doubled || self.doubts.is_any()
+        self.is_doubled || self.repeated.is_some() || self.doubts.is_any()
     }
 }
 
@@ -77,7 +80,8 @@ pub(crate) fn judge<'a>(
             definition,
             is_broken: flag.is_broken(),
             doubts: doubts_in(definition, flag),
-            is_doubled: is_among(names.doubled.as_slice(), key),
+            is_doubled: is_among(names.repeated.keys.as_slice(), key),
+            repeated: names.place_in(key),
         })?;
     }
     Ok(all)

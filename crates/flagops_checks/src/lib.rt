@@ -17,7 +17,8 @@
 //! Proved, over the definitions in `specs/`: where the words ask for it, over files whose bytes are known, the output is the report
 //! of all documents (`Report`, `Printed`), or a front of it with status 1 where the output failed, or the line for want of memory;
 //! what is judged of a flag is what its definition means and what `flag_doubts` doubts of it (`Judged`); with `--strict` the
-//! status is 1 exactly where a flag of any document is broken or doubted, or a member of a document is not read; each flag that is
+//! status is 1 exactly where a flag of any document is broken or doubted, or a member of a document is not read or stands more
+//! than once; each flag that is
 //! broken has a line on `err`, and each doubt of each flag has one with the document's path, the flag's key and the doubt's name
 //! (`Told`). The first document that is refused refuses all, and is named. Files are only read.
 #![tactic(auto)]

@@ -1,66 +1,78 @@
 //! What is known of a document by the names in its text.
-ghost use Rattle.std.specs.Prelude.{◌≡◌, true, IfOk};
+ghost use Rattle.std.specs.Prelude.{◌≡◌, is_some, true, IfOk};
+ghost use Rattle.flag_doubts.specs.Doubled.{is_doubled};
+ghost use Rattle.flag_doubts.specs.Repeated.{has_repeated, is_repeated};
 ghost use Rattle.flag_text.specs.Shape.{is_tidy};
 ghost use Rattle.flag_text.specs.View.{view};
 ghost use Rattle.flagops_checks.specs.Judged.{tree_in};
-ghost use Rattle.flagops_checks.specs.Names.{AreKnown};
-ghost use Rattle.flagops_checks.specs.Plain.{IsPlain};
+ghost use Rattle.flagops_checks.specs.Names.{AreKnown, HasUnread};
 
 use crate::plain::is_plain;
-use flag_doubts::doubled_keys;
+use flag_doubts::{Repeated, repeated_in};
 use flag_text::{Tree, read_doc};
 use std::alloc::{AllocError, Global};
 
 /// The most bytes of a document.
 const LIMIT: usize = 4_194_304;
 
-/// The members of a document that are not read, and keys that stand twice.
+/// The members of a document that are not read, and what stands more than once in it.
 #[derive(Drop)]
 pub(crate) struct Names<'a> {
     pub(crate) bytes: &'a [u8],
     /// A tree with each member that is not read, of the document or of a flag's definition: that of the bytes, or one without
     /// members where there is none.
     pub(crate) document: Tree,
-    /// The keys of flags that stand more than once, in their order.
-    pub(crate) doubled: Vec<String>,
+    /// What stands more than once.
+    pub(crate) repeated: Repeated,
 }
 
-/// What is known of the names of a document that was read before. No tree is made where its text shows that all is read, and no
-/// key stands twice.
+impl Names<'_> {
+    /// The place of a member that stands more than once in the document, or in what stands beside its flags.
+    pub(crate) fn place(&self) -> Option<&str>
+        requires { AreKnown self.now }
+        ensures { is_some result ≡ has_repeated self.now.bytes.now }
+    {
+        match &self.repeated.document {
+            Some(place) => Some(place.as_str()),
+            None => None,
+        }
+    }
+
+    /// The place of a member that stands more than once in the definition of the flag of this key.
+    pub(crate) fn place_in(&self, key: &str) -> Option<&str>
+        requires { AreKnown self.now }
+        ensures { is_some result ≡ is_repeated self.now.bytes.now key.now }
+    {
+        match self.repeated.definitions.get(key) {
+            Some(place) => Some(place.as_str()),
+            None => None,
+        }
+    }
+}
+
+/// What is known of the names of a document that was read before.
 pub(crate) fn names_of(alloc: Global, bytes: &[u8]) -> Result<Names<'_>, AllocError>
     ensures bytes { IfOk result (λ n. n.bytes.now ≡ bytes.now) }
     ensures known { IfOk result AreKnown }
 {
-    if is_plain(alloc, bytes)? {
-        Ok(plain_names(alloc, bytes))
-    } else {
-        read_names(alloc, bytes)
-    }
-}
-
-fn plain_names(alloc: Global, bytes: &[u8]) -> Names<'_>
-    requires { IsPlain bytes.now }
-    ensures bytes { result.bytes.now ≡ bytes.now }
-    ensures known { AreKnown result }
-{
-    Names {
-        bytes,
-        document: Tree::Null,
-        doubled: Vec::new(alloc),
-    }
-}
-
-fn read_names(alloc: Global, bytes: &[u8]) -> Result<Names<'_>, AllocError>
-    ensures bytes { IfOk result (λ n. n.bytes.now ≡ bytes.now) }
-    ensures known { IfOk result AreKnown }
-{
-    let document = tree_of(alloc, bytes)?;
-    let doubled = doubled_keys(alloc, bytes)?;
+    let document = unread_in(alloc, bytes)?;
+    let repeated = repeated_in(alloc, bytes)?;
     Ok(Names {
         bytes,
         document,
-        doubled,
+        repeated,
     })
+}
+
+/// A tree with each member that is not read. Where the text shows that all are read, none is made of it.
+fn unread_in(alloc: Global, bytes: &[u8]) -> Result<Tree, AllocError>
+    ensures { IfOk result (λ t. HasUnread bytes.now (view t)) }
+{
+    if is_plain(alloc, bytes)? {
+        Ok(Tree::Null)
+    } else {
+        tree_of(alloc, bytes)
+    }
 }
 
 /// The tree of the bytes of a document that was read before.

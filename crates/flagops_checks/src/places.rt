@@ -4,6 +4,7 @@ ghost use Rattle.flag_documents.specs.Flag.{flag_view, is_broken};
 
 use bucket_core::weight_of;
 use flag_defs::Flag;
+use flag_doubts::{Given, are_too_heavy, are_weightless, given_by, has_truth};
 use flag_text::Tree;
 use flagops_files::quoted;
 use logic_ast::{Bucket, Node, Operator};
@@ -28,7 +29,7 @@ pub(crate) fn foreign_in(
         Node::Operation(Operator::Or, arguments) => {
             stepped(alloc, "or", foreign_argument(alloc, arguments, flag)?)
         }
-        Node::Operation(_, _) => Ok(None),
+        Node::Operation(operator, _) => foreign_given(alloc, *operator, flag),
         Node::Fractional { by, buckets, .. } => {
             let first = usize::from(by.is_some());
             stepped(
@@ -96,6 +97,21 @@ fn foreign_bucket(
     Ok(None)
 }
 
+/// What an operation gives, where that names no variant whatever its arguments are.
+fn foreign_given(
+    alloc: Global,
+    operator: Operator,
+    flag: &Flag,
+) -> Result<Option<String>, AllocError>
+    requires { is_broken (flag_view flag.now) ≡ false }
+{
+    match given_by(operator) {
+        Given::Truth if !has_truth(flag) => told(alloc, " is true or false"),
+        Given::NoName => is_no_name(alloc),
+        _ => Ok(None),
+    }
+}
+
 fn foreign_literal(alloc: Global, tree: &Tree, flag: &Flag) -> Result<Option<String>, AllocError>
     requires { is_broken (flag_view flag.now) ≡ false }
 {
@@ -120,54 +136,63 @@ fn foreign_name(alloc: Global, name: &str, flag: &Flag) -> Result<Option<String>
 }
 
 fn is_no_name(alloc: Global) -> Result<Option<String>, AllocError> {
-    Ok(Some(String::from_str(alloc, " is no name")?))
+    told(alloc, " is no name")
 }
 
-/// The first bucket of an expression whose weight is literal and none.
-#[cycle(heavy)]
-pub(crate) fn heavy_in(alloc: Global, node: &Node) -> Result<Option<String>, AllocError> {
+fn told(alloc: Global, text: &str) -> Result<Option<String>, AllocError> {
+    Ok(Some(String::from_str(alloc, text)?))
+}
+
+/// The first `fractional` of an expression that gives nobody a variant by its literal weights, and why: its own weights go before
+/// what stands in it.
+#[cycle(ill)]
+pub(crate) fn ill_in(alloc: Global, node: &Node) -> Result<Option<String>, AllocError> {
     match node {
         Node::Literal(_) => Ok(None),
-        Node::List(items) => heavy_item(alloc, items),
+        Node::List(items) => ill_item(alloc, items),
         Node::Operation(operator, arguments) => {
-            stepped(alloc, operator.name(), heavy_item(alloc, arguments)?)
+            stepped(alloc, operator.name(), ill_item(alloc, arguments)?)
         }
         Node::Fractional { by, buckets, .. } => {
-            let place = match heavy_by(alloc, by)? {
+            let first = usize::from(by.is_some());
+            let place = match ill_weights(alloc, buckets, first)? {
                 Some(place) => Some(place),
-                None => heavy_bucket(alloc, buckets, usize::from(by.is_some()))?,
+                None => match ill_by(alloc, by)? {
+                    Some(place) => Some(place),
+                    None => ill_bucket(alloc, buckets, first)?,
+                },
             };
             stepped(alloc, "fractional", place)
         }
     }
 }
 
-#[cycle(heavy)]
-fn heavy_item(alloc: Global, nodes: &Vec<Node>) -> Result<Option<String>, AllocError> {
+#[cycle(ill)]
+fn ill_item(alloc: Global, nodes: &Vec<Node>) -> Result<Option<String>, AllocError> {
     for i in 0..nodes.len() {
-        if let Some(place) = heavy_in(alloc, &nodes[i])? {
+        if let Some(place) = ill_in(alloc, &nodes[i])? {
             return at(alloc, i, place);
         }
     }
     Ok(None)
 }
 
-#[cycle(heavy)]
-fn heavy_by(alloc: Global, by: &Option<Box<Node>>) -> Result<Option<String>, AllocError> {
+#[cycle(ill)]
+fn ill_by(alloc: Global, by: &Option<Box<Node>>) -> Result<Option<String>, AllocError> {
     match by {
-        Some(by) => within(alloc, 0, heavy_in(alloc, by)?),
+        Some(by) => within(alloc, 0, ill_in(alloc, by)?),
         None => Ok(None),
     }
 }
 
-#[cycle(heavy)]
-fn heavy_bucket(
+#[cycle(ill)]
+fn ill_bucket(
     alloc: Global,
     buckets: &Vec<Bucket<Node>>,
     first: usize,
 ) -> Result<Option<String>, AllocError> {
     for i in 0..buckets.len() {
-        if let Some(place) = heavy_pair(alloc, &buckets[i])? {
+        if let Some(place) = ill_pair(alloc, &buckets[i])? {
             return at(alloc, i.saturating_add(first), place);
         }
     }
@@ -175,15 +200,42 @@ fn heavy_bucket(
 }
 
 /// Of the name of a bucket and its weight.
-#[cycle(heavy)]
-fn heavy_pair(alloc: Global, bucket: &Bucket<Node>) -> Result<Option<String>, AllocError> {
+#[cycle(ill)]
+fn ill_pair(alloc: Global, bucket: &Bucket<Node>) -> Result<Option<String>, AllocError> {
     match bucket {
         Bucket::Literal(_, _) => Ok(None),
-        Bucket::Computed(_, weight) if is_no_weight(weight) => Ok(Some(String::new(alloc))),
-        Bucket::Computed(name, weight) => match heavy_in(alloc, name)? {
+        Bucket::Computed(name, weight) => match ill_in(alloc, name)? {
             Some(place) => at(alloc, 0, place),
-            None => within(alloc, 1, heavy_in(alloc, weight)?),
+            None => within(alloc, 1, ill_in(alloc, weight)?),
         },
+    }
+}
+
+/// Of the weights of buckets, each and all.
+fn ill_weights(
+    alloc: Global,
+    buckets: &Vec<Bucket<Node>>,
+    first: usize,
+) -> Result<Option<String>, AllocError> {
+    for i in 0..buckets.len() {
+        if has_no_weight(&buckets[i]) {
+            let place = String::from_str(alloc, " weighs no whole number from 0 to 2147483647")?;
+            return at(alloc, i.saturating_add(first), place);
+        }
+    }
+    if are_too_heavy(buckets) {
+        return told(alloc, " weighs more than 2147483647");
+    }
+    if are_weightless(buckets) {
+        return told(alloc, " weighs 0");
+    }
+    Ok(None)
+}
+
+fn has_no_weight(bucket: &Bucket<Node>) -> bool {
+    match bucket {
+        Bucket::Literal(_, _) => false,
+        Bucket::Computed(_, weight) => is_no_weight(weight),
     }
 }
 

@@ -9,11 +9,10 @@ ghost use Rattle.flagops_checks.specs.Plain.{ArePlainFlags, AreRead, Each, IsPla
 use json::{MAX_DEPTH, Reader as Tokens, Scratch, Token};
 use simdutf8::basic;
 use std::alloc::{AllocError, Global};
-use std::collections::BTreeSet;
 use unread_members::Reader;
 
-/// Whether each member of a document and of its flags' definitions is read, and no key of its flags stands twice. It says no as
-/// well where one look at the text does not show it. It makes no tree.
+/// Whether each member of a document and of its flags' definitions is read. It says no as well where one look at the text does
+/// not show it. It makes no tree.
 pub(crate) fn is_plain(alloc: Global, bytes: &[u8]) -> Result<bool, AllocError>
     ensures { IfOk result (λ b. b ≡ true → IsPlain bytes.now) }
 {
@@ -31,7 +30,7 @@ fn text_is_plain(alloc: Global, text: &str) -> Result<bool, AllocError>
     if !opens_object(&mut reader) {
         return Ok(false);
     }
-    document_is_plain(alloc, &mut reader)
+    Ok(document_is_plain(&mut reader))
 }
 
 /// Takes the next token, and tells whether an object opens.
@@ -47,31 +46,31 @@ fn opens_object(reader: &mut Tokens<'_>) -> bool
 // Each function below tells what it takes to be so of the next members of a JSON text. Of what is no JSON text it says nothing.
 
 /// Takes the members of a document, and tells whether each is read and flags are plain.
-fn document_is_plain(alloc: Global, reader: &mut Tokens<'_>) -> Result<bool, AllocError>
-    ensures { IfOk result (λ b. b ≡ true → TakesMembers (Each IsPlainMember) reader.old reader.new) }
+fn document_is_plain(reader: &mut Tokens<'_>) -> bool
+    ensures { result ≡ true → TakesMembers (Each IsPlainMember) reader.old reader.new }
 {
     'members: while let Some(token) = reader.next() {
         let Token::Key(name) = token else {
-            return Ok(true);
+            return true;
         };
-        if !member_is_plain(alloc, reader, name)? {
-            return Ok(false);
+        if !member_is_plain(reader, name) {
+            return false;
         }
     }
-    Ok(false)
+    false
 }
 
 /// Takes the value of the member of this name of a document, and tells whether it is read and flags in it are plain.
-fn member_is_plain(alloc: Global, reader: &mut Tokens<'_>, name: &str) -> Result<bool, AllocError>
-    ensures { IfOk result (λ b. b ≡ true → TakesValue (IsPlainMember name.now) reader.old reader.new) }
+fn member_is_plain(reader: &mut Tokens<'_>, name: &str) -> bool
+    ensures { result ≡ true → TakesValue (IsPlainMember name.now) reader.old reader.new }
 {
     if !Reader::Document.reads(name) {
-        return Ok(false);
+        return false;
     }
     if name == "flags" {
-        flags_are_plain(alloc, reader)
+        flags_are_plain(reader)
     } else {
-        Ok(passes_value(reader))
+        passes_value(reader)
     }
 }
 
@@ -82,32 +81,28 @@ fn passes_value(reader: &mut Tokens<'_>) -> bool
     reader.skip_value(MAX_DEPTH).is_ok()
 }
 
-/// Takes the flags of a document, and tells whether each key stands once and each definition is plain.
-fn flags_are_plain(alloc: Global, reader: &mut Tokens<'_>) -> Result<bool, AllocError>
-    ensures { IfOk result (λ b. b ≡ true → TakesValue (OfObject ArePlainFlags) reader.old reader.new) }
+/// Takes the flags of a document, and tells whether each definition is plain.
+fn flags_are_plain(reader: &mut Tokens<'_>) -> bool
+    ensures { result ≡ true → TakesValue (OfObject ArePlainFlags) reader.old reader.new }
 {
     if !opens_object(reader) {
-        return Ok(false);
+        return false;
     }
-    definitions_are_plain(alloc, reader)
+    definitions_are_plain(reader)
 }
 
-fn definitions_are_plain(alloc: Global, reader: &mut Tokens<'_>) -> Result<bool, AllocError>
-    ensures { IfOk result (λ b. b ≡ true → TakesMembers ArePlainFlags reader.old reader.new) }
+fn definitions_are_plain(reader: &mut Tokens<'_>) -> bool
+    ensures { result ≡ true → TakesMembers ArePlainFlags reader.old reader.new }
 {
-    let mut met = BTreeSet::new(alloc);
     'members: while let Some(token) = reader.next() {
-        let Token::Key(key) = token else {
-            return Ok(true);
+        let Token::Key(_) = token else {
+            return true;
         };
-        if !met.insert(String::from_str(alloc, key)?)? {
-            return Ok(false);
-        }
         if !definition_is_plain(reader) {
-            return Ok(false);
+            return false;
         }
     }
-    Ok(false)
+    false
 }
 
 /// Takes the definition of a flag, and tells whether each member of it is read.

@@ -3,7 +3,7 @@ ghost use Rattle.std.specs.Prelude.{◌≡◌, false};
 ghost use Rattle.flag_documents.specs.Flag.{flag_view, is_broken};
 
 use crate::judging::Judged;
-use crate::places::{foreign_in, heavy_in};
+use crate::places::{foreign_in, ill_in};
 use flag_defs::Flag;
 use flag_doubts::Doubt;
 use flag_text::Tree;
@@ -22,10 +22,31 @@ pub(crate) fn reason(
             alloc,
             "stands more than once, and its last definition counts",
         ),
+        Doubt::Repeated => repeated(alloc, judged.repeated),
         Doubt::Unread => unread(alloc, judged.definition),
         Doubt::Weight => weight(alloc, judged.flag),
         Doubt::Variant => variant(alloc, judged.flag),
         Doubt::Never => String::from_str(alloc, "has a targeting that never gives a variant"),
+    }
+}
+
+/// The place of a member that stands more than once.
+pub(crate) fn repeated(alloc: Global, place: Option<&str>) -> Result<String, AllocError> {
+    let text = "has a member that stands more than once, and the last counts";
+    match place {
+        Some(place) => {
+            let place = within(place);
+            format!(in alloc; "{text}: {place}")
+        }
+        None => String::from_str(alloc, text),
+    }
+}
+
+/// A place within an object, without the dot before its first step.
+fn within(place: &str) -> &str {
+    match place.strip_prefix('.') {
+        Some(place) => place,
+        None => place,
     }
 }
 
@@ -57,11 +78,11 @@ fn shown_member(alloc: Global, name: &str) -> Result<String, AllocError> {
 
 fn weight(alloc: Global, flag: &Flag) -> Result<String, AllocError> {
     let place = match flag.targeting() {
-        Some(targeting) => heavy_in(alloc, targeting.root())?,
+        Some(targeting) => ill_in(alloc, targeting.root())?,
         None => None,
     };
     let place = placed(alloc, place)?;
-    format!(in alloc; "has a bucket whose weight is no whole number from 0 to 2147483647{place}")
+    format!(in alloc; "has a fractional that gives nobody a variant{place}")
 }
 
 fn variant(alloc: Global, flag: &Flag) -> Result<String, AllocError> {

@@ -1,12 +1,12 @@
 //! What a person is told of a document.
-ghost use Rattle.std.specs.Prelude.{◌≡◌, IfOk, map, string_bytes};
+ghost use Rattle.std.specs.Prelude.{◌≡◌, IfOk, is_some, map, string_bytes};
 ghost use Rattle.flagops_checks.specs.Judged.{checked_view, has, judged_view};
-ghost use Rattle.flagops_checks.specs.Told.{BrokenPart, DoubtLines, FlagLines, IsDoubtLine, LineIf, TellsDocument, UnreadPart, head_line};
+ghost use Rattle.flagops_checks.specs.Told.{BrokenPart, DoubtLines, FlagLines, IsDocumentLine, IsDoubtLine, LineIf, RepeatedPart, TellsDocument, UnreadPart, head_line};
 
 use crate::checked::Checked;
 use crate::form::Form;
 use crate::judging::Judged;
-use crate::reasons::reason;
+use crate::reasons::{reason, repeated};
 use flag_doubts::Doubt;
 use flag_text::Tree;
 use flagops_files::quoted;
@@ -31,8 +31,9 @@ pub(crate) fn document_lines(
         checked.has_broken(),
     )?;
     let unread = unread_lines(alloc, checked.path, checked.document, checked.is_unread)?;
+    let repeated = repeated_line(alloc, checked.path, checked.repeated)?;
     let doubts = doubt_lines(alloc, checked.path, checked.flags.as_slice())?;
-    format!(in alloc; "{broken}{unread}{doubts}")
+    format!(in alloc; "{broken}{unread}{repeated}{doubts}")
 }
 
 /// A line for each broken flag, where there is one, behind that of the document where there are others.
@@ -80,6 +81,32 @@ fn unread_lines(
     }
 }
 
+/// A line on a member that stands more than once in a document, where its place is given.
+fn repeated_line(alloc: Global, path: &str, place: Option<&str>) -> Result<String, AllocError>
+    ensures { IfOk result (λ s. RepeatedPart (is_some place.entry) path.now (string_bytes s)) }
+{
+    if place.is_some() {
+        document_line(alloc, path, place, Doubt::Repeated)
+    } else {
+        Ok(String::new(alloc))
+    }
+}
+
+/// The line of such a doubt of a document.
+fn document_line(
+    alloc: Global,
+    path: &str,
+    place: Option<&str>,
+    doubt: Doubt,
+) -> Result<String, AllocError>
+    ensures { IfOk result (λ s. IsDocumentLine path.now doubt (string_bytes s)) }
+{
+    let path = quoted(alloc, path)?;
+    let why = repeated(alloc, place)?;
+    let name = doubt.name();
+    format!(in alloc; "note: {path} {why} ({name})\n")
+}
+
 /// The lines of the doubts of flags.
 fn doubt_lines(alloc: Global, path: &str, flags: &[Judged<'_>]) -> Result<String, AllocError>
     ensures { IfOk result (λ s. DoubtLines path.now (map judged_view flags.now) (string_bytes s)) }
@@ -97,11 +124,12 @@ fn flag_lines(alloc: Global, path: &str, flag: &Judged<'_>) -> Result<String, Al
     ensures { IfOk result (λ s. FlagLines path.now (judged_view flag.now) (string_bytes s)) }
 {
     let doubled = line_if(alloc, path, flag, Doubt::Doubled)?;
+    let repeated = line_if(alloc, path, flag, Doubt::Repeated)?;
     let unread = line_if(alloc, path, flag, Doubt::Unread)?;
     let weight = line_if(alloc, path, flag, Doubt::Weight)?;
     let variant = line_if(alloc, path, flag, Doubt::Variant)?;
     let never = line_if(alloc, path, flag, Doubt::Never)?;
-    format!(in alloc; "{doubled}{unread}{weight}{variant}{never}")
+    format!(in alloc; "{doubled}{repeated}{unread}{weight}{variant}{never}")
 }
 
 /// The line of a doubt, where a flag has it.

@@ -14,11 +14,11 @@ returns-in_default-token c = λ _. (
 )
 
 pub members-smaller : goal.members-smaller
-members-smaller c = omega (arith, ap length c.in-Some.ensures.value, (c.in_ok-member_is_plain.ensures c.if-not-branch.false).0)
+members-smaller c = omega (arith, ap length c.in-Some.ensures.value, (c.member_is_plain.ensures c.if-not-member_is_plain.false).0)
 
 pub members-preserved : goal.members-preserved
 members-preserved c =
-    let taken = c.in_ok-member_is_plain.ensures c.if-not-branch.false in
+    let taken = c.member_is_plain.ensures c.if-not-member_is_plain.false in
     let first : c.members.reader ≡ Token.key c.in-Key.name.now ∷ c.next.new.self = c.in-Some.ensures.value ∙ ap (λ t. token_of t ∷ c.next.new.self) c.in-Key.is in (
       omega (arith, ap length c.in-Some.ensures.value, taken.0, c.members.invariant.0),
       λ d n ms r e.

@@ -1,12 +1,9 @@
 use Rattle.std.proofs.Common.{sym, ◌∙◌}
-use Rattle.std.proofs.lemmas.Result.{IfOk-weaker}
 use Rattle.flagops_checks.proofs.Taken.{flags_member, other_member}
 use Rattle.flagops_checks.proofs.plain.member_is_plain.Goals as goal
 
 pub returns-then-eq : goal.returns-then-eq
-returns-then-eq c =
-    IfOk-weaker c.flags_are_plain.result _ _
-    (λ b taken good. flags_member c.args.name.now c.args.reader.now c.flags_are_plain.new.reader (sym c.reads.ensures ∙ c.if-not-reads.false) (taken good)) c.flags_are_plain.ensures
+returns-then-eq c = λ good. flags_member c.args.name.now c.args.reader.now c.flags_are_plain.new.reader (sym c.reads.ensures ∙ c.if-not-reads.false) (c.flags_are_plain.ensures good)
 
 pub returns-else-eq : goal.returns-else-eq
 returns-else-eq c = λ good.
