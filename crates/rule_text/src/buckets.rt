@@ -71,11 +71,7 @@ fn judged(
 }
 
 /// Reads the value of a text, with room for so many buckets.
-fn read_whole(
-    alloc: Global,
-    reader: &mut Reader<'_>,
-    count: usize,
-) -> Result<Found, TextFault>
+fn read_whole(alloc: Global, reader: &mut Reader<'_>, count: usize) -> Result<Found, TextFault>
     ensures ok { IfOk result (λ f. (d : Data) × (converted of_json (value max_depth reader.old) ≡ Some (d, reader.new)) × ((option_map (λ v. entries_view v.items) f.0, f.1) ≡ found_in (shape_of d))) }
     ensures err { result ≡ Err TextFault.NotJson → converted of_json (value max_depth reader.old) ≡ None }
     ensures kind { IfErr result (λ e. e ≢ TextFault.WantOfMemory → e ≡ TextFault.NotJson) }
@@ -89,11 +85,7 @@ fn read_whole(
 }
 
 /// Reads the items of the list that a text is, and its end, with room for so many buckets.
-fn read_list(
-    alloc: Global,
-    reader: &mut Reader<'_>,
-    count: usize,
-) -> Result<Found, TextFault>
+fn read_list(alloc: Global, reader: &mut Reader<'_>, count: usize) -> Result<Found, TextFault>
     ensures ok { IfOk result (λ f. parse_map (λ ds. found_of (items_shape ds)) (converted of_items (items (value 126) (length reader.old) reader.old)) ≡ Some ((option_map (λ v. entries_view v.items) f.0, f.1), reader.new)) }
     ensures err { result ≡ Err TextFault.NotJson → converted of_items (items (value 126) (length reader.old) reader.old) ≡ None }
     ensures kind { IfErr result (λ e. e ≢ TextFault.WantOfMemory → e ≡ TextFault.NotJson) }

@@ -32,11 +32,7 @@ struct Outline {
 
 /// Of how many literal buckets a JSON text is a list, or what it is refused for. It keeps nothing of the text but the
 /// names of an object's members while it reads the object.
-pub(crate) fn look(
-    alloc: Global,
-    text: &str,
-    scratch: &mut Scratch,
-) -> Result<usize, RuleTextFault>
+pub(crate) fn look(alloc: Global, text: &str, scratch: &mut Scratch) -> Result<usize, RuleTextFault>
     ensures refused { IfErr result (λ e. is_want e ≡ false → buckets_in (if_whole (if_json (read text.now))) ≡ Err e) }
     ensures kind { result ≢ Err (Text texts.TooLarge) }
 {
