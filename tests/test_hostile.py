@@ -54,6 +54,7 @@ class Libraries(Script):
     def test_costly_documents(self):
         self.assertEqual(self.last("costly.py", "evaluation", "levels"), "2 cases, 0 bad")
         self.assertEqual(self.last("costly.py", "evaluations", "at 3,000 sites"), "1 cases, 0 bad")
+        self.assertEqual(self.last("costly.py", "rules", "60 MB"), "2 cases, 0 bad")
 
     def test_a_service_that_lacks_something(self):
         self.none_bad("ofrep.py", 1)

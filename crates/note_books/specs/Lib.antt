@@ -6,3 +6,4 @@ pub mod Notes
 pub mod Lines
 pub mod Line
 pub mod Law
+pub mod Astray

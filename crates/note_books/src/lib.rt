@@ -2,7 +2,7 @@
 //!
 //! [`take_notes`] adds the notes of a file to a book. Lines that have nothing but blanks, and what stands behind the last line
 //! feed, are passed over; any other line that is the line of no note is refused by its number, or passed over and counted.
-//! [`begins_book`] tells the file of a book from one of note lines.
+//! [`begins_book`] tells the file of a book from one of note lines, and [`begins_astray`] whether its first lines are refused.
 //!
 //! ```rust
 //! use book_core::Book;
@@ -23,9 +23,11 @@ mod blank;
 mod fault;
 mod laws;
 mod opening;
+mod stray;
 mod taking;
 
 pub use fault::NotesFault;
 pub use laws::{a_file_begins_as_it_is, a_file_notes_its_lines};
 pub use opening::begins_book;
+pub use stray::begins_astray;
 pub use taking::{NotesTaken, take_notes};
