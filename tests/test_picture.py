@@ -5,7 +5,7 @@ import random
 import unittest
 import xml.etree.ElementTree as tree
 
-from given import BOOK, FIVES, UNMET, document, forbid, request
+from given import BOOK, EMPTY_BOOK, FIVES, UNMET, document, forbid, request
 from program import ROOT, ProgramTest, run, text_of
 
 SVG = "{http://www.w3.org/2000/svg}"
@@ -291,6 +291,31 @@ class PictureTest(ProgramTest):
         swapped = {**files, "steps": back, "ramp": before + first.replace('"step":1', '"step":2')}
         self.assert_ends(words, swapped, 1, "refused verify-ramp 8 Groups\n")
         self.assert_mistake(["picture", "--ramp", "doc", "steps"], {}, "BOOK")
+
+    def test_what_is_doubted_is_told_beside_the_picture(self):
+        member = ',"forbidden":[["blue","red"]]'
+        unread = ' has a member that is not read:\n  "forbidden"; perhaps "forbid" is meant\n'
+        plain = {"doc": document(FIVES), "request": request('"red":3,"blue":7')}
+        plain["steps"] = plain["request"].replace('"totals":', '"steps":[').replace("}}", "}]}")
+        for more, book, names in [(member, BOOK, ["asked"]), ("", EMPTY_BOOK, ["book"]), (member, EMPTY_BOOK, ["asked", "book"])]:
+            plain["book"] = book
+            plain["plan"] = run(["plan", "doc", "request", "book"], plain).out
+            plain["ramp"] = run(["ramp", "doc", "steps", "book"], plain).out
+            for asked, words in [
+                ("request", ["picture", "doc", "request", "book", "plan"]),
+                ("steps", ["picture", "--ramp", "doc", "steps", "book", "ramp"]),
+            ]:
+                with self.subTest(words=words, names=names):
+                    ran = run(words, {**plain, asked: plain[asked][:-1] + more + "}"})
+                    note = f'note: "{asked}"{unread}' if "asked" in names else ""
+                    note += 'note: "book" has no input on the page of the request' if "book" in names else ""
+                    self.assertEqual((ran.status, ran.out), (0, run(words, plain).out))
+                    self.assertEqual(ran.err[: len(note)], note)
+                    self.assertEqual(ran.err.count("note: "), len(names))
+        plain["book"] = BOOK
+        plain["plan"] = run(["plan", "doc", "request", "book"], plain).out
+        ran = run(["picture", "doc", "request", "book", "plan"], plain)
+        self.assertEqual((ran.status, ran.err), (0, ""))
 
 
 if __name__ == "__main__":
