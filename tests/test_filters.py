@@ -263,6 +263,20 @@ class FiltersTest(ProgramTest):
         self.assertEqual((ran.out, ran.status), ("refused load 1 Unreadable\n", 1))
         self.assertIn('"b"', ran.err)
 
+    def test_ends_of_a_file(self):
+        """What `join` tells of a file that is empty, begins with a byte order mark, or was cut."""
+        whole = printed([note("a")], TOTAL)
+        for text, told in [
+            ("", 'error: "a" is empty, and no tally\n'),
+            ("\ufeff" + whole, 'error: "a" begins with a byte order mark, and is no tally\n'),
+            (whole[:-1], "its last line has no line feed"),
+        ]:
+            with self.subTest(text=text[:20]):
+                ran = run(["join", "b", "a"], {"a": text, "b": whole})
+                self.assertTrue(ran.out.startswith("refused read_tally "), ran.out)
+                self.assertEqual(ran.status, 1)
+                self.assertIn(told, ran.err)
+
     def test_book(self):
         """The tally of the demo's contexts has the counts of the book that `drive` writes of the same asks."""
         path = os.path.join(ROOT, "demo")

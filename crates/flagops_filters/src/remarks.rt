@@ -14,6 +14,14 @@ pub fn file_line(alloc: Global, path: &str, reason: &str) -> Result<String, Allo
     format!(in alloc; "error: {name}: {reason}\n")
 }
 
+/// A line that says of a file as a whole what it is.
+pub fn whole_line(alloc: Global, path: &str, words: &str) -> Result<String, AllocError>
+    ensures { IfOk result (λ s. NamesFile path.now (string_bytes s)) }
+{
+    let name = quoted(alloc, path)?;
+    format!(in alloc; "error: {name} {words}\n")
+}
+
 /// A line on the flag of a document that is refused.
 pub fn flag_line(alloc: Global, path: &str, key: &str, reason: &str) -> Result<String, AllocError>
     ensures { IfOk result (λ s. NamesFile path.now (string_bytes s)) }
