@@ -19,6 +19,9 @@ const BYTE_ORDER_MARK: &[u8] = b"\xef\xbb\xbf";
 /// The bytes of a way into what nests too deep from which on no further step is shown.
 const MOST_OF_WAY: usize = 40;
 
+/// The most bytes of a text in which a fault is looked for: the values that are made for it take some 30 times as many.
+const LOOKED_INTO: usize = 1 << 22;
+
 /// Of the text of a file.
 pub fn of_text(
     alloc: Global,
@@ -101,6 +104,10 @@ fn put_json_fault(lines: &mut Lines, bytes: &[u8]) {
         lines.put("its bytes are not UTF-8");
         return;
     };
+    if bytes.len() > LOOKED_INTO {
+        lines.put("where it goes wrong is looked for in at most 4194304 bytes");
+        return;
+    }
     match Value::from_str(lines.alloc, text) {
         Ok(_value) => lines.put("it nests too deep"),
         Err(e) if e.is_memory() => lines.fall_short(AllocError),
@@ -109,16 +116,23 @@ fn put_json_fault(lines: &mut Lines, bytes: &[u8]) {
 }
 
 fn put_not_whole(lines: &mut Lines, bytes: &[u8], limit: usize) {
-    lines.put(": the number at ");
-    put_place(lines, bytes, limit, Sought::NotWhole, usize::MAX);
+    if bytes.len() > LOOKED_INTO {
+        lines.put(": a number in it");
+    } else {
+        lines.put(": the number at ");
+        put_place(lines, bytes, limit, Sought::NotWhole, usize::MAX);
+    }
     lines.put(
         " is not whole\n  numbers are from -(2^53-1) to 2^53-1, without fraction or exponent: give cents, or a text\n",
     );
 }
 
 fn put_too_deep(lines: &mut Lines, bytes: &[u8], limit: usize) {
-    lines.put(": lists and objects nest deeper than 120 levels, at ");
-    put_place(lines, bytes, limit, Sought::Within(LEVELS), MOST_OF_WAY);
+    lines.put(": lists and objects nest deeper than 120 levels");
+    if bytes.len() <= LOOKED_INTO {
+        lines.put(", at ");
+        put_place(lines, bytes, limit, Sought::Within(LEVELS), MOST_OF_WAY);
+    }
     lines.put("\n");
 }
 
