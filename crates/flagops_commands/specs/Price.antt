@@ -12,7 +12,8 @@ use Rattle.price_core.specs.Pricing.{Pricing}
 use Rattle.price_core.specs.Request.{Asked, asked_of}
 use Rattle.flagops_files.specs.Files.{Holding, load_of}
 use Rattle.flagops_files.specs.Loading.{◌>>=◌, refused_by, rule_at, tree_at, max_text}
-use Rattle.flagops_files.specs.Report.{Report, done}
+use Rattle.flagops_files.specs.Report.{Report, beside, done}
+use Rattle.flagops_commands.specs.Doubts.{is_unread}
 use Rattle.flagops_commands.specs.Totals.{totals_by_name}
 use Rattle.flagops_files.specs.declared.refusal.Refusal.{Refusal}
 use Rattle.flagops_files.specs.declared.refusal.Refusal.TheVariants.{Load, ReadRequest, Note, Price}
@@ -20,11 +21,15 @@ use Rattle.flagops_files.specs.declared.refusal.PriceMismatch.TheVariants.{Weigh
 
 -- ---- what is read
 
--- the request of the file at a path
-unfoldable pub request_at : Holding → List ℕ → Result Asked Refusal
+-- a request, and whether it has a member that is not read
+abbrev pub with_doubt : List ℕ → Result Asked Refusal → Result (Asked × Bool) Refusal
+with_doubt bytes asked = asked >>= λ a. Ok (a, is_unread bytes)
+
+-- those of the file at a path
+unfoldable pub request_at : Holding → List ℕ → Result (Asked × Bool) Refusal
 request_at at path = do
   bytes ← refused_by Load (load_of at path max_text)
-  refused_by ReadRequest (asked_of bytes)
+  with_doubt bytes (refused_by ReadRequest (asked_of bytes))
 
 -- the texts of a list of texts
 abbrev pub texts_of : Items → Option Inputs
@@ -126,11 +131,11 @@ weighed json old new pricing inputs =
 abbrev pub weighed_keys : Bool → Entries → Entries → Pricing → Inputs → Result Report Refusal
 weighed_keys json old new pricing keys = exposed keys >>= λ inputs. weighed json old new pricing inputs
 
--- what the command reports, its files read in the order of the words
+-- what the command reports, its files read in the order of the words, and whether a person is told of a doubt beside it
 unfoldable pub price_report : Holding → List ℕ → List ℕ → List ℕ → List ℕ → Bool → Result Report Refusal
 price_report at old new request keys json = do
   o ← rule_at at old
   n ← rule_at at new
   a ← request_at at request
   ks ← keys_at at keys
-  weighed_keys json o n a.prices ks
+  beside a.1 (weighed_keys json o n a.0.prices ks)

@@ -1,17 +1,21 @@
 //! The command `price`: what a new rule costs the keys of a file.
-ghost use Rattle.std.specs.Prelude.{◌≡◌, ◌<◌, ◌≤◌, ◌^◌, ◌++◌, ◌||◌, [], ◌∷◌, false, true, length, pos, if◌then◌else◌, IfOk, IfSome, codes, decimal, map, string_bytes};
+ghost use Rattle.std.specs.Prelude.{◌≡◌, ◌<◌, ◌≤◌, ◌^◌, ◌++◌, ◌||◌, [], ◌∷◌, false, true, is_some, length, pos, if◌then◌else◌, IfOk, IfSome, codes, decimal, map, string_bytes};
 ghost use Rattle.bucket_core.specs.Rule.{total_weight};
 ghost use Rattle.flag_text.specs.Shape.{members_are_whole, object, whole};
 ghost use Rattle.flag_text.specs.View.{view, items_view};
-ghost use Rattle.flagops_commands.specs.Price.{request_at, keys_at, keys_in, if_keys, texts_of, are_short, are_taken, exposed, price_report, weighed, weighed_keys, price_json, price_lines, price_members, price_text, number_or_null, total_lines, total_members, forbidden_line, cost_line};
+ghost use Rattle.flagops_commands.specs.Price.{request_at, keys_at, keys_in, if_keys, texts_of, are_short, are_taken, exposed, price_report, weighed, weighed_keys, with_doubt, price_json, price_lines, price_members, price_text, number_or_null, total_lines, total_members, forbidden_line, cost_line};
 ghost use Rattle.flagops_commands.specs.Calls.{loads_keys, loads_request, notes_keys, price_calls, price_itself};
+ghost use Rattle.flagops_files.specs.Loading.{refused_by};
 ghost use Rattle.flagops_files.specs.Refusal.{ComesFrom, GivesUnlessWant, is_file_fault};
 ghost use Rattle.flagops_files.specs.Report.{outcome_view};
 ghost use Rattle.flagops_files.specs.declared.refusal.PriceMismatch.TheVariants.{BadKeys};
-ghost use Rattle.flagops_files.specs.declared.refusal.Refusal.TheVariants.{Price};
+ghost use Rattle.flagops_files.specs.declared.refusal.Refusal.TheVariants.{Price, ReadRequest};
 ghost use Rattle.flagops_files.specs.Told.{NamesSubject, Says, TellsOf, TellsOfOne, file, word};
 ghost use Rattle.flagops_commands.specs.Subjects.{is_of_keys, is_of_rules, old_weights, price_subjects};
+ghost use Rattle.flagops_remarks.specs.Named.{Names};
+ghost use Rattle.price_core.specs.Request.{asked_of};
 
+use crate::rollouts::doubts::unread;
 use crate::rules::totals::totals_by_name;
 use book_core::{Book, Exposure, Page};
 use bucket_core::Rule;
@@ -25,8 +29,15 @@ use price_core::{Prices, Request, first_forbidden, switch_cost_of};
 use std::alloc::{AllocError, AllocFailed, Global};
 use std::thread::Threads;
 
+/// A request, with what a person is told of members that are not read.
+#[derive(Drop)]
+struct NotedRequest {
+    request: Request,
+    remark: Option<Remark>,
+}
+
 /// The totals of the new rule's names, the first forbidden point, and what the change costs the
-/// keys, a line each or with `json` as one JSON text.
+/// keys, a line each or with `json` as one JSON text. What is doubted of the request is told.
 #[tactic(auto, unfolding(crate::specs::Price::price_report))]
 pub fn price<R: Threads + Sync, F: FileSet>(
     rt: &R,
@@ -43,30 +54,69 @@ pub fn price<R: Threads + Sync, F: FileSet>(
     ensures failed { F.has_failed files.new ≡ (F.has_failed files.old || is_file_fault result) }
     ensures kept { F.holding files.new ≡ F.holding files.old }
     ensures names { TellsOfOne (price_subjects old.now new.now request.now keys.now) result }
+    ensures notes { IfOk result (λ o. IfSome o.remark (Says (Names request.now))) }
 {
     let old = load_rule(alloc, files, old)?;
     let new = load_rule(alloc, files, new)?;
-    let request = load_request(alloc, files, request)?;
+    let NotedRequest { request, remark } = load_request(alloc, files, request)?;
     let path = keys;
     let keys = load_keys(alloc, files, path)?;
-    weigh_keys(rt, alloc, path, keys, &old, &new, request.prices(), json)
+    let prices = request.prices();
+    let outcome = weigh_keys(rt, alloc, path, keys, &old, &new, prices, json)?;
+    Ok(beside(outcome, remark))
+}
+
+/// An outcome with what a person is told beside it.
+fn beside(outcome: Outcome, remark: Option<Remark>) -> Outcome
+    ensures report { outcome_view result ≡ record (outcome_view outcome) { is_told = is_some remark } }
+    ensures remark { result.remark ≡ remark }
+{
+    let Outcome { text, status, .. } = outcome;
+    Outcome {
+        text,
+        status,
+        remark,
+    }
 }
 
 /// The request of the file at a path.
 #[tactic(auto, using(flagops_files::proofs::Told::says), unfolding(crate::specs::Price::request_at))]
-fn load_request<F: FileSet>(alloc: Global, files: &mut F, path: &str) -> Result<Request, Refused>
-    ensures exact { IfSome (F.holding files.old) (λ at. GivesUnlessWant (λ r. r) result (request_at at path.now)) }
+fn load_request<F: FileSet>(
+    alloc: Global,
+    files: &mut F,
+    path: &str,
+) -> Result<NotedRequest, Refused>
+    ensures exact { IfSome (F.holding files.old) (λ at. GivesUnlessWant (λ r. (r.request, is_some r.remark)) result (request_at at path.now)) }
     ensures calls { ComesFrom loads_request result }
     ensures failed { F.has_failed files.new ≡ (F.has_failed files.old || is_file_fault result) }
     ensures kept { F.holding files.new ≡ F.holding files.old }
     ensures names { TellsOf (file path.now) result }
+    ensures notes { IfOk result (λ r. IfSome r.remark (Says (Names path.now))) }
 {
     let bytes = load(alloc, files, path, u64::from(TEXT_LIMIT))?;
-    match Request::read(alloc, bytes.as_slice()) {
-        Ok(request) => Ok(request),
+    request_in(alloc, path, bytes.as_slice())
+}
+
+/// The request of a file's bytes.
+#[tactic(auto, using(flagops_files::proofs::Told::says))]
+fn request_in(alloc: Global, path: &str, bytes: &[u8]) -> Result<NotedRequest, Refused>
+    ensures exact { GivesUnlessWant (λ r. (r.request, is_some r.remark)) result (with_doubt bytes.now (refused_by ReadRequest (asked_of bytes.now))) }
+    ensures calls { ComesFrom loads_request result }
+    ensures read { is_file_fault result ≡ false }
+    ensures names { TellsOf (file path.now) result }
+    ensures notes { IfOk result (λ r. IfSome r.remark (Says (Names path.now))) }
+{
+    match Request::read(alloc, bytes) {
+        Ok(request) => match unread(alloc, path, bytes) {
+            Ok(remark) => Ok(NotedRequest { request, remark }),
+            Err(AllocError) => Err(Refused {
+                refusal: Refusal::WantOfMemory(Call::ReadRequest),
+                remark: Remark::Short,
+            }),
+        },
         Err(fault) => Err(Refused {
             refusal: Refusal::ReadRequest(fault),
-            remark: Remark::of(of_request(alloc, path, bytes.as_slice(), fault)),
+            remark: Remark::of(of_request(alloc, path, bytes, fault)),
         }),
     }
 }
