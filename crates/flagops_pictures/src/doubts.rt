@@ -1,5 +1,5 @@
 //! What is doubted of an answer that is drawn, which a person is told.
-ghost use Rattle.std.specs.Prelude.{◌≡◌, is_some, option_map, IfOk};
+ghost use Rattle.std.specs.Prelude.{◌≡◌, is_some, IfOk};
 ghost use Rattle.flagops_commands.specs.Doubts.{doubt_of, is_unread};
 ghost use Rattle.flagops_files.specs.Question.{book_question_view};
 ghost use Rattle.flagops_pictures.specs.Pictured.{as_question};
@@ -7,7 +7,7 @@ ghost use Rattle.flagops_pictures.specs.Pictured.{as_question};
 use crate::asked::Asked;
 use flag_text::{TextFault, read_tree};
 use flagops_files::{BookQuestion, Remark, TEXT_LIMIT};
-use flagops_ramps::{NotedDoubt, first_of, unrecorded_in};
+use flagops_ramps::{doubt_in_book, first_of, remark_in};
 use flagops_remarks::of_unread;
 use std::alloc::{AllocError, Global};
 use std::thread::Threads;
@@ -25,17 +25,8 @@ pub(crate) fn noted<R: Threads>(
     let request = question.request.as_slice();
     let unread = unread(alloc, asked.request, request)?;
     let (flags, book) = (&question.flags, &question.book);
-    let unrecorded = unrecorded_in(rt, alloc, asked.book, flags, request, book)?;
-    Ok(remark_of(first_of(unread, unrecorded)))
-}
-
-fn remark_of(doubted: Option<NotedDoubt>) -> Option<Remark>
-    ensures { is_some result ≡ is_some (option_map (λ d. d.doubt) doubted) }
-{
-    match doubted {
-        Some(NotedDoubt { remark, .. }) => Some(remark),
-        None => None,
-    }
+    let recorded = doubt_in_book(rt, alloc, asked.book, flags, request, book)?;
+    Ok(remark_in(first_of(unread, recorded)))
 }
 
 /// What is told of members of a request that are not read, where there are any.

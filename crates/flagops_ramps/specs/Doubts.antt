@@ -8,7 +8,8 @@ use Rattle.flag_text.specs.Shape.{Shape, object, Members, no_members, member}
 use Rattle.flag_text.specs.declared.fault.TextFault.{TextFault}
 use Rattle.unread_members.specs.Unread.{reads}
 use Rattle.unread_members.specs.declared.reader.Reader.TheVariants as reader
-use Rattle.flagops_commands.specs.Doubts.{first_doubt}
+use Rattle.flagops_commands.specs.Doubts.{first_doubt, recorded_doubt}
+use Rattle.flagops_commands.specs.Foreign.{is_foreign, is_mixed}
 use Rattle.flagops_commands.specs.Unrecorded.{is_bare, is_unrecorded}
 use Rattle.flagops_files.specs.Loading.{max_text}
 use Rattle.flagops_files.specs.Question.{BookQuestion, Question}
@@ -51,13 +52,13 @@ first_request (request ∷ requests) = request
 abbrev pub first_question : BookQuestion → List (List ℕ) → Question
 first_question q requests = record { flags = q.flags; request = first_request requests; evidence = Book q.book }
 
--- a book has no input on a page, where there is one
-abbrev pub is_bare_in : Contents → Option PageName → Bool
-is_bare_in book page = is_bare (Book book) page
+-- what is doubted of what a book has on a page, where there is one: it has no input, or one that is none of the flag
+abbrev pub doubt_in : Contents → Option PageName → Option Doubt
+doubt_in book page = recorded_doubt (is_bare (Book book) page) (is_mixed (Book book) page)
 
--- the first that is doubted of steps with these requests: a member of their file is not read, or no recorded input counts
+-- the first that is doubted of steps with these requests: a member of their file is not read, no recorded input counts, or one that does is none of the flag
 abbrev pub doubt_of_steps : BookQuestion → List (List ℕ) → Option Doubt
-doubt_of_steps q requests = first_doubt (is_unread q.request) (is_unrecorded (first_question q requests))
+doubt_of_steps q requests = first_doubt (is_unread q.request) (recorded_doubt (is_unrecorded (first_question q requests)) (is_foreign (first_question q requests)))
 
 -- whether a person is told of a doubt; with `--strict` the call refuses it
 abbrev pub settle : StepCall → Bool → Option Doubt → Result Bool RampRefusal

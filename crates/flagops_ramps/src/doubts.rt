@@ -6,9 +6,9 @@ ghost use Rattle.flagops_files.specs.Question.{book_question_view};
 ghost use Rattle.flagops_ramps.specs.Doubts.{Settles, doubt_of_steps, first_request, has_unread, has_unread_member, is_read, is_unread, settle};
 ghost use Rattle.ramp_steps.specs.Steps.{requests_view};
 
+use crate::recorded::doubt_in_book;
 use crate::refusal::{RampRefusal, StepCall};
 use crate::reports::Told;
-use crate::unrecorded::unrecorded_in;
 use crate::verifying::out_of_memory;
 use flag_text::{TextFault, Tree, read_tree};
 use flagops_files::{BookQuestion, Doubt, Remark, TEXT_LIMIT};
@@ -84,24 +84,30 @@ fn doubted<R: Threads>(
 {
     let unread = unread(alloc, paths.steps, question.request.as_slice())?;
     let request = first_request(steps);
-    let unrecorded = unrecorded_in(rt, alloc, paths.book, &question.flags, request, book)?;
-    Ok(first_of(unread, unrecorded))
+    let recorded = doubt_in_book(rt, alloc, paths.book, &question.flags, request, book)?;
+    Ok(first_of(unread, recorded))
 }
 
 /// The first of two doubts, with what is told of both.
-pub fn first_of(unread: Option<Remark>, unrecorded: Option<Remark>) -> Option<NotedDoubt>
-    ensures { option_map (λ d. d.doubt) result ≡ first_doubt (is_some unread) (is_some unrecorded) }
+pub fn first_of(unread: Option<Remark>, recorded: Option<NotedDoubt>) -> Option<NotedDoubt>
+    ensures { option_map (λ d. d.doubt) result ≡ first_doubt (is_some unread) (option_map (λ d. d.doubt) recorded) }
 {
-    match (unread, unrecorded) {
-        (Some(remark), more) => Some(NotedDoubt {
+    match unread {
+        Some(remark) => Some(NotedDoubt {
             doubt: Doubt::Unread,
-            remark: joined(remark, more),
+            remark: joined(remark, remark_in(recorded)),
         }),
-        (None, Some(remark)) => Some(NotedDoubt {
-            doubt: Doubt::Unrecorded,
-            remark,
-        }),
-        (None, None) => None,
+        None => recorded,
+    }
+}
+
+/// What a person is told of a doubt, where there is one.
+pub fn remark_in(noted: Option<NotedDoubt>) -> Option<Remark>
+    ensures { is_some result ≡ is_some (option_map (λ d. d.doubt) noted) }
+{
+    match noted {
+        Some(NotedDoubt { remark, .. }) => Some(remark),
+        None => None,
     }
 }
 
