@@ -145,9 +145,10 @@ subjects_of (keep document answer request book write refine strict) = keep_subje
 subjects_of (drive document asks workers book add strict json) = drive_subjects document asks book
 subjects_of (completions shell) = []
 
--- what a person is told beside the report of a command that was not refused: what is doubted of an
--- answer to a request, and what the asks ended in
+-- what a person is told beside the report of a command that was not refused: what is doubted of a
+-- request or of an answer to it, and what the asks ended in
 abbrev pub notes_of : Asked → List ℕ → Type 0
+notes_of (price old new request keys json) = Names request
 notes_of (verify document request book answer refine strict json) = NamesDoubted request book
 notes_of (plan document request book refine strict explain) = NamesDoubted request book
 notes_of (keep document answer request book write refine strict) = NamesDoubted request book

@@ -21,8 +21,8 @@ use flag_text::Outlet;
 use flagops_commands::explain;
 use flagops_files::{BookQuestion, FileSet, Outcome, Remark, Status, load_book_question};
 use flagops_ramps::{
-    Paths, RampRefusal, Sources, StepCall, Told, Verifying, counted, finish, load_ramp, of_step,
-    of_steps, out_of_memory, settled, wrong,
+    Paths, RampRefusal, Sources, StepCall, Told, Verifying, counted, finish, load_ramp, of_steps,
+    of_steps_in, out_of_memory, settled, wrong,
 };
 use page_tally::BookFile;
 use picture::{draw_step, page};
@@ -130,7 +130,7 @@ fn judged<R: Threads + Sync>(
             let fault = of_steps(fault);
             Err(Told {
                 refusal: RampRefusal::Verify(VerifyFault::Request(fault.fault)),
-                remark: Remark::of(of_step(alloc, asked.steps, fault)),
+                remark: Remark::of(of_steps_in(alloc, asked.steps, question, fault)),
             })
         }
     }

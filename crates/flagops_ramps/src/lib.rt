@@ -40,6 +40,6 @@ pub use doubts::{NotedDoubt, Sources, first_of, remark_in, settled};
 pub use ramping::{counted, of_steps, ramp};
 pub use recorded::doubt_in_book;
 pub use refusal::{RampRefusal, StepCall};
-pub use remarks::of_step;
+pub use remarks::of_steps_in;
 pub use reports::{Told, finish};
 pub use verifying::{Paths, load_ramp, out_of_memory, verify_ramp, wrong};

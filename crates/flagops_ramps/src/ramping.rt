@@ -15,7 +15,7 @@ ghost use Rattle.ramp_steps.specs.Steps.{most_steps, requests_view};
 use crate::asked::Ramping;
 use crate::doubts::{Sources, first_request, settled};
 use crate::refusal::{RampRefusal, StepCall};
-use crate::remarks::of_step;
+use crate::remarks::of_steps_in;
 use crate::reports::{Told, finish};
 use crate::words::read_ramp;
 use book_core::BookFileFault;
@@ -97,7 +97,7 @@ fn answer<R: Threads + Sync>(
 {
     match read_steps(alloc, question.request.as_slice()) {
         Ok(steps) => answers(rt, alloc, asked, question, steps.as_slice()),
-        Err(fault) => Err(refused(alloc, asked.steps, of_steps(fault))),
+        Err(fault) => Err(refused(alloc, asked.steps, question, of_steps(fault))),
     }
 }
 
@@ -113,7 +113,7 @@ fn answers<R: Threads + Sync>(
     ensures { GivesOne result (IsRampOver asked.now.strict (option_map (λ m. m.number) asked.now.refine) (book_question_view question.now) (Ok (requests_view steps.now))) }
 {
     let Ok(book) = counted(rt, alloc, question, steps, factor_of(asked.refine)) else {
-        return Err(refused(alloc, asked.steps, out_of_memory()));
+        return Err(refused(alloc, asked.steps, question, out_of_memory()));
     };
     over(rt, alloc, asked, question, &book, steps)
 }
@@ -134,7 +134,7 @@ fn over<R: Threads + Sync>(
     let factor = factor_of(asked.refine);
     match plan_steps(rt, alloc, &question.flags, steps, book, factor) {
         Ok(answers) => told(rt, alloc, asked, question, book, steps, answers.as_slice()),
-        Err(fault) => Err(refused(alloc, asked.steps, fault)),
+        Err(fault) => Err(refused(alloc, asked.steps, question, fault)),
     }
 }
 
@@ -164,12 +164,12 @@ fn told<R: Threads>(
 }
 
 /// A step that is refused, which a person is told of.
-fn refused(alloc: Global, path: &str, fault: StepFault) -> Told
+fn refused(alloc: Global, path: &str, question: &BookQuestion, fault: StepFault) -> Told
     ensures { result.refusal ≡ RampRefusal.Ramp fault.fault }
 {
     Told {
         refusal: RampRefusal::Ramp(fault.fault),
-        remark: Remark::of(of_step(alloc, path, fault)),
+        remark: Remark::of(of_steps_in(alloc, path, question, fault)),
     }
 }
 

@@ -15,12 +15,13 @@ use crate::asked::Verifying;
 use crate::doubts::{Sources, settled};
 use crate::ramping::{counted, factor_of, of_steps};
 use crate::refusal::{RampRefusal, StepCall};
-use crate::remarks::{file_line, of_step, step_line};
+use crate::remarks::{file_line, of_steps_in, step_line, whole_line};
 use crate::reports::{Told, finish};
 use crate::words::read_verify;
 use flag_text::Outlet;
 use flagops_commands::explain;
 use flagops_files::{BookQuestion, FileSet, Outcome, Remark, Status, load, load_book_question};
+use flagops_remarks::Ends;
 use flagops_words::Factor;
 use page_tally::BookFile;
 use plan_text::Planned;
@@ -140,7 +141,7 @@ fn read(alloc: Global, path: &str, bytes: &[u8]) -> Result<Vec<Planned>, Told>
         Ok(answers) => Ok(answers),
         Err(fault) => Err(Told {
             refusal: RampRefusal::Read(fault),
-            remark: Remark::of(of_ramp(alloc, path, fault)),
+            remark: Remark::of(of_ramp(alloc, path, Ends::of(bytes), fault)),
         }),
     }
 }
@@ -161,7 +162,7 @@ fn judged<R: Threads + Sync>(
             let fault = of_steps(fault);
             Err(Told {
                 refusal: RampRefusal::Verify(VerifyFault::Request(fault.fault)),
-                remark: Remark::of(of_step(alloc, asked.steps, fault)),
+                remark: Remark::of(of_steps_in(alloc, asked.steps, question, fault)),
             })
         }
     }
@@ -261,7 +262,7 @@ pub fn wrong(alloc: Global, paths: Paths<'_>, fault: RampFault) -> Told
             remark: Remark::of(file_line(
                 alloc,
                 paths.ramp,
-                "there are fewer or more lines than steps",
+                "there are fewer or more lines than steps; an empty file has none",
             )),
         },
     }
@@ -284,12 +285,24 @@ fn of_verdict(
     step_line(alloc, path, step, reason.as_str())
 }
 
-/// What a person is told of a file that is none of answers.
-fn of_ramp(alloc: Global, path: &str, fault: RampFileFault) -> Result<String, AllocError>
+/// What a person is told of a file that is none of answers, by what is seen of it at its ends.
+fn of_ramp(
+    alloc: Global,
+    path: &str,
+    ends: Ends,
+    fault: RampFileFault,
+) -> Result<String, AllocError>
     ensures { IfOk result (λ s. NamesFile path.now (string_bytes s)) }
 {
     let reason = format!(in alloc; "{fault}")?;
-    file_line(alloc, path, reason.as_str())
+    match ends {
+        Ends::Marked => whole_line(
+            alloc,
+            path,
+            "begins with a byte order mark, and has no answers to steps\n  save it as UTF-8 without the mark",
+        ),
+        _ => file_line(alloc, path, reason.as_str()),
+    }
 }
 
 /// The factor of the first step, where one is given.
