@@ -6,7 +6,7 @@ use Rattle.std.proofs.lemmas.List.{take_all}
 use Rattle.std.specs.Io.KnownBytes.{Appends}
 use Rattle.flag_text.specs.Outlet.{AppendsPart}
 use Rattle.flagops_streams.specs.Report.{RefusesBeside, Reports}
-use Rattle.flagops_streams.specs.Told.{IsGone, IsOfSubscribers, Says, SaysEach, TellsLines}
+use Rattle.flagops_streams.specs.Told.{IsGone, IsServeLine, Says, SaysEach, TellsLines}
 use Rattle.flagops_streams.specs.declared.refusal.Refusal.{Refusal}
 use Rattle.flagops_streams.specs.declared.refusal.Refusal.TheVariants.{WantOfMemory}
 
@@ -65,15 +65,16 @@ lines_as Is As more old new is_mute (lines, each) = (lines, go old lines each)
     go from [] each = each
     go from (line ∷ lines) (between, is, said, each) = (between, more line is, said, go between lines each)
 
--- ---- lines of subscribers
+-- ---- lines of `serve`
 
 -- what is told where all were served may be told where some were not
 pub gone_as : (b c : Bool) → (c ≡ true → b ≡ true) → (line : List ℕ) → IsGone b line → IsGone c line
 gone_as b c more line (number, snapshots, end, sent, is) = (number, snapshots, end, λ all. sent (more all), is)
 
-pub of_subscribers_as : (port subscribers : ℕ) (b c : Bool) → (c ≡ true → b ≡ true) → (line : List ℕ) → IsOfSubscribers port subscribers b line → IsOfSubscribers port subscribers c line
-of_subscribers_as port subscribers b c more line (inl came) = inl came
-of_subscribers_as port subscribers b c more line (inr gone) = inr (gone_as b c more line gone)
+pub serve_line_as : (port subscribers : ℕ) (b c : Bool) → (c ≡ true → b ≡ true) → (line : List ℕ) → IsServeLine port subscribers b line → IsServeLine port subscribers c line
+serve_line_as port subscribers b c more line (inl warned) = inl warned
+serve_line_as port subscribers b c more line (inr (inl came)) = inr (inl came)
+serve_line_as port subscribers b c more line (inr (inr gone)) = inr (inr (gone_as b c more line gone))
 
 -- a sum that is none is one of none and none
 pub left_zero : (n m : ℕ) → nat_eq (n + m) 0 ≡ true → nat_eq n 0 ≡ true

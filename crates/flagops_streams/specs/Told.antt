@@ -27,7 +27,24 @@ TellsText old new is_mute = (text : List ℕ) × (0 < length text) × Says old n
 abbrev pub TellsWhy : (List ℕ → Type 0) → Option (List ℕ) → Option (List ℕ) → Bool → Type 0
 TellsWhy Is old new is_mute = (between : Option (List ℕ)) × TellsLines Is old between is_mute × TellsText between new is_mute
 
+-- ---- the line of `follow`
+
+-- nothing came for so many seconds
+unfoldable pub late_line : ℕ → List ℕ
+late_line wait = codes "error: nothing came for " ++ (decimal wait ++ codes " seconds; --wait gives more, and 0 waits for ever\n")
+
+abbrev pub IsLate : ℕ → List ℕ → Type 0
+IsLate wait line = line ≡ late_line wait
+
+-- nothing is told beside a stream; or, with status 1, that nothing came
+abbrev pub TellsLate : ℕ → ℕ → Option (List ℕ) → Option (List ℕ) → Bool → Type 0
+TellsLate wait status old new is_mute = (new ≡ old) ⊎ ((status ≡ 1) × TellsLines (IsLate wait) old new is_mute)
+
 -- ---- the lines of `serve`
+
+-- the document at a place, from 1, will be refused, and why
+unfoldable pub forewarning : ℕ → List ℕ → List ℕ
+forewarning place why = codes "serve: document " ++ (decimal place ++ (codes " will be refused\n" ++ why))
 
 -- so many subscribers may come on a port
 unfoldable pub listening_line : ℕ → ℕ → List ℕ
@@ -62,6 +79,9 @@ IsGone are_served line = (number : ℕ) × (snapshots : ℕ) × (end : StreamEnd
 abbrev pub IsArrival : ℕ → ℕ → List ℕ → Type 0
 IsArrival port subscribers line = (line ≡ listening_line port subscribers) ⊎ IsCame subscribers line
 
--- what `serve` tells of its subscribers: where it listens for so many, that one has come, that one has gone
-abbrev pub IsOfSubscribers : ℕ → ℕ → Bool → List ℕ → Type 0
-IsOfSubscribers port subscribers are_served line = IsArrival port subscribers line ⊎ IsGone are_served line
+abbrev pub IsForewarning : List ℕ → Type 0
+IsForewarning line = (place : ℕ) × (why : List ℕ) × (line ≡ forewarning place why)
+
+-- what `serve` tells: that a document will be refused, and of its subscribers where it listens for so many, that one has come, that one has gone
+abbrev pub IsServeLine : ℕ → ℕ → Bool → List ℕ → Type 0
+IsServeLine port subscribers are_served line = IsForewarning line ⊎ IsArrival port subscribers line ⊎ IsGone are_served line

@@ -7,15 +7,18 @@ ghost use Rattle.snap_core.specs.HubView.{snapshot_view};
 ghost use Rattle.sync_server.specs.Reads.{ReadUpTo};
 ghost use Rattle.flagops_streams.specs.Printed.{Follows, Printed, last_line, snapshot_line, start_of, status_of, word_of};
 ghost use Rattle.flagops_streams.specs.Report.{FindsNobody, Writes};
+ghost use Rattle.flagops_streams.specs.Told.{TellsLate};
 
 use crate::persistent::PersistentInput;
 use crate::refusal::Refusal;
-use crate::remark::say_unreachable;
+use crate::remark::{say_late, say_unreachable};
 use crate::report::{refuse, write_three};
+use crate::timely::Timely;
 use core::mem::replace_with;
 use flag_text::{Outlet, write_whole};
 use snap_core::Snapshot;
 use std::alloc::{AllocError, Global};
+use std::cell::Cell;
 use std::net::{Net, OpenStream, SocketAddr, TcpStream};
 use std::time::{Clock, Duration};
 use std::{io, thread};
@@ -27,8 +30,8 @@ const TRIES: u32 = 100;
 /// The milliseconds between two tries.
 const PAUSE: u64 = 50;
 
-/// Follows the stream that somebody serves on a port of this host, as [`follow_lines`] does, and tells a person nothing. A read
-/// that brings nothing for `wait` seconds has failed; 0 is for ever. Where nobody listens, that is written and told.
+/// Follows the stream that somebody serves on a port of this host, as [`follow_lines`] does. A read that brings nothing for
+/// `wait` seconds has failed, which is told; 0 is for ever. Where nobody listens, that is written and told.
 pub fn follow_port<R: AllocGlobal + Net + Clock, O: Outlet, E: Outlet>(
     rt: &R,
     port: u16,
@@ -38,28 +41,49 @@ pub fn follow_port<R: AllocGlobal + Net + Clock, O: Outlet, E: Outlet>(
     err: &mut E,
 ) -> u8
     requires { O.is_broken out.old ≡ false }
-    ensures { (Follows (O.bytes out.old) (O.bytes out.new) (O.is_broken out.new) result × (E.bytes err.new ≡ E.bytes err.old))
+    ensures { (Follows (O.bytes out.old) (O.bytes out.new) (O.is_broken out.new) result × TellsLate wait result (E.bytes err.old) (E.bytes err.new) (E.is_broken err.new))
         ⊎ FindsNobody (O.bytes out.old) (O.bytes out.new) (O.is_broken out.new) (E.bytes err.old) (E.bytes err.new) (E.is_broken err.new) result }
 {
     let alloc = rt.alloc();
     match connect(rt, port, wait) {
-        Some(stream) => replace_with(
-            out,
-            (alloc, stream, turns),
-            |out: O, given: (Global, R::Stream, u64)| -> (O, u8)
-                requires { O.is_broken out ≡ false }
-                ensures { Follows (O.bytes out) (O.bytes result.0) (O.is_broken result.0) result.1 }
-            {
-                let (alloc, stream, turns) = given;
-                let mut inlet = ReadInlet::new(PersistentInput::new(stream));
-                follow_lines(alloc, &mut inlet, out, turns)
-            },
-        ),
+        Some(stream) => {
+            let is_late = Cell::new(false);
+            let status = follow_stream_to::<R, O>(alloc, stream, turns, &is_late, out);
+            if status == 1 && is_late.get() {
+                say_late(alloc, err, wait);
+            }
+            status
+        }
         None => {
             say_unreachable(alloc, err, port);
             refuse(alloc, out, Refusal::Unreachable)
         }
     }
+}
+
+/// Follows a stream, as [`follow_lines`] does, and keeps in a cell whether a read brought nothing in its time.
+fn follow_stream_to<R: Net, O: Outlet>(
+    alloc: Global,
+    stream: R::Stream,
+    turns: u64,
+    is_late: &Cell<bool>,
+    out: &mut O,
+) -> u8
+    requires { O.is_broken out.old ≡ false }
+    ensures { Follows (O.bytes out.old) (O.bytes out.new) (O.is_broken out.new) result }
+{
+    replace_with(
+        out,
+        (alloc, stream, turns, is_late),
+        |out: O, given: (Global, R::Stream, u64, &Cell<bool>)| -> (O, u8)
+            requires { O.is_broken out ≡ false }
+            ensures { Follows (O.bytes out) (O.bytes result.0) (O.is_broken result.0) result.1 }
+        {
+            let (alloc, stream, turns, is_late) = given;
+            let mut inlet = ReadInlet::new(Timely::new(PersistentInput::new(stream), is_late));
+            follow_lines(alloc, &mut inlet, out, turns)
+        },
+    )
 }
 
 /// A connection to whoever listens on a port of this host, tried once more after each pause. Its reads wait for so many

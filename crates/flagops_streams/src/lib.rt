@@ -23,7 +23,8 @@
 //! What was published are the merges of the documents, in order.
 //!
 //! What is told a person on the error outlet changes nothing of this. Where there is a refusal, something is told; else nothing
-//! is but that subscribers come and go, by `serve` (`Told`).
+//! is but that documents will be refused and that subscribers come and go, by `serve`, and that nothing came, by `follow`
+//! (`Told`).
 #![tactic(auto)]
 
 mod arrivals;
@@ -38,6 +39,7 @@ mod report;
 mod serve;
 mod subscriber;
 mod timed;
+mod timely;
 
 pub use documents::{Documents, merge_next};
 pub use follow::{follow_lines, follow_port};

@@ -2,7 +2,7 @@
 //! there was a refusal is told in any case, by a fixed sentence where there is no memory to say more.
 ghost use Rattle.std.specs.Prelude.{◌≡◌, ◌<◌, false, length, IfErr, IfOk, string_bytes};
 ghost use Rattle.sync_server.specs.End.{is_closed_end};
-ghost use Rattle.flagops_streams.specs.Told.{IsCame, IsGone, Says, TellsLines, TellsText, came_line, gone_line, listening_line, reason_of};
+ghost use Rattle.flagops_streams.specs.Told.{IsCame, IsForewarning, IsGone, IsLate, Says, TellsLines, TellsText, came_line, forewarning, gone_line, late_line, listening_line, reason_of};
 
 use crate::refusal::Refusal;
 use flag_defs::DefFault;
@@ -96,6 +96,38 @@ pub trait Remarks {
     ) -> Result<String, AllocError>;
 }
 
+/// The document at a place, from 1, will be refused.
+pub(crate) fn say_forewarning<D: Remarks, E: Outlet>(
+    alloc: Global,
+    err: &mut E,
+    remarks: &D,
+    place: u64,
+    text: &[u8],
+    fault: DefFault,
+)
+    ensures lines { TellsLines IsForewarning (E.bytes err.old) (E.bytes err.new) (E.is_broken err.new) }
+    ensures stays { E.is_broken err.new ≡ false → E.is_broken err.old ≡ false }
+{
+    if let Ok(why) = remarks.of_document(alloc, place, text, fault) {
+        say_forewarned(alloc, err, place, why.as_str());
+    }
+}
+
+/// The same, with the words for why.
+fn say_forewarned<E: Outlet>(alloc: Global, err: &mut E, place: u64, why: &str)
+    ensures lines { TellsLines IsForewarning (E.bytes err.old) (E.bytes err.new) (E.is_broken err.new) }
+    ensures stays { E.is_broken err.new ≡ false → E.is_broken err.old ≡ false }
+{
+    say_made(err, forewarning(alloc, place, why));
+}
+
+#[tactic(auto, unfolding(crate::specs::Told::forewarning))]
+fn forewarning(alloc: Global, place: u64, why: &str) -> Result<String, AllocError>
+    ensures { IfOk result (λ s. string_bytes s ≡ forewarning place why.now) }
+{
+    format!(in alloc; "serve: document {place} will be refused\n{why}")
+}
+
 /// Why documents, or no more of them, were published.
 pub(crate) fn say_why<D: Remarks, E: Outlet>(
     alloc: Global,
@@ -129,6 +161,22 @@ fn nobody(alloc: Global, port: u16) -> Result<String, AllocError>
     ensures { IfOk result (λ s. 0 < length (string_bytes s)) }
 {
     format!(in alloc; "error: nobody listens on 127.0.0.1:{port}; 'flagops serve {port} ..' does\n")
+}
+
+/// Nothing came for so many seconds.
+pub(crate) fn say_late<E: Outlet>(alloc: Global, err: &mut E, wait: u64)
+    ensures { TellsLines (IsLate wait) (E.bytes err.old) (E.bytes err.new) (E.is_broken err.new) }
+{
+    say_made(err, late_line(alloc, wait));
+}
+
+#[tactic(auto, unfolding(crate::specs::Told::late_line))]
+fn late_line(alloc: Global, wait: u64) -> Result<String, AllocError>
+    ensures { IfOk result (λ s. string_bytes s ≡ late_line wait) }
+{
+    format!(in alloc;
+        "error: nothing came for {wait} seconds; --wait gives more, and 0 waits for ever\n"
+    )
 }
 
 /// What a person is told of a refusal, of a document by whoever knows where it was read from.

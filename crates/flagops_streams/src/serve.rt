@@ -6,17 +6,17 @@ ghost use Rattle.source_merge.specs.View.{sources_view};
 ghost use Rattle.flagops_streams.specs.Documents.{Answer, Counts, Gives, GivesSome, ServesAll, ServesTo, count_of, documents_in, less_missed, texts_of, told_view};
 ghost use Rattle.flagops_streams.specs.Report.{Reports, Serves};
 ghost use Rattle.sync_server.specs.End.{is_closed_end};
-ghost use Rattle.flagops_streams.specs.Told.{IsGone, IsOfSubscribers, TellsLines};
+ghost use Rattle.flagops_streams.specs.Told.{IsForewarning, IsGone, IsServeLine, TellsLines};
 
 use crate::arrivals::{Arrived, arrivals};
 use crate::board::Board;
 use crate::documents::{Documents, merge_next};
 use crate::refusal::Refusal;
-use crate::remark::{Remarks, say_gone};
+use crate::remark::{Remarks, say_forewarning, say_gone};
 use crate::report::report_answer;
 use crate::subscriber::attend;
 use core::mem::replace_with;
-use flag_defs::Flags;
+use flag_defs::{DefFault, Flags, read_flags};
 use flag_text::Outlet;
 use snap_share::{History, Publisher, ReadSeat, ShareName, Told, share};
 use source_merge::Sources;
@@ -55,14 +55,73 @@ where
     E: Outlet + Drop,
     requires whole { O.is_broken out.old ≡ false }
     requires some { 0 < documents_in documents }
-    ensures serves { Serves (IsOfSubscribers port subscribers) (documents_in documents) (O.bytes out.old) (O.bytes out.new) (O.is_broken out.new) (E.bytes err.old) (E.bytes err.new) (E.is_broken err.new) result }
-    ensures documents { (answer : Answer) × ServesAll subscribers documents answer × Reports (IsOfSubscribers port subscribers) (count_of answer) (O.bytes out.old) (O.bytes out.new) (O.is_broken out.new) (E.bytes err.old) (E.bytes err.new) (E.is_broken err.new) result }
+    ensures serves { Serves (IsServeLine port subscribers) (documents_in documents) (O.bytes out.old) (O.bytes out.new) (O.is_broken out.new) (E.bytes err.old) (E.bytes err.new) (E.is_broken err.new) result }
+    ensures documents { (answer : Answer) × ServesAll subscribers documents answer × Reports (IsServeLine port subscribers) (count_of answer) (O.bytes out.old) (O.bytes out.new) (O.is_broken out.new) (E.bytes err.old) (E.bytes err.new) (E.is_broken err.new) result }
 {
     let alloc = rt.alloc();
     let Documents { sources, texts } = documents;
     let texts = texts.as_slice();
-    let answer = publish_documents(rt, port, subscribers, wait, sources, texts, err);
+    let answer = publish_documents(rt, port, subscribers, wait, sources, texts, remarks, err);
     report_answer(alloc, out, err, remarks, texts, answer)
+}
+
+/// Publishes documents in turn, and tells a person beforehand of each behind the first that will be refused.
+fn publish_documents<R, D, E>(
+    rt: &R,
+    port: u16,
+    subscribers: usize,
+    wait: u64,
+    sources: Sources,
+    texts: &[Vec<u8>],
+    remarks: &D,
+    err: &mut E,
+) -> Result<u64, Refusal>
+where
+    R: AllocGlobal
+        + Net<Listener = TcpListener, Stream = TcpStream>
+        + Clock
+        + Threads
+        + Wait
+        + Sync,
+    D: Remarks,
+    E: Outlet + Drop,
+    requires { 0 < length texts.now }
+    ensures serves { Counts (ServesTo subscribers (sources_view sources) (texts_of texts.now) []) result }
+    ensures lines { TellsLines (IsServeLine port subscribers (is_ok result)) (E.bytes err.old) (E.bytes err.new) (E.is_broken err.new) }
+    ensures stays { E.is_broken err.new ≡ false → E.is_broken err.old ≡ false }
+{
+    forewarn(rt.alloc(), remarks, texts, err);
+    publish_in_turn(rt, port, subscribers, wait, sources, texts, err)
+}
+
+/// Tells of each document behind the first that will be refused once its turn comes, and why.
+fn forewarn<D: Remarks, E: Outlet>(alloc: Global, remarks: &D, texts: &[Vec<u8>], err: &mut E)
+    ensures lines { TellsLines IsForewarning (E.bytes err.old) (E.bytes err.new) (E.is_broken err.new) }
+    ensures stays { E.is_broken err.new ≡ false → E.is_broken err.old ≡ false }
+{
+    for place in 1..texts.len() {
+        forewarn_of(alloc, remarks, place, texts[place].as_slice(), err);
+    }
+}
+
+/// The same of one document, with so many before it.
+fn forewarn_of<D: Remarks, E: Outlet>(
+    alloc: Global,
+    remarks: &D,
+    before: usize,
+    text: &[u8],
+    err: &mut E,
+)
+    ensures lines { TellsLines IsForewarning (E.bytes err.old) (E.bytes err.new) (E.is_broken err.new) }
+    ensures stays { E.is_broken err.new ≡ false → E.is_broken err.old ≡ false }
+{
+    match read_flags(alloc, text) {
+        Ok(_) | Err(DefFault::WantOfMemory) => {}
+        Err(fault) => {
+            let place = (before as u64).saturating_add(1);
+            say_forewarning(alloc, err, remarks, place, text, fault);
+        }
+    }
 }
 
 /// Publishes documents, of which there is one at least, one after the other, to so many subscribers, which it first waits for
@@ -72,7 +131,7 @@ where
 /// it is too large (`Merged`), of the seats
 /// (`Share`: no subscribers, or more than 64), and of the threads (`NoThread`). What was published before a document that is
 /// refused stays with the subscribers. Those who have not come in time are counted as not served (`Unserved`).
-fn publish_documents<R, E>(
+fn publish_in_turn<R, E>(
     rt: &R,
     port: u16,
     subscribers: usize,
@@ -91,7 +150,7 @@ where
     E: Outlet + Drop,
     requires { 0 < length texts.now }
     ensures serves { Counts (ServesTo subscribers (sources_view sources) (texts_of texts.now) []) result }
-    ensures lines { TellsLines (IsOfSubscribers port subscribers (is_ok result)) (E.bytes err.old) (E.bytes err.new) (E.is_broken err.new) }
+    ensures lines { TellsLines (IsServeLine port subscribers (is_ok result)) (E.bytes err.old) (E.bytes err.new) (E.is_broken err.new) }
     ensures stays { E.is_broken err.new ≡ false → E.is_broken err.old ≡ false }
 {
     let alloc = rt.alloc();
