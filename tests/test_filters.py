@@ -105,8 +105,26 @@ class FiltersTest(ProgramTest):
 
     def test_empty(self):
         """No line gives no note, and the tally of none."""
-        self.assertEqual((record("").out, record("").status), ("", 0))
-        self.assertEqual((tally("").out, tally("").status), (printed([], TOTAL), 0))
+        for ran, out in [(record(""), ""), (tally(""), printed([], TOTAL))]:
+            self.assertEqual((ran.out, ran.status), (out, 0))
+            self.assertIn(": the standard input is empty, and nothing is ", ran.err)
+        for ran, out in [(record("\n"), ""), (tally("\n"), printed([], TOTAL))]:
+            self.assertEqual((ran.out, ran.status, ran.err), (out, 0, ""))
+
+    def test_a_byte_order_mark(self):
+        """It is told of the first line, and of no other."""
+        for ran, call in [
+            (record("\ufeff" + context("a")), "record"),
+            (tally("\ufeff" + note("a")), "tally"),
+        ]:
+            self.assertEqual((ran.out, ran.status), (f"refused {call} 1 Line 1\n", 1))
+            self.assertIn(", as it begins with a byte order mark\n", ran.err)
+        for ran, call in [
+            (record(context("a") + "\ufeff" + context("b")), "record"),
+            (tally(note("a") + "\ufeff" + note("b")), "tally"),
+        ]:
+            self.assertTrue(ran.out.endswith(f"refused {call} 1 Line 2\n"), ran.out)
+            self.assertNotIn("mark", ran.err)
 
     def test_refused_line(self):
         """What was printed before stays, the line of the refusal is the last, and later lines are not looked at."""

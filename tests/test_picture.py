@@ -5,7 +5,7 @@ import random
 import unittest
 import xml.etree.ElementTree as tree
 
-from given import BOOK, EMPTY_BOOK, FIVES, UNMET, document, forbid, request
+from given import BOOK, EMPTY_BOOK, FIVES, KEYED, KEYED_PAGE, UNMET, document, forbid, request
 from program import ROOT, ProgramTest, run, text_of
 
 SVG = "{http://www.w3.org/2000/svg}"
@@ -316,6 +316,16 @@ class PictureTest(ProgramTest):
         plain["plan"] = run(["plan", "doc", "request", "book"], plain).out
         ran = run(["picture", "doc", "request", "book", "plan"], plain)
         self.assertEqual((ran.status, ran.err), (0, ""))
+
+    def test_inputs_of_another_flag_are_told_beside_the_picture(self):
+        given = {"doc": KEYED, "request": request('"red":3,"blue":7'), "book": f'{{"book":1}}\n{KEYED_PAGE}\n"ann"\n'}
+        given["steps"] = given["request"].replace('"totals":', '"steps":[').replace("}}", "}]}")
+        given["plan"] = run(["plan", "doc", "request", "book"], given).out
+        given["ramp"] = run(["ramp", "doc", "steps", "book"], given).out
+        for words in (["picture", "doc", "request", "book", "plan"], ["picture", "--ramp", "doc", "steps", "book", "ramp"]):
+            ran = run(words, given)
+            self.assertEqual((ran.status, ran.err.count("note: ")), (0, 1))
+            self.assertIn("none of its flag: 1 of 1 do not begin with its key", ran.err)
 
 
 if __name__ == "__main__":

@@ -13,6 +13,9 @@ const LATEST_MOMENT: i64 = 9_007_199_254_740_991;
 /// The most threads that answer asks.
 const MOST_WORKERS: usize = 64;
 
+/// The asks for each input from which on it is told how many there are.
+const MANY: u128 = 20;
+
 /// Why asks reached nothing.
 const NOTHING: &str =
     "  nothing was recorded: no ask reached a \"fractional\" with an input of at most 1,024 bytes\n  check the keys and the contexts\n";
@@ -187,8 +190,33 @@ pub fn of_driven(alloc: Global, path: &str, drive: Drive<'_>) -> Result<String, 
     lines.put("\n");
     if drive.reached == 0 {
         lines.put(NOTHING);
+    } else {
+        put_sharing(&mut lines, drive);
     }
     lines.headed(Opening::Note, path)
+}
+
+/// That many asks matched a targeting for each input that they reached, where they did: so it is where the contexts lack what
+/// the bucketing expression reads.
+fn put_sharing(lines: &mut Lines, drive: Drive<'_>) {
+    let asks = matched(drive.endings) as u128;
+    if drive.reached > 0 && asks / MANY >= drive.reached {
+        lines.put("  there are ");
+        lines.put_shown(&(asks / drive.reached));
+        lines.put(
+            " asks for each input: the same users asked again, or every context lacks what the bucketing expression reads\n",
+        );
+    }
+}
+
+/// How many asks ended with what a targeting gave.
+fn matched(endings: &[(&'static str, usize)]) -> usize {
+    for (word, count) in endings {
+        if *word == "TARGETING_MATCH" {
+            return *count;
+        }
+    }
+    0
 }
 
 /// Of asks that were driven and reached no input, where the book is left as it was.
