@@ -177,6 +177,22 @@ class Answers(ServiceTest):
                     self.assertEqual((status, told["errorCode"]), (400, "INVALID_CONTEXT"))
                     self.assertEqual(told["errorDetails"], f"`{way}` is a number that is not whole")
 
+    def test_the_way_to_what_nests_too_deep(self):
+        rows = [
+            ('{"":' * 120 + "{}" + "}" * 120, "context" + "." * 120),
+            ('{"x":0.5,"":' * 120 + "[]" + "}" * 120, "context" + "." * 120),
+            ('{"a":' * 122 + "1" + "}" * 122, "context" + ".a" * 20 + ".."),
+            ('{"a":' + "[1," * 119 + "{}" + "]" * 119 + "}", "context.a" + "[1]" * 53 + ".."),
+        ]
+        for tree, way in rows:
+            body = b'{"context":' + tree.encode() + b"}"
+            with self.subTest(body):
+                for status, told in (self.flag("color", body), self.every(body)):
+                    self.assertEqual((status, told["errorCode"]), (400, "INVALID_CONTEXT"))
+                    self.assertEqual(told["errorDetails"], f"`{way}` nests deeper than 120 levels")
+        fits = b'{"context":' + b'{"":' * 119 + b"{}" + b"}" * 120
+        self.assertEqual(self.flag("color", fits)[0], 200)
+
     def test_every_flag(self):
         status, headers, body = self.ask("POST", FLAGS, context("mallory"))
         self.assertEqual(status, 200)

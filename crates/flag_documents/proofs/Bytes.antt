@@ -20,6 +20,7 @@ use Rattle.flag_documents.specs.Definition.{Definition}
 use Rattle.flag_documents.specs.Document.{Definitions, definition_written, definitions_written, max_bytes, printed}
 use Rattle.flag_documents.specs.Flag.{flag_view, is_definition}
 use Rattle.flag_documents.specs.Lent.{entry_bytes, lent_view}
+use Rattle.flag_documents.specs.Measure.{capped}
 use Rattle.flag_documents.specs.declared.flag.Flag.{Flag}
 use Rattle.flag_documents.proofs.Lawful.{lawful_flag}
 use Rattle.flag_documents.proofs.Printed.{whole_definitions}
@@ -31,7 +32,7 @@ put_first Less a b c h = refl
 put_first Equal a b c h = cc
 put_first Greater a b c h = cc
 
-in_front : (k : List ℕ) (t : Shape) (ms : Members) → members_are_whole (member k t ms) ≡ true → members_data (member k t ms) ≡ json.member k (data_of t) (members_data ms)
+pub in_front : (k : List ℕ) (t : Shape) (ms : Members) → members_are_whole (member k t ms) ≡ true → members_data (member k t ms) ≡ json.member k (data_of t) (members_data ms)
 in_front k t no_members h = refl
 in_front k t (member l u ms) h =
     let later = in_front l u ms (right (is_whole t) _ (right (comes_first k (member l u ms)) _ h)) in
@@ -40,13 +41,13 @@ in_front k t (member l u ms) h =
 -- ---- bytes
 
 -- the bytes of an entry, with a comma
-abbrev member_bytes : List ℕ → json.Data → ℕ
+abbrev pub member_bytes : List ℕ → json.Data → ℕ
 member_bytes k d = length (quoted k) + (length (compact_text d) + 2)
 
-member_text-bytes : (k : List ℕ) (d : json.Data) (ms : json.Members) → length (members_text true (json.member k d ms)) ≡ member_bytes k d + length (members_text true ms)
+pub member_text-bytes : (k : List ℕ) (d : json.Data) (ms : json.Members) → length (members_text true (json.member k d ms)) ≡ member_bytes k d + length (members_text true ms)
 member_text-bytes k d ms = omega (arith, length-append (quoted k) (58 ∷ (compact_text d ++ members_text true ms)), length-append (compact_text d) (members_text true ms))
 
-alone-bytes : (k : List ℕ) (d : Definition) → entry_bytes (k, d) ≡ member_bytes k (data_of (definition_written d))
+pub alone-bytes : (k : List ℕ) (d : Definition) → entry_bytes (k, d) ≡ member_bytes k (data_of (definition_written d))
 unfolding text_of
 alone-bytes k d =
     let e = data_of (definition_written d) in
@@ -137,23 +138,19 @@ exceeds-printed fs s h = let w = whole_definitions fs s h in exceeds-bytes (max_
 abbrev pub Lent : Type 0
 Lent = Bor (List ℕ) × Bor Flag
 
--- one that fits
-pub within : (n b : ℕ) (f : List ℕ × Definition) (fs : Definitions) → b ≡ entry_bytes f → b ≤ n → exceeds n (f ∷ fs) ≡ exceeds (n - b) fs
-within n b f fs is fits = rw (sym is, le-ltb n b fits) refl
+-- one that fits in what is left
+pub within : (n b : ℕ) (f : List ℕ × Definition) (fs : Definitions) → n ≤ max_bytes → b ≡ capped (entry_bytes f) → b ≤ n → exceeds n (f ∷ fs) ≡ exceeds (n - b) fs
+within n b f fs small is fits = let all : b ≡ entry_bytes f = omega (arith, small, is, fits) in rw (sym all, le-ltb n b fits) refl
 
 -- one that does not
-pub beyond : (n b : ℕ) (f : List ℕ × Definition) (fs : Definitions) → b ≡ entry_bytes f → n < b → exceeds n (f ∷ fs) ≡ true
-beyond n b f fs is much = rw (sym is, lt-ltb n b much) refl
+pub beyond : (n b : ℕ) (f : List ℕ × Definition) (fs : Definitions) → b ≡ capped (entry_bytes f) → n < b → exceeds n (f ∷ fs) ≡ true
+beyond n b f fs is much = let more : n < entry_bytes f = omega (arith, is, much) in rw (lt-ltb n (entry_bytes f) more) refl
 
 -- the entries from place i on
 pub rest_at : (es : List Lent) (i : ℕ) (e : Lent) → i < length es → e ≡ get_or es i e → lent_view (drop i es) ≡ (e.0.now, flag_view e.1.now) ∷ lent_view (drop (i + 1) es)
 rest_at es i e in_range is =
     let next : suc i ≡ i + 1 = omega arith in
     ap lent_view (drop-cons es i e in_range) ∙ (ap (λ x. (x.0.now, flag_view x.1.now) ∷ lent_view (drop (suc i) es)) (sym is) ∙ ap (λ n. (e.0.now, flag_view e.1.now) ∷ lent_view (drop n es)) next)
-
-pub object_bytes : (ms : Members) → 1 ≤ length (text_of (object ms))
-unfolding text_of
-object_bytes ms = omega arith
 
 pub lawful_lent : (es : List Lent) → AllByRecursion (λ f. is_definition f.1 ≡ true) (lent_view es)
 lawful_lent [] = tt

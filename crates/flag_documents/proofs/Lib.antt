@@ -20,6 +20,7 @@ pub mod Objects
 pub mod Outlines
 pub mod Passes
 pub mod Printed
+pub mod PrintedBytes
 pub mod Readable
 pub mod Reasons
 pub mod Sizes

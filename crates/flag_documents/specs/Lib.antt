@@ -12,6 +12,7 @@ pub mod Lent
 pub mod Measure
 pub mod Members
 pub mod Outline
+pub mod PrintedBytes
 pub mod Readable
 pub mod Rules
 pub mod Table

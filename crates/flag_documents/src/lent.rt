@@ -4,30 +4,29 @@ ghost use Rattle.std.specs.Cmp.Lexicographic.{slice_cmp};
 ghost use Rattle.std.specs.List.Sorted.{IsStrictlySortedBy};
 ghost use Rattle.std.specs.Map.{keys_of};
 ghost use Rattle.std.specs.Ordering.{nat_cmp};
-ghost use Rattle.flag_text.specs.Shape.{no_members, member};
-ghost use Rattle.flag_text.specs.View.{members_view};
-ghost use Rattle.flag_documents.specs.Document.{definition_written, max_bytes, max_flags, printed};
+ghost use Rattle.flag_documents.specs.Document.{max_bytes, max_flags, printed};
 ghost use Rattle.flag_documents.specs.Flag.{entries_view, flag_view};
 ghost use Rattle.flag_documents.specs.Lent.{entry_bytes, lent_view};
+ghost use Rattle.flag_documents.specs.Measure.{capped};
 
 use crate::flag::Flag;
 use crate::limits::MAX_BYTES;
-use crate::write::write_flag;
-use flag_text::{Tree, print_tree};
+use crate::printed_bytes::with_member;
+use crate::written_bytes::flag_bytes;
 use std::alloc::{AllocError, Global};
 
 /// The bytes of `{"flags":{` and `}}`, less the comma that is counted with the last flag and not printed.
 const BYTES_AROUND: usize = 11;
 
-/// Whether together they are printed in more bytes than a document may have. None is printed after one that passes the limit.
-/// The condition is keys that rise strictly as bytes. It fails only where memory runs out.
-pub fn are_heavy(alloc: Global, entries: &[(&str, &Flag)]) -> Result<bool, AllocError>
+/// Whether together they are printed in more bytes than a document may have. None is printed for it.
+/// The condition is keys that rise strictly as bytes. It takes no memory.
+pub fn are_heavy(_alloc: Global, entries: &[(&str, &Flag)]) -> Result<bool, AllocError>
     requires { IsStrictlySortedBy (slice_cmp nat_cmp) (keys_of (lent_view entries.now)) }
     ensures { IfOk result (λ b. b ≡ nat_lt max_bytes (length (printed (lent_view entries.now)))) }
 {
     let mut left = MAX_BYTES - BYTES_AROUND;
     for (key, flag) in entries {
-        let bytes = entry_bytes(alloc, key, flag)?;
+        let bytes = entry_bytes(key, flag) as usize;
         if left < bytes {
             return Ok(true);
         }
@@ -36,24 +35,11 @@ pub fn are_heavy(alloc: Global, entries: &[(&str, &Flag)]) -> Result<bool, Alloc
     Ok(false)
 }
 
-/// In how many bytes a flag is printed with its key and a comma.
-fn entry_bytes(alloc: Global, key: &str, flag: &Flag) -> Result<usize, AllocError>
-    ensures { IfOk result (λ n. n ≡ entry_bytes (key.now, flag_view flag.now)) }
+/// In how many bytes a flag is printed with its key and a comma, up to the most that is counted.
+fn entry_bytes(key: &str, flag: &Flag) -> u32
+    ensures { result ≡ capped (entry_bytes (key.now, flag_view flag.now)) }
 {
-    let entry = entry_written(alloc, key, flag)?;
-    let text = print_tree(alloc, &Tree::Object(entry))?;
-    // Two braces, and no comma.
-    Ok(text.len() - 1)
-}
-
-/// A flag under its key, as it is written.
-fn entry_written(alloc: Global, key: &str, flag: &Flag) -> Result<Vec<(String, Tree)>, AllocError>
-    ensures { IfOk result (λ v. members_view v.items ≡ member key.now (definition_written (flag_view flag.now)) no_members) }
-{
-    let definition = write_flag(alloc, flag)?;
-    let mut entry = Vec::new(alloc);
-    entry.push((String::from_str(alloc, key)?, definition))?;
-    Ok(entry)
+    with_member(key, flag_bytes(flag), 0)
 }
 
 /// Copies of flags that others hold, under copies of their keys. The condition is that they are few and light enough to be

@@ -49,6 +49,7 @@ mod limits;
 mod measure;
 mod members;
 mod outline;
+mod printed_bytes;
 mod references;
 mod rules;
 mod site;
@@ -57,6 +58,7 @@ mod table;
 mod targeting;
 mod walk;
 mod write;
+mod written_bytes;
 
 pub use breach::{Breach, breaches};
 pub use copy::copy_entries;

@@ -12,7 +12,7 @@ use std::net::TcpStream;
 use std::sync::Wait;
 use std::time::Clock;
 use sync_frames::SharedSnapshot;
-use sync_server::{StreamEnd, serve_stream};
+use sync_server::{PersistentOutput, StreamEnd, serve_stream};
 
 /// The most turns of one stream.
 const MOST_TURNS: u64 = 1_000;
@@ -75,6 +75,6 @@ fn send<J: ShareName, R: Wait, W: Write + Drop>(
     let told = Cell::new(None);
     let mut current = Learning { seat, told: &told };
     let mut numbers = Numbers::new(rt, board, &told);
-    let mut out = WriteOutlet::new(stream);
+    let mut out = WriteOutlet::new(PersistentOutput::new(stream));
     serve_stream(&mut current, &mut numbers, &mut out, MOST_TURNS)
 }

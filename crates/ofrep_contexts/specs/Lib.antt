@@ -1,3 +1,4 @@
 pub mod Context
 pub mod Fault
+pub mod Law
 pub mod Way

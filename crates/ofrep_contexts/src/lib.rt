@@ -9,8 +9,11 @@
 mod context;
 mod details;
 mod fault;
+mod laws;
+mod sought;
 mod way;
 
 pub use context::{MAX_BODY, read_context};
 pub use details::details_in;
 pub use fault::ContextFault;
+pub use laws::refused_contexts_have_ways;

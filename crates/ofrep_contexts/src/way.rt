@@ -1,8 +1,9 @@
-//! The way to a number in a context that is not whole.
+//! The way to what is wrong in a context.
 ghost use Rattle.std.specs.Prelude.{◌≡◌, ◌++◌, codes, IfOk, option_map, string_bytes};
 ghost use Rattle.flag_text.specs.View.{view, items_view, members_view};
 ghost use Rattle.ofrep_contexts.specs.Way.{joined, way_in_items, way_in_members, way_to};
 
+use crate::sought::Sought;
 use flag_text::Tree;
 use std::alloc::{AllocError, Global};
 
@@ -12,25 +13,35 @@ const MAX_WAY: usize = 200;
 /// What stands for the rest of a way that is too long.
 const REST: &str = "..";
 
-/// The way to the first number in the tree that is not whole, in at most 200 bytes: its front and `..` where it is longer.
+/// The way to the first value in the tree that is sought, in at most 200 bytes: its front and `..` where it is longer.
 #[cycle(way)]
-pub(crate) fn way_to(alloc: Global, tree: &Tree) -> Result<Option<String>, AllocError>
-    ensures { IfOk result (λ way. option_map string_bytes way ≡ way_to (view tree.now)) }
+pub(crate) fn way_to(
+    alloc: Global,
+    sought: Sought,
+    tree: &Tree,
+) -> Result<Option<String>, AllocError>
+    ensures { IfOk result (λ way. option_map string_bytes way ≡ way_to sought (view tree.now)) }
 {
     match tree {
-        Tree::Other => Ok(Some(String::new(alloc))),
-        Tree::List(items) => way_in_items(alloc, items),
-        Tree::Object(members) => way_in_members(alloc, members),
+        Tree::Other if sought.is_fraction() => Ok(Some(String::new(alloc))),
+        Tree::List(_) if sought.is_beyond() => Ok(Some(String::new(alloc))),
+        Tree::Object(_) if sought.is_beyond() => Ok(Some(String::new(alloc))),
+        Tree::List(items) => way_in_items(alloc, sought.within(), items),
+        Tree::Object(members) => way_in_members(alloc, sought.within(), members),
         _ => Ok(None),
     }
 }
 
 #[cycle(way)]
-fn way_in_items(alloc: Global, items: &Vec<Tree>) -> Result<Option<String>, AllocError>
-    ensures { IfOk result (λ way. option_map string_bytes way ≡ way_in_items (items_view items.now.items) 0) }
+fn way_in_items(
+    alloc: Global,
+    sought: Sought,
+    items: &Vec<Tree>,
+) -> Result<Option<String>, AllocError>
+    ensures { IfOk result (λ way. option_map string_bytes way ≡ way_in_items sought (items_view items.now.items) 0) }
 {
     for place in 0..items.len() {
-        if let Some(rest) = way_to(alloc, &items[place])? {
+        if let Some(rest) = way_to(alloc, sought, &items[place])? {
             let step = format!(in alloc; "[{place}]")?;
             return Ok(Some(joined(step, rest)?));
         }
@@ -41,12 +52,13 @@ fn way_in_items(alloc: Global, items: &Vec<Tree>) -> Result<Option<String>, Allo
 #[cycle(way)]
 fn way_in_members(
     alloc: Global,
+    sought: Sought,
     members: &Vec<(String, Tree)>,
 ) -> Result<Option<String>, AllocError>
-    ensures { IfOk result (λ way. option_map string_bytes way ≡ way_in_members (members_view members.now.items)) }
+    ensures { IfOk result (λ way. option_map string_bytes way ≡ way_in_members sought (members_view members.now.items)) }
 {
     for (name, member) in members {
-        if let Some(rest) = way_to(alloc, member)? {
+        if let Some(rest) = way_to(alloc, sought, member)? {
             let step = format!(in alloc; ".{name}")?;
             return Ok(Some(joined(step, rest)?));
         }

@@ -8,7 +8,7 @@ use std::io;
 use std::io::{ErrorKind, Read, Write};
 use std::net::TcpStream;
 use std::time::Duration;
-use sync_server::{NextNumber, serve_stream};
+use sync_server::{NextNumber, PersistentOutput, serve_stream};
 
 /// The milliseconds between two looks for a later snapshot.
 const PAUSE_MILLIS: u64 = 100;
@@ -39,7 +39,7 @@ fn set_limits(stream: &TcpStream) -> io::Result<()> {
 fn send<C: Current, N: NextNumber, W: Write + Drop>(current: &mut C, numbers: &mut N, stream: W)
     requires { N.is_closed numbers.old ≡ false }
 {
-    let mut out = WriteOutlet::new(stream);
+    let mut out = WriteOutlet::new(PersistentOutput::new(stream));
     let _ended = serve_stream(current, numbers, &mut out, u64::MAX);
 }
 

@@ -1,5 +1,6 @@
 -- The buckets that were found in a text, and what the text is refused for.
-use Rattle.std.proofs.Common.{◌≡◌, ◌≢◌, ℕ, Bool, true, false, true≢false, cond, nat_lt, List, [], ◌∷◌, ◌++◌, String, Vec, Global, Option, Some, None, option_map, option_and_then, pos, ◌^◌, subst, Result, Ok, Err, refl, sym, ap, ap₂, ◌∙◌, append-nil, append_assoc}
+use denote.Ref.{Bor}
+use Rattle.std.proofs.Common.{◌≡◌, ◌≢◌, ℕ, Bool, true, false, true≢false, cond, ◌&&◌, is_some, nat_lt, List, [], ◌∷◌, ◌++◌, String, Vec, Global, Option, Some, None, option_map, option_and_then, pos, ◌^◌, subst, Result, Ok, Err, refl, sym, ap, ap₂, ◌∙◌, append-nil, append_assoc}
 use Rattle.std.specs.Prelude.{ℤ}
 use Rattle.json.specs.Json as json
 use Rattle.json.specs.Lex.{tokens}
@@ -72,6 +73,26 @@ kept (Some es) = ap Some (append-nil es)
 
 pub after_all : (b : Bool) (es : Entries) (e : Extent) → after b es e parsed.no_items ≡ (so_far b es, around 126 e)
 after_all b es e = ap₂ (λ o x. (o, x)) (kept (so_far b es)) (ap (around 126) (ap (both e) (sym (flat 126 false)) ∙ both_none e))
+
+-- the buckets with one more, where the item is one
+abbrev pub with_one : Entries → Option (List ℕ × ℕ) → Entries
+with_one es None = es
+with_one es (Some b) = es ++ b ∷ []
+
+-- that each item is a bucket is known without the buckets
+pub counted : (b : Bool) (es : Entries) (o : Option (List ℕ × ℕ)) → so_far (b && is_some o) (with_one es o) ≡ with_bucket (so_far b es) o
+counted true es (Some x) = refl
+counted true es None = refl
+counted false es (Some x) = refl
+counted false es None = refl
+
+pub is_viewed : (o : Option (Bor (List ℕ) × ℕ)) → is_some o ≡ is_some (option_map {U = List ℕ × ℕ} (λ b. (b.0.now, b.1)) o)
+is_viewed None = refl
+is_viewed (Some x) = refl
+
+pub is_found : (b : Bool) (es : Entries) → is_some (so_far b es) ≡ b
+is_found true es = refl
+is_found false es = refl
 
 -- ---- the whole text
 

@@ -29,6 +29,27 @@ part_of depth t = (as_text t, weight_of t, bucket_of t, extent_at depth (levels 
 abbrev pub part_view : Part → Seen
 part_view p = (option_map (λ s. s.now) p.name, p.weight, option_map (λ b. (b.0.now, b.1)) p.bucket, p.extent)
 
+-- the same where a name, a weight or a bucket is looked for alone
+abbrev pub name_of : ℕ → Shape → Option (List ℕ) × Extent
+name_of depth t = (as_text t, extent_at depth (levels t) (has_other t))
+
+abbrev pub weight_in : ℕ → Shape → Option ℕ × Extent
+weight_in depth t = (weight_of t, extent_at depth (levels t) (has_other t))
+
+abbrev pub item_of : ℕ → Shape → Option (List ℕ × ℕ) × Extent
+item_of depth t = (bucket_of t, extent_at depth (levels t) (has_other t))
+
+-- what was read where one is looked for alone
+abbrev pub name_view : Option (Bor (List ℕ)) × Extent → Option (List ℕ) × Extent
+name_view p = (option_map (λ s. s.now) p.0, p.1)
+
+abbrev pub item_view : Option (Bor (List ℕ) × ℕ) × Extent → Option (List ℕ × ℕ) × Extent
+item_view p = (option_map (λ b. (b.0.now, b.1)) p.0, p.1)
+
+-- what was read of a list, which is no text and no number
+abbrev pub list_view : Option (Bor (List ℕ) × ℕ) × Extent → Seen
+list_view p = (None, None, option_map (λ b. (b.0.now, b.1)) p.0, p.1)
+
 -- the weight of a bucket, by what stands behind its name
 abbrev pub weight_behind : Items → Option ℕ
 weight_behind no_items = Some 1

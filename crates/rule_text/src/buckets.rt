@@ -10,14 +10,19 @@ ghost use Rattle.rule_text.specs.declared.fault.RuleTextFault.TheVariants.{Text}
 ghost use Rattle.flag_text.specs.declared.fault.TextFault.TheVariants as texts;
 
 use crate::fault::RuleTextFault;
-use crate::part::{Extent, part_from, read_part};
+use crate::look::look;
+use crate::part::{Extent, part_from, read_item};
 use bucket_core::RuleFault;
 use flag_text::TextFault;
 use json::{Reader, Scratch, Token};
 use std::alloc::{AllocError, Global};
 
 /// How deep lists and objects of a JSON text nest at most, as `serde_json` reads it.
-const MAX_DEPTH: usize = 127;
+pub(crate) const MAX_DEPTH: usize = 127;
+
+/// A text with more lists than this is judged before an entry is kept, which costs a second reading of its tokens: the entries
+/// of fewer take no more than 350 MB beside a text of 64 MiB.
+const MANY_LISTS: usize = 1 << 22;
 
 /// What was found in a text: its literal buckets, where it is a list of them alone, and its extent.
 type Found = (Option<Vec<(String, u64)>>, Extent);
@@ -30,12 +35,22 @@ pub(crate) fn read_buckets(alloc: Global, text: &str) -> Result<Vec<(String, u64
     ensures kind { result ≢ Err (Text texts.TooLarge) }
 {
     let mut scratch = Scratch::new(alloc);
+    let count = if lists_in(text) > MANY_LISTS {
+        look(alloc, text, &mut scratch)?
+    } else {
+        0
+    };
     let mut reader = Reader::new(text, &mut scratch)?;
-    let (found, extent) = read_whole(alloc, &mut reader)?;
+    let (found, extent) = read_whole(alloc, &mut reader, count)?;
     if reader.next().is_some() {
         return Err(RuleTextFault::Text(TextFault::NotJson));
     }
     judged(found, extent)
+}
+
+/// How many lists a text has at most: one for each bracket that may begin one.
+fn lists_in(text: &str) -> usize {
+    text.as_bytes().iter().filter(|b| **b == b'[').count()
 }
 
 /// What was found, or what a text with it is refused for.
@@ -55,33 +70,33 @@ fn judged(
     found.ok_or(RuleTextFault::Rule(RuleFault::BadRule))
 }
 
-/// Reads the value of a text.
-fn read_whole(alloc: Global, reader: &mut Reader<'_>) -> Result<Found, TextFault>
+/// Reads the value of a text, with room for so many buckets.
+fn read_whole(alloc: Global, reader: &mut Reader<'_>, count: usize) -> Result<Found, TextFault>
     ensures ok { IfOk result (λ f. (d : Data) × (converted of_json (value max_depth reader.old) ≡ Some (d, reader.new)) × ((option_map (λ v. entries_view v.items) f.0, f.1) ≡ found_in (shape_of d))) }
     ensures err { result ≡ Err TextFault.NotJson → converted of_json (value max_depth reader.old) ≡ None }
     ensures kind { IfErr result (λ e. e ≢ TextFault.WantOfMemory → e ≡ TextFault.NotJson) }
 {
     let token = reader.next().ok_or(TextFault::NotJson)?;
     if let Token::BeginArray = token {
-        return read_list(alloc, reader);
+        return read_list(alloc, reader, count);
     }
     let part = part_from(alloc, token, reader, MAX_DEPTH)?;
     Ok((None, part.extent))
 }
 
-/// Reads the items of the list that a text is, and its end.
-fn read_list(alloc: Global, reader: &mut Reader<'_>) -> Result<Found, TextFault>
+/// Reads the items of the list that a text is, and its end, with room for so many buckets.
+fn read_list(alloc: Global, reader: &mut Reader<'_>, count: usize) -> Result<Found, TextFault>
     ensures ok { IfOk result (λ f. parse_map (λ ds. found_of (items_shape ds)) (converted of_items (items (value 126) (length reader.old) reader.old)) ≡ Some ((option_map (λ v. entries_view v.items) f.0, f.1), reader.new)) }
     ensures err { result ≡ Err TextFault.NotJson → converted of_items (items (value 126) (length reader.old) reader.old) ≡ None }
     ensures kind { IfErr result (λ e. e ≢ TextFault.WantOfMemory → e ≡ TextFault.NotJson) }
 {
-    let mut found = Vec::new(alloc);
+    let mut found = Vec::with_capacity(alloc, count)?;
     let mut is_rule = true;
     let mut extent = Extent::none();
     'buckets: while !reader.take_end_array() {
-        let item = read_part(alloc, reader, MAX_DEPTH - 1)?;
-        is_rule = keep(alloc, &mut found, is_rule, item.bucket)?;
-        extent = extent.and(item.extent);
+        let (bucket, item_extent) = read_item(alloc, reader, MAX_DEPTH - 1)?;
+        is_rule = keep(alloc, &mut found, is_rule, bucket)?;
+        extent = extent.and(item_extent);
     }
     Ok((found_if(is_rule, found), extent.around(MAX_DEPTH - 1)))
 }

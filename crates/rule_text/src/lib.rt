@@ -13,6 +13,7 @@
 
 mod buckets;
 mod fault;
+mod look;
 mod number;
 mod part;
 mod read;

@@ -10,6 +10,7 @@ use flag_text::{MAX_WHOLE, is_in_range};
 
 /// The weight that a number's text is, and whether it is none of a whole number; nothing where it is too large for a
 /// float.
+#[inline(always)]
 pub(crate) fn number(text: &str) -> Option<(Option<u64>, bool)>
     ensures { result ≡ option_map weighed (number_of text.now) }
 {
@@ -21,6 +22,7 @@ pub(crate) fn number(text: &str) -> Option<(Option<u64>, bool)>
     }
 }
 
+#[inline(always)]
 fn has_minus(bytes: &[u8]) -> bool
     ensures value { result ≡ (slice_index bytes.now 0 == 45) }
     ensures len { IsTrue result → 0 < length bytes.now }
@@ -28,6 +30,7 @@ fn has_minus(bytes: &[u8]) -> bool
     !bytes.is_empty() && bytes[0] == b'-'
 }
 
+#[inline(always)]
 fn unsigned(numeral: &Numeral<'_>) -> Option<(Option<u64>, bool)>
     ensures { result ≡ option_map weighed (number_from false numeral.now) }
 {
@@ -37,6 +40,7 @@ fn unsigned(numeral: &Numeral<'_>) -> Option<(Option<u64>, bool)>
     }
 }
 
+#[inline(always)]
 fn weighed(n: u64) -> (Option<u64>, bool)
     ensures { result ≡ weighed (unsigned n) }
 {
@@ -47,6 +51,7 @@ fn weighed(n: u64) -> (Option<u64>, bool)
     }
 }
 
+#[cold]
 fn negative(numeral: &Numeral<'_>) -> Option<(Option<u64>, bool)>
     ensures { result ≡ option_map weighed (number_from true numeral.now) }
 {
@@ -66,6 +71,7 @@ fn below_zero(n: i64) -> (Option<u64>, bool)
 }
 
 /// What a float stands for, none where it is not finite.
+#[cold]
 fn float(negative: bool, numeral: &Numeral<'_>) -> Option<(Option<u64>, bool)>
     ensures { result ≡ option_map weighed (float_of negative numeral.now) }
 {

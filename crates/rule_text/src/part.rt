@@ -5,7 +5,7 @@ ghost use Rattle.json.specs.Reads.{token_of};
 ghost use Rattle.serde_json.specs.Data.{Data, Members, no_members};
 ghost use Rattle.serde_json.specs.Read.{converted, of_json, of_items, of_members};
 ghost use Rattle.flag_text.specs.Reading.{shape_of, items_shape, members_shape};
-ghost use Rattle.rule_text.specs.Parts.{part_view, part_of, rest_of, list_of, extents_view, extents_of, all_extents};
+ghost use Rattle.rule_text.specs.Parts.{part_view, part_of, name_view, name_of, weight_in, rest_of, list_view, list_of, item_view, item_of, extents_view, extents_of, all_extents};
 
 use crate::number::number;
 use flag_text::TextFault;
@@ -99,6 +99,27 @@ pub(crate) fn read_part<'a>(
     part_from(alloc, token, reader, depth)
 }
 
+/// Reads an item of a list of buckets: the name and the weight of the literal bucket that it is, and its extent.
+#[inline(always)]
+pub(crate) fn read_item<'a>(
+    alloc: Global,
+    reader: &mut Reader<'a>,
+    depth: usize,
+) -> Result<(Option<(&'a str, u64)>, Extent), TextFault>
+    requires { 0 < depth }
+    ensures ok { IfOk result (λ p. (d : Data) × (converted of_json (value depth reader.old) ≡ Some (d, reader.new)) × (item_view p ≡ item_of depth (shape_of d))) }
+    ensures shorter { OnOk result (length reader.new < length reader.old) }
+    ensures err { result ≡ Err TextFault.NotJson → converted of_json (value depth reader.old) ≡ None }
+    ensures kind { IfErr result (λ e. e ≢ TextFault.WantOfMemory → e ≡ TextFault.NotJson) }
+{
+    let token = reader.next().ok_or(TextFault::NotJson)?;
+    if let Token::BeginArray = token {
+        return list_part(alloc, reader, depth - 1);
+    }
+    let part = part_from(alloc, token, reader, depth)?;
+    Ok((part.bucket, part.extent))
+}
+
 /// Reads the value that begins with a token.
 #[cycle(read)]
 pub(crate) fn part_from<'a>(
@@ -135,7 +156,13 @@ pub(crate) fn part_from<'a>(
             if depth == 0 {
                 return Err(TextFault::NotJson);
             }
-            list_part(alloc, reader, depth - 1)
+            let (bucket, extent) = list_part(alloc, reader, depth - 1)?;
+            Ok(Part {
+                name: None,
+                weight: None,
+                bucket,
+                extent,
+            })
         }
         Token::BeginObject => {
             if depth == 0 {
@@ -147,29 +174,70 @@ pub(crate) fn part_from<'a>(
     }
 }
 
-/// Reads the items of a list, and its end.
+/// Reads the items of a list, and its end: the name and the weight of the literal bucket that the list is, and its
+/// extent.
 #[cycle(read)]
-fn list_part<'a>(
+pub(crate) fn list_part<'a>(
     alloc: Global,
     reader: &mut Reader<'a>,
     depth: usize,
-) -> Result<Part<'a>, TextFault>
-    ensures ok { IfOk result (λ p. parse_map (λ ds. list_of depth (items_shape ds)) (converted of_items (items (value depth) (length reader.old) reader.old)) ≡ Some (part_view p, reader.new)) }
+) -> Result<(Option<(&'a str, u64)>, Extent), TextFault>
+    ensures ok { IfOk result (λ p. parse_map (λ ds. list_of depth (items_shape ds)) (converted of_items (items (value depth) (length reader.old) reader.old)) ≡ Some (list_view p, reader.new)) }
     ensures shorter { OnOk result (length reader.new < length reader.old) }
     ensures err { result ≡ Err TextFault.NotJson → converted of_items (items (value depth) (length reader.old) reader.old) ≡ None }
     ensures kind { IfErr result (λ e. e ≢ TextFault.WantOfMemory → e ≡ TextFault.NotJson) }
 {
     if reader.take_end_array() {
-        return Ok(Part::other(Extent::none().around(depth)));
+        return Ok((None, Extent::none().around(depth)));
     }
-    let first = read_part(alloc, reader, depth)?;
+    let (name, first) = read_name(alloc, reader, depth)?;
     let (weight, rest) = read_rest(alloc, reader, depth)?;
-    Ok(Part {
-        name: None,
-        weight: None,
-        bucket: first.name.zip(weight),
-        extent: first.extent.and(rest).around(depth),
-    })
+    Ok((name.zip(weight), first.and(rest).around(depth)))
+}
+
+/// Reads a value where a name may stand: the text that it is, and its extent.
+#[cycle(read)]
+#[inline(always)]
+fn read_name<'a>(
+    alloc: Global,
+    reader: &mut Reader<'a>,
+    depth: usize,
+) -> Result<(Option<&'a str>, Extent), TextFault>
+    ensures ok { IfOk result (λ p. (d : Data) × (converted of_json (value depth reader.old) ≡ Some (d, reader.new)) × (name_view p ≡ name_of depth (shape_of d))) }
+    ensures shorter { OnOk result (length reader.new < length reader.old) }
+    ensures err { result ≡ Err TextFault.NotJson → converted of_json (value depth reader.old) ≡ None }
+    ensures kind { IfErr result (λ e. e ≢ TextFault.WantOfMemory → e ≡ TextFault.NotJson) }
+{
+    let token = reader.next().ok_or(TextFault::NotJson)?;
+    if let Token::String(text) = token {
+        return Ok((Some(text), Extent::none()));
+    }
+    let part = part_from(alloc, token, reader, depth)?;
+    Ok((part.name, part.extent))
+}
+
+/// Reads a value where a weight may stand: the weight that it is, and its extent.
+#[cycle(read)]
+#[inline(always)]
+fn read_weight(
+    alloc: Global,
+    reader: &mut Reader<'_>,
+    depth: usize,
+) -> Result<(Option<u64>, Extent), TextFault>
+    ensures ok { IfOk result (λ p. (d : Data) × (converted of_json (value depth reader.old) ≡ Some (d, reader.new)) × (p ≡ weight_in depth (shape_of d))) }
+    ensures shorter { OnOk result (length reader.new < length reader.old) }
+    ensures err { result ≡ Err TextFault.NotJson → converted of_json (value depth reader.old) ≡ None }
+    ensures kind { IfErr result (λ e. e ≢ TextFault.WantOfMemory → e ≡ TextFault.NotJson) }
+{
+    let token = reader.next().ok_or(TextFault::NotJson)?;
+    if let Token::Number(text) = token {
+        return match number(text) {
+            Some((weight, other)) => Ok((weight, Extent { deep: false, other })),
+            None => Err(TextFault::NotJson),
+        };
+    }
+    let part = part_from(alloc, token, reader, depth)?;
+    Ok((part.weight, part.extent))
 }
 
 /// Reads the items that are left of a list behind its first, and its end: what the weight of a bucket of all would be, 1
@@ -189,10 +257,10 @@ fn read_rest(
     let mut begun = false;
     let mut extent = Extent::none();
     'items: while !reader.take_end_array() {
-        let item = read_part(alloc, reader, depth)?;
-        weight = if begun { None } else { item.weight };
+        let (item_weight, item_extent) = read_weight(alloc, reader, depth)?;
+        weight = if begun { None } else { item_weight };
         begun = true;
-        extent = extent.and(item.extent);
+        extent = extent.and(item_extent);
     }
     Ok((weight, extent))
 }

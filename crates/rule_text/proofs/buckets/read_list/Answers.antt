@@ -13,14 +13,14 @@ use Rattle.rule_text.proofs.buckets.read_list.Goals as goal
 pub buckets-init : goal.buckets-init
 buckets-init c =
     let r = c.args.reader.now in
-    let begun = ap₂ (λ es e. after true (entries_view es) e) (sym c.new-found.ensures.items) (sym c.none-extent.ensures) in
-    (length r, omega arith, mapped_as (λ ds. found_of (items_shape ds)) (after true (entries_view c.new-found.result.items) c.none-extent.result) (λ ds. after_none ds ∙ ap (λ f. f ds) begun) (converted of_items (items (value 126) (length r) r)))
+    let begun = ap₂ (λ es e. after true (entries_view es) e) (sym c.in_ok-found.ensures.items) (sym c.none-extent.ensures) in
+    (length r, omega arith, mapped_as (λ ds. found_of (items_shape ds)) (after true (entries_view c.in_ok-found.found.items) c.none-extent.result) (λ ds. after_none ds ∙ ap (λ f. f ds) begun) (converted of_items (items (value 126) (length r) r)))
 
-pub returns-in_err-item-clause-err : goal.returns-in_err-item-clause-err
-returns-in_err-item-clause-err c refused =
+pub returns-in_err-bucket-clause-err : goal.returns-in_err-bucket-clause-err
+returns-in_err-bucket-clause-err c refused =
     let l = c.buckets in
     let going : (after_end_array l.reader ≡ None) × (c.take_end_array.new.self ≡ l.reader) = grind arith in
-    unmapped _ _ (l.invariant.2 ∙ ap (parse_map (after l.is_rule (entries_view l.found.items) l.extent)) (item_refused (value 126) l.invariant.0 l.reader going.0 (rw (← going.1) (c.read_part.ensures.err (grind arith)))))
+    unmapped _ _ (l.invariant.2 ∙ ap (parse_map (after l.is_rule (entries_view l.found.items) l.extent)) (item_refused (value 126) l.invariant.0 l.reader going.0 (rw (← going.1) (c.read_item.ensures.err (grind arith)))))
 
 pub buckets-preserved : goal.buckets-preserved
 buckets-preserved c =
@@ -28,13 +28,13 @@ buckets-preserved c =
     let l = c.buckets in
     let n = l.invariant.0 in
     let going : (after_end_array l.reader ≡ None) × (c.take_end_array.new.self ≡ l.reader) = grind arith in
-    let done = c.in_ok-item.ensures in
+    let done = c.in_ok-bucket.ensures in
     let d = done.ok in
-    let r = c.read_part.new.reader in
+    let r = c.read_item.new.reader in
     let less : length r < length l.reader = rw (← going.1) done.shorter in
     let read = item_read p n l.reader r d.0 (omega (arith, l.invariant.1)) going.0 (rw (← going.1) d.1) in
-    let extent = c.and-extent.ensures ∙ ap (both l.extent) (ap (λ x. x.3) d.2) in
-    let kept = c.in_ok-is_rule.ensures ∙ ap (with_bucket (so_far l.is_rule (entries_view l.found.items))) (ap (λ x. x.2) d.2) in (
+    let extent = c.and-extent.ensures ∙ ap (both l.extent) (ap (λ x. x.1) d.2) in
+    let kept = c.in_ok-is_rule.ensures ∙ ap (with_bucket (so_far l.is_rule (entries_view l.found.items))) (ap (λ x. x.0) d.2) in (
       n - 1,
       omega (arith, l.invariant.1),
       l.invariant.2 ∙ ap (parse_map (after l.is_rule (entries_view l.found.items) l.extent)) read

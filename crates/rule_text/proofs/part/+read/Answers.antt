@@ -11,7 +11,7 @@ use Rattle.serde_json.specs.Data.{put, no_members}
 use Rattle.serde_json.specs.Read.{converted, of_json, of_items, number_of}
 use Rattle.flag_text.specs.Reading.{shape_of, items_shape, members_shape}
 use Rattle.flag_text.specs.Shape.{members_levels, members_have_other}
-use Rattle.rule_text.specs.Parts.{part_view, part_of, rest_of, list_of, both, extents_view, all_extents}
+use Rattle.rule_text.specs.Parts.{Seen, part_view, part_of, rest_of, list_of, list_view, both, extents_view, all_extents}
 use Rattle.rule_text.proofs.Extents.{flat, both_none, after, after_none, after_item, extent_in, one_more, all_members, number_part, weighed_some, weighed_none, around, around_at, list_part}
 use Rattle.rule_text.proofs.Readings.{converted-array, converted-object, item_read, item_refused, items_over, member_read, member_refused, key_refused, members_over, mapped_as, mapped_twice, mapped_some, unmapped}
 use Rattle.rule_text.proofs.part.+read.Goals as goal
@@ -95,23 +95,22 @@ part_from-returns-in-EndObject-clause-err t c never =
     let none : value c.args.depth (token_of c.args.token ∷ c.args.reader.now) ≡ None = rw (value_is c.args.depth (token_of c.args.token ∷ c.args.reader.now)) (grind arith) in
     ap (converted of_json) none
 
-pub part_from-returns-else-depth-eq0-clause-ok : goal.part_from-returns-else-depth-eq0-clause-ok
-part_from-returns-else-depth-eq0-clause-ok t c =
+pub part_from-returns-in_ok-bucket-in-BeginArray-clause-ok : goal.part_from-returns-in_ok-bucket-in-BeginArray-clause-ok
+part_from-returns-in_ok-bucket-in-BeginArray-clause-ok t c =
     let depth = c.args.depth in
     let r = c.args.reader.now in
     let all = items (value (depth - 1)) (length r) r in
     let deeper : 1 + (depth - 1) ≡ depth = omega arith in
     let opened = ap (converted of_json) (ap (value depth) (ap (λ k. token_of k ∷ r) c.in-BeginArray.is) ∙ value-begin_array depth r (omega arith)) ∙ converted-array all in
-    IfOk-weaker c.list_part.result _ _ (λ p read.
-    let ds = mapped_some (λ ds. list_of (depth - 1) (items_shape ds)) (converted of_items all) (part_view p) c.list_part.new.reader read in
-    (parsed.array ds.0, opened ∙ ap (parse_map parsed.array) ds.1, sym ds.2 ∙ ap (λ k. part_of k (shape_of (parsed.array ds.0))) deeper)) c.list_part.ensures.ok
+    let ds = mapped_some (λ ds. list_of (depth - 1) (items_shape ds)) (converted of_items all) _ _ c.in_ok-bucket-in-BeginArray.ensures.ok in
+    (parsed.array ds.0, opened ∙ ap (parse_map parsed.array) ds.1, sym ds.2 ∙ ap (λ k. part_of k (shape_of (parsed.array ds.0))) deeper)
 
-pub part_from-returns-else-depth-eq0-clause-err : goal.part_from-returns-else-depth-eq0-clause-err
-part_from-returns-else-depth-eq0-clause-err t c refused =
+pub part_from-returns-in_err-bucket-in-BeginArray-clause-err : goal.part_from-returns-in_err-bucket-in-BeginArray-clause-err
+part_from-returns-in_err-bucket-in-BeginArray-clause-err t c refused =
     let depth = c.args.depth in
     let r = c.args.reader.now in
     let opened = ap (converted of_json) (ap (value depth) (ap (λ k. token_of k ∷ r) c.in-BeginArray.is) ∙ value-begin_array depth r (omega arith)) ∙ converted-array (items (value (depth - 1)) (length r) r) in
-    opened ∙ ap (parse_map parsed.array) (c.list_part.ensures.err refused)
+    opened ∙ ap (parse_map parsed.array) (c.list_part.ensures.err (grind arith))
 
 pub part_from-returns-in_ok-members-in-BeginObject-clause-ok : goal.part_from-returns-in_ok-members-in-BeginObject-clause-ok
 part_from-returns-in_ok-members-in-BeginObject-clause-ok t c =
@@ -134,23 +133,23 @@ list_part-returns-then-take_end_array-clause-ok t c =
     let r = c.args.reader.now in
     let over = items_over (value depth) (length r) r c.take_end_array.new.self (omega arith) (grind arith) in
     let extent = c.around.ensures ∙ ap (around depth) (c.none.ensures ∙ flat depth _) ∙ around_at depth 0 _ in
-    ap (parse_map (λ ds. list_of depth (items_shape ds))) over ∙ ap (λ p. Some (p, c.take_end_array.new.self)) (sym (c.other.ensures ∙ ap (λ e. (None, None, None, e)) extent))
+    ap (parse_map (λ ds. list_of depth (items_shape ds))) over ∙ ap (λ (p : Seen). Some (p, c.take_end_array.new.self)) (sym (ap (λ e. (None, None, None, e)) extent))
 
-pub list_part-returns-in_err-first-clause-err : goal.list_part-returns-in_err-first-clause-err
-list_part-returns-in_err-first-clause-err t c refused =
+pub list_part-returns-in_err-name-clause-err : goal.list_part-returns-in_err-name-clause-err
+list_part-returns-in_err-name-clause-err t c refused =
     let r = c.args.reader.now in
     let going : (after_end_array r ≡ None) × (c.take_end_array.new.self ≡ r) = grind arith in
-    item_refused (value c.args.depth) (length r) r going.0 (rw (← going.1) (c.read_part.ensures.err (grind arith)))
+    item_refused (value c.args.depth) (length r) r going.0 (rw (← going.1) (c.read_name.ensures.err (grind arith)))
 
 pub list_part-returns-in_err-weight-clause-err : goal.list_part-returns-in_err-weight-clause-err
 list_part-returns-in_err-weight-clause-err t c refused =
     let p = value c.args.depth in
     let r = c.args.reader.now in
     let going : (after_end_array r ≡ None) × (c.take_end_array.new.self ≡ r) = grind arith in
-    let first = c.in_ok-first.ensures in
+    let first = c.in_ok-name.ensures in
     let d = first.ok in
-    let less : length c.read_part.new.reader < length r = rw (← going.1) first.shorter in
-    item_read p (length r) r c.read_part.new.reader d.0 (omega arith) going.0 (rw (← going.1) d.1)
+    let less : length c.read_name.new.reader < length r = rw (← going.1) first.shorter in
+    item_read p (length r) r c.read_name.new.reader d.0 (omega arith) going.0 (rw (← going.1) d.1)
     ∙ ap (parse_map (parsed.item d.0)) (c.read_rest.ensures.err (grind arith) (length r - 1) (omega arith))
 
 pub list_part-returns-clause-ok : goal.list_part-returns-clause-ok
@@ -158,18 +157,58 @@ list_part-returns-clause-ok t c =
     let depth = c.args.depth in
     let p = value depth in
     let r = c.args.reader.now in
-    let s = c.read_part.new.reader in
+    let s = c.read_name.new.reader in
     let going : (after_end_array r ≡ None) × (c.take_end_array.new.self ≡ r) = grind arith in
-    let first = c.in_ok-first.ensures in
-    let v = c.in_ok-first.first in
+    let first = c.in_ok-name.ensures in
     let d = first.ok in
     let less : length s < length r = rw (← going.1) first.shorter in
     let rest = c.in_ok-weight.ensures.ok (length r - 1) (omega arith) in
     let ds = mapped_some (λ ds. rest_of depth (items_shape ds)) (converted of_items (items p (length r - 1) s)) _ _ rest in
     let turn = item_read p (length r) r s d.0 (omega arith) going.0 (rw (← going.1) d.1) ∙ ap (parse_map (parsed.item d.0)) ds.1 in
     let e = c.around-2.ensures ∙ ap (around depth) c.and.ensures in
-    let is = list_part depth v.name c.in_ok-weight.weight v.extent c.in_ok-weight.rest c.around-2.result (shape_of d.0) (items_shape ds.0) (ap (λ x. x.0) d.2) (ap (λ x. x.3) d.2) (sym ds.2) e in
+    let is = list_part depth c.in_ok-name.name c.in_ok-weight.weight c.in_ok-name.first c.in_ok-weight.rest c.around-2.result (shape_of d.0) (items_shape ds.0) (ap (λ x. x.0) d.2) (ap (λ x. x.1) d.2) (sym ds.2) e in
     ap (parse_map (λ ds. list_of depth (items_shape ds))) turn ∙ ap (λ x. Some (x, c.read_rest.new.reader)) (sym (ap (λ b. (None, None, option_map {U = List ℕ × ℕ} (λ b. (b.0.now, b.1)) b, c.around-2.result)) c.zip.ensures ∙ is))
+
+pub read_name-returns-in_err-token-clause-err : goal.read_name-returns-in_err-token-clause-err
+read_name-returns-in_err-token-clause-err t c refused =
+    let empty : c.args.reader.now ≡ [] = grind arith in
+    ap (converted of_json) (ap (value c.args.depth) empty ∙ value_is c.args.depth [])
+
+pub read_name-returns-in-String-clause-ok : goal.read_name-returns-in-String-clause-ok
+read_name-returns-in-String-clause-ok t c =
+    let s = c.in-String.text.now in
+    let r = c.next.new.self in
+    let first : c.args.reader.now ≡ token_of c.in_ok-token.token ∷ r = grind arith in
+    let is : c.args.reader.now ≡ Token.string s ∷ r = first ∙ ap (λ k. token_of k ∷ r) c.in-String.is in (
+      parsed.string s,
+      ap (converted of_json) (ap (value c.args.depth) is ∙ value_is c.args.depth _),
+      ap (λ e. (Some s, e)) (c.none.ensures ∙ flat c.args.depth _),
+    )
+
+pub read_weight-returns-in_err-token-clause-err : goal.read_weight-returns-in_err-token-clause-err
+read_weight-returns-in_err-token-clause-err t c refused =
+    let empty : c.args.reader.now ≡ [] = grind arith in
+    ap (converted of_json) (ap (value c.args.depth) empty ∙ value_is c.args.depth [])
+
+pub read_weight-returns-in-Some-clause-ok : goal.read_weight-returns-in-Some-clause-ok
+read_weight-returns-in-Some-clause-ok t c =
+    let s = c.in-Number.text.now in
+    let r = c.next.new.self in
+    let first : c.args.reader.now ≡ token_of c.in_ok-token.token ∷ r = grind arith in
+    let is : c.args.reader.now ≡ Token.number s ∷ r = first ∙ ap (λ k. token_of k ∷ r) c.in-Number.is in
+    let n = weighed_some (number_of s) c.in-Some.weight c.in-Some.other c.in-Some.ensures in (
+      parsed.number n.0,
+      ap (converted of_json) (ap (value c.args.depth) is ∙ value_is c.args.depth _) ∙ ap (λ o. option_map (λ d. (d, r)) (option_map parsed.number o)) n.1,
+      ap (λ (x : Seen). (x.1, x.3)) (number_part c.args.depth n.0 c.in-Some.weight c.in-Some.other n.2 n.3),
+    )
+
+pub read_weight-returns-in-None-clause-err : goal.read_weight-returns-in-None-clause-err
+read_weight-returns-in-None-clause-err t c never =
+    let s = c.in-Number.text.now in
+    let r = c.next.new.self in
+    let first : c.args.reader.now ≡ token_of c.in_ok-token.token ∷ r = grind arith in
+    let is : c.args.reader.now ≡ Token.number s ∷ r = first ∙ ap (λ k. token_of k ∷ r) c.in-Number.is in
+    ap (converted of_json) (ap (value c.args.depth) is ∙ value_is c.args.depth _) ∙ ap (λ o. option_map (λ d. (d, r)) (option_map parsed.number o)) (weighed_none (number_of s) c.in-None.ensures)
 
 pub read_rest-items-init : goal.read_rest-items-init
 read_rest-items-init t c =
@@ -177,13 +216,13 @@ read_rest-items-init t c =
     let r = c.args.reader.now in
     ((λ n enough. (n, enough, mapped_as (λ ds. rest_of depth (items_shape ds)) (after depth false (Some 1) c.none-extent.result) (λ ds. after_none depth ds ∙ ap (λ e. after depth false (Some 1) e ds) (sym c.none-extent.ensures)) (converted of_items (items (value depth) n r)))), omega arith)
 
-pub read_rest-returns-in_err-item-clause-err : goal.read_rest-returns-in_err-item-clause-err
-read_rest-returns-in_err-item-clause-err t c refused n enough =
+pub read_rest-returns-in_err-item_weight-clause-err : goal.read_rest-returns-in_err-item_weight-clause-err
+read_rest-returns-in_err-item_weight-clause-err t c refused n enough =
     let p = value c.args.depth in
     let l = c.items in
     let turn = l.invariant.0 n enough in
     let going : (after_end_array l.reader ≡ None) × (c.take_end_array.new.self ≡ l.reader) = grind arith in
-    unmapped _ _ (turn.2 ∙ ap (parse_map (after c.args.depth l.begun l.weight l.extent)) (item_refused p turn.0 l.reader going.0 (rw (← going.1) (c.read_part.ensures.err (grind arith)))))
+    unmapped _ _ (turn.2 ∙ ap (parse_map (after c.args.depth l.begun l.weight l.extent)) (item_refused p turn.0 l.reader going.0 (rw (← going.1) (c.read_weight.ensures.err (grind arith)))))
 
 pub read_rest-items-preserved : goal.read_rest-items-preserved
 read_rest-items-preserved t c =
@@ -191,13 +230,12 @@ read_rest-items-preserved t c =
     let p = value depth in
     let l = c.items in
     let going : (after_end_array l.reader ≡ None) × (c.take_end_array.new.self ≡ l.reader) = grind arith in
-    let done = c.in_ok-item.ensures in
+    let done = c.in_ok-item_weight.ensures in
     let d = done.ok in
-    let v = c.in_ok-item.item in
-    let r = c.read_part.new.reader in
+    let r = c.read_weight.new.reader in
     let less : length r < length l.reader = rw (← going.1) done.shorter in
-    let weight = ap (λ x. x.1) d.2 in
-    let extent = c.and-extent.ensures ∙ ap (both l.extent) (ap (λ x. x.3) d.2) in (
+    let weight = ap (λ x. x.0) d.2 in
+    let extent = c.and-extent.ensures ∙ ap (both l.extent) (ap (λ x. x.1) d.2) in (
       λ n enough.
           let turn = l.invariant.0 n enough in
           let read = item_read p turn.0 l.reader r d.0 (omega (arith, turn.1)) going.0 (rw (← going.1) d.1) in (

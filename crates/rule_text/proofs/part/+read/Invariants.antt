@@ -10,6 +10,12 @@ use Rattle.rule_text.proofs.part.+read.Given as goal
 abbrev pub decreases-read_part : goal.decreases-read_part
 decreases-read_part l = 4 * l.depth + 1
 
+abbrev pub decreases-read_name : goal.decreases-read_name
+decreases-read_name l = 4 * l.depth + 1
+
+abbrev pub decreases-read_weight : goal.decreases-read_weight
+decreases-read_weight l = 4 * l.depth + 1
+
 abbrev pub decreases-part_from : goal.decreases-part_from
 decreases-part_from l = 4 * l.depth
 

@@ -1,0 +1,56 @@
+use Rattle.std.proofs.Common.{◌≡◌, ◌-◌, ◌<◌, ◌&&◌, [], length, true, Some, None, sym, ap, ◌∙◌, arith}
+use Rattle.json.specs.Json.{parse_map, after_end_array, items, value}
+use Rattle.serde_json.specs.Data as parsed
+use Rattle.serde_json.specs.Read.{converted, of_items}
+use Rattle.flag_text.specs.Reading.{items_shape}
+use Rattle.rule_text.specs.Buckets.{found_of, so_far, with_bucket}
+use Rattle.rule_text.specs.Parts.{both, item_view}
+use Rattle.rule_text.proofs.Found.{after, after_none, after_item, after_all, with_one, counted, is_viewed, is_found}
+use Rattle.rule_text.proofs.Readings.{item_read, item_refused, items_over, mapped_as, mapped_twice, unmapped}
+use Rattle.rule_text.proofs.look.look_list.Goals as goal
+
+pub buckets-init : goal.buckets-init
+buckets-init c =
+    let r = c.args.reader.now in
+    (length r, omega arith, [], mapped_as (λ ds. found_of (items_shape ds)) (after true [] c.none-extent.result) (λ ds. after_none ds ∙ ap (λ e. after true [] e ds) (sym c.none-extent.ensures)) (converted of_items (items (value 126) (length r) r)))
+
+pub returns-in_err-bucket-clause-err : goal.returns-in_err-bucket-clause-err
+returns-in_err-bucket-clause-err c refused =
+    let l = c.buckets in
+    let going : (after_end_array l.reader ≡ None) × (c.take_end_array.new.self ≡ l.reader) = grind arith in
+    unmapped _ _ (l.invariant.3 ∙ ap (parse_map (after l.is_rule l.invariant.2 l.extent)) (item_refused (value 126) l.invariant.0 l.reader going.0 (rw (← going.1) (c.read_item.ensures.err (grind arith)))))
+
+pub buckets-preserved : goal.buckets-preserved
+buckets-preserved c =
+    let p = value 126 in
+    let l = c.buckets in
+    let n = l.invariant.0 in
+    let es = l.invariant.2 in
+    let going : (after_end_array l.reader ≡ None) × (c.take_end_array.new.self ≡ l.reader) = grind arith in
+    let done = c.in_ok-bucket.ensures in
+    let d = done.ok in
+    let r = c.read_item.new.reader in
+    let less : length r < length l.reader = rw (← going.1) done.shorter in
+    let read = item_read p n l.reader r d.0 (omega (arith, l.invariant.1)) going.0 (rw (← going.1) d.1) in
+    let extent = c.and-extent.ensures ∙ ap (both l.extent) (ap (λ x. x.1) d.2) in
+    let seen = (item_view (c.in_ok-bucket.bucket, c.in_ok-bucket.item_extent)).0 in
+    let one = c.is_some-is_rule.ensures ∙ is_viewed c.in_ok-bucket.bucket in
+    let more = with_one es seen in
+    let kept = ap (λ b. so_far (l.is_rule && b) more) one ∙ counted l.is_rule es seen ∙ ap (with_bucket (so_far l.is_rule es)) (ap (λ x. x.0) d.2) in (
+      n - 1,
+      omega (arith, l.invariant.1),
+      more,
+      l.invariant.3 ∙ ap (parse_map (after l.is_rule es l.extent)) read
+          ∙ mapped_twice (after l.is_rule es l.extent) (parsed.item d.0) (after (l.is_rule && c.is_some-is_rule.result) more c.and-extent.result) (after_item l.is_rule (l.is_rule && c.is_some-is_rule.result) es more l.extent c.and-extent.result d.0 kept extent) (converted of_items (items p (n - 1) r)),
+    )
+
+pub returns-clause-ok : goal.returns-clause-ok
+returns-clause-ok c =
+    let l = c.buckets in
+    let r = c.take_end_array.new.self in
+    let es = l.invariant.2 in (
+      so_far l.is_rule es,
+      l.invariant.3 ∙ ap (parse_map (after l.is_rule es l.extent)) (items_over (value 126) l.invariant.0 l.reader r l.invariant.1 (grind arith))
+          ∙ ap (λ f. Some (f, r)) (after_all l.is_rule es l.extent ∙ ap (λ e. (so_far l.is_rule es, e)) (sym c.around.ensures)),
+      is_found l.is_rule es,
+    )

@@ -1,0 +1,17 @@
+use Rattle.std.proofs.Common.{◌≡◌, ℕ, ◌≤◌, length}
+use Rattle.json.specs.Json.{items, value, parse_map}
+use Rattle.serde_json.specs.Read.{converted, of_items}
+use Rattle.flag_text.specs.Reading.{items_shape}
+use Rattle.bucket_core.specs.Rule.{Entries}
+use Rattle.rule_text.specs.Buckets.{found_of}
+use Rattle.rule_text.proofs.Found.{after}
+use Rattle.rule_text.proofs.look.look_list.Given as goal
+
+-- what is left answers as the whole does, for some buckets before it
+abbrev pub invariant-buckets : goal.invariant-buckets
+invariant-buckets l =
+    (n : ℕ) × (length l.reader ≤ n) × (es : Entries)
+    × (parse_map (λ ds. found_of (items_shape ds)) (converted of_items (items (value 126) (length l.initial.reader) l.initial.reader)) ≡ parse_map (after l.is_rule es l.extent) (converted of_items (items (value 126) n l.reader)))
+
+abbrev pub decreases-buckets : goal.decreases-buckets
+decreases-buckets l = length l.reader
