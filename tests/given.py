@@ -14,6 +14,13 @@ BOOK = r"""{"book":1}
 
 EMPTY_BOOK = '{"book":1}\n'
 
+# A flag whose operation has no bucketing expression, so that each input of its page is its key with a targeting key behind it.
+KEYED = (
+    '{"flags":{"color":{"state":"ENABLED","variants":{"red":"r","blue":"b"},"defaultVariant":"red",'
+    '"targeting":{"fractional":[["red",5],["blue",5]]}}}}'
+)
+KEYED_PAGE = '{"by":null,"flag":"color","site":0}'
+
 # The buckets of the flag in most tests.
 FIVES = '["red",5],["blue",5]'
 

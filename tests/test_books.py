@@ -194,7 +194,7 @@ class Unions(ProgramTest):
         self.assertEqual(ran.files, {**files, "one": book_of({"a": {"x", "y"}})})
 
     def test_a_refusal_changes_no_file(self):
-        files = {"one": book_of({"a": {"x"}}), "bad": '{"book":1}\n"x"\n', "o": "as before"}
+        files = {"one": book_of({"a": {"x"}}), "bad": '{"book":1}\n"x"\n', "o": book_of({"z": {"z"}})}
         for out, words, refusal in [
             ("o", ["none", "bad"], "load 1 Unreadable"),
             ("o", ["one", "bad", "none"], "read_book 2 Line 2"),
@@ -205,11 +205,33 @@ class Unions(ProgramTest):
                 ran = self.assert_ends(["book", out, *words], files, 1, f"refused {refusal}\n")
                 self.assertEqual(ran.files, files)
 
+    def test_what_is_no_book_is_not_written_over(self):
+        """By its first line, and before a file is read: it stays."""
+        for text, fault in [
+            (document(), "1 Header"),
+            (note(), "1 Header"),
+            ("\n" + EMPTY_BOOK, "1 Header"),
+            ("\ufeff" + EMPTY_BOOK, "1 Header"),
+            (EMPTY_BOOK[:-1], "2 Line 1"),
+            (EMPTY_BOOK + "x", None),
+            ("", None),
+        ]:
+            with self.subTest(text=text[:40]):
+                files = {"one": book_of({"a": {"x"}}), "o": text}
+                if fault:
+                    for words in (["one"], ["one", "none"], ["o"]):
+                        ran = self.assert_ends(["book", "o", *words], files, 1, f"refused read_book {fault}\n")
+                        self.assertEqual(ran.files, files)
+                        self.assertTrue(ran.err.startswith('error: "o" is a file that is no book, and stays as it is'), ran.err)
+                else:
+                    ran = self.assert_ends(["book", "o", "one"], files, 0, "inputs 1\nfiles 1\n")
+                    self.assertEqual(ran.files, {**files, "o": files["one"]})
+
     def test_a_page_that_is_too_small_for_all(self):
         front = '{"book":1}\n{"by":"{\\"var\\":[\\"key\\"]}","flag":"color","site":0}\n'
         full = front + "".join(f'"{number:06}"\n' for number in range(MOST))
         more = front + '"n"\n'
-        files = {"d": document(), "a": asks_of("color", [{"key": "n"}]), "full": full, "more": more, "o": "as before"}
+        files = {"d": document(), "a": asks_of("color", [{"key": "n"}]), "full": full, "more": more, "o": EMPTY_BOOK}
         for words, refusal, named in [
             (["book", "o", "full", "more"], "book 2 PageFull", '"more"'),
             (["book", "o", "more", "full"], "book 2 PageFull", '"full"'),
@@ -298,7 +320,7 @@ class Notes(ProgramTest):
             for before in (0, 1, 2):
                 with self.subTest(stray=stray[:40], before=before):
                     lines = "".join([note(text="a"), "\n"][:before]) + stray + note(text="b")
-                    files = {"g": note(text="c"), "n": lines, "o": "as before"}
+                    files = {"g": note(text="c"), "n": lines, "o": EMPTY_BOOK}
                     ran = self.assert_ends(["book", "o", "g", "n"], files, 1, f'refused book 1 Line "n" {before + 1}\n')
                     self.assertEqual(ran.files, files)
                     self.assertTrue(ran.err.startswith(f'error: "n": line {before + 1} '), ran.err)
@@ -310,6 +332,11 @@ class Notes(ProgramTest):
         lines = "".join(BLANKS) + note() + "".join(BLANKS)
         for words in (["n"], ["--torn", "n"]):
             self.assertEqual(self.assert_booked(words, {"n": lines}, 1, book_of({"a": "x"})), "")
+
+    def test_a_byte_order_mark_is_told(self):
+        for text in (note(), EMPTY_BOOK):
+            ran = self.assert_ends(["book", "o", "n"], {"n": "\ufeff" + text}, 1, 'refused book 1 Line "n" 1\n')
+            self.assertTrue(ran.err.startswith('error: "n": line 1 is no note, as the file begins with a byte order mark'), ran.err)
 
     def test_a_last_line_without_its_end(self):
         whole = note(text="a") + note(text="b")

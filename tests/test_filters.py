@@ -105,8 +105,26 @@ class FiltersTest(ProgramTest):
 
     def test_empty(self):
         """No line gives no note, and the tally of none."""
-        self.assertEqual((record("").out, record("").status), ("", 0))
-        self.assertEqual((tally("").out, tally("").status), (printed([], TOTAL), 0))
+        for ran, out in [(record(""), ""), (tally(""), printed([], TOTAL))]:
+            self.assertEqual((ran.out, ran.status), (out, 0))
+            self.assertIn(": the standard input is empty, and nothing is ", ran.err)
+        for ran, out in [(record("\n"), ""), (tally("\n"), printed([], TOTAL))]:
+            self.assertEqual((ran.out, ran.status, ran.err), (out, 0, ""))
+
+    def test_a_byte_order_mark(self):
+        """It is told of the first line, and of no other."""
+        for ran, call in [
+            (record("\ufeff" + context("a")), "record"),
+            (tally("\ufeff" + note("a")), "tally"),
+        ]:
+            self.assertEqual((ran.out, ran.status), (f"refused {call} 1 Line 1\n", 1))
+            self.assertIn(", as it begins with a byte order mark\n", ran.err)
+        for ran, call in [
+            (record(context("a") + "\ufeff" + context("b")), "record"),
+            (tally(note("a") + "\ufeff" + note("b")), "tally"),
+        ]:
+            self.assertTrue(ran.out.endswith(f"refused {call} 1 Line 2\n"), ran.out)
+            self.assertNotIn("mark", ran.err)
 
     def test_refused_line(self):
         """What was printed before stays, the line of the refusal is the last, and later lines are not looked at."""
@@ -262,6 +280,20 @@ class FiltersTest(ProgramTest):
         ran = run(["join", "a", "b"], {"a": printed([note("a")], TOTAL)})
         self.assertEqual((ran.out, ran.status), ("refused load 1 Unreadable\n", 1))
         self.assertIn('"b"', ran.err)
+
+    def test_ends_of_a_file(self):
+        """What `join` tells of a file that is empty, begins with a byte order mark, or was cut."""
+        whole = printed([note("a")], TOTAL)
+        for text, told in [
+            ("", 'error: "a" is empty, and no tally\n'),
+            ("\ufeff" + whole, 'error: "a" begins with a byte order mark, and is no tally\n'),
+            (whole[:-1], "its last line has no line feed"),
+        ]:
+            with self.subTest(text=text[:20]):
+                ran = run(["join", "b", "a"], {"a": text, "b": whole})
+                self.assertTrue(ran.out.startswith("refused read_tally "), ran.out)
+                self.assertEqual(ran.status, 1)
+                self.assertIn(told, ran.err)
 
     def test_book(self):
         """The tally of the demo's contexts has the counts of the book that `drive` writes of the same asks."""

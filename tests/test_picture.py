@@ -5,7 +5,7 @@ import random
 import unittest
 import xml.etree.ElementTree as tree
 
-from given import BOOK, FIVES, UNMET, document, forbid, request
+from given import BOOK, EMPTY_BOOK, FIVES, KEYED, KEYED_PAGE, UNMET, document, forbid, request
 from program import ROOT, ProgramTest, run, text_of
 
 SVG = "{http://www.w3.org/2000/svg}"
@@ -291,6 +291,41 @@ class PictureTest(ProgramTest):
         swapped = {**files, "steps": back, "ramp": before + first.replace('"step":1', '"step":2')}
         self.assert_ends(words, swapped, 1, "refused verify-ramp 8 Groups\n")
         self.assert_mistake(["picture", "--ramp", "doc", "steps"], {}, "BOOK")
+
+    def test_what_is_doubted_is_told_beside_the_picture(self):
+        member = ',"forbidden":[["blue","red"]]'
+        unread = ' has a member that is not read:\n  "forbidden"; perhaps "forbid" is meant\n'
+        plain = {"doc": document(FIVES), "request": request('"red":3,"blue":7')}
+        plain["steps"] = plain["request"].replace('"totals":', '"steps":[').replace("}}", "}]}")
+        for more, book, names in [(member, BOOK, ["asked"]), ("", EMPTY_BOOK, ["book"]), (member, EMPTY_BOOK, ["asked", "book"])]:
+            plain["book"] = book
+            plain["plan"] = run(["plan", "doc", "request", "book"], plain).out
+            plain["ramp"] = run(["ramp", "doc", "steps", "book"], plain).out
+            for asked, words in [
+                ("request", ["picture", "doc", "request", "book", "plan"]),
+                ("steps", ["picture", "--ramp", "doc", "steps", "book", "ramp"]),
+            ]:
+                with self.subTest(words=words, names=names):
+                    ran = run(words, {**plain, asked: plain[asked][:-1] + more + "}"})
+                    note = f'note: "{asked}"{unread}' if "asked" in names else ""
+                    note += 'note: "book" has no input on the page of the request' if "book" in names else ""
+                    self.assertEqual((ran.status, ran.out), (0, run(words, plain).out))
+                    self.assertEqual(ran.err[: len(note)], note)
+                    self.assertEqual(ran.err.count("note: "), len(names))
+        plain["book"] = BOOK
+        plain["plan"] = run(["plan", "doc", "request", "book"], plain).out
+        ran = run(["picture", "doc", "request", "book", "plan"], plain)
+        self.assertEqual((ran.status, ran.err), (0, ""))
+
+    def test_inputs_of_another_flag_are_told_beside_the_picture(self):
+        given = {"doc": KEYED, "request": request('"red":3,"blue":7'), "book": f'{{"book":1}}\n{KEYED_PAGE}\n"ann"\n'}
+        given["steps"] = given["request"].replace('"totals":', '"steps":[').replace("}}", "}]}")
+        given["plan"] = run(["plan", "doc", "request", "book"], given).out
+        given["ramp"] = run(["ramp", "doc", "steps", "book"], given).out
+        for words in (["picture", "doc", "request", "book", "plan"], ["picture", "--ramp", "doc", "steps", "book", "ramp"]):
+            ran = run(words, given)
+            self.assertEqual((ran.status, ran.err.count("note: ")), (0, 1))
+            self.assertIn("none of its flag: 1 of 1 do not begin with its key", ran.err)
 
 
 if __name__ == "__main__":

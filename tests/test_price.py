@@ -2,7 +2,7 @@
 import json
 import unittest
 
-from program import ProgramTest
+from program import ProgramTest, run
 
 OLD = '[["red",5],["blue",5]]'
 RED_3 = '[["red",3],["blue",7]]'
@@ -120,6 +120,18 @@ class Price(ProgramTest):
         for request, fault in REFUSED_REQUESTS:
             with self.subTest(request=request):
                 self.assert_priced(OLD, RED_3, request, f"refused Request::read {fault}\n")
+
+    def test_a_member_of_a_request_that_is_not_read_is_told(self):
+        """What is printed is as without it; a refusal is told alone."""
+        words = ["price", "old", "new", "request", "keys"]
+        files = {"old": OLD, "new": RED_3, "request": FREE, "keys": KEYS}
+        unread = {**files, "request": FREE[:-1] + ',"forbidden":[["red","blue"]]}'}
+        note = 'note: "request" has a member that is not read:\n  "forbidden"; perhaps "forbid" is meant\n'
+        for more in ([], ["--json"]):
+            ran = run([*words, *more], unread)
+            self.assertEqual((ran.status, ran.out, ran.err), (0, run([*words, *more], files).out, note))
+        refused = self.assert_ends(words, {**unread, "keys": "{}"}, 1, "refused price 2 BadKeys\n")
+        self.assertNotIn("note", refused.err)
 
     def test_totals_of_a_rule_that_stays(self):
         for rule, totals in TOTALS:

@@ -6,7 +6,7 @@ import os
 import random
 import unittest
 
-from given import BOOK, FIVES, document, forbid
+from given import BOOK, EMPTY_BOOK, FIVES, KEYED, KEYED_PAGE, document, forbid
 from program import ROOT, ProgramTest, run, text_of
 
 # How many of the book's inputs lie on each of the ten points.
@@ -20,6 +20,20 @@ def steps(*totals, more="", plan=1):
 
 THREE = steps('"red":4,"blue":6', '"red":2,"blue":8', '"red":0,"blue":10')
 BACK = forbid(("blue", "red"), ("blue", "green"))
+
+# What more the steps have, the book, what is refused under `--strict`, and how the note begins.
+DOUBTS = [
+    (',"forbidden":[["blue","red"]]', BOOK, "16 Unread", 'note: "steps" has a member that is not read:\n  "forbidden"; perhaps "forbid" is meant\n'),
+    # This name comes after `steps`.
+    (',"weights":[]', BOOK, "16 Unread", 'note: "steps" has a member that is not read:\n  "weights"\n'),
+    ("", EMPTY_BOOK, "17 Unrecorded", 'note: "book" has no input on the page of the request'),
+    (
+        ',"forbidden":[]',
+        EMPTY_BOOK,
+        "16 Unread",
+        'note: "steps" has a member that is not read:\n  "forbidden"; perhaps "forbid" is meant\nnote: "book" has no input',
+    ),
+]
 
 
 def points_of(rule):
@@ -161,11 +175,78 @@ class RampTest(ProgramTest):
             ran = self.assert_ends(["ramp", "doc", "steps", "book"], self.files(asked), 1, line)
             self.assertIn('"steps"', ran.err)
 
+    def test_what_a_text_of_steps_lacks(self):
+        """It is told of a text that is no JSON as of a request, and else that there are no steps."""
+        asked = steps('"red":4,"blue":6')
+        for text, told in [
+            ("", '"steps" is empty, and no JSON\n'),
+            ("\ufeff" + asked, '"steps" begins with a byte order mark, and is no JSON\n  save it as UTF-8 without the mark\n'),
+            (asked[:-1], '"steps" is no JSON: '),
+            ("{}", '"steps": it is no request with "steps", a list of 1 to 100 totals, '),
+        ]:
+            given = {**self.files(text), "ramp": ""}
+            for words, line in [
+                (["ramp", "doc", "steps", "book"], "refused ramp 1 Request 1 BadRequest\n"),
+                (["verify-ramp", "doc", "steps", "book", "ramp"], "refused verify-ramp 1 Request 1 BadRequest\n"),
+                (["picture", "--ramp", "doc", "steps", "book", "ramp"], "refused verify-ramp 1 Request 1 BadRequest\n"),
+            ]:
+                with self.subTest(text=text, words=words):
+                    ran = self.assert_ends(words, given, 1, line)
+                    self.assertTrue(ran.err.startswith("error: " + told), ran.err)
+
     def test_a_refusal_tells_its_step(self):
         asked = steps('"red":5,"blue":5', '"red":4,"blue":6', '"red":5,"blue":6')
         ran = run(["ramp", "doc", "steps", "book"], self.files(asked))
         self.assertEqual((ran.status, ran.out), (1, "refused ramp 6 TotalsSum\n"))
         self.assertIn("step 3", ran.err)
+
+    def test_what_is_doubted(self):
+        totals = ('"red":4,"blue":6', '"red":2,"blue":8')
+        for more, book, doubt, note in DOUBTS:
+            plain = {**self.files(steps(*totals)), "book": book}
+            given = {**plain, "steps": steps(*totals, more=more)}
+            answers = run(["ramp", "doc", "steps", "book"], plain).out
+            given["ramp"] = answers
+            for words in (["ramp", "doc", "steps", "book"], ["verify-ramp", "doc", "steps", "book", "ramp"]):
+                with self.subTest(words=words, doubt=doubt, more=more):
+                    ran = run(words, given)
+                    self.assertEqual((ran.status, ran.err[: len(note)]), (0, note))
+                    self.assertEqual(ran.out, run(words, {**plain, "ramp": answers}).out)
+                    strict = run([words[0], "--strict", *words[1:]], given)
+                    self.assertEqual((strict.status, strict.out), (1, f"refused {words[0]} {doubt}\n"))
+                    self.assertEqual((strict.err, strict.files), (ran.err, given))
+
+    def test_inputs_of_another_flag(self):
+        totals = ('"red":4,"blue":6', '"red":2,"blue":8')
+        given = {"doc": KEYED, "steps": steps(*totals), "book": f'{{"book":1}}\n{KEYED_PAGE}\n"ann"\n"colorann"\n'}
+        given["ramp"] = run(["ramp", "doc", "steps", "book"], given).out
+        note = 'note: "book" has inputs on the page of the request that are none of its flag: 1 of 2 do not begin with its key\n'
+        for words in (["ramp", "doc", "steps", "book"], ["verify-ramp", "doc", "steps", "book", "ramp"]):
+            with self.subTest(words=words):
+                ran = run(words, given)
+                self.assertEqual((ran.status, ran.err[: len(note)]), (0, note))
+                strict = run([words[0], "--strict", *words[1:]], given)
+                self.assertEqual((strict.status, strict.out), (1, f"refused {words[0]} 18 Foreign\n"))
+                self.assertEqual((strict.err, strict.files), (ran.err, given))
+
+    def test_no_doubt(self):
+        given = self.files(THREE)
+        plain = run(["ramp", "doc", "steps", "book"], given)
+        self.assertEqual((plain.status, plain.err), (0, ""))
+        self.assertEqual(run(["ramp", "--strict", "doc", "steps", "book"], given), plain)
+        given["ramp"] = plain.out
+        checked = run(["verify-ramp", "doc", "steps", "book", "ramp"], given)
+        self.assertEqual((checked.status, checked.err), (0, ""))
+        self.assertEqual(run(["verify-ramp", "--strict", "doc", "steps", "book", "ramp"], given), checked)
+
+    def test_a_refusal_goes_before_a_doubt(self):
+        asked = steps('"red":4,"blue":6', '"red":4,"blue":7', more=',"forbidden":[]')
+        ran = run(["ramp", "--strict", "doc", "steps", "book"], self.files(asked))
+        self.assertEqual((ran.status, ran.out), (1, "refused ramp 6 TotalsSum\n"))
+        # No rule fits the second step: that is an answer, beside which the doubt is told.
+        asked = steps('"red":4,"blue":6', '"red":6,"blue":4', more=BACK + ',"forbidden":[]')
+        ran = run(["ramp", "doc", "steps", "book"], self.files(asked))
+        self.assertEqual((ran.status, ran.err[:6]), (3, "note: "))
 
     def test_a_hundred_steps(self):
         asked = steps(*(f'"red":{5 - n % 6},"blue":{5 + n % 6}' for n in range(100)))
@@ -205,6 +286,14 @@ class RampTest(ProgramTest):
             ("x\n", 1),
         ]:
             self.verified(THREE, text, 1, f"refused read_ramp 1 Line {line}\n")
+
+    def test_answers_behind_a_mark_and_none(self):
+        ramp = self.planned(THREE)
+        words = ["verify-ramp", "doc", "steps", "book", "ramp"]
+        marked = self.assert_ends(words, self.files(THREE, "\ufeff" + ramp), 1, "refused read_ramp 1 Line 1\n")
+        self.assertIn('"ramp" begins with a byte order mark', marked.err)
+        empty = self.assert_ends(words, self.files(THREE, ""), 1, "refused verify-ramp 14 Lines\n")
+        self.assertIn("an empty file has none", empty.err)
 
     def test_finer_points(self):
         asked = steps('"red":45,"blue":55', '"red":42,"blue":58')

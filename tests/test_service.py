@@ -616,6 +616,7 @@ class Refusals(ServiceTest):
                 ran = self.refused("--listen", "127.0.0.1:0", *words)
                 self.assertEqual((ran.out, ran.status), (line, 1))
                 self.assertNotEqual(ran.err, "")
+                self.assertEqual("No such file or directory" in ran.err, words == ["none"])
 
     def test_addresses_and_logs(self):
         for words, line in [

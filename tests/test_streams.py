@@ -291,6 +291,24 @@ class Streams(unittest.TestCase):
         self.assertIn('error: "2.json" is no JSON: ', told)
         self.assertTrue(told.endswith("  the subscribers have what was published before it\n"), told)
 
+    def test_documents_that_will_be_refused_are_told_beforehand(self):
+        """Each with what is wrong with it, before anybody is waited for."""
+        texts = {"good": ONE, "bad": '{"flags":{},\n', "flagless": "{}"}
+        for name, text in texts.items():
+            with open(os.path.join(self.folder, name), "w", encoding="utf-8") as file:
+                file.write(text)
+        port = free_port()
+        server = self.start("serve", port, "1", "good", "bad", "good", "flagless")
+        told = []
+        while not told or "listens on" not in told[-1]:
+            told.append(server.stderr.readline())
+        warned = [line for line in told if line.startswith("serve: document ")]
+        self.assertEqual(warned, ["serve: document 2 will be refused\n", "serve: document 4 will be refused\n"])
+        self.assertIn('error: "bad" is no JSON: ', "".join(told))
+        self.assertIn('error: "flagless"', "".join(told))
+        self.assert_ends(self.start("follow", port, "1000"), "snapshot 1 flags 1\nended\n", 0)
+        self.assert_ends(server, "refused set 4 Refused 1 NotJson\n", 1)
+
     def test_a_first_document_is_refused_before_anybody_is_waited_for(self):
         with open(os.path.join(self.folder, "d"), "w", encoding="utf-8") as file:
             file.write('{"flags":{},\n')
@@ -320,7 +338,8 @@ class Streams(unittest.TestCase):
             stream, _ = listener.accept()
             with stream:
                 stream.sendall(FRAME)
-                self.assert_ends(follower, "snapshot 1 flags 0\nstopped ReadFault\n", 1)
+                told = self.assert_ends(follower, "snapshot 1 flags 0\nstopped ReadFault\n", 1)
+                self.assertTrue(told.startswith("error: nothing came for 1 seconds; "), told)
 
     def test_a_port_in_use(self):
         listener, port = listening()
@@ -346,7 +365,7 @@ class Streams(unittest.TestCase):
         for names in (["none"], ["none", "d"], ["d", "none", "d"], ["d", "d", "none"]):
             told = self.assert_ends(self.start("serve", free_port(), "1", *names), "refused load 1 Unreadable\n", 1)
             self.assertTrue(told.startswith("error: "), told)
-            self.assertIn('"none"', told)
+            self.assertIn('"none" cannot be read: No such file or directory', told)
 
     def test_no_seventeenth_document(self):
         with open(os.path.join(self.folder, "d"), "w", encoding="utf-8") as file:

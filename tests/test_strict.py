@@ -1,7 +1,7 @@
 """The options `--strict`, by which what is told in a note is refused, and `--explain`."""
 import unittest
 
-from given import BOOK, CHEAPEST, EMPTY_BOOK, FIVES, RED_3, document, plan_of, request
+from given import BOOK, CHEAPEST, EMPTY_BOOK, FIVES, KEYED, KEYED_PAGE as PAGE, RED_3, document, plan_of, request
 from program import ProgramTest, run
 
 UNREAD = request('"red":3,"blue":7', ',"forbiden":[["red","blue"]]')
@@ -13,12 +13,6 @@ DOUBTS = [
     (UNREAD, EMPTY_BOOK, "16 Unread", 'note: "request" has a member that is not read:\n  "forbiden"; perhaps "forbid" is meant\nnote: "book"'),
 ]
 
-# A flag whose operation has no bucketing expression, so that each input of its page is its key with a targeting key behind it.
-KEYED = (
-    '{"flags":{"color":{"state":"ENABLED","variants":{"red":"r","blue":"b"},"defaultVariant":"red",'
-    '"targeting":{"fractional":[["red",5],["blue",5]]}}}}'
-)
-PAGE = '{"by":null,"flag":"color","site":0}'
 LATER = '{"by":null,"flag":"colors","site":0}'
 EXPRESSED = '{"by":"{\\"var\\":[\\"key\\"]}","flag":"color","site":0}'
 LONG = [f'"color{n:07}"' for n in range(60_000)]

@@ -177,6 +177,13 @@ class Drives(ProgramTest):
                 self.assertTrue(ran.err.startswith('note: "a"' + told), ran.err)
                 self.assertEqual("nothing was recorded" in ran.err, '"color"' not in asks(keys))
 
+    def test_many_asks_for_each_input_are_told(self):
+        """From twenty on: every context may lack what the bucketing expression reads."""
+        for count, is_told in [(19, False), (20, True), (41, True)]:
+            ran = run(["drive", "d", "a", "1", "b"], {"d": document(), "a": asks(["color"] * count)})
+            self.assertEqual(ran.status, 0)
+            self.assertEqual(f"  there are {count} asks for each input: " in ran.err, is_told, ran.err)
+
     def test_what_a_book_had_is_not_new(self):
         ran = run(["drive", "--add", "d", "a", "1", "b"], {"d": document(), "a": asks(["color"]), "b": BOOK})
         again = run(["drive", "--add", "d", "a", "1", "b"], {"d": document(), "a": asks(["color"]), "b": ran.files["b"]})

@@ -129,7 +129,7 @@ TOKENS = [
     b'{"var":""}', b"[[[[]]]]", b",", b":", b"]", b"}", b"\xef\xbb\xbf", b"/*x*/", b"\n", b"\r",
 ]  # fmt: skip
 REFUSAL = re.compile(r"refused [\w:-]+ .*[A-Z]\w+.*\n")
-DOUBTED = re.compile(r"refused \w+ 1[678] .*\n")
+DOUBTED = re.compile(r"refused [\w-]+ 1[678] .*\n")
 FOLLOWED = re.compile(r"(snapshot \d+ flags \d+\n)*(ended|stopped \w+)\n")
 ENDS = {"ended": 0, "stopped Limit": 0, "stopped EndedInside": 1, "stopped Frame": 1}
 SHAPES = {

@@ -26,7 +26,7 @@ use flagops_books::book;
 use flagops_checks::check;
 use flagops_commands::{complain, run};
 use flagops_files::{Call, FileSet, SystemFiles, want};
-use flagops_filters::{join, record, tally};
+use flagops_filters::{OpenedInlet, Opening, join, record, tally};
 use flagops_network::{follow, open_standard, serve};
 use flagops_pictures::{picture, picture_ramp, plan_picture};
 use flagops_ramps::{apply_step, ramp, verify_ramp};
@@ -67,7 +67,7 @@ fn main(rt: HostRuntime) -> ExitCode {
         work: work.unwrap_or(""),
     };
     let input = Counted::new(PersistentInput::new(rt.stdin()), Some(progress.input()));
-    let input = ReadInlet::new(input);
+    let input = OpenedInlet::new(ReadInlet::new(input));
     let files = SystemFiles::watched(&rt, &progress);
     let (trouble, unread) = (AtomicI32::new(0), AtomicI32::new(0));
     let out = Persistent::new(rt.stdout(), &trouble);
@@ -115,7 +115,7 @@ where
         + Sync,
     D: Read + Send + Drop,
     S: AsStr + Send + Drop,
-    I: Inlet + Send + Drop,
+    I: Inlet + Opening + Send + Drop,
     F: FileSet + Send + Drop,
     O: Outlet + Send + Drop,
     E: Outlet + Send + Drop,
@@ -207,7 +207,7 @@ where
         + Wait
         + Sync,
     S: AsStr + Drop,
-    I: Inlet,
+    I: Inlet + Opening,
     F: FileSet,
     O: Outlet,
     E: Outlet + Drop,
@@ -248,7 +248,7 @@ where
         + Wait
         + Sync,
     S: AsStr,
-    I: Inlet,
+    I: Inlet + Opening,
     F: FileSet,
     O: Outlet,
     E: Outlet + Drop,

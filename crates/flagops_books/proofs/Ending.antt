@@ -1,18 +1,19 @@
 -- What the command came to, as its outlets show it.
 use Rattle.std.proofs.Common.{◌≡◌, ◌∙◌, ◌||◌, ℕ, suc, Bool, true, false, List, [], ◌∷◌, Option, Some, None, IfSome, IfOk, IfErr, is_some, length, map, inl, inr, refl, ap, sym, subst, string_bytes, String, Global}
-use Rattle.std.specs.Prelude.{Result, Ok, Err}
+use Rattle.std.specs.Prelude.{Result, Ok, Err, IsOk}
 use Rattle.book_core.specs.Book.{input_count}
 use Rattle.book_core.specs.Printing.{book_text}
 use Rattle.flagops_books.specs.Calls.{book_calls, can_want}
-use Rattle.flagops_books.specs.Report.{IsBookReport, IsRunOutcome, IsStored, LeavesBook, LeavesUnited, counts_text, remark_of}
+use Rattle.flagops_books.specs.Report.{IsBookReport, IsRunOutcome, IsStored, IsUnitedFor, IsUnitedWhere, LeavesBook, LeavesUnited, counts_text, remark_of}
 use Rattle.flagops_books.specs.Step.{GivesUnited, Said, SaysUnited}
 use Rattle.flagops_books.specs.Told.{NamesOneFile, book_subjects, is_told}
-use Rattle.flagops_books.specs.Union.{IsUnited, noted, stray}
+use Rattle.flagops_books.specs.Union.{IsUnited, United, noted, stray}
 use Rattle.flagops_books.specs.Words.{Uniting}
 use Rattle.flagops_books.specs.declared.uniting.Gathered.{Gathered}
 use Rattle.flagops_books.specs.declared.uniting.Step.{Step}
 use Rattle.flagops_books.specs.declared.uniting.Step.TheVariants.{Noted, Stopped}
 use Rattle.flagops_files.specs.Files.{Holding, KeepsOthers}
+use Rattle.flagops_files.specs.Question.{replaceable_at}
 use Rattle.flagops_files.specs.Refusal.{GivesOne, call_of, is_unread, is_want, unreadable, unwritable}
 use Rattle.flagops_files.specs.Report.{IsFileRefusal, Report, ReportsAll, outcome_view, report_of, want_report}
 use Rattle.flagops_files.specs.Told.{AnswersTold, NamesOne, PutsRemark, Remarks, RemarksOrWants, Says, TellsRemark}
@@ -32,13 +33,37 @@ counted : {X : Type 0} (now : X → List ℕ) (xs : List X) → length (map now 
 counted now [] = refl
 counted now (x ∷ xs) = ap suc (counted now xs)
 
+-- what may not become a book
+pub not_free : (u : Uniting) (h : Option Holding) (e : Refused) → IfSome h (λ at. is_want e.refusal ≡ false → replaceable_at at u.out ≡ Err e.refusal) → IfSome h (λ at. GivesUnited (Err e) (IsUnitedFor u at))
+unfolding IsUnitedFor
+not_free u None e is = tt
+not_free u (Some at) e is = λ wanted. subst (λ (o : Result (Unit {0}) Refusal). IsUnitedWhere o at u (Err e.refusal)) (sym (is wanted)) refl
+
+-- what may
+pub for_free : (u : Uniting) (h : Option Holding) (free : Unit {0}) (r : Result Step Refused) → IfSome h (λ at. replaceable_at at u.out ≡ Ok free) → IfSome h (λ at. GivesUnited r (IsUnited at u.torn u.files no_notes false))
+    → IfSome h (λ at. GivesUnited r (IsUnitedFor u at))
+unfolding IsUnitedFor
+for_free u None free r is came = tt
+for_free u (Some at) free r is came = subst (λ (o : Result (Unit {0}) Refusal). GivesUnited r (λ x. IsUnitedWhere o at u x)) (sym is) came
+
+not_noted : {X : Type 0} (all : Notes) (told : Bool) (e : Refusal) → (let r : Result United Refusal = Ok (noted all told) in r) ≡ Err e → X
+not_noted all told e is = cc
+
+where_free : (u : Uniting) (at : Holding) (all : Notes) (told : Bool) → IsUnitedFor u at (Ok (noted all told)) → IsOk (replaceable_at at u.out) × IsUnited at u.torn u.files no_notes false (Ok (noted all told))
+unfolding IsUnitedFor
+where_free u at all told came = go (replaceable_at at u.out) came
+  where
+    go : (o : Result (Unit {0}) Refusal) → IsUnitedWhere o at u (Ok (noted all told)) → IsOk o × IsUnited at u.torn u.files no_notes false (Ok (noted all told))
+    go (Ok free) came = (tt, came)
+    go (Err e) came = not_noted all told e came
+
 module _ (u : Uniting) where
-  pub no_union : (old after : Option Holding) (e : Refused) → after ≡ old → IfSome old (λ at. GivesUnited (Err e) (IsUnited at u.torn u.files no_notes false)) → IfSome old (λ at. is_want e.refusal ≡ false → IsBookReport at after u (Err e.refusal))
+  pub no_union : (old after : Option Holding) (e : Refused) → after ≡ old → IfSome old (λ at. GivesUnited (Err e) (IsUnitedFor u at)) → IfSome old (λ at. is_want e.refusal ≡ false → IsBookReport at after u (Err e.refusal))
   unfolding IsBookReport
   no_union None after e same is = tt
   no_union (Some at) after e same is = λ wanted. (Err e.refusal, is wanted, (refl, same))
 
-  pub stray_reported : (old after : Option Holding) (o : Outcome) → after ≡ old → IfSome old (λ at. GivesUnited (Ok (Stopped o)) (IsUnited at u.torn u.files no_notes false)) → IfSome old (λ at. IsBookReport at after u (Ok (outcome_view o)))
+  pub stray_reported : (old after : Option Holding) (o : Outcome) → after ≡ old → IfSome old (λ at. GivesUnited (Ok (Stopped o)) (IsUnitedFor u at)) → IfSome old (λ at. IsBookReport at after u (Ok (outcome_view o)))
   unfolding IsBookReport
   stray_reported None after o same is = tt
   stray_reported (Some at) after o same is = (Ok (stray is.0 is.1), is.2, (ap Ok is.3, same))
@@ -47,24 +72,24 @@ module _ (u : Uniting) where
     abbrev Stores : Option Holding → Result Report Refusal → Holding → Type 0
     Stores after r at = IsStored at after u.out (book_text g.book) (counts_text (input_count g.book) n) (is_told (string_bytes g.told)) r
 
-    reported_at : (at : Holding) (after : Option Holding) (r : Result Report Refusal) → GivesUnited (Ok (Noted g)) (IsUnited at u.torn u.files no_notes false) → Stores after r at → IsBookReport at after u r
+    reported_at : (at : Holding) (after : Option Holding) (r : Result Report Refusal) → GivesUnited (Ok (Noted g)) (IsUnitedFor u at) → Stores after r at → IsBookReport at after u r
     unfolding IsBookReport
     reported_at at after r is stores =
         let told = is_told (string_bytes g.told) in
         (Ok (noted is.0 told), is.2, (g.book, is.1, subst (λ (k : ℕ). IsStored at after u.out (book_text g.book) (counts_text (input_count g.book) k) told r) (sym many) stores))
 
-    pub stored_reported : (old mid after : Option Holding) (r : Result Outcome Refused) → mid ≡ old → IfSome old (λ at. GivesUnited (Ok (Noted g)) (IsUnited at u.torn u.files no_notes false))
+    pub stored_reported : (old mid after : Option Holding) (r : Result Outcome Refused) → mid ≡ old → IfSome old (λ at. GivesUnited (Ok (Noted g)) (IsUnitedFor u at))
         → IfSome mid (λ at. GivesOne outcome_view r (λ x. Stores after x at)) → IfSome old (λ at. GivesOne outcome_view r (IsBookReport at after u))
-    stored_reported old mid after r same is stores = both_known old mid (λ at. GivesUnited (Ok (Noted g)) (IsUnited at u.torn u.files no_notes false)) (λ at. GivesOne outcome_view r (IsBookReport at after u)) same is stores (λ at. go at r)
+    stored_reported old mid after r same is stores = both_known old mid (λ at. GivesUnited (Ok (Noted g)) (IsUnitedFor u at)) (λ at. GivesOne outcome_view r (IsBookReport at after u)) same is stores (λ at. go at r)
       where
-        go : (at : Holding) (r : Result Outcome Refused) → GivesUnited (Ok (Noted g)) (IsUnited at u.torn u.files no_notes false) → GivesOne outcome_view r (λ x. Stores after x at) → GivesOne outcome_view r (IsBookReport at after u)
+        go : (at : Holding) (r : Result Outcome Refused) → GivesUnited (Ok (Noted g)) (IsUnitedFor u at) → GivesOne outcome_view r (λ x. Stores after x at) → GivesOne outcome_view r (IsBookReport at after u)
         go at (Ok o) is stores = reported_at at after (Ok (outcome_view o)) is stores
         go at (Err e) is stores = λ wanted. reported_at at after (Err e.refusal) is (stores wanted)
 
-  pub left : (old mid after : Option Holding) (g : Gathered) → mid ≡ old → IfSome old (λ at. GivesUnited (Ok (Noted g)) (IsUnited at u.torn u.files no_notes false)) → KeepsOthers mid after u.out → LeavesUnited old after u
+  pub left : (old mid after : Option Holding) (g : Gathered) → mid ≡ old → IfSome old (λ at. GivesUnited (Ok (Noted g)) (IsUnitedFor u at)) → KeepsOthers mid after u.out → LeavesUnited old after u
   left old mid after g same is kept = inr (
-    where_known old (λ at. GivesUnited (Ok (Noted g)) (IsUnited at u.torn u.files no_notes false)) (λ at. (all : Notes) × (told : Bool) × IsUnited at u.torn u.files no_notes false (Ok (noted all told)))
-        (λ at came. (came.0, is_told (string_bytes g.told), came.2)) is,
+    where_known old (λ at. GivesUnited (Ok (Noted g)) (IsUnitedFor u at)) (λ at. IsOk (replaceable_at at u.out) × (all : Notes) × (told : Bool) × IsUnited at u.torn u.files no_notes false (Ok (noted all told)))
+        (λ at came. let both = where_free u at came.0 (is_told (string_bytes g.told)) came.2 in (both.0, came.0, is_told (string_bytes g.told), both.1)) is,
     subst (λ (h : Option Holding). KeepsOthers h after u.out) same kept,
   )
 

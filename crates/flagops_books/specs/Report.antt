@@ -1,5 +1,5 @@
 -- What the command `book` comes to, and the book that it writes.
-use Rattle.std.specs.Prelude.{◌≡◌, ◌⊎◌, ℕ, Bool, true, false, List, ◌++◌, length, codes, decimal, Option, Some, None, IfSome, Result, Ok, Err}
+use Rattle.std.specs.Prelude.{◌≡◌, ◌⊎◌, ℕ, Bool, true, false, List, ◌++◌, length, codes, decimal, Option, Some, None, IfSome, Result, Ok, Err, IsOk}
 use Rattle.book_core.specs.Book.{Contents, input_count}
 use Rattle.book_core.specs.Printing.{book_text}
 use Rattle.flagops_books.specs.Stray.{stray_report}
@@ -7,6 +7,7 @@ use Rattle.flagops_books.specs.Told.{NamesOneFile, book_subjects}
 use Rattle.flagops_books.specs.Union.{IsUnited, United, noted, stray}
 use Rattle.flagops_books.specs.Words.{Uniting}
 use Rattle.flagops_files.specs.Files.{Holding, KeepsOthers, Stores}
+use Rattle.flagops_files.specs.Question.{replaceable_at}
 use Rattle.flagops_files.specs.Refusal.{unwritable}
 use Rattle.flagops_files.specs.Report.{IsFileRefusal, Outcomes}
 use Rattle.flagops_files.specs.Told.{NamesOne, Remarks, Says}
@@ -29,16 +30,25 @@ IsReported at after out files (Err e) r = (r ≡ Err e) × (after ≡ Some at)
 IsReported at after out files (Ok (stray path n)) r = (r ≡ Ok (stray_report path n)) × (after ≡ Some at)
 IsReported at after out files (Ok (noted all told)) r = (book : Contents) × IsBookOf all book × IsStored at after out (book_text book) (counts_text (input_count book) files) told r
 
+-- what files come to, where the file that is written may become a book, and else why it may not
+abbrev pub IsUnitedWhere : Result (Unit {0}) Refusal → Holding → Uniting → Result United Refusal → Type 0
+IsUnitedWhere (Err e) at u came = came ≡ Err e
+IsUnitedWhere (Ok free) at u came = IsUnited at u.torn u.files no_notes false came
+
+-- the file that is written is looked at first: what is no book stays
+unfoldable pub IsUnitedFor : Uniting → Holding → Result United Refusal → Type 0
+IsUnitedFor u at came = IsUnitedWhere (replaceable_at at u.out) at u came
+
 unfoldable pub IsBookReport : Holding → Option Holding → Uniting → Outcomes
-IsBookReport at after u r = (came : Result United Refusal) × IsUnited at u.torn u.files no_notes false came × IsReported at after u.out (length u.files) came r
+IsBookReport at after u r = (came : Result United Refusal) × IsUnitedFor u at came × IsReported at after u.out (length u.files) came r
 
 -- the same; and that a file cannot be read or written is told only where one has failed
 abbrev pub IsRunOutcome : Holding → Option Holding → Bool → Uniting → Outcomes
 IsRunOutcome at after has_failed u r = IsBookReport at after u r × (IsFileRefusal r → has_failed ≡ true)
 
--- the files stay as they are; or no file that is read is refused, and the file that is written alone changes
+-- the files stay as they are; or the file that is written may become a book and no file that is read is refused, and it alone changes
 abbrev pub LeavesUnited : Option Holding → Option Holding → Uniting → Type 0
-LeavesUnited old new u = (new ≡ old) ⊎ (IfSome old (λ at. (all : Notes) × (told : Bool) × IsUnited at u.torn u.files no_notes false (Ok (noted all told))) × KeepsOthers old new u.out)
+LeavesUnited old new u = (new ≡ old) ⊎ (IfSome old (λ at. IsOk (replaceable_at at u.out) × (all : Notes) × (told : Bool) × IsUnited at u.torn u.files no_notes false (Ok (noted all told))) × KeepsOthers old new u.out)
 
 -- words that ask for nothing leave them
 abbrev pub LeavesBook : Option Uniting → Option Holding → Option Holding → Type 0

@@ -3,7 +3,7 @@ use Rattle.std.specs.Prelude.{◌≡◌, ◌⊎◌, ◌==◌, ℕ, Bool, not, Li
 use Rattle.flag_text.specs.Printing.{text_of}
 use Rattle.flag_text.specs.Shape.{text}
 use Rattle.flagops_books.specs.Calls.{unites_files}
-use Rattle.flagops_files.specs.Refusal.{stores_file}
+use Rattle.flagops_files.specs.Refusal.{loads_book, stores_file}
 use Rattle.flagops_files.specs.Told.{Subjects, by, file}
 
 -- something is told
@@ -23,9 +23,9 @@ NamesOneFile (path ∷ paths) lines = NamesFile path lines ⊎ NamesOneFile path
 abbrev pub Adds : List ℕ → List ℕ → List ℕ → Type 0
 Adds path before after = (after ≡ before) ⊎ ((line : List ℕ) × NamesFile path line × (after ≡ before ++ line))
 
--- the files that are read, and the one that is written, each with the refusals that are of it
+-- the files that are read, and the one that is looked at first and then written, each with the refusals that are of it
 abbrev pub united_subjects : List (List ℕ) → Subjects
 united_subjects paths = map (λ path. (file path, by unites_files)) paths
 
 abbrev pub book_subjects : List ℕ → List (List ℕ) → Subjects
-book_subjects out paths = (file out, by stores_file) ∷ united_subjects paths
+book_subjects out paths = (file out, by loads_book) ∷ (file out, by stores_file) ∷ united_subjects paths

@@ -1,8 +1,9 @@
 //! The command `book`.
 ghost use Rattle.std.specs.Prelude.{◌≡◌, ◌||◌, false, true, map, IfErr, IfOk, IfSome, Err, Some};
-ghost use Rattle.flagops_books.specs.Calls.{book_calls};
+ghost use Rattle.flagops_books.specs.Calls.{book_calls, unites_files};
 ghost use Rattle.flagops_books.specs.Ended.{AnswersBook, TellsBook};
-ghost use Rattle.flagops_books.specs.Report.{IsBookReport, IsRunOutcome, LeavesBook, LeavesUnited, remark_of};
+ghost use Rattle.flagops_books.specs.Report.{IsBookReport, IsRunOutcome, IsUnitedFor, LeavesBook, LeavesUnited, remark_of};
+ghost use Rattle.flagops_books.specs.Step.{GivesUnited, SaysUnited};
 ghost use Rattle.flagops_books.specs.Told.{NamesOneFile, book_subjects};
 ghost use Rattle.flagops_books.specs.Words.{book_by, uniting_view};
 ghost use Rattle.flagops_commands.specs.Drive.{KeepsUnlessDone};
@@ -17,7 +18,7 @@ use crate::uniting::{Step, united};
 use crate::words::read_uniting;
 use flag_text::Outlet;
 use flagops_commands::explain;
-use flagops_files::{Call, FileSet, Outcome, Refused, Status, report, want};
+use flagops_files::{Call, FileSet, Outcome, Refused, Status, check_replaceable, report, want};
 use std::alloc::{AllocError, Global};
 use std::convert::AsStr;
 
@@ -103,9 +104,28 @@ fn outcome<F: FileSet>(
     ensures names { TellsOfOne (book_subjects (uniting_view asked.now).out (uniting_view asked.now).files) result }
     ensures notes { IfOk result (λ o. IfSome o.remark (Says (NamesOneFile (uniting_view asked.now).files))) }
 {
-    let came = united(alloc, files, asked.files.as_slice(), asked.torn)?;
+    let came = united_for(alloc, files, asked)?;
     match came {
         Step::Noted(all) => stored(alloc, files, asked.out, all, asked.files.len()),
         Step::Stopped(outcome) => Ok(outcome),
+    }
+}
+
+/// What the files note, once the file that is written is known to be none, an empty one or a book.
+fn united_for<F: FileSet>(
+    alloc: Global,
+    files: &mut F,
+    asked: &Uniting<'_>,
+) -> Result<Step, Refused>
+    ensures exact { IfSome (F.holding files.old) (λ at. GivesUnited result (IsUnitedFor (uniting_view asked.now) at)) }
+    ensures calls { ComesFrom unites_files result }
+    ensures failed { F.has_failed files.new ≡ (F.has_failed files.old || is_file_fault result) }
+    ensures kept { F.holding files.new ≡ F.holding files.old }
+    ensures names { TellsOfOne (book_subjects (uniting_view asked.now).out (uniting_view asked.now).files) result }
+    ensures says { SaysUnited (uniting_view asked.now).files result }
+{
+    match check_replaceable(alloc, files, asked.out) {
+        Ok(_) => united(alloc, files, asked.files.as_slice(), asked.torn),
+        Err(refused) => Err(refused),
     }
 }

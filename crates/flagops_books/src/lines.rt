@@ -4,6 +4,7 @@ ghost use Rattle.flagops_books.specs.Stray.{stray_line};
 ghost use Rattle.flagops_books.specs.Told.{Adds, NamesFile, is_told};
 
 use flagops_files::quoted;
+use flagops_remarks::Ends;
 use std::alloc::{AllocError, Global};
 
 /// The line of a refusal: line `n` of the file at a path is that of no note.
@@ -14,14 +15,24 @@ pub(crate) fn stray_line(alloc: Global, path: &str, n: u64) -> Result<String, Al
     format!(in alloc; "refused book 1 Line {name} {n}\n")
 }
 
-/// What a person is told of it.
-pub(crate) fn stray_remark(alloc: Global, path: &str, n: u64) -> Result<String, AllocError>
+/// What a person is told of it, by what is seen of the file at its ends.
+pub(crate) fn stray_remark(
+    alloc: Global,
+    path: &str,
+    n: u64,
+    ends: Ends,
+) -> Result<String, AllocError>
     ensures { IfOk result (λ s. NamesFile path.now (string_bytes s)) }
 {
     let name = quoted(alloc, path)?;
-    format!(in alloc;
-        "error: {name}: line {n} is no note\n  a note line is [FLAG,SITE,BY,INPUT], spelled as record and ofrep write it; --torn passes over others\n"
-    )
+    match ends {
+        Ends::Marked => format!(in alloc;
+            "error: {name}: line {n} is no note, as the file begins with a byte order mark\n  save it as UTF-8 without the mark\n"
+        ),
+        _ => format!(in alloc;
+            "error: {name}: line {n} is no note\n  a note line is [FLAG,SITE,BY,INPUT], spelled as record and ofrep write it; --torn passes over others\n"
+        ),
+    }
 }
 
 /// What is told of files so far, with what was passed over in the file at a path.

@@ -151,12 +151,12 @@ fn with_lines(
     ensures says { SaysStep path.now (string_bytes all.told) result }
 {
     if is_one_line(bytes) {
-        return stopped(alloc, path, 1);
+        return stopped(alloc, path, 1, Ends::of(bytes));
     }
     let Gathered { book, told } = all;
     match take_notes(alloc, book, bytes, passing) {
         Ok(taken) => with_taken(alloc, taken, told, path),
-        Err(NotesFault::Line(n)) => stopped(alloc, path, n),
+        Err(NotesFault::Line(n)) => stopped(alloc, path, n, Ends::of(bytes)),
         Err(NotesFault::PageFull) => Err(full(alloc, path)),
         Err(NotesFault::WantOfMemory) => Err(out_of_memory()),
     }
@@ -183,7 +183,7 @@ fn with_taken(alloc: Global, taken: NotesTaken, told: String, path: &str) -> Res
 
 /// The output where line `n` of the file at a path is that of no note.
 #[tactic(auto, using(flagops_files::proofs::Told::says))]
-fn stopped(alloc: Global, path: &str, n: u64) -> Result<Step, Refused>
+fn stopped(alloc: Global, path: &str, n: u64, ends: Ends) -> Result<Step, Refused>
     ensures stray { IfOk result (IsStopOf path.now n) }
     ensures wants { IfErr result (λ e. e.refusal ≡ Refusal.WantOfMemory Call.Book) }
 {
@@ -191,7 +191,7 @@ fn stopped(alloc: Global, path: &str, n: u64) -> Result<Step, Refused>
         Ok(text) => Ok(Step::Stopped(Outcome {
             text: text.into_bytes(),
             status: Status::Refused,
-            remark: Some(Remark::of(stray_remark(alloc, path, n))),
+            remark: Some(Remark::of(stray_remark(alloc, path, n, ends))),
         })),
         Err(AllocError) => Err(out_of_memory()),
     }

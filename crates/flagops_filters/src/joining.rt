@@ -9,12 +9,13 @@ ghost use Rattle.flagops_filters.specs.declared.refusal.FilterRefusal.TheVariant
 ghost use Rattle.flagops_files.specs.declared.refusal.Refusal.TheVariants.{ReadTally};
 
 use crate::refusal::FilterRefusal;
-use crate::remarks::file_line;
+use crate::remarks::{file_line, whole_line};
 use crate::reports::{Told, finish};
 use crate::words::read_join;
 use flag_text::Outlet;
 use flagops_commands::explain;
 use flagops_files::{FileSet, Outcome, Refusal, Remark, Status, load};
+use flagops_remarks::{Ends, of_tally};
 use std::alloc::{AllocError, Global};
 use std::convert::AsStr;
 use tally_core::{JoinFault, PageTally, join as joined};
@@ -175,21 +176,34 @@ fn read(alloc: Global, path: &str, bytes: &[u8]) -> Result<PageTally, Told>
 {
     match read_tally(alloc, bytes) {
         Ok(tally) => Ok(tally),
-        Err(fault) => Err(unread(alloc, path, fault)),
+        Err(fault) => Err(unread(alloc, path, Ends::of(bytes), fault)),
     }
 }
 
 /// A file that is no tally.
-fn unread(alloc: Global, path: &str, fault: TallyFileFault) -> Told
+fn unread(alloc: Global, path: &str, ends: Ends, fault: TallyFileFault) -> Told
     ensures { result.refusal ≡ Load (ReadTally fault) }
 {
     Told {
         refusal: FilterRefusal::Load(Refusal::ReadTally(fault)),
-        remark: Remark::of(read_line(alloc, path, fault)),
+        remark: Remark::of(read_line(alloc, path, ends, fault)),
     }
 }
 
-fn read_line(alloc: Global, path: &str, fault: TallyFileFault) -> Result<String, AllocError> {
-    let reason = format!(in alloc; "{fault}")?;
-    file_line(alloc, path, reason.as_str())
+/// What is told of it, by what is seen of the file at its ends.
+fn read_line(
+    alloc: Global,
+    path: &str,
+    ends: Ends,
+    fault: TallyFileFault,
+) -> Result<String, AllocError> {
+    match ends {
+        Ends::Empty => whole_line(alloc, path, "is empty, and no tally"),
+        Ends::Marked => whole_line(
+            alloc,
+            path,
+            "begins with a byte order mark, and is no tally\n  save it as UTF-8 without the mark",
+        ),
+        _ => of_tally(alloc, path, ends, fault),
+    }
 }

@@ -8,11 +8,11 @@
 //! ```rust
 //! use flag_text::WriteOutlet;
 //! use flagops_files::SystemFiles;
-//! use flagops_filters::record;
+//! use flagops_filters::{OpenedInlet, record};
 //! use line_batches::ReadInlet;
 //!
 //! let words = ["record", "flags.json", "checkout"];
-//! let mut input = ReadInlet::new(rt.stdin());
+//! let mut input = OpenedInlet::new(ReadInlet::new(rt.stdin()));
 //! let mut out = WriteOutlet::new(rt.stdout());
 //! let mut err = WriteOutlet::new(rt.stderr());
 //! let status = record(&rt, words.as_slice(), &mut input, &mut SystemFiles::new(&rt), &mut out, &mut err);
@@ -27,6 +27,7 @@
 mod asked;
 mod joining;
 mod laws;
+mod opening;
 mod recording;
 mod refusal;
 mod remarks;
@@ -38,6 +39,7 @@ mod words;
 
 pub use joining::join;
 pub use laws::joined_files_are_of_all;
+pub use opening::{OpenedInlet, Opening};
 pub use recording::record;
 pub use refusal::FilterRefusal;
 pub use tallying::tally;

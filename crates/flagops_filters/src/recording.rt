@@ -13,14 +13,16 @@ ghost use Rattle.note_streams.specs.Recorded.{recorded_of};
 ghost use Rattle.record_lines.specs.Scene.{scene_of};
 
 use crate::asked::Recording;
+use crate::opening::Opening;
 use crate::refusal::FilterRefusal;
-use crate::remarks::{counted_lines, flag_line, input_line};
+use crate::remarks::{counted_lines, flag_line, input_line, marked_line};
 use crate::reports::{Told, refuse};
 use crate::words::read_record;
 use flag_defs::Flags;
 use flag_text::Outlet;
 use flagops_commands::explain;
 use flagops_files::{FileSet, Refusal, Remark, load_flags, tell};
+use flagops_remarks::Ends;
 use flagops_words::Moment;
 use line_batches::Inlet;
 use note_streams::{Counted, RecordStop, record_stream};
@@ -44,7 +46,7 @@ pub fn record<R, S, I, F, O, E>(
 where
     R: AllocGlobal + Threads + Sync,
     S: AsStr,
-    I: Inlet,
+    I: Inlet + Opening,
     F: FileSet,
     O: Outlet,
     E: Outlet,
@@ -64,7 +66,7 @@ where
 }
 
 /// The note lines of what is asked for.
-fn recorded<R: Threads + Sync, I: Inlet, F: FileSet, O: Outlet, E: Outlet>(
+fn recorded<R: Threads + Sync, I: Inlet + Opening, F: FileSet, O: Outlet, E: Outlet>(
     rt: &R,
     alloc: Global,
     asked: &Recording<'_>,
@@ -87,7 +89,7 @@ fn recorded<R: Threads + Sync, I: Inlet, F: FileSet, O: Outlet, E: Outlet>(
 }
 
 /// The note lines of a flag of a document.
-fn over<R: Threads + Sync, I: Inlet, O: Outlet, E: Outlet>(
+fn over<R: Threads + Sync, I: Inlet + Opening, O: Outlet, E: Outlet>(
     rt: &R,
     alloc: Global,
     asked: &Recording<'_>,
@@ -108,7 +110,7 @@ fn over<R: Threads + Sync, I: Inlet, O: Outlet, E: Outlet>(
 }
 
 /// The note lines of a recorder, by so many workers.
-fn stream<R: Threads + Sync, I: Inlet, O: Outlet, E: Outlet>(
+fn stream<R: Threads + Sync, I: Inlet + Opening, O: Outlet, E: Outlet>(
     rt: &R,
     alloc: Global,
     recorder: &Recorder<'_>,
@@ -124,15 +126,21 @@ fn stream<R: Threads + Sync, I: Inlet, O: Outlet, E: Outlet>(
 {
     match record_stream(rt, alloc, recorder, workers, input, out) {
         Ok(counted) => {
-            tell_counted(alloc, counted, err);
+            tell_counted(alloc, counted, input.opening(), err);
             0
         }
-        Err(stop) => give_up(alloc, stop, out, err),
+        Err(stop) => give_up(alloc, stop, input.opening(), out, err),
     }
 }
 
 /// Writes the line of a stream that was not recorded to its end, behind what is written, and nothing where the output has failed.
-fn give_up<O: Outlet, E: Outlet>(alloc: Global, stop: RecordStop, out: &mut O, err: &mut E) -> u8
+fn give_up<O: Outlet, E: Outlet>(
+    alloc: Global,
+    stop: RecordStop,
+    opening: Ends,
+    out: &mut O,
+    err: &mut E,
+) -> u8
     requires out_whole { O.is_broken out.old ≡ is_broken_off stop }
     requires err_whole { E.is_broken err.old ≡ false }
     ensures { GivesUp (O.bytes out.old) (O.bytes out.new) (O.is_broken out.new) (E.bytes err.old) (E.bytes err.new) (E.is_broken err.new) result (is_broken_off stop) (Record stop) }
@@ -140,7 +148,7 @@ fn give_up<O: Outlet, E: Outlet>(alloc: Global, stop: RecordStop, out: &mut O, e
     if is_broken_off(&stop) {
         return 1;
     }
-    refused(alloc, stopped(alloc, stop), out, err)
+    refused(alloc, stopped(alloc, stop, opening), out, err)
 }
 
 /// Whether the output has failed.
@@ -202,29 +210,34 @@ fn fault_of(fault: RecordFault) -> RolloutFault
 }
 
 /// A stream that is not recorded to its end.
-fn stopped(alloc: Global, stop: RecordStop) -> Told
+fn stopped(alloc: Global, stop: RecordStop, opening: Ends) -> Told
     ensures { result.refusal ≡ Record stop }
 {
     Told {
         refusal: FilterRefusal::Record(stop),
-        remark: Remark::of(stop_line(alloc, stop)),
+        remark: Remark::of(stop_line(alloc, stop, opening)),
     }
 }
 
-fn stop_line(alloc: Global, stop: RecordStop) -> Result<String, AllocError> {
+/// What is told of it, by what the input began with.
+fn stop_line(alloc: Global, stop: RecordStop, opening: Ends) -> Result<String, AllocError> {
     let reason = format!(in alloc; "{stop}")?;
-    input_line(alloc, reason.as_str())
+    match (stop, opening) {
+        (RecordStop::Line(1), Ends::Marked) => marked_line(alloc, reason.as_str()),
+        _ => input_line(alloc, reason.as_str()),
+    }
 }
 
 /// Tells what was not noted, where there is something to tell, and says whether there was.
-fn tell_counted<E: Outlet>(alloc: Global, counted: Counted, err: &mut E) -> bool
+fn tell_counted<E: Outlet>(alloc: Global, counted: Counted, opening: Ends, err: &mut E) -> bool
     requires { E.is_broken err.old ≡ false }
     ensures { TellsIf (E.bytes err.old) (E.bytes err.new) (E.is_broken err.new) result }
 {
-    if counted.long == 0 && !counted.torn {
+    let is_empty = matches!(opening, Ends::Empty);
+    if counted.long == 0 && !counted.torn && !is_empty {
         return false;
     }
-    match counted_lines(alloc, counted) {
+    match counted_lines(alloc, counted, is_empty) {
         Ok(lines) => tell(err, lines.as_str()),
         Err(AllocError) => tell(err, "error: out of memory\n"),
     }

@@ -14,6 +14,14 @@ pub fn file_line(alloc: Global, path: &str, reason: &str) -> Result<String, Allo
     format!(in alloc; "error: {name}: {reason}\n")
 }
 
+/// A line that says of a file as a whole what it is.
+pub fn whole_line(alloc: Global, path: &str, words: &str) -> Result<String, AllocError>
+    ensures { IfOk result (λ s. NamesFile path.now (string_bytes s)) }
+{
+    let name = quoted(alloc, path)?;
+    format!(in alloc; "error: {name} {words}\n")
+}
+
 /// A line on the flag of a document that is refused.
 pub fn flag_line(alloc: Global, path: &str, key: &str, reason: &str) -> Result<String, AllocError>
     ensures { IfOk result (λ s. NamesFile path.now (string_bytes s)) }
@@ -28,9 +36,24 @@ pub fn input_line(alloc: Global, reason: &str) -> Result<String, AllocError> {
     format!(in alloc; "error: the standard input: {reason}\n")
 }
 
-/// What is told of contexts that were all recorded: the inputs that were not noted, and the bytes that were passed over.
-pub fn counted_lines(alloc: Global, counted: Counted) -> Result<String, AllocError> {
+/// The same where it begins with a byte order mark.
+pub fn marked_line(alloc: Global, reason: &str) -> Result<String, AllocError> {
+    format!(in alloc;
+        "error: the standard input: {reason}, as it begins with a byte order mark\n  send it as UTF-8 without the mark\n"
+    )
+}
+
+/// What is told of contexts that were all recorded: that there were none, the inputs that were not noted, and the bytes that
+/// were passed over.
+pub fn counted_lines(
+    alloc: Global,
+    counted: Counted,
+    is_empty: bool,
+) -> Result<String, AllocError> {
     let mut lines = String::new(alloc);
+    if is_empty {
+        lines.push_str("record: the standard input is empty, and nothing is recorded\n")?;
+    }
     if counted.long > 0 {
         let long = counted.long;
         let line = format!(in alloc;

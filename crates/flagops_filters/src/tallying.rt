@@ -12,8 +12,9 @@ ghost use Rattle.flagops_files.specs.declared.refusal.Refusal.TheVariants.{Plan}
 ghost use Rattle.flagops_filters.specs.Words.{tallying_view};
 
 use crate::asked::Tallying;
+use crate::opening::Opening;
 use crate::refusal::FilterRefusal;
-use crate::remarks::{flag_line, input_line};
+use crate::remarks::{flag_line, input_line, marked_line};
 use crate::reports::{Told, finish};
 use crate::target::Target;
 use crate::words::read_tally;
@@ -23,6 +24,7 @@ use flag_defs::Flags;
 use flag_text::Outlet;
 use flagops_commands::explain;
 use flagops_files::{FileSet, Outcome, Refusal, Remark, Status, load_flags};
+use flagops_remarks::Ends;
 use flagops_words::Factor;
 use line_batches::Inlet;
 use logic_ast::{Site, site};
@@ -50,7 +52,7 @@ pub fn tally<R, S, I, F, O, E>(
 where
     R: AllocGlobal,
     S: AsStr,
-    I: Inlet,
+    I: Inlet + Opening,
     F: FileSet,
     O: Outlet,
     E: Outlet,
@@ -73,7 +75,7 @@ where
 }
 
 /// The tally of what is asked for.
-fn tallied<I: Inlet, F: FileSet>(
+fn tallied<I: Inlet + Opening, F: FileSet>(
     alloc: Global,
     asked: &Tallying<'_>,
     input: &mut I,
@@ -90,7 +92,7 @@ fn tallied<I: Inlet, F: FileSet>(
 }
 
 /// The tally at a site of a flag of a document.
-fn within<I: Inlet>(
+fn within<I: Inlet + Opening>(
     alloc: Global,
     asked: &Tallying<'_>,
     flags: &Flags,
@@ -106,55 +108,63 @@ fn within<I: Inlet>(
 }
 
 /// The tally of a stream.
-fn over<I: Inlet>(alloc: Global, target: Target, input: &mut I) -> Result<Outcome, Told>
+fn over<I: Inlet + Opening>(alloc: Global, target: Target, input: &mut I) -> Result<Outcome, Told>
     requires { I.is_broken input.old ≡ false }
     ensures { IfSome (I.bytes input.old) (λ bytes. GivesOne result (IsTallyOver (target_view target) bytes (I.is_broken input.new))) }
 {
     let Target { page, total, .. } = target;
     match tally_stream(alloc, page, total, input) {
-        Ok(came) => printed(alloc, &came),
-        Err(stop) => Err(stopped(alloc, stop)),
+        Ok(came) => printed(alloc, &came, input.opening()),
+        Err(stop) => Err(stopped(alloc, stop, input.opening())),
     }
 }
 
 /// The file of a tally.
-fn printed(alloc: Global, came: &StreamTally) -> Result<Outcome, Told>
+fn printed(alloc: Global, came: &StreamTally, opening: Ends) -> Result<Outcome, Told>
     ensures { PrintsTally came.now.tally result }
 {
     match print_tally(alloc, &came.tally) {
         Ok(text) => Ok(Outcome {
             text: text.into_bytes(),
             status: Status::Done,
-            remark: torn_remark(alloc, came.torn),
+            remark: beside(alloc, came.torn, opening),
         }),
-        Err(AllocError) => Err(stopped(alloc, TallyStop::Filter(FilterFault::WantOfMemory))),
+        Err(AllocError) => {
+            let stop = TallyStop::Filter(FilterFault::WantOfMemory);
+            Err(stopped(alloc, stop, opening))
+        }
     }
 }
 
-/// What is told where bytes stood behind the last line.
-fn torn_remark(alloc: Global, torn: bool) -> Option<Remark> {
-    if !torn {
-        return None;
-    }
-    Some(Remark::of(String::from_str(
-        alloc,
-        "tally: the last line has no end and is passed over\n",
-    )))
+/// What is told where bytes stood behind the last line, and of an input without bytes.
+fn beside(alloc: Global, torn: bool, opening: Ends) -> Option<Remark> {
+    let line = match opening {
+        Ends::Empty => "tally: the standard input is empty, and nothing is counted\n",
+        _ if torn => "tally: the last line has no end and is passed over\n",
+        _ => return None,
+    };
+    Some(Remark::of(String::from_str(alloc, line)))
 }
 
 /// A stream that is not tallied to its end.
-fn stopped(alloc: Global, stop: TallyStop) -> Told
+fn stopped(alloc: Global, stop: TallyStop, opening: Ends) -> Told
     ensures { result.refusal ≡ FilterRefusal.Tally stop }
 {
     Told {
         refusal: FilterRefusal::Tally(stop),
-        remark: Remark::of(stop_line(alloc, stop)),
+        remark: Remark::of(stop_line(alloc, stop, opening)),
     }
 }
 
-fn stop_line(alloc: Global, stop: TallyStop) -> Result<String, AllocError> {
+/// What is told of it, by what the input began with.
+fn stop_line(alloc: Global, stop: TallyStop, opening: Ends) -> Result<String, AllocError> {
     let reason = format!(in alloc; "{stop}")?;
-    input_line(alloc, reason.as_str())
+    match (stop, opening) {
+        (TallyStop::Filter(FilterFault::Line(1)), Ends::Marked) => {
+            marked_line(alloc, reason.as_str())
+        }
+        _ => input_line(alloc, reason.as_str()),
+    }
 }
 
 /// A site that is not tallied at.

@@ -9,28 +9,28 @@ use Rattle.flagops_network.specs.Words.{follow_by, follow_faults, serve_by, serv
 use Rattle.flagops_streams.specs.Documents.{Answer, count_of}
 use Rattle.flagops_streams.specs.Printed.{Follows}
 use Rattle.flagops_streams.specs.Report.{FindsNobody, RefusesBy, Reports, Serves}
-use Rattle.flagops_streams.specs.Told.{IsOfSubscribers, TellsText}
+use Rattle.flagops_streams.specs.Told.{IsServeLine, TellsLate, TellsText}
 use Rattle.flagops_streams.specs.declared.refusal.Refusal.TheVariants.{Unreadable}
 
 -- the output and what is told beside it, each by the bytes that are known of it and by whether it is broken
 module _ {O E : Type 0} (bytes : O → Option (List ℕ)) (is_broken : O → Bool) (out out' : O) (told : E → Option (List ℕ)) (is_mute : E → Bool) (err err' : E) (status : ℕ) where
-  -- Over files whose bytes are known, the line of what the documents at the paths make. Subscribers are told of, and a refusal.
+  -- Over files whose bytes are known, the line of what the documents at the paths make. Documents that will be refused are told, subscribers, and a refusal.
   abbrev pub AnswersServe : {F : Type 0} → (F → Option Holding) → F → List Text → Type 0
   AnswersServe holding files words = IfSome (serve_by words) (λ s. IfSome (holding files) (λ at.
       ((answer : Answer) × AnswersTo at s answer
-      × Reports (IsOfSubscribers s.port s.subscribers) (count_of answer) (bytes out) (bytes out') (is_broken out') (told err) (told err') (is_mute err') status)
+      × Reports (IsServeLine s.port s.subscribers) (count_of answer) (bytes out) (bytes out') (is_broken out') (told err) (told err') (is_mute err') status)
       ⊎ WantsAt bytes is_broken out out' told is_mute err err' status))
 
   -- all documents were published, or there was a refusal
   abbrev pub ServesAsked : List Text → Type 0
   ServesAsked words = IfSome (serve_by words) (λ s.
-      Serves (IsOfSubscribers s.port s.subscribers) (length s.documents) (bytes out) (bytes out') (is_broken out') (told err) (told err') (is_mute err') status
+      Serves (IsServeLine s.port s.subscribers) (length s.documents) (bytes out) (bytes out') (is_broken out') (told err) (told err') (is_mute err') status
       ⊎ WantsAt bytes is_broken out out' told is_mute err err' status)
 
-  -- the lines of a stream, beside which nothing is told; or no connection, which is told
+  -- the lines of a stream, beside which nothing is told but that nothing came; or no connection, which is told
   abbrev pub FollowsAsked : List Text → Type 0
   FollowsAsked words = IfSome (follow_by words) (λ f.
-      (Follows (bytes out) (bytes out') (is_broken out') status × (told err' ≡ told err))
+      (Follows (bytes out) (bytes out') (is_broken out') status × TellsLate f.wait status (told err) (told err') (is_mute err'))
       ⊎ FindsNobody (bytes out) (bytes out') (is_broken out') (told err) (told err') (is_mute err') status
       ⊎ WantsAt bytes is_broken out out' told is_mute err err' status)
 

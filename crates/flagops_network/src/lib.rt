@@ -19,7 +19,8 @@
 //! line, the number of the documents that the words name with status 0 or a refusal with status 1, that it is a line which
 //! the documents at these paths make, and which one where a file can't be read, and that files are only read; of `follow`,
 //! that the output is the lines of the snapshots of some stream and how it ended, or that nobody listens. A refusal is told
-//! on the error outlet too; beside what went well `serve` tells of its subscribers alone, and `follow` nothing.
+//! on the error outlet too; else `serve` tells which documents will be refused and of its subscribers, and `follow` that nothing
+//! came.
 #![tactic(auto)]
 
 mod asked;

@@ -13,6 +13,7 @@ use flagops_remarks::{of_document, of_unreadable};
 use flagops_streams::{Refusal, Remarks, refuse, say_refused, serve_documents};
 use std::alloc::{AllocError, Global};
 use std::convert::AsStr;
+use std::io;
 use std::net::{Net, TcpListener, TcpStream};
 use std::sync::Wait;
 use std::thread::Threads;
@@ -62,7 +63,7 @@ where
             err,
         ),
         Err(unloaded) => {
-            tell_unloaded(alloc, err, &unloaded);
+            tell_unloaded(alloc, err, &unloaded, files.trouble());
             refuse(alloc, out, unloaded.refusal)
         }
     }
@@ -90,23 +91,28 @@ impl Remarks for AtPaths<'_, '_> {
     }
 }
 
-/// Tells a person why documents were not loaded.
-fn tell_unloaded<E: Outlet>(alloc: Global, err: &mut E, unloaded: &Unloaded<'_>)
+/// Tells a person why documents were not loaded, where a file can't be read in the system's words, as far as these are known.
+fn tell_unloaded<E: Outlet>(
+    alloc: Global,
+    err: &mut E,
+    unloaded: &Unloaded<'_>,
+    trouble: Option<io::Error>,
+)
     requires { E.is_broken err.old ≡ false }
     ensures { TellsText (E.bytes err.old) (E.bytes err.new) (E.is_broken err.new) }
 {
     match unloaded.refusal {
-        Refusal::Unreadable => tell_unreadable(alloc, err, unloaded.path),
+        Refusal::Unreadable => tell_unreadable(alloc, err, unloaded.path, trouble),
         refusal => say_refused(alloc, err, refusal),
     }
 }
 
 /// Tells a person of a file that can't be read.
-fn tell_unreadable<E: Outlet>(alloc: Global, err: &mut E, path: &str)
+fn tell_unreadable<E: Outlet>(alloc: Global, err: &mut E, path: &str, trouble: Option<io::Error>)
     requires { E.is_broken err.old ≡ false }
     ensures { TellsText (E.bytes err.old) (E.bytes err.new) (E.is_broken err.new) }
 {
-    match of_unreadable(alloc, path, None) {
+    match of_unreadable(alloc, path, trouble) {
         Ok(text) => tell(err, text.as_str()),
         Err(AllocError) => say_refused(alloc, err, Refusal::Unloaded),
     }

@@ -1,16 +1,17 @@
 -- What was loaded in turn and then drawn, as one report.
-use Rattle.std.proofs.Common.{◌≡◌, ◌⊎◌, Bool, true, false, Option, Some, None, IfErr, IfOk, IfSome, inl, inr, refl, sym, ap, ◌∙◌, subst}
+use Rattle.std.proofs.Common.{◌≡◌, ◌⊎◌, ℕ, List, Bool, is_some, true, false, Option, Some, None, IfErr, IfOk, IfSome, inl, inr, refl, sym, ap, ◌∙◌, subst}
 use Rattle.std.specs.Prelude.{Result, Ok, Err}
+use Rattle.flagops_commands.specs.Doubts.{doubt_of}
 use Rattle.flagops_files.specs.Files.{Holding}
 use Rattle.flagops_files.specs.PlanFile.{plan_at}
 use Rattle.flagops_files.specs.Question.{BookQuestion, IsBookQuestionAt}
-use Rattle.flagops_files.specs.Refusal.{GivesOne, call_of, is_want}
-use Rattle.flagops_files.specs.Report.{AnswersOrWants, Outcomes, Report, outcome_view, report_of, want_report}
+use Rattle.flagops_files.specs.Refusal.{GivesOne, GivesUnlessWant, call_of, is_want}
+use Rattle.flagops_files.specs.Report.{AnswersOrWants, Outcomes, Report, beside, outcome_view, report_of, want_report}
 use Rattle.flagops_files.specs.declared.outcome.Outcome.{Outcome}
 use Rattle.flagops_files.specs.declared.refusal.Call.{Call}
 use Rattle.flagops_files.specs.declared.refusal.Refusal.{Refusal}
 use Rattle.flagops_files.specs.declared.refused.Refused.{Refused}
-use Rattle.flagops_pictures.specs.Pictured.{IsPictureReport, IsPictured}
+use Rattle.flagops_pictures.specs.Pictured.{IsDrawnOrDenied, IsPictureReport, IsPictured, as_question, asked_over, drawn_report}
 use Rattle.flagops_pictures.specs.Words.{Asked}
 use Rattle.plan_text.specs.Answer.{Answer}
 
@@ -32,6 +33,12 @@ module _ (a : Asked) (q : BookQuestion) (answer : Answer) where
   pub pictured : (old kept : Option Holding) (r : Result Outcome Refused) → kept ≡ old → IfSome old (λ at. IsBookQuestionAt at a.document a.request a.book (Ok q))
       → IfSome kept (λ at. plan_at at a.plan ≡ Ok answer) → GivesOne outcome_view r (IsPictured a.refine (Ok q) (Ok answer)) → IfSome old (λ at. GivesOne outcome_view r (IsPictureReport at a))
   pictured old kept r same asked answered drawn = joined old kept same asked answered (λ at x y. pictured_over at r x y drawn)
+
+-- the picture of an answer that is right, and whether a person is told something beside it
+pub drawn_so : (refine : Option ℕ) (q : BookQuestion) (answer : Answer) (bytes : List ℕ) (r : Result Outcome Refused) → IsDrawnOrDenied (asked_over refine answer q) answer (Ok bytes)
+    → GivesUnlessWant outcome_view r (beside (is_some (doubt_of (as_question q))) (drawn_report (Ok bytes))) → GivesOne outcome_view r (IsPictured refine (Ok q) (Ok answer))
+drawn_so refine q answer bytes (Ok o) drawn given = (Ok bytes, drawn, sym given)
+drawn_so refine q answer bytes (Err e) drawn given = λ no_want. (Ok bytes, drawn, sym (given no_want))
 
 module _ (calls : Call → Bool) (P : Holding → Outcomes) where
   -- an outcome is what is written

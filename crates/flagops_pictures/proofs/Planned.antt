@@ -23,8 +23,8 @@ use Rattle.rollout_checks.specs.Lawful.{Problem}
 use Rattle.rollout_checks.specs.Refined.{problem_refined}
 use Rattle.rollout_checks.specs.Verified.{IsShown}
 use Rattle.rollout_checks.specs.declared.fault.RolloutFault.{RolloutFault}
-use Rattle.flagops_pictures.specs.Pictured.{IsDrawn}
-use Rattle.flagops_pictures.specs.Planning.{IsDrawnOn, IsPictureOf, IsPlanPicture, IsPlanWith, LeavesPicture, as_question}
+use Rattle.flagops_pictures.specs.Pictured.{IsDrawn, as_question}
+use Rattle.flagops_pictures.specs.Planning.{IsDrawnOn, IsPictureOf, IsPlanPicture, IsPlanWith, LeavesPicture}
 use Rattle.flagops_pictures.specs.Words.{Planning}
 
 -- what is planned is shown to be right

@@ -1,12 +1,15 @@
 -- What comes of a ramp that is drawn.
-use Rattle.std.proofs.Common.{◌≡◌, ◌≢◌, false, true, ℕ, List, Option, None, Some, Result, Ok, Err, refl, ap, ◌∙◌, subst, sym}
+use Rattle.std.proofs.Common.{◌≡◌, ◌≢◌, Bool, false, true, is_some, ℕ, List, Option, None, Some, Result, Ok, Err, refl, ap, ◌∙◌, subst, sym}
 use Rattle.std.specs.Prelude.{IfSome}
 use Rattle.flagops_files.specs.Files.{Holding}
 use Rattle.flagops_files.specs.Question.{BookQuestion as Asked, IsBookQuestionAt, book_question_view}
 use Rattle.flagops_files.specs.Refusal as files
 use Rattle.flagops_files.specs.declared.outcome.Outcome.{Outcome}
 use Rattle.flagops_files.specs.declared.book_question.BookQuestion.{BookQuestion}
+use Rattle.flagops_files.specs.declared.refusal.Doubt.{Doubt}
 use Rattle.flagops_files.specs.declared.refused.Refused.{Refused}
+use Rattle.flagops_files.specs.declared.refused.Remark.{Remark}
+use Rattle.flagops_ramps.specs.Doubts.{Settles, doubt_of_steps, settle}
 use Rattle.flagops_ramps.specs.Ramp.{of_steps}
 use Rattle.flagops_ramps.specs.Refusal.{is_want}
 use Rattle.flagops_ramps.specs.Report.{GivesOne}
@@ -14,6 +17,7 @@ use Rattle.flagops_ramps.specs.Verify.{answers_at, refused_as}
 use Rattle.flagops_ramps.specs.Words.{Verifying}
 use Rattle.flagops_ramps.specs.declared.refusal.RampRefusal.{RampRefusal}
 use Rattle.flagops_ramps.specs.declared.refusal.RampRefusal.TheVariants.{Load, Verify}
+use Rattle.flagops_ramps.specs.declared.refusal.StepCall.{StepCall}
 use Rattle.flagops_ramps.specs.declared.reports.Told.{Told}
 use Rattle.plan_text.specs.Answer.{Answer}
 use Rattle.ramp.specs.Right.{IsTold}
@@ -71,8 +75,19 @@ other_verify t f is no_want = λ want. let one : is_want t ≡ true = ap is_want
 other_steps : (e : StepsFault) → of_steps e ≢ WantOfMemory → e ≢ steps.WantOfMemory
 other_steps e other = λ want. other (ap of_steps want)
 
+-- what a person is told of a doubt that is not refused
+pub told_alone : (c : StepCall) (d : Option Doubt) (remark : Option Remark) → Settles (Ok remark) (settle c false d) → is_some remark ≡ is_some d
+told_alone c d remark settled = let both : Ok (is_some d) ≡ Ok (is_some remark) = settled in cc
+
+pub want_alone : (c : StepCall) (d : Option Doubt) (t : Told) → Settles (Err t) (settle c false d) → is_want t.refusal ≡ true
+want_alone c d t settled = go (is_want t.refusal) refl
+  where
+    go : (b : Bool) → is_want t.refusal ≡ b → b ≡ true
+    go true is = refl
+    go false is = absurd (let both : Ok (is_some d) ≡ Err t.refusal = settled is in cc)
+
 module _ (refine : Option ℕ) (q : Asked) where
-  pub drawn_report : (requests : List (List ℕ)) (answers : List Answer) (r : Result Outcome Told) → IsTold (Ok q.flags) refine requests q.book answers (Ok tt) → DrawsOr r (IsRampDrawn (Ok q.flags) refine requests q.book answers)
+  pub drawn_report : (requests : List (List ℕ)) (answers : List Answer) (r : Result Outcome Told) → IsTold (Ok q.flags) refine requests q.book answers (Ok tt) → DrawsOr (is_some (doubt_of_steps q requests)) r (IsRampDrawn (Ok q.flags) refine requests q.book answers)
       → GivesOne r (IsRampPictureOver refine q answers (Ok requests))
   drawn_report requests answers (Ok o) told draws = (Ok tt, told, (o.text.items, draws.0, ap Ok draws.1))
   drawn_report requests answers (Err t) told draws = λ no_want. absurd (let both : true ≡ false = sym draws ∙ no_want in cc)

@@ -1,14 +1,16 @@
 -- What `picture` answers, and what a picture has to tell.
-use Rattle.std.specs.Prelude.{◌≡◌, ℕ, List, Bool, true, OnOk, Option, Result, Ok, Err, String, string_bytes}
+use Rattle.std.specs.Prelude.{◌≡◌, ℕ, List, Bool, true, is_some, OnOk, Option, Result, Ok, Err, String, string_bytes}
 use Rattle.std.specs.Map.{keys_of}
 use Rattle.std.specs.declared.alloc.Global.{Global}
 use Rattle.book_core.specs.Counts.{counts_of}
 use Rattle.bucket_core.specs.Rule.{Entries, total_weight}
+use Rattle.flagops_commands.specs.Doubts.{doubt_of}
 use Rattle.flagops_files.specs.Files.{Holding}
 use Rattle.flagops_files.specs.PlanFile.{plan_at}
-use Rattle.flagops_files.specs.Question.{BookQuestion, IsBookQuestionAt}
+use Rattle.flagops_files.specs.Question.{BookQuestion, Question, IsBookQuestionAt}
 use Rattle.flagops_files.specs.Refusal.{loads_book_question}
-use Rattle.flagops_files.specs.Report.{Outcomes, Report, done}
+use Rattle.flagops_files.specs.Report.{Outcomes, Report, beside, done}
+use Rattle.flagops_files.specs.declared.evidence.Evidence.TheVariants.{Book}
 use Rattle.flagops_files.specs.declared.refusal.Call.{Call}
 use Rattle.flagops_files.specs.declared.refusal.Call.TheVariants as call
 use Rattle.flagops_files.specs.declared.refusal.Refusal.{Refusal}
@@ -81,12 +83,16 @@ abbrev pub drawn_report : Result (List ℕ) VerifyFault → Result Report Refusa
 drawn_report (Ok bytes) = done bytes
 drawn_report (Err e) = Err (Verify e)
 
--- the report of an answer to a question: its picture, where it is right
+-- a question over a book, as `plan` asks it
+abbrev pub as_question : BookQuestion → Question
+as_question q = record { flags = q.flags; request = q.request; evidence = Book q.book }
+
+-- the report of an answer to a question: its picture, where it is right, beside which a person is told of a doubt
 abbrev pub IsPictured : Option ℕ → Result BookQuestion Refusal → Result Answer Refusal → Outcomes
 IsPictured refine (Err e) answer r = r ≡ Err e
 IsPictured refine (Ok q) (Err e) r = r ≡ Err e
 IsPictured refine (Ok q) (Ok answer) r =
-    (bytes : Result (List ℕ) VerifyFault) × IsDrawnOrDenied (asked_over refine answer q) answer bytes × (r ≡ drawn_report bytes)
+    (bytes : Result (List ℕ) VerifyFault) × IsDrawnOrDenied (asked_over refine answer q) answer bytes × (r ≡ beside (is_some (doubt_of (as_question q))) (drawn_report bytes))
 
 unfoldable pub IsPictureReport : Holding → Asked → Outcomes
 IsPictureReport at a r =

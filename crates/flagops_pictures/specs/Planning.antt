@@ -14,12 +14,8 @@ use Rattle.flagops_files.specs.declared.evidence.Evidence.TheVariants.{Book, Tal
 use Rattle.flagops_files.specs.declared.refusal.Call.{Call}
 use Rattle.flagops_files.specs.declared.refusal.Call.TheVariants as call
 use Rattle.flagops_files.specs.declared.refusal.Refusal.{Refusal}
-use Rattle.flagops_pictures.specs.Pictured.{IsDrawn}
+use Rattle.flagops_pictures.specs.Pictured.{IsDrawn, as_question}
 use Rattle.flagops_pictures.specs.Words.{Planning}
-
--- a question over a book, as `plan` asks it
-abbrev pub as_question : BookQuestion → Question
-as_question q = record { flags = q.flags; request = q.request; evidence = Book q.book }
 
 abbrev pub IsOfBook : Evidence → Type 0
 IsOfBook (Book book) = Unit {0}

@@ -1,11 +1,12 @@
 -- What `picture --ramp` answers.
-use Rattle.std.specs.Prelude.{◌≡◌, ℕ, suc, true, false, List, [], ◌∷◌, ◌++◌, Option, Some, Result, Ok, Err}
+use Rattle.std.specs.Prelude.{◌≡◌, ℕ, suc, Bool, true, is_some, List, [], ◌∷◌, ◌++◌, Option, Some, Result, Ok, Err}
 use Rattle.book_core.specs.Book.{Contents}
 use Rattle.flagops_files.specs.Files.{Holding}
 use Rattle.flagops_files.specs.Question.{BookQuestion, IsBookQuestionAt}
 use Rattle.flagops_files.specs.Report.{outcome_view}
 use Rattle.flagops_files.specs.declared.outcome.Outcome.{Outcome}
 use Rattle.flagops_files.specs.declared.refusal.Refusal.{Refusal}
+use Rattle.flagops_ramps.specs.Doubts.{doubt_of_steps}
 use Rattle.flagops_ramps.specs.Ramp.{of_steps}
 use Rattle.flagops_ramps.specs.Refusal.{is_want}
 use Rattle.flagops_ramps.specs.Report.{Came}
@@ -41,15 +42,15 @@ Continues items before after = (told : List Item) → IsBody told before → IsB
 abbrev pub IsRampDrawn : Standing → Option ℕ → List (List ℕ) → Contents → List Answer → List ℕ → Type 0
 IsRampDrawn standing refine requests book answers bytes = (items : List Item) × AreTold standing refine requests book 1 answers items × IsPicture items bytes
 
--- a text was made that is so, or memory ran out
-abbrev pub DrawsOr : Result Outcome Told → (List ℕ → Type 0) → Type 0
-DrawsOr (Ok o) Wanted = Wanted o.text.items × (outcome_view o ≡ record { text = o.text.items; status = 0; is_told = false })
-DrawsOr (Err t) Wanted = is_want t.refusal ≡ true
+-- a text was made that is so, beside which a person is told something or nothing; or memory ran out
+abbrev pub DrawsOr : Bool → Result Outcome Told → (List ℕ → Type 0) → Type 0
+DrawsOr told (Ok o) Wanted = Wanted o.text.items × (outcome_view o ≡ record { text = o.text.items; status = 0; is_told = told })
+DrawsOr told (Err t) Wanted = is_want t.refusal ≡ true
 
--- the pictures where the answers are right, and else the refusal of `verify-ramp`
+-- the pictures where the answers are right, beside which a person is told of a doubt; and else the refusal of `verify-ramp`
 abbrev pub IsRampPictureTold : Option ℕ → BookQuestion → List (List ℕ) → List Answer → Result (Unit {0}) RampFault → Came → Type 0
 IsRampPictureTold refine q requests answers (Ok u) r =
-    (bytes : List ℕ) × IsRampDrawn (Ok q.flags) refine requests q.book answers bytes × (r ≡ Ok (record { text = bytes; status = 0; is_told = false }))
+    (bytes : List ℕ) × IsRampDrawn (Ok q.flags) refine requests q.book answers bytes × (r ≡ Ok (record { text = bytes; status = 0; is_told = is_some (doubt_of_steps q requests) }))
 IsRampPictureTold refine q requests answers (Err e) r = r ≡ Err (refused_as e)
 
 abbrev pub IsRampPictureOver : Option ℕ → BookQuestion → List Answer → Result (List (List ℕ)) StepsFault → Came → Type 0

@@ -1,15 +1,17 @@
 //! The command `picture`.
-ghost use Rattle.std.specs.Prelude.{◌≡◌, ◌<◌, false, map, IfErr, IfOk, IfSome, Err, Ok, option_map, unwrap_or};
-ghost use Rattle.flagops_files.specs.Refusal.{ComesFrom, GivesOne, call_of, is_want};
+ghost use Rattle.std.specs.Prelude.{◌≡◌, ◌<◌, false, is_some, map, IfErr, IfOk, IfSome, Err, Ok, option_map, string_bytes, unwrap_or};
+ghost use Rattle.flagops_commands.specs.Doubts.{doubt_of};
+ghost use Rattle.flagops_files.specs.Refusal.{ComesFrom, GivesOne, GivesUnlessWant, call_of, is_want};
 ghost use Rattle.flagops_files.specs.Question.{book_question_view};
-ghost use Rattle.flagops_files.specs.Report.{AnswersOrWants, outcome_view, report_of};
+ghost use Rattle.flagops_files.specs.Report.{AnswersOrWants, beside, outcome_view, report_of};
 ghost use Rattle.flagops_pictures.specs.Ended.{AnswersPicture, TellsPicture};
-ghost use Rattle.flagops_pictures.specs.Pictured.{IsPictureReport, IsPictured, picture_calls};
+ghost use Rattle.flagops_pictures.specs.Pictured.{IsPictureReport, IsPictured, as_question, drawn_report, picture_calls};
 ghost use Rattle.flagops_pictures.specs.Words.{asked_view};
 ghost use Rattle.plan_text.specs.Answer.{planned_view};
 
 use crate::asked::Asked;
 use crate::checking::checked_picture;
+use crate::doubts::noted;
 use crate::words::read_picture;
 use flag_text::Outlet;
 use flagops_commands::explain;
@@ -124,7 +126,7 @@ fn pictured(
     ensures calls { ComesFrom picture_calls result }
 {
     match checked_picture(rt, alloc, question, planned, asked.refine) {
-        Ok(text) => Ok(Outcome::plain(text.into_bytes(), Status::Done)),
+        Ok(text) => told(rt, alloc, asked, question, text),
         Err(fault) => {
             let lines = lines_on(alloc, asked, question, planned, &fault);
             Err(Refused {
@@ -132,6 +134,30 @@ fn pictured(
                 remark: Remark::of(lines),
             })
         }
+    }
+}
+
+/// The report of a picture, beside which a person is told what is doubted of its answer.
+fn told(
+    rt: &(impl Threads + Sync),
+    alloc: Global,
+    asked: &Asked<'_>,
+    question: &BookQuestion,
+    text: String,
+) -> Result<Outcome, Refused>
+    ensures exact { GivesUnlessWant outcome_view result (beside (is_some (doubt_of (as_question (book_question_view question.now)))) (drawn_report (Ok (string_bytes text)))) }
+    ensures calls { ComesFrom picture_calls result }
+{
+    match noted(rt, alloc, asked, question) {
+        Ok(remark) => Ok(Outcome {
+            text: text.into_bytes(),
+            status: Status::Done,
+            remark,
+        }),
+        Err(AllocError) => Err(Refused {
+            refusal: Refusal::WantOfMemory(Call::Verify),
+            remark: Remark::Short,
+        }),
     }
 }
 

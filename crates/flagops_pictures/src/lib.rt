@@ -5,7 +5,7 @@
 //! the first, the files and two outlets, as `flagops_commands::run` does for every other command. They read the words by `clap`
 //! and load what a rollout is asked over. `picture` then loads the plan, checks it as `verify` does, and prints its picture as
 //! SVG; `picture --ramp` does so with the answers to steps, as `verify-ramp` does; `plan --picture` prints what `plan` prints, and
-//! replaces a file whole by the picture of it.
+//! replaces a file whole by the picture of it. What is doubted of an answer that is drawn is told beside its picture.
 //!
 //! ```rust
 //! use flag_text::WriteOutlet;
@@ -22,6 +22,7 @@
 mod asked;
 mod checking;
 mod command;
+mod doubts;
 mod drawing;
 mod planning;
 mod ramps;

@@ -6,7 +6,8 @@ ghost use Rattle.flagops_files.specs.Question.{book_question_view, question_view
 ghost use Rattle.flagops_files.specs.Refusal.{ComesFrom, GivesOne};
 ghost use Rattle.flagops_files.specs.Report.{AnswersOrWants, outcome_view};
 ghost use Rattle.flagops_pictures.specs.Ended.{AnswersPlan, TellsPlan};
-ghost use Rattle.flagops_pictures.specs.Planning.{IsOfBook, IsPictureOf, IsPlanPicture, IsPlanWith, LeavesPicture, as_question, plan_calls};
+ghost use Rattle.flagops_pictures.specs.Pictured.{as_question};
+ghost use Rattle.flagops_pictures.specs.Planning.{IsOfBook, IsPictureOf, IsPlanPicture, IsPlanWith, LeavesPicture, plan_calls};
 ghost use Rattle.flagops_pictures.specs.Words.{plan_by, planning_view};
 
 use crate::asked::Planning;

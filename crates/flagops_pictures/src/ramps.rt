@@ -1,9 +1,10 @@
 //! The command `picture --ramp`.
-ghost use Rattle.std.specs.Prelude.{◌≡◌, ◌≤◌, ◌<◌, ◌+◌, false, length, List, map, option_map, Ok, IfOk, IfSome, string_bytes};
+ghost use Rattle.std.specs.Prelude.{◌≡◌, ◌≤◌, ◌<◌, ◌+◌, false, is_some, length, List, map, option_map, Ok, IfOk, IfSome, string_bytes};
 ghost use Rattle.flag_defs.specs.Flags.{flags_view};
 ghost use Rattle.flagops_files.specs.Question.{book_question_view};
 ghost use Rattle.flagops_pictures.specs.Ended.{AnswersRamp, TellsRamp};
 ghost use Rattle.flagops_pictures.specs.Ramps.{AreTold, Continues, DrawsOr, IsRampDrawn, IsRampPicture, IsRampPictureOf, IsRampPictureOver};
+ghost use Rattle.flagops_ramps.specs.Doubts.{doubt_of_steps};
 ghost use Rattle.flagops_ramps.specs.Report.{GivesOne};
 ghost use Rattle.flagops_ramps.specs.Verify.{answers_at};
 ghost use Rattle.flagops_ramps.specs.Words.{verifying_view};
@@ -20,8 +21,8 @@ use flag_text::Outlet;
 use flagops_commands::explain;
 use flagops_files::{BookQuestion, FileSet, Outcome, Remark, Status, load_book_question};
 use flagops_ramps::{
-    Paths, RampRefusal, Told, Verifying, counted, finish, load_ramp, of_step, of_steps,
-    out_of_memory, wrong,
+    Paths, RampRefusal, Sources, StepCall, Told, Verifying, counted, finish, load_ramp, of_steps,
+    of_steps_in, out_of_memory, settled, wrong,
 };
 use page_tally::BookFile;
 use picture::{draw_step, page};
@@ -129,7 +130,7 @@ fn judged<R: Threads + Sync>(
             let fault = of_steps(fault);
             Err(Told {
                 refusal: RampRefusal::Verify(VerifyFault::Request(fault.fault)),
-                remark: Remark::of(of_step(alloc, asked.steps, fault)),
+                remark: Remark::of(of_steps_in(alloc, asked.steps, question, fault)),
             })
         }
     }
@@ -169,7 +170,7 @@ fn checked<R: Threads + Sync>(
 {
     let refine = number_of(asked);
     match verify_steps(rt, alloc, &question.flags, steps, book, refine, answers) {
-        Ok(()) => drawn(rt, alloc, &question.flags, book, refine, steps, answers),
+        Ok(()) => right(rt, alloc, asked, question, book, steps, answers),
         Err(fault) => {
             let paths = Paths {
                 steps: asked.steps,
@@ -177,6 +178,44 @@ fn checked<R: Threads + Sync>(
             };
             Err(wrong(alloc, paths, fault))
         }
+    }
+}
+
+/// The page that has the pictures of answers that are right, beside which a person is told what is doubted of them.
+fn right<R: Threads + Sync>(
+    rt: &R,
+    alloc: Global,
+    asked: &Verifying<'_>,
+    question: &BookQuestion,
+    book: &BookFile,
+    steps: &[Vec<u8>],
+    answers: &[Planned],
+) -> Result<Outcome, Told>
+    requires few { length steps.now ≤ most_steps }
+    requires same { book.now ≡ question.now.book }
+    requires right { AreRight (Ok (flags_view question.now.flags)) (option_map (λ m. m.number) asked.now.refine) (requests_view steps.now) book.now (map planned_view answers.now) }
+    ensures { DrawsOr (is_some (doubt_of_steps (book_question_view question.now) (requests_view steps.now))) result
+        (IsRampDrawn (Ok (flags_view question.now.flags)) (option_map (λ m. m.number) asked.now.refine) (requests_view steps.now) book.now (map planned_view answers.now)) }
+{
+    let paths = Sources {
+        steps: asked.steps,
+        book: asked.book,
+    };
+    match settled(
+        rt,
+        alloc,
+        StepCall::VerifyRamp,
+        paths,
+        question,
+        book,
+        steps,
+        false,
+    ) {
+        Ok(remark) => {
+            let (flags, refine) = (&question.flags, number_of(asked));
+            drawn(rt, alloc, flags, book, refine, steps, answers, remark)
+        }
+        Err(told) => Err(told),
     }
 }
 
@@ -191,7 +230,7 @@ fn number_of(asked: &Verifying<'_>) -> Option<u32>
     }
 }
 
-/// The page that has the pictures of answers that are right.
+/// The page that has the pictures of answers that are right, with what a person is told beside it.
 fn drawn<R: Threads + Sync>(
     rt: &R,
     alloc: Global,
@@ -200,14 +239,19 @@ fn drawn<R: Threads + Sync>(
     refine: Option<u32>,
     steps: &[Vec<u8>],
     answers: &[Planned],
+    remark: Option<Remark>,
 ) -> Result<Outcome, Told>
     requires factor { IfSome refine (λ m. 0 < m) }
     requires few { length steps.now ≤ most_steps }
     requires right { AreRight (Ok (flags_view flags.now)) refine (requests_view steps.now) book.now (map planned_view answers.now) }
-    ensures { DrawsOr result (IsRampDrawn (Ok (flags_view flags.now)) refine (requests_view steps.now) book.now (map planned_view answers.now)) }
+    ensures { DrawsOr (is_some remark) result (IsRampDrawn (Ok (flags_view flags.now)) refine (requests_view steps.now) book.now (map planned_view answers.now)) }
 {
     match sheet(rt, alloc, flags, book, refine, steps, answers) {
-        Ok(text) => Ok(Outcome::plain(text.into_bytes(), Status::Done)),
+        Ok(text) => Ok(Outcome {
+            text: text.into_bytes(),
+            status: Status::Done,
+            remark,
+        }),
         Err(AllocError) => Err(out_of_memory()),
     }
 }

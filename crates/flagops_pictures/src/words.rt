@@ -68,6 +68,7 @@ fn verifying_in<'a>(matches: &ArgMatches<'a>) -> Option<Verifying<'a>>
         book,
         ramp,
         refine,
+        strict: flag_in(matches, "strict"),
     })
 }
 

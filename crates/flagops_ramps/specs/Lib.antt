@@ -1,4 +1,5 @@
 pub mod Apply
+pub mod Doubts
 pub mod Ended
 pub mod Ramp
 pub mod Refusal

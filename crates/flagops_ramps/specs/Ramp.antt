@@ -1,5 +1,5 @@
 -- What the command `ramp` answers.
-use Rattle.std.specs.Prelude.{◌≡◌, ◌⊎◌, ℕ, false, List, [], ◌∷◌, unwrap_or, Option, Result, Ok, Err}
+use Rattle.std.specs.Prelude.{◌≡◌, ◌⊎◌, ℕ, Bool, false, List, [], ◌∷◌, unwrap_or, Option, Result, Ok, Err}
 use Rattle.flagops_files.specs.Files.{Holding}
 use Rattle.flagops_files.specs.Question.{BookQuestion, IsBookQuestionAt}
 use Rattle.flagops_files.specs.declared.refusal.Refusal.{Refusal}
@@ -15,8 +15,10 @@ use Rattle.ramp_steps.specs.declared.fault.StepsFault.TheVariants as steps
 use Rattle.rollout_checks.specs.Fault.{of_price}
 use Rattle.rollout_checks.specs.declared.fault.RolloutFault.{RolloutFault}
 use Rattle.rollout_checks.specs.declared.fault.RolloutFault.TheVariants.{WantOfMemory, Request}
+use Rattle.flagops_ramps.specs.Doubts.{beside, doubt_of_steps, settle}
 use Rattle.flagops_ramps.specs.Report.{Came}
 use Rattle.flagops_ramps.specs.declared.refusal.RampRefusal.TheVariants.{Load, Ramp, Print}
+use Rattle.flagops_ramps.specs.declared.refusal.StepCall.TheVariants as call
 
 -- steps that are refused are a request that is refused
 abbrev pub of_steps : StepsFault → RolloutFault
@@ -38,17 +40,17 @@ report_file answers (Err e) = Err (Print e)
 abbrev pub report_ramp : List Answer → Came
 report_ramp answers = report_file answers (ramp_file answers)
 
--- the answers to the steps, each planned on the rule that the one before left, or the first refusal
-abbrev pub IsRampOver : Option ℕ → BookQuestion → Result (List (List ℕ)) StepsFault → Came → Type 0
-IsRampOver refine q (Err e) r = r ≡ Err (Ramp (of_steps e))
-IsRampOver refine q (Ok requests) r =
-    ((answers : List Answer) × ArePlans (Ok q.flags) (unwrap_or refine 1) requests q.book answers × (r ≡ report_ramp answers))
+-- The answers to the steps, each planned on the rule that the one before left, beside which a person is told of a doubt; or the first refusal.
+abbrev pub IsRampOver : Bool → Option ℕ → BookQuestion → Result (List (List ℕ)) StepsFault → Came → Type 0
+IsRampOver strict refine q (Err e) r = r ≡ Err (Ramp (of_steps e))
+IsRampOver strict refine q (Ok requests) r =
+    ((answers : List Answer) × ArePlans (Ok q.flags) (unwrap_or refine 1) requests q.book answers × (r ≡ beside (settle call.Ramp strict (doubt_of_steps q requests)) (report_ramp answers)))
     ⊎ ((e : StepFault) × IsRefused (Ok q.flags) (unwrap_or refine 1) requests q.book e × (r ≡ Err (Ramp e.fault)))
 
-abbrev pub IsRampOf : Option ℕ → Result BookQuestion Refusal → Came → Type 0
-IsRampOf refine (Err e) r = r ≡ Err (Load e)
-IsRampOf refine (Ok q) r = IsRampOver refine q (steps_of q.request) r
+abbrev pub IsRampOf : Bool → Option ℕ → Result BookQuestion Refusal → Came → Type 0
+IsRampOf strict refine (Err e) r = r ≡ Err (Load e)
+IsRampOf strict refine (Ok q) r = IsRampOver strict refine q (steps_of q.request) r
 
 -- what the files at these paths make
-unfoldable pub IsRampReport : Holding → List ℕ → List ℕ → List ℕ → Option ℕ → Came → Type 0
-IsRampReport at document steps book refine r = (question : Result BookQuestion Refusal) × IsBookQuestionAt at document steps book question × IsRampOf refine question r
+unfoldable pub IsRampReport : Holding → List ℕ → List ℕ → List ℕ → Option ℕ → Bool → Came → Type 0
+IsRampReport at document steps book refine strict r = (question : Result BookQuestion Refusal) × IsBookQuestionAt at document steps book question × IsRampOf strict refine question r

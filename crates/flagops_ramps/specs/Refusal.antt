@@ -10,7 +10,13 @@ use Rattle.ramp_steps.specs.declared.fault.RampFileFault.TheVariants.{Line}
 use Rattle.rollout_checks.specs.Fault as rollouts
 use Rattle.rollout_checks.specs.VerifyFault as verdicts
 use Rattle.flagops_ramps.specs.declared.refusal.RampRefusal.{RampRefusal}
-use Rattle.flagops_ramps.specs.declared.refusal.RampRefusal.TheVariants.{Load, Ramp, Print, Read, Verify, Lines, NoStep}
+use Rattle.flagops_ramps.specs.declared.refusal.RampRefusal.TheVariants.{Load, Ramp, Print, Read, Verify, Lines, NoStep, Doubted}
+use Rattle.flagops_ramps.specs.declared.refusal.StepCall.{StepCall}
+use Rattle.flagops_ramps.specs.declared.refusal.StepCall.TheVariants as call
+
+abbrev pub call_name : StepCall → List ℕ
+call_name call.Ramp = codes "ramp"
+call_name call.VerifyRamp = codes "verify-ramp"
 
 -- want of memory is 0, and each other number is that of the call which refused
 abbrev pub number_of : RampRefusal → ℕ
@@ -21,6 +27,7 @@ number_of (Read e) = ramp_files.number_of e
 number_of (Verify e) = verdicts.number_of e
 number_of Lines = 14
 number_of NoStep = 15
+number_of (Doubted c d) = files.doubt_number d
 
 abbrev pub is_want : RampRefusal → Bool
 is_want r = nat_eq (number_of r) 0
@@ -39,3 +46,4 @@ line_of (Read e) = line_with (codes "read_ramp") (decimal (ramp_files.number_of 
 line_of (Verify e) = line_with (codes "verify-ramp") (decimal (verdicts.number_of e)) (verdicts.name_of e) (verify_items e)
 line_of Lines = line_with (codes "verify-ramp") (decimal 14) (codes "Lines") []
 line_of NoStep = line_with (codes "apply") (decimal 15) (codes "NoStep") []
+line_of (Doubted c d) = line_with (call_name c) (decimal (files.doubt_number d)) (files.doubt_name d) []

@@ -1,5 +1,5 @@
 -- What the words of `ramp`, `verify-ramp` and `apply --step` ask for, by what `clap` reads of them.
-use Rattle.std.specs.Prelude.{◌≡◌, ◌⊎◌, ℕ, true, is_some, List, [], ◌∷◌, codes, Option, Some, None, option_map, if◌then◌else◌}
+use Rattle.std.specs.Prelude.{◌≡◌, ◌⊎◌, ℕ, Bool, true, is_some, List, [], ◌∷◌, codes, Option, Some, None, option_map, if◌then◌else◌}
 use Rattle.clap.specs.Faults.{fault_of}
 use Rattle.clap.specs.Kinds.{Kinds, IsAmong, or_else}
 use Rattle.clap.specs.Simple.{App, matches_of, new_app, with_rule}
@@ -7,17 +7,18 @@ use Rattle.clap.specs.Walk.{Row, Rule, Text, first_of}
 use Rattle.clap.specs.declared.error.kind.ErrorKind.{ErrorKind}
 use Rattle.clap.specs.declared.error.kind.ErrorKind.TheVariants.{InvalidValue, OutOfMemory}
 use Rattle.flagops_words.specs.Numbers.{factor_in, max_32, number_in}
-use Rattle.flagops_words.specs.Words.{◌>>=◌, if_faultless, number, option_number, refine_in, refine_option, required}
+use Rattle.flagops_words.specs.Words.{◌>>=◌, if_faultless, is_strict, number, option_number, refine_in, refine_option, required, strict_flag}
 use Rattle.flagops_ramps.specs.declared.asked.Applying as code_apply
 use Rattle.flagops_ramps.specs.declared.asked.Ramping as code_ramp
 use Rattle.flagops_ramps.specs.declared.asked.Verifying as code_verify
 
--- the paths of a document, steps and a book, and the factor of the first step
+-- the paths of a document, steps and a book, the factor of the first step, and whether what is doubted is refused
 pub record Ramping : Type 0 where
   pub document : Text
   pub steps : Text
   pub book : Text
   pub refine : Option ℕ
+  pub strict : Bool
 
 -- the same, and the path of the answers
 pub record Verifying : Type 0 where
@@ -26,6 +27,7 @@ pub record Verifying : Type 0 where
   pub book : Text
   pub ramp : Text
   pub refine : Option ℕ
+  pub strict : Bool
 
 -- the paths of a document and of answers, a flag with its site, and the number of a step, from 1
 pub record Applying : Type 0 where
@@ -39,22 +41,22 @@ abbrev pub applying_view : code_apply.Applying → Applying
 applying_view a = record { document = a.document.now; ramp = a.ramp.now; key = a.key.now; site = a.site; step = a.step }
 
 abbrev pub ramping_view : code_ramp.Ramping → Ramping
-ramping_view r = record { document = r.document.now; steps = r.steps.now; book = r.book.now; refine = option_map (λ m. m.number) r.refine }
+ramping_view r = record { document = r.document.now; steps = r.steps.now; book = r.book.now; refine = option_map (λ m. m.number) r.refine; strict = r.strict }
 
 abbrev pub verifying_view : code_verify.Verifying → Verifying
-verifying_view v = record { document = v.document.now; steps = v.steps.now; book = v.book.now; ramp = v.ramp.now; refine = option_map (λ m. m.number) v.refine }
+verifying_view v = record { document = v.document.now; steps = v.steps.now; book = v.book.now; ramp = v.ramp.now; refine = option_map (λ m. m.number) v.refine; strict = v.strict }
 
 -- `DOC STEPS BOOK`
 abbrev pub with_steps : App → App
 with_steps a = with_rule (with_rule (with_rule a (required (codes "DOC"))) (required (codes "STEPS"))) (required (codes "BOOK"))
 
--- `ramp DOC STEPS BOOK`, with `--refine M`
+-- `ramp DOC STEPS BOOK`, with `--refine M` and `--strict`
 unfoldable pub ramp_app : App
-ramp_app = with_rule (with_steps (new_app (codes "ramp"))) refine_option
+ramp_app = with_rule (with_rule (with_steps (new_app (codes "ramp"))) refine_option) strict_flag
 
--- `verify-ramp DOC STEPS BOOK RAMP`, with `--refine M`
+-- `verify-ramp DOC STEPS BOOK RAMP`, with `--refine M` and `--strict`
 unfoldable pub verify_app : App
-verify_app = with_rule (with_rule (with_steps (new_app (codes "verify-ramp"))) (required (codes "RAMP"))) refine_option
+verify_app = with_rule (with_rule (with_rule (with_steps (new_app (codes "verify-ramp"))) (required (codes "RAMP"))) refine_option) strict_flag
 
 -- `--step N`, which has to be there
 abbrev pub step_option : Rule
@@ -73,7 +75,7 @@ ramp_in rows = do
   steps ← first_of (codes "STEPS") rows
   book ← first_of (codes "BOOK") rows
   factor ← refine_in rows
-  Some (record { document = document; steps = steps; book = book; refine = factor })
+  Some (record { document = document; steps = steps; book = book; refine = factor; strict = is_strict rows })
 
 abbrev pub verify_in : List Row → Option Verifying
 verify_in rows = do
@@ -82,7 +84,7 @@ verify_in rows = do
   book ← first_of (codes "BOOK") rows
   ramp ← first_of (codes "RAMP") rows
   factor ← refine_in rows
-  Some (record { document = document; steps = steps; book = book; ramp = ramp; refine = factor })
+  Some (record { document = document; steps = steps; book = book; ramp = ramp; refine = factor; strict = is_strict rows })
 
 -- a number of an argument
 abbrev pub site_in : List Row → Option ℕ

@@ -8,6 +8,8 @@ pub struct Ramping<'a> {
     pub steps: &'a str,
     pub book: &'a str,
     pub refine: Option<Factor>,
+    /// Whether what is doubted is refused, and not only told.
+    pub strict: bool,
 }
 
 /// What `apply --step` is asked for: a document with the rule that a step left at a site of a flag.
@@ -28,4 +30,6 @@ pub struct Verifying<'a> {
     pub book: &'a str,
     pub ramp: &'a str,
     pub refine: Option<Factor>,
+    /// Whether what is doubted is refused, and not only told.
+    pub strict: bool,
 }

@@ -18,13 +18,15 @@
 //!
 //! Proved, over the definitions in `specs/`: of words with a mistake, that it is told; else, over files whose bytes are known,
 //! that the output is the report that the files at the paths make (`Ramp`, `Verify`, `Apply`), or that memory ran out, with its
-//! status;
-//! that a refusal is told on the error outlet too; and that files are only read.
+//! status; that the error outlet gets a text exactly beside a refusal and where the answers to steps are doubted (`Doubts`); and
+//! that files are only read.
 #![tactic(auto)]
 
 mod applying;
 mod asked;
+mod doubts;
 mod ramping;
+mod recorded;
 mod refusal;
 mod remarks;
 mod reports;
@@ -34,8 +36,10 @@ mod words;
 
 pub use applying::apply_step;
 pub use asked::Verifying;
+pub use doubts::{NotedDoubt, Sources, first_of, remark_in, settled};
 pub use ramping::{counted, of_steps, ramp};
-pub use refusal::RampRefusal;
-pub use remarks::of_step;
+pub use recorded::doubt_in_book;
+pub use refusal::{RampRefusal, StepCall};
+pub use remarks::of_steps_in;
 pub use reports::{Told, finish};
 pub use verifying::{Paths, load_ramp, out_of_memory, verify_ramp, wrong};

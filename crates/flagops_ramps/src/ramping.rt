@@ -1,9 +1,10 @@
 //! The command `ramp`.
-ghost use Rattle.std.specs.Prelude.{◌≡◌, ◌<◌, ◌≤◌, unwrap_or, false, length, map, option_map, IfSome, Ok};
+ghost use Rattle.std.specs.Prelude.{◌≡◌, ◌<◌, ◌≤◌, unwrap_or, false, is_some, length, map, option_map, IfSome, Ok};
 ghost use Rattle.std.specs.List.{All};
 ghost use Rattle.flag_text.specs.Outcome.{GivesUnless};
 ghost use Rattle.flagops_files.specs.Question.{book_question_view};
 ghost use Rattle.flagops_files.specs.Report.{status_number};
+ghost use Rattle.flagops_ramps.specs.Doubts.{beside, doubt_of_steps, settle};
 ghost use Rattle.flagops_ramps.specs.Ended.{AnswersRamp, TellsRamp};
 ghost use Rattle.flagops_ramps.specs.Ramp.{IsRampOf, IsRampOver, IsRampReport, of_steps, ramp_status, report_ramp};
 ghost use Rattle.flagops_ramps.specs.Report.{GivesOne, GivesUnlessWant};
@@ -12,8 +13,9 @@ ghost use Rattle.plan_text.specs.PlanFile.{IsWhole};
 ghost use Rattle.ramp_steps.specs.Steps.{most_steps, requests_view};
 
 use crate::asked::Ramping;
-use crate::refusal::RampRefusal;
-use crate::remarks::of_step;
+use crate::doubts::{Sources, first_request, settled};
+use crate::refusal::{RampRefusal, StepCall};
+use crate::remarks::of_steps_in;
 use crate::reports::{Told, finish};
 use crate::words::read_ramp;
 use book_core::BookFileFault;
@@ -66,7 +68,7 @@ fn planned<R: Threads + Sync, F: FileSet>(
     files: &mut F,
     asked: &Ramping<'_>,
 ) -> Result<Outcome, Told>
-    ensures exact { IfSome (F.holding files.old) (λ at. GivesOne result (IsRampReport at asked.now.document.now asked.now.steps.now asked.now.book.now (option_map (λ m. m.number) asked.now.refine))) }
+    ensures exact { IfSome (F.holding files.old) (λ at. GivesOne result (IsRampReport at asked.now.document.now asked.now.steps.now asked.now.book.now (option_map (λ m. m.number) asked.now.refine) asked.now.strict)) }
     ensures kept { F.holding files.new ≡ F.holding files.old }
 {
     let factor = factor_of(asked.refine);
@@ -79,24 +81,23 @@ fn planned<R: Threads + Sync, F: FileSet>(
         asked.book,
         factor,
     ) {
-        Ok(question) => answer(rt, alloc, asked.steps, &question, asked.refine),
+        Ok(question) => answer(rt, alloc, asked, &question),
         Err(refused) => Err(Told::of(refused)),
     }
 }
 
-/// The report on a question, whose steps stand in the file at this path.
+/// The report on a question.
 fn answer<R: Threads + Sync>(
     rt: &R,
     alloc: Global,
-    path: &str,
+    asked: &Ramping<'_>,
     question: &BookQuestion,
-    refine: Option<Factor>,
 ) -> Result<Outcome, Told>
-    ensures { GivesOne result (IsRampOf (option_map (λ m. m.number) refine) (Ok (book_question_view question.now))) }
+    ensures { GivesOne result (IsRampOf asked.now.strict (option_map (λ m. m.number) asked.now.refine) (Ok (book_question_view question.now))) }
 {
     match read_steps(alloc, question.request.as_slice()) {
-        Ok(steps) => answers(rt, alloc, path, question, steps.as_slice(), refine),
-        Err(fault) => Err(refused(alloc, path, of_steps(fault))),
+        Ok(steps) => answers(rt, alloc, asked, question, steps.as_slice()),
+        Err(fault) => Err(refused(alloc, asked.steps, question, of_steps(fault))),
     }
 }
 
@@ -104,48 +105,71 @@ fn answer<R: Threads + Sync>(
 fn answers<R: Threads + Sync>(
     rt: &R,
     alloc: Global,
-    path: &str,
+    asked: &Ramping<'_>,
     question: &BookQuestion,
     steps: &[Vec<u8>],
-    refine: Option<Factor>,
 ) -> Result<Outcome, Told>
     requires { length steps.now ≤ most_steps }
-    ensures { GivesOne result (IsRampOver (option_map (λ m. m.number) refine) (book_question_view question.now) (Ok (requests_view steps.now))) }
+    ensures { GivesOne result (IsRampOver asked.now.strict (option_map (λ m. m.number) asked.now.refine) (book_question_view question.now) (Ok (requests_view steps.now))) }
 {
-    let Ok(book) = counted(rt, alloc, question, steps, factor_of(refine)) else {
-        return Err(refused(alloc, path, out_of_memory()));
+    let Ok(book) = counted(rt, alloc, question, steps, factor_of(asked.refine)) else {
+        return Err(refused(alloc, asked.steps, question, out_of_memory()));
     };
-    over(rt, alloc, path, question, &book, steps, refine)
+    over(rt, alloc, asked, question, &book, steps)
 }
 
 /// The same, by a book that has counted what the steps ask of it.
 fn over<R: Threads + Sync>(
     rt: &R,
     alloc: Global,
-    path: &str,
+    asked: &Ramping<'_>,
     question: &BookQuestion,
     book: &BookFile,
     steps: &[Vec<u8>],
-    refine: Option<Factor>,
 ) -> Result<Outcome, Told>
     requires few { length steps.now ≤ most_steps }
     requires same { book.now ≡ question.now.book }
-    ensures { GivesOne result (IsRampOver (option_map (λ m. m.number) refine) (book_question_view question.now) (Ok (requests_view steps.now))) }
+    ensures { GivesOne result (IsRampOver asked.now.strict (option_map (λ m. m.number) asked.now.refine) (book_question_view question.now) (Ok (requests_view steps.now))) }
 {
-    let factor = factor_of(refine);
+    let factor = factor_of(asked.refine);
     match plan_steps(rt, alloc, &question.flags, steps, book, factor) {
-        Ok(answers) => printed(alloc, answers.as_slice()),
-        Err(fault) => Err(refused(alloc, path, fault)),
+        Ok(answers) => told(rt, alloc, asked, question, book, steps, answers.as_slice()),
+        Err(fault) => Err(refused(alloc, asked.steps, question, fault)),
+    }
+}
+
+/// The lines of the answers, beside which a person is told what is doubted of them.
+fn told<R: Threads>(
+    rt: &R,
+    alloc: Global,
+    asked: &Ramping<'_>,
+    question: &BookQuestion,
+    book: &BookFile,
+    steps: &[Vec<u8>],
+    answers: &[Planned],
+) -> Result<Outcome, Told>
+    requires same { book.now ≡ question.now.book }
+    requires whole { All (λ p. IsWhole (planned_view p)) answers.now }
+    ensures { GivesUnlessWant result (beside (settle StepCall.Ramp asked.now.strict (doubt_of_steps (book_question_view question.now) (requests_view steps.now))) (report_ramp (map planned_view answers.now))) }
+{
+    let (call, strict) = (StepCall::Ramp, asked.strict);
+    let paths = Sources {
+        steps: asked.steps,
+        book: asked.book,
+    };
+    match settled(rt, alloc, call, paths, question, book, steps, strict) {
+        Ok(remark) => printed(alloc, answers, remark),
+        Err(told) => Err(told),
     }
 }
 
 /// A step that is refused, which a person is told of.
-fn refused(alloc: Global, path: &str, fault: StepFault) -> Told
+fn refused(alloc: Global, path: &str, question: &BookQuestion, fault: StepFault) -> Told
     ensures { result.refusal ≡ RampRefusal.Ramp fault.fault }
 {
     Told {
         refusal: RampRefusal::Ramp(fault.fault),
-        remark: Remark::of(of_step(alloc, path, fault)),
+        remark: Remark::of(of_steps_in(alloc, path, question, fault)),
     }
 }
 
@@ -186,10 +210,7 @@ pub fn counted<R: Threads>(
     requires { 0 < factor }
     ensures { GivesUnless BookFileFault.WantOfMemory (λ b. b) result (Ok question.now.book) }
 {
-    let request = match steps.first() {
-        Some(request) => request.as_slice(),
-        None => &[],
-    };
+    let request = first_request(steps);
     let bytes = question.book.bytes();
     let copy = bytes.to_vec(alloc)?;
     read_book_for(
@@ -202,16 +223,16 @@ pub fn counted<R: Threads>(
     )
 }
 
-/// The lines of the answers.
-fn printed(alloc: Global, answers: &[Planned]) -> Result<Outcome, Told>
+/// The lines of the answers, with what a person is told beside them.
+fn printed(alloc: Global, answers: &[Planned], remark: Option<Remark>) -> Result<Outcome, Told>
     requires { All (λ p. IsWhole (planned_view p)) answers.now }
-    ensures { GivesUnlessWant result (report_ramp (map planned_view answers.now)) }
+    ensures { GivesUnlessWant result (beside (Ok (is_some remark)) (report_ramp (map planned_view answers.now))) }
 {
     match print_ramp(alloc, answers) {
         Ok(text) => Ok(Outcome {
             text,
             status: status_of(answers),
-            remark: None,
+            remark,
         }),
         Err(fault) => Err(Told {
             refusal: RampRefusal::Print(fault),

@@ -2,14 +2,35 @@
 ghost use Rattle.std.specs.Prelude.{◌≡◌, ◌≤◌, ◌++◌, IfOk, codes, decimal, drop, length, string_bytes};
 ghost use Rattle.flagops_files.specs.Payload.{fault_items};
 ghost use Rattle.flagops_files.specs.Refusal.{line_with};
-ghost use Rattle.flagops_ramps.specs.Refusal.{is_want, line_of, number_of};
+ghost use Rattle.flagops_ramps.specs.Refusal.{call_name, is_want, line_of, number_of};
 ghost use Rattle.flagops_ramps.specs.declared.refusal.RampRefusal.TheVariants.{Ramp, Read, Verify};
 
-use flagops_files::Refusal;
+use flagops_files::{Doubt, Refusal};
 use plan_text::PlanFileFault;
 use ramp_steps::RampFileFault;
 use rollout_checks::{RolloutFault, VerifyFault};
 use std::alloc::{AllocError, Global};
+
+/// The commands on steps whose answers may be doubted.
+#[derive(Clone, Copy, Debug)]
+pub enum StepCall {
+    /// `ramp`.
+    Ramp,
+    /// `verify-ramp`.
+    VerifyRamp,
+}
+
+impl StepCall {
+    /// The name of the command.
+    pub fn name(self) -> &'static str
+        ensures { result.now ≡ call_name self }
+    {
+        match self {
+            StepCall::Ramp => "ramp",
+            StepCall::VerifyRamp => "verify-ramp",
+        }
+    }
+}
 
 /// Why a command on steps refuses.
 #[derive(Debug, Drop)]
@@ -28,6 +49,8 @@ pub enum RampRefusal {
     Lines,
     /// There is no answer to the step that is applied.
     NoStep,
+    /// The answers are doubted, and that is to be refused.
+    Doubted(StepCall, Doubt),
 }
 
 impl RampRefusal {
@@ -43,6 +66,7 @@ impl RampRefusal {
             RampRefusal::Verify(fault) => fault.number(),
             RampRefusal::Lines => 14,
             RampRefusal::NoStep => 15,
+            RampRefusal::Doubted(_, doubt) => doubt.number(),
         }
     }
 
@@ -67,6 +91,9 @@ impl RampRefusal {
             RampRefusal::Verify(fault) => verify_line(alloc, fault),
             RampRefusal::Lines => fault_line(alloc, "verify-ramp", 14, "Lines", ""),
             RampRefusal::NoStep => fault_line(alloc, "apply", 15, "NoStep", ""),
+            RampRefusal::Doubted(call, doubt) => {
+                fault_line(alloc, call.name(), doubt.number(), doubt.name(), "")
+            }
         }
     }
 }

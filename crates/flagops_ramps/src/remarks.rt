@@ -1,13 +1,38 @@
 //! What a person is told of steps that are refused.
-ghost use Rattle.std.specs.Prelude.{IfOk, string_bytes};
+ghost use Rattle.std.specs.Prelude.{◌⊎◌, IfOk, string_bytes};
 ghost use Rattle.flagops_ramps.specs.Remarks.{NamesFile, NamesStep};
+ghost use Rattle.flagops_remarks.specs.Named.{Names};
 
-use flagops_files::quoted;
+use flag_text::read_tree;
+use flagops_files::{BookQuestion, TEXT_LIMIT, quoted};
+use flagops_remarks::of_text;
 use ramp::StepFault;
 use std::alloc::{AllocError, Global};
 
-/// Of the steps of a file, one of which is refused, or all where its number is 0.
-pub fn of_step(alloc: Global, path: &str, fault: StepFault) -> Result<String, AllocError>
+/// What a file that has no steps lacks.
+const LOOK: &str =
+    "it is no request with \"steps\", a list of 1 to 100 totals, in the place of \"totals\"; docs/FORMATS.md has all of it";
+
+/// Of the steps of a file, by its text: what is wrong with one that is no tree, what steps look like where there are none, and
+/// else the step that is refused.
+pub fn of_steps_in(
+    alloc: Global,
+    path: &str,
+    question: &BookQuestion,
+    fault: StepFault,
+) -> Result<String, AllocError>
+    ensures { IfOk result (λ s. Names path.now (string_bytes s) ⊎ NamesFile path.now (string_bytes s) ⊎ NamesStep path.now fault.step (string_bytes s)) }
+{
+    let (bytes, limit) = (question.request.as_slice(), TEXT_LIMIT as usize);
+    match read_tree(alloc, bytes, limit) {
+        Ok(_) if fault.step == 0 => file_line(alloc, path, LOOK),
+        Ok(_) => of_step(alloc, path, fault),
+        Err(fault) => of_text(alloc, path, bytes, limit, fault),
+    }
+}
+
+/// Of a step that is refused.
+fn of_step(alloc: Global, path: &str, fault: StepFault) -> Result<String, AllocError>
     ensures { IfOk result (λ s. NamesStep path.now fault.step (string_bytes s)) }
 {
     let what = fault.fault;
@@ -21,6 +46,14 @@ pub fn step_line(alloc: Global, path: &str, step: u32, reason: &str) -> Result<S
 {
     let name = quoted(alloc, path)?;
     format!(in alloc; "error: {name}, step {step}: {reason}\n")
+}
+
+/// A line that says of a file as a whole what it is.
+pub fn whole_line(alloc: Global, path: &str, words: &str) -> Result<String, AllocError>
+    ensures { IfOk result (λ s. NamesFile path.now (string_bytes s)) }
+{
+    let name = quoted(alloc, path)?;
+    format!(in alloc; "error: {name} {words}\n")
 }
 
 /// A line that names a file and what is the matter with it.

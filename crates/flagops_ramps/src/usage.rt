@@ -4,12 +4,12 @@ ghost use Rattle.clap.specs.Simple.{new_app, with_rule};
 ghost use Rattle.clap.specs.Words.{app_of, kind_of, rule_of};
 ghost use Rattle.clap.specs.declared.error.kind.ErrorKind.TheVariants.{InvalidValue};
 ghost use Rattle.flagops_words.specs.Numbers.{max_32};
-ghost use Rattle.flagops_words.specs.Words.{number, refine_option, required};
+ghost use Rattle.flagops_words.specs.Words.{number, refine_option, required, strict_flag};
 ghost use Rattle.flagops_ramps.specs.Words.{ramp_app, step_app, step_option, verify_app, with_steps};
 
 use clap::builder::ValueParser;
 use clap::error::ErrorKind;
-use clap::{Arg, Command, Error};
+use clap::{Arg, ArgAction, Command, Error};
 use std::alloc::{AllocError, Global};
 
 /// The largest factor.
@@ -24,7 +24,8 @@ pub fn ramp<'a>(alloc: Global) -> Result<Command<'a>, AllocError>
         "Plans a rollout in steps, each on the rule that the step before left",
     );
     let factor = refine(alloc);
-    with_steps(alloc, command)?.arg(factor)
+    let strict = strict(alloc);
+    with_steps(alloc, command)?.arg(factor)?.arg(strict)
 }
 
 /// The command `verify-ramp`. Its name is the first of the words, as a program's.
@@ -32,12 +33,20 @@ pub fn ramp<'a>(alloc: Global) -> Result<Command<'a>, AllocError>
 pub fn verify<'a>(alloc: Global) -> Result<Command<'a>, AllocError>
     ensures { IfOk result (λ c. app_of c ≡ verify_app) }
 {
+    let factor = refine(alloc);
+    let strict = strict(alloc);
+    verified(alloc)?.arg(factor)?.arg(strict)
+}
+
+/// The words that `verify-ramp` begins with.
+fn verified<'a>(alloc: Global) -> Result<Command<'a>, AllocError>
+    ensures { IfOk result (λ c. app_of c ≡ with_rule (with_steps (new_app (codes "verify-ramp"))) (required (codes "RAMP"))) }
+{
     let command = Command::new(alloc, "verify-ramp")
         .bin_name("flagops verify-ramp")?
         .about("Checks the answers to the steps of a rollout apart from the planner");
     let answers = required(alloc, "RAMP", "The file that ramp printed");
-    let factor = refine(alloc);
-    with_steps(alloc, command)?.arg(answers)?.arg(factor)
+    with_steps(alloc, command)?.arg(answers)
 }
 
 /// `apply --step`. Its name is the first of the words, as a program's.
@@ -134,4 +143,15 @@ fn refine<'a>(alloc: Global) -> Arg<'a>
         .long("refine")
         .help("Plan in finer points: multiply each weight of the rule by M before the first step")
         .value_parser(ValueParser::Unsigned(1, LARGEST_FACTOR))
+}
+
+/// `--strict`.
+fn strict<'a>(alloc: Global) -> Arg<'a>
+    ensures rule { rule_of result ≡ strict_flag }
+    ensures local { result.global ≡ false }
+{
+    Arg::new(alloc, "strict")
+        .long("strict")
+        .action(ArgAction::SetTrue)
+        .help("End with status 1 where something is else only told: docs/REFUSALS.md has the table")
 }

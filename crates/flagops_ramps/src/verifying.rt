@@ -1,24 +1,27 @@
 //! The command `verify-ramp`.
-ghost use Rattle.std.specs.Prelude.{◌≡◌, ◌<◌, ◌≤◌, ◌⊎◌, true, false, length, map, option_map, string_bytes, IfOk, IfSome, Ok};
+ghost use Rattle.std.specs.Prelude.{◌≡◌, ◌<◌, ◌≤◌, ◌⊎◌, true, false, is_some, length, map, option_map, string_bytes, IfOk, IfSome, Ok};
 ghost use Rattle.flagops_files.specs.Question.{book_question_view};
+ghost use Rattle.flagops_ramps.specs.Doubts.{beside, doubt_of_steps, settle};
 ghost use Rattle.flagops_ramps.specs.Ended.{AnswersVerify, TellsVerify};
 ghost use Rattle.flagops_ramps.specs.Remarks.{NamesFile, NamesStep};
 ghost use Rattle.flagops_ramps.specs.Report.{GivesOne, GivesUnlessWant, LoadsTo};
 ghost use Rattle.flagops_ramps.specs.Refusal.{is_want};
-ghost use Rattle.flagops_ramps.specs.Verify.{IsVerdictOf, IsVerdictOver, IsVerdictReport, answers_at, cost_item, read_as, refused_as, report_told, valid_ramp};
+ghost use Rattle.flagops_ramps.specs.Verify.{IsVerdictOf, IsVerdictOver, IsVerdictReport, answers_at, cost_item, read_as, refused_as, report_valid, valid_ramp};
 ghost use Rattle.plan_text.specs.Answer.{planned_view};
 ghost use Rattle.ramp_steps.specs.Lines.{ramp_of};
 ghost use Rattle.ramp_steps.specs.Steps.{most_steps, requests_view};
 
 use crate::asked::Verifying;
+use crate::doubts::{Sources, settled};
 use crate::ramping::{counted, factor_of, of_steps};
-use crate::refusal::RampRefusal;
-use crate::remarks::{file_line, of_step, step_line};
+use crate::refusal::{RampRefusal, StepCall};
+use crate::remarks::{file_line, of_steps_in, step_line, whole_line};
 use crate::reports::{Told, finish};
 use crate::words::read_verify;
 use flag_text::Outlet;
 use flagops_commands::explain;
 use flagops_files::{BookQuestion, FileSet, Outcome, Remark, Status, load, load_book_question};
+use flagops_remarks::Ends;
 use flagops_words::Factor;
 use page_tally::BookFile;
 use plan_text::Planned;
@@ -77,7 +80,7 @@ fn verdict<R: Threads + Sync, F: FileSet>(
     files: &mut F,
     asked: &Verifying<'_>,
 ) -> Result<Outcome, Told>
-    ensures exact { IfSome (F.holding files.old) (λ at. GivesOne result (IsVerdictReport at asked.now.document.now asked.now.steps.now asked.now.book.now asked.now.ramp.now (option_map (λ m. m.number) asked.now.refine))) }
+    ensures exact { IfSome (F.holding files.old) (λ at. GivesOne result (IsVerdictReport at asked.now.document.now asked.now.steps.now asked.now.book.now asked.now.ramp.now (option_map (λ m. m.number) asked.now.refine) asked.now.strict)) }
     ensures kept { F.holding files.new ≡ F.holding files.old }
 {
     let factor = factor_of(asked.refine);
@@ -103,17 +106,11 @@ fn against<R: Threads + Sync, F: FileSet>(
     asked: &Verifying<'_>,
     question: &BookQuestion,
 ) -> Result<Outcome, Told>
-    ensures exact { IfSome (F.holding files.old) (λ at. GivesOne result (IsVerdictOf (option_map (λ m. m.number) asked.now.refine) (Ok (book_question_view question.now)) (answers_at at asked.now.ramp.now))) }
+    ensures exact { IfSome (F.holding files.old) (λ at. GivesOne result (IsVerdictOf asked.now.strict (option_map (λ m. m.number) asked.now.refine) (Ok (book_question_view question.now)) (answers_at at asked.now.ramp.now))) }
     ensures kept { F.holding files.new ≡ F.holding files.old }
 {
     match load_ramp(alloc, files, asked.ramp) {
-        Ok(answers) => {
-            let paths = Paths {
-                steps: asked.steps,
-                ramp: asked.ramp,
-            };
-            judged(rt, alloc, paths, question, answers.as_slice(), asked.refine)
-        }
+        Ok(answers) => judged(rt, alloc, asked, question, answers.as_slice()),
         Err(told) => Err(told),
     }
 }
@@ -144,7 +141,7 @@ fn read(alloc: Global, path: &str, bytes: &[u8]) -> Result<Vec<Planned>, Told>
         Ok(answers) => Ok(answers),
         Err(fault) => Err(Told {
             refusal: RampRefusal::Read(fault),
-            remark: Remark::of(of_ramp(alloc, path, fault)),
+            remark: Remark::of(of_ramp(alloc, path, Ends::of(bytes), fault)),
         }),
     }
 }
@@ -153,23 +150,19 @@ fn read(alloc: Global, path: &str, bytes: &[u8]) -> Result<Vec<Planned>, Told>
 fn judged<R: Threads + Sync>(
     rt: &R,
     alloc: Global,
-    paths: Paths<'_>,
+    asked: &Verifying<'_>,
     question: &BookQuestion,
     answers: &[Planned],
-    refine: Option<Factor>,
 ) -> Result<Outcome, Told>
-    ensures { GivesOne result (IsVerdictOf (option_map (λ m. m.number) refine) (Ok (book_question_view question.now)) (Ok (map planned_view answers.now))) }
+    ensures { GivesOne result (IsVerdictOf asked.now.strict (option_map (λ m. m.number) asked.now.refine) (Ok (book_question_view question.now)) (Ok (map planned_view answers.now))) }
 {
     match read_steps(alloc, question.request.as_slice()) {
-        Ok(steps) => {
-            let steps = steps.as_slice();
-            told_of(rt, alloc, paths, question, steps, answers, refine)
-        }
+        Ok(steps) => told_of(rt, alloc, asked, question, steps.as_slice(), answers),
         Err(fault) => {
             let fault = of_steps(fault);
             Err(Told {
                 refusal: RampRefusal::Verify(VerifyFault::Request(fault.fault)),
-                remark: Remark::of(of_step(alloc, paths.steps, fault)),
+                remark: Remark::of(of_steps_in(alloc, asked.steps, question, fault)),
             })
         }
     }
@@ -179,40 +172,69 @@ fn judged<R: Threads + Sync>(
 fn told_of<R: Threads + Sync>(
     rt: &R,
     alloc: Global,
-    paths: Paths<'_>,
+    asked: &Verifying<'_>,
     question: &BookQuestion,
     steps: &[Vec<u8>],
     answers: &[Planned],
-    refine: Option<Factor>,
 ) -> Result<Outcome, Told>
     requires { length steps.now ≤ most_steps }
-    ensures { GivesOne result (IsVerdictOver (option_map (λ m. m.number) refine) (book_question_view question.now) (map planned_view answers.now) (Ok (requests_view steps.now))) }
+    ensures { GivesOne result (IsVerdictOver asked.now.strict (option_map (λ m. m.number) asked.now.refine) (book_question_view question.now) (map planned_view answers.now) (Ok (requests_view steps.now))) }
 {
-    let Ok(book) = counted(rt, alloc, question, steps, factor_of(refine)) else {
+    let Ok(book) = counted(rt, alloc, question, steps, factor_of(asked.refine)) else {
         return Err(out_of_memory());
     };
-    checked(rt, alloc, paths, question, &book, steps, answers, refine)
+    checked(rt, alloc, asked, question, &book, steps, answers)
 }
 
 /// The same, by a book that has counted what the steps ask of it.
 fn checked<R: Threads + Sync>(
     rt: &R,
     alloc: Global,
-    paths: Paths<'_>,
+    asked: &Verifying<'_>,
     question: &BookQuestion,
     book: &BookFile,
     steps: &[Vec<u8>],
     answers: &[Planned],
-    refine: Option<Factor>,
 ) -> Result<Outcome, Told>
     requires few { length steps.now ≤ most_steps }
     requires same { book.now ≡ question.now.book }
-    ensures { GivesOne result (IsVerdictOver (option_map (λ m. m.number) refine) (book_question_view question.now) (map planned_view answers.now) (Ok (requests_view steps.now))) }
+    ensures { GivesOne result (IsVerdictOver asked.now.strict (option_map (λ m. m.number) asked.now.refine) (book_question_view question.now) (map planned_view answers.now) (Ok (requests_view steps.now))) }
 {
-    let factor = number_of(refine);
+    let factor = number_of(asked.refine);
     match verify_steps(rt, alloc, &question.flags, steps, book, factor, answers) {
-        Ok(()) => valid(alloc, answers),
-        Err(fault) => Err(wrong(alloc, paths, fault)),
+        Ok(()) => right(rt, alloc, asked, question, book, steps, answers),
+        Err(fault) => Err(wrong(alloc, paths_of(asked), fault)),
+    }
+}
+
+/// The report on answers that are right, beside which a person is told what is doubted of them.
+fn right<R: Threads>(
+    rt: &R,
+    alloc: Global,
+    asked: &Verifying<'_>,
+    question: &BookQuestion,
+    book: &BookFile,
+    steps: &[Vec<u8>],
+    answers: &[Planned],
+) -> Result<Outcome, Told>
+    requires { book.now ≡ question.now.book }
+    ensures { GivesUnlessWant result (beside (settle StepCall.VerifyRamp asked.now.strict (doubt_of_steps (book_question_view question.now) (requests_view steps.now))) (report_valid (map planned_view answers.now))) }
+{
+    let (call, strict) = (StepCall::VerifyRamp, asked.strict);
+    let paths = Sources {
+        steps: asked.steps,
+        book: asked.book,
+    };
+    match settled(rt, alloc, call, paths, question, book, steps, strict) {
+        Ok(remark) => valid(alloc, answers, remark),
+        Err(told) => Err(told),
+    }
+}
+
+fn paths_of<'a>(asked: &Verifying<'a>) -> Paths<'a> {
+    Paths {
+        steps: asked.steps,
+        ramp: asked.ramp,
     }
 }
 
@@ -240,7 +262,7 @@ pub fn wrong(alloc: Global, paths: Paths<'_>, fault: RampFault) -> Told
             remark: Remark::of(file_line(
                 alloc,
                 paths.ramp,
-                "there are fewer or more lines than steps",
+                "there are fewer or more lines than steps; an empty file has none",
             )),
         },
     }
@@ -263,12 +285,24 @@ fn of_verdict(
     step_line(alloc, path, step, reason.as_str())
 }
 
-/// What a person is told of a file that is none of answers.
-fn of_ramp(alloc: Global, path: &str, fault: RampFileFault) -> Result<String, AllocError>
+/// What a person is told of a file that is none of answers, by what is seen of it at its ends.
+fn of_ramp(
+    alloc: Global,
+    path: &str,
+    ends: Ends,
+    fault: RampFileFault,
+) -> Result<String, AllocError>
     ensures { IfOk result (λ s. NamesFile path.now (string_bytes s)) }
 {
     let reason = format!(in alloc; "{fault}")?;
-    file_line(alloc, path, reason.as_str())
+    match ends {
+        Ends::Marked => whole_line(
+            alloc,
+            path,
+            "begins with a byte order mark, and has no answers to steps\n  save it as UTF-8 without the mark",
+        ),
+        _ => file_line(alloc, path, reason.as_str()),
+    }
 }
 
 /// The factor of the first step, where one is given.
@@ -282,15 +316,15 @@ fn number_of(refine: Option<Factor>) -> Option<u32>
     }
 }
 
-/// The report on answers that are right.
-fn valid(alloc: Global, answers: &[Planned]) -> Result<Outcome, Told>
-    ensures { GivesUnlessWant result (report_told (map planned_view answers.now) (Ok tt)) }
+/// What each step costs, with what a person is told beside it.
+fn valid(alloc: Global, answers: &[Planned], remark: Option<Remark>) -> Result<Outcome, Told>
+    ensures { GivesUnlessWant result (beside (Ok (is_some remark)) (report_valid (map planned_view answers.now))) }
 {
     match valid_line(alloc, answers) {
         Ok(text) => Ok(Outcome {
             text: text.into_bytes(),
             status: Status::Done,
-            remark: None,
+            remark,
         }),
         Err(AllocError) => Err(out_of_memory()),
     }

@@ -2,7 +2,7 @@
 ghost use Rattle.std.specs.Prelude.{◌≡◌, ◌≤◌, ◌&&◌, nat_le, if◌then◌else◌, IfErr, IfOk, IfSome, None, Some, map, option_map};
 ghost use Rattle.clap.specs.Words.{found_of, kind_of, rows_of};
 ghost use Rattle.flagops_words.specs.Numbers.{max_32, number_in};
-ghost use Rattle.flagops_words.specs.Words.{refine_in};
+ghost use Rattle.flagops_words.specs.Words.{flag_in, refine_in};
 ghost use Rattle.flagops_ramps.specs.Words.{IsToldBy, applying_view, number_of_step, ramp_by, ramp_faults, ramp_in, ramping_view, site_in, step_by, step_faults, step_in, verify_by, verify_faults, verify_in, verifying_view};
 
 use crate::asked::{Applying, Ramping, Verifying};
@@ -55,6 +55,7 @@ fn ramping_in<'a>(matches: &ArgMatches<'a>) -> Option<Ramping<'a>>
         steps,
         book,
         refine,
+        strict: flag_in(matches, "strict"),
     })
 }
 
@@ -73,7 +74,19 @@ fn verifying_in<'a>(matches: &ArgMatches<'a>) -> Option<Verifying<'a>>
         book,
         ramp,
         refine,
+        strict: flag_in(matches, "strict"),
     })
+}
+
+/// Whether an option without a value is given.
+#[tactic(auto, using(crate::proofs::Matched::values))]
+fn flag_in(matches: &ArgMatches<'_>, name: &str) -> bool
+    ensures { result ≡ flag_in name.now (rows_of (found_of matches.now)) }
+{
+    match matches.get_str(name) {
+        Some(word) => word == "true",
+        None => false,
+    }
 }
 
 /// The factor of a refinement, if one is given; `None` where the word is no factor.

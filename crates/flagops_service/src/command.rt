@@ -67,7 +67,14 @@ where
     let paths = answering.documents.as_slice();
     match loaded(alloc, files, paths) {
         Ok(documents) => answer_documents(rt, &answering, documents, files, out, err),
-        Err(unloaded) => refuse_unloaded(alloc, out, err, unloaded.refusal, unloaded.path),
+        Err(unloaded) => refuse_unloaded(
+            alloc,
+            out,
+            err,
+            unloaded.refusal,
+            unloaded.path,
+            files.trouble(),
+        ),
     }
 }
 

@@ -9,6 +9,7 @@ use flagops_remarks::{of_document, of_unreadable};
 use flagops_streams::{Refusal, refuse, say_refused, write_line};
 use source_merge::SourceFault;
 use std::alloc::{AllocError, Global};
+use std::io;
 
 /// The line that says how many documents are answered from.
 #[tactic(auto, unfolding(crate::specs::Ended::serving_line))]
@@ -45,20 +46,21 @@ pub(crate) fn refuse_log<O: Outlet, E: Outlet>(out: &mut O, err: &mut E) -> u8
     write_line(out, "refused log 1 Unopened\n", 1)
 }
 
-/// The document at a path was not loaded.
+/// The document at a path was not loaded; where it can't be read, why is told in the system's words, as far as these are known.
 pub(crate) fn refuse_unloaded<O: Outlet, E: Outlet>(
     alloc: Global,
     out: &mut O,
     err: &mut E,
     refusal: Refusal,
     path: &str,
+    trouble: Option<io::Error>,
 ) -> u8
     requires out_whole { O.is_broken out.old ≡ false }
     requires err_whole { E.is_broken err.old ≡ false }
     ensures { Reports (O.bytes out.old) (O.bytes out.new) (O.is_broken out.new) (E.bytes err.old) (E.bytes err.new) (E.is_broken err.new) result (Err refusal) }
 {
     match refusal {
-        Refusal::Unreadable => tell_made(alloc, err, of_unreadable(alloc, path, None), refusal),
+        Refusal::Unreadable => tell_made(alloc, err, of_unreadable(alloc, path, trouble), refusal),
         _ => say_refused(alloc, err, refusal),
     }
     refuse(alloc, out, refusal)

@@ -1,16 +1,14 @@
-use Rattle.std.proofs.Common.{rules, ◌≡◌, ◌∙◌, ℕ, List, Ok, Err, IfSome, ap, false, length, map, subst, sym, Bor}
+use Rattle.std.proofs.Common.{rules, ◌≡◌, ◌∙◌, Ok, Err, IfSome, ap, length, subst, sym}
 use Rattle.std.proofs.lemmas.Result.{err_from_is_err_and}
 use Rattle.std.specs.Prelude.{Result}
-use Rattle.flagops_books.specs.Report.{IsBookReport}
-use Rattle.flagops_books.specs.Step.{GivesUnited, SaysUnited}
-use Rattle.flagops_books.specs.Union.{IsUnited}
+use Rattle.flagops_books.specs.Report.{IsBookReport, IsUnitedFor}
+use Rattle.flagops_books.specs.Step.{GivesUnited}
 use Rattle.flagops_books.specs.Words.{uniting_view}
 use Rattle.flagops_books.specs.declared.uniting.Step.{Step}
 use Rattle.flagops_files.specs.Refusal.{GivesOne}
 use Rattle.flagops_files.specs.Report.{outcome_view}
 use Rattle.flagops_files.specs.declared.outcome.Outcome.{Outcome}
 use Rattle.flagops_files.specs.declared.refused.Refused.{Refused}
-use Rattle.note_books.specs.Notes.{no_notes}
 use Rattle.flagops_books.proofs.Ending.{as_many, no_union, said_of, stored_reported, stray_reported, told_ok}
 use Rattle.flagops_books.proofs.command.outcome.Goals as goal
 
@@ -18,32 +16,32 @@ pub returns-in_err-came-clause-exact : goal.returns-in_err-came-clause-exact
 returns-in_err-came-clause-exact g c =
     let u = uniting_view c.args.asked.now in
     let old = g.F.FileSet.holding c.args.files.now in
-    let new = g.F.FileSet.holding c.united.new.files in
+    let new = g.F.FileSet.holding c.united_for.new.files in
     let refused = c.in_err-came.field-0.0 in
     let p = err_from_is_err_and c.from_residual.result c.from_residual.ensures.1 in
     let is : c.from_residual.result ≡ Err refused = p.1 ∙ ap Err p.2 in
-    let came = subst (λ (xs : List (Bor (List ℕ))). IfSome old (λ at. GivesUnited (Err refused) (IsUnited at u.torn (map (λ p. p.now) xs) no_notes false))) c.as_slice.ensures.value c.in_err-came.ensures.exact in
-    subst (λ (r : Result Outcome Refused). IfSome old (λ at. GivesOne outcome_view r (IsBookReport at new u))) (sym is) (no_union u old new refused c.united.ensures.kept came)
+    let came = c.in_err-came.ensures.exact in
+    subst (λ (r : Result Outcome Refused). IfSome old (λ at. GivesOne outcome_view r (IsBookReport at new u))) (sym is) (no_union u old new refused c.united_for.ensures.kept came)
 
 pub returns-in-Noted-clause-exact : goal.returns-in-Noted-clause-exact
 returns-in-Noted-clause-exact g c =
     let u = uniting_view c.args.asked.now in
     let old = g.F.FileSet.holding c.args.files.now in
     let many : length u.files ≡ c.len.result = as_many (λ f. f.now) c.args.asked.now.files.items c.len.result (search rules) in
-    let came = subst (λ (xs : List (Bor (List ℕ))). IfSome old (λ at. GivesUnited (Ok c.in_ok-came.came) (IsUnited at u.torn (map (λ p. p.now) xs) no_notes false))) c.as_slice.ensures.value c.in_ok-came.ensures.exact in
-    stored_reported u c.in-Noted.all c.len.result many old (g.F.FileSet.holding c.united.new.files) (g.F.FileSet.holding c.stored.new.files) c.stored.result c.united.ensures.kept
-    (subst (λ (s : Step). IfSome old (λ at. GivesUnited (Ok s) (IsUnited at u.torn u.files no_notes false))) c.in-Noted.is came) c.stored.ensures.exact
+    let came = c.in_ok-came.ensures.exact in
+    stored_reported u c.in-Noted.all c.len.result many old (g.F.FileSet.holding c.united_for.new.files) (g.F.FileSet.holding c.stored.new.files) c.stored.result c.united_for.ensures.kept
+    (subst (λ (s : Step). IfSome old (λ at. GivesUnited (Ok s) (IsUnitedFor u at))) c.in-Noted.is came) c.stored.ensures.exact
 
 pub returns-in-Noted-clause-notes : goal.returns-in-Noted-clause-notes
 returns-in-Noted-clause-notes g c =
     let u = uniting_view c.args.asked.now in
-    let says = subst (λ (xs : List (Bor (List ℕ))). SaysUnited (map (λ p. p.now) xs) (Ok c.in_ok-came.came)) c.as_slice.ensures.value c.in_ok-came.ensures.says in
+    let says = c.in_ok-came.ensures.says in
     told_ok u.files c.in-Noted.all.told c.stored.result (said_of u.files c.in_ok-came.came c.in-Noted.all c.in-Noted.is says) c.stored.ensures.told
 
 pub returns-in-Stopped-clause-exact : goal.returns-in-Stopped-clause-exact
 returns-in-Stopped-clause-exact g c =
     let u = uniting_view c.args.asked.now in
     let old = g.F.FileSet.holding c.args.files.now in
-    let came = subst (λ (xs : List (Bor (List ℕ))). IfSome old (λ at. GivesUnited (Ok c.in_ok-came.came) (IsUnited at u.torn (map (λ p. p.now) xs) no_notes false))) c.as_slice.ensures.value c.in_ok-came.ensures.exact in
-    stray_reported u old (g.F.FileSet.holding c.united.new.files) c.in-Stopped.outcome c.united.ensures.kept
-    (subst (λ (s : Step). IfSome old (λ at. GivesUnited (Ok s) (IsUnited at u.torn u.files no_notes false))) c.in-Stopped.is came)
+    let came = c.in_ok-came.ensures.exact in
+    stray_reported u old (g.F.FileSet.holding c.united_for.new.files) c.in-Stopped.outcome c.united_for.ensures.kept
+    (subst (λ (s : Step). IfSome old (λ at. GivesUnited (Ok s) (IsUnitedFor u at))) c.in-Stopped.is came)

@@ -2,7 +2,7 @@ use Rattle.std.proofs.Common.{[], Err, map, refl}
 use Rattle.flagops_commands.specs.Telling.{Wants}
 use Rattle.flagops_streams.specs.Documents.{count_of}
 use Rattle.flagops_streams.specs.Report.{Reports}
-use Rattle.flagops_streams.specs.Told.{IsOfSubscribers}
+use Rattle.flagops_streams.specs.Told.{IsServeLine}
 use Rattle.flagops_network.specs.Loading.{documents_view}
 use Rattle.flagops_network.specs.Words.{serve_by, serving_view}
 use Rattle.flagops_network.proofs.DocumentsLoaded.{all_served, answered, none_served}
@@ -14,7 +14,7 @@ returns-in-Ok-loaded-clause-answers g c =
     let holding = g.F.FileSet.holding c.args.files.now in
     let served = c.serve_documents.ensures.documents in
     answered holding (serve_by (map g.S.AsStr.text c.args.words.now)) s served.0
-    (λ t r. Reports (IsOfSubscribers t.port t.subscribers) (count_of r) (g.O.Outlet.bytes c.args.out.now) (g.O.Outlet.bytes c.serve_documents.new.out) (g.O.Outlet.is_broken c.serve_documents.new.out)
+    (λ t r. Reports (IsServeLine t.port t.subscribers) (count_of r) (g.O.Outlet.bytes c.args.out.now) (g.O.Outlet.bytes c.serve_documents.new.out) (g.O.Outlet.is_broken c.serve_documents.new.out)
     (g.E.Outlet.bytes c.args.err.now) (g.E.Outlet.bytes c.serve_documents.new.err) (g.E.Outlet.is_broken c.serve_documents.new.err) c.serve_documents.result)
     (Wants (g.O.Outlet.bytes c.args.out.now) (g.O.Outlet.bytes c.serve_documents.new.out) (g.O.Outlet.is_broken c.serve_documents.new.out) (g.E.Outlet.bytes c.args.err.now) (g.E.Outlet.bytes c.serve_documents.new.err) (g.E.Outlet.is_broken c.serve_documents.new.err) c.serve_documents.result)
     c.in-Ok.ensures.ok
@@ -26,7 +26,7 @@ returns-clause-answers g c =
     let holding = g.F.FileSet.holding c.args.files.now in
     let refusal = c.in-Err-loaded.unloaded.refusal in
     answered holding (serve_by (map g.S.AsStr.text c.args.words.now)) s (Err refusal)
-    (λ t r. Reports (IsOfSubscribers t.port t.subscribers) (count_of r) (g.O.Outlet.bytes c.args.out.now) (g.O.Outlet.bytes c.refuse.new.out) (g.O.Outlet.is_broken c.refuse.new.out)
+    (λ t r. Reports (IsServeLine t.port t.subscribers) (count_of r) (g.O.Outlet.bytes c.args.out.now) (g.O.Outlet.bytes c.refuse.new.out) (g.O.Outlet.is_broken c.refuse.new.out)
     (g.E.Outlet.bytes c.args.err.now) (g.E.Outlet.bytes c.tell_unloaded.new.err) (g.E.Outlet.is_broken c.tell_unloaded.new.err) c.refuse.result)
     (Wants (g.O.Outlet.bytes c.args.out.now) (g.O.Outlet.bytes c.refuse.new.out) (g.O.Outlet.is_broken c.refuse.new.out) (g.E.Outlet.bytes c.args.err.now) (g.E.Outlet.bytes c.tell_unloaded.new.err) (g.E.Outlet.is_broken c.tell_unloaded.new.err) c.refuse.result)
     c.in-Ok.ensures.ok

@@ -1,9 +1,10 @@
-use Rattle.std.proofs.Common.{ℕ, Ok, Err, Option, map, option_map, subst}
+use Rattle.std.proofs.Common.{ℕ, is_some, Ok, Err, Option, map, option_map, subst}
 use Rattle.book_core.specs.Book.{Contents}
 use Rattle.flagops_files.specs.Question.{book_question_view}
 use Rattle.plan_text.specs.Answer.{planned_view}
 use Rattle.ramp.specs.Right.{IsTold}
 use Rattle.ramp_steps.specs.Steps.{requests_view}
+use Rattle.flagops_ramps.specs.Doubts.{doubt_of_steps}
 use Rattle.flagops_pictures.specs.Ramps.{DrawsOr, IsRampDrawn}
 use Rattle.flagops_pictures.proofs.Stepped.{drawn_report, wrong_report}
 use Rattle.flagops_pictures.proofs.ramps.checked.Goals as goal
@@ -16,9 +17,9 @@ returns-in-Ok g c =
     let answers = map planned_view c.args.answers.now in
     let told = subst (λ (b : Contents). IsTold (Ok q.flags) refine requests b answers (Ok tt)) c.requires.same
     (subst (λ (f : Option ℕ). IsTold (Ok q.flags) f requests c.args.book.now answers (Ok tt)) c.number_of-refine.ensures.value c.in-Ok.ensures) in
-    let draws = subst (λ (b : Contents). DrawsOr c.drawn.result (IsRampDrawn (Ok q.flags) refine requests b answers)) c.requires.same
-    (subst (λ (f : Option ℕ). DrawsOr c.drawn.result (IsRampDrawn (Ok q.flags) f requests c.args.book.now answers)) c.number_of-refine.ensures.value c.drawn.ensures) in
-    drawn_report refine q requests answers c.drawn.result told draws
+    let doubt = is_some (doubt_of_steps q requests) in
+    let draws = subst (λ (b : Contents). DrawsOr doubt c.right.result (IsRampDrawn (Ok q.flags) refine requests b answers)) c.requires.same c.right.ensures in
+    drawn_report refine q requests answers c.right.result told draws
 
 pub returns-in-Err : goal.returns-in-Err
 returns-in-Err g c =

@@ -1,6 +1,5 @@
-use Rattle.std.proofs.Common.{◌≡◌, ◌∙◌, false, ℕ, List, Ok, Vec, Global, ap, map, string_bytes, subst, sym}
+use Rattle.std.proofs.Common.{◌≡◌, ℕ, List, Ok, Vec, Global, ap, map, refl, string_bytes, subst, sym}
 use Rattle.flag_defs.specs.Flags.{flags_view}
-use Rattle.flagops_files.specs.Report.{Report}
 use Rattle.plan_text.specs.Answer.{planned_view}
 use Rattle.ramp_steps.specs.Steps.{requests_view}
 use Rattle.flagops_pictures.specs.Ramps.{IsRampDrawn}
@@ -8,9 +7,7 @@ use Rattle.flagops_pictures.proofs.ramps.drawn.Goals as goal
 
 pub returns-in-Ok : goal.returns-in-Ok
 returns-in-Ok g c =
-    let made : List ℕ → Report = λ t. record { text = t; status = 0; is_told = false } in
-    let bytes : c.into_bytes.result.items ≡ string_bytes c.in-Ok.text = ap (λ (v : Vec ℕ Global). v.items) c.into_bytes.ensures.value in
-    let text = ap (λ (r : Report). r.text) c.plain.ensures in (
-      subst (λ (b : List ℕ). IsRampDrawn (Ok (flags_view c.args.flags.now)) c.args.refine (requests_view c.args.steps.now) c.args.book.now (map planned_view c.args.answers.now) b) (sym (text ∙ bytes)) c.in-Ok.ensures,
-      c.plain.ensures ∙ ap made (sym text),
+    let bytes : c.into_bytes.result.items ≡ string_bytes c.in-Ok.text = ap (λ (v : Vec ℕ Global). v.items) c.into_bytes.ensures.value in (
+      subst (λ (b : List ℕ). IsRampDrawn (Ok (flags_view c.args.flags.now)) c.args.refine (requests_view c.args.steps.now) c.args.book.now (map planned_view c.args.answers.now) b) (sym bytes) c.in-Ok.ensures,
+      refl,
     )

@@ -1,0 +1,19 @@
+use Rattle.std.proofs.Common.{is_some, map}
+use Rattle.flagops_files.specs.Question.{book_question_view}
+use Rattle.plan_text.specs.Answer.{planned_view}
+use Rattle.ramp_steps.specs.Steps.{requests_view}
+use Rattle.flagops_ramps.specs.Doubts.{doubt_of_steps, settle}
+use Rattle.flagops_ramps.specs.Verify.{report_valid}
+use Rattle.flagops_ramps.specs.declared.refusal.StepCall.TheVariants as call
+use Rattle.flagops_ramps.proofs.Besides.{refused_so, told_so}
+use Rattle.flagops_ramps.proofs.verifying.right.Goals as goal
+
+pub returns-in-Ok : goal.returns-in-Ok
+returns-in-Ok g c =
+    let doubt = doubt_of_steps (book_question_view c.args.question.now) (requests_view c.args.steps.now) in
+    told_so (settle call.VerifyRamp c.args.asked.now.strict doubt) (is_some c.in-Ok.remark) (report_valid (map planned_view c.args.answers.now)) c.valid.result c.in-Ok.ensures c.valid.ensures
+
+pub returns-in-Err : goal.returns-in-Err
+returns-in-Err g c =
+    let doubt = doubt_of_steps (book_question_view c.args.question.now) (requests_view c.args.steps.now) in
+    refused_so (settle call.VerifyRamp c.args.asked.now.strict doubt) (report_valid (map planned_view c.args.answers.now)) c.in-Err.told c.in-Err.ensures

@@ -1,0 +1,78 @@
+-- What is doubted of the answers to the steps of a rollout, and what becomes of it.
+use Rattle.std.specs.Prelude.{◌≡◌, ◌||◌, ℕ, Bool, true, false, List, [], ◌∷◌, codes, Option, Some, None, is_some, if◌then◌else◌, Result, Ok, Err}
+use Rattle.std.specs.Str.{bytes_eq}
+use Rattle.book_core.specs.Book.{Contents}
+use Rattle.book_core.specs.Page.{PageName}
+use Rattle.flag_text.specs.Reading.{tree_of}
+use Rattle.flag_text.specs.Shape.{Shape, object, Members, no_members, member}
+use Rattle.flag_text.specs.declared.fault.TextFault.{TextFault}
+use Rattle.unread_members.specs.Unread.{reads}
+use Rattle.unread_members.specs.declared.reader.Reader.TheVariants as reader
+use Rattle.flagops_commands.specs.Doubts.{first_doubt, recorded_doubt}
+use Rattle.flagops_commands.specs.Foreign.{is_foreign, is_mixed}
+use Rattle.flagops_commands.specs.Unrecorded.{is_bare, is_unrecorded}
+use Rattle.flagops_files.specs.Loading.{max_text}
+use Rattle.flagops_files.specs.Question.{BookQuestion, Question}
+use Rattle.flagops_files.specs.declared.evidence.Evidence.TheVariants.{Book}
+use Rattle.flagops_files.specs.declared.refusal.Doubt.{Doubt}
+use Rattle.flagops_files.specs.declared.refused.Remark.{Remark}
+use Rattle.flagops_ramps.specs.Refusal.{is_want}
+use Rattle.flagops_ramps.specs.Report.{Came}
+use Rattle.flagops_ramps.specs.declared.refusal.RampRefusal.{RampRefusal}
+use Rattle.flagops_ramps.specs.declared.refusal.RampRefusal.TheVariants.{Doubted}
+use Rattle.flagops_ramps.specs.declared.refusal.StepCall.{StepCall}
+use Rattle.flagops_ramps.specs.declared.reports.Told.{Told}
+
+-- a member of this name is read of a file of steps: `steps`, and what is read of a request
+abbrev pub is_read : List ℕ → Bool
+is_read name = reads reader.Request name || bytes_eq name (codes "steps")
+
+-- one of these members is not
+abbrev pub has_unread_member : Members → Bool
+has_unread_member no_members = false
+has_unread_member (member name t ms) = if is_read name then has_unread_member ms else true
+
+abbrev pub has_unread : Shape → Bool
+has_unread (object ms) = has_unread_member ms
+has_unread t = false
+
+abbrev pub if_read : Result Shape TextFault → Bool
+if_read (Ok t) = has_unread t
+if_read (Err e) = false
+
+-- the bytes of a file of steps have one
+abbrev pub is_unread : List ℕ → Bool
+is_unread bytes = if_read (tree_of bytes max_text)
+
+abbrev pub first_request : List (List ℕ) → List ℕ
+first_request [] = []
+first_request (request ∷ requests) = request
+
+-- what the first step asks: every other step asks of the same site, and so of the same page
+abbrev pub first_question : BookQuestion → List (List ℕ) → Question
+first_question q requests = record { flags = q.flags; request = first_request requests; evidence = Book q.book }
+
+-- what is doubted of what a book has on a page, where there is one: it has no input, or one that is none of the flag
+abbrev pub doubt_in : Contents → Option PageName → Option Doubt
+doubt_in book page = recorded_doubt (is_bare (Book book) page) (is_mixed (Book book) page)
+
+-- the first that is doubted of steps with these requests: a member of their file is not read, no recorded input counts, or one that does is none of the flag
+abbrev pub doubt_of_steps : BookQuestion → List (List ℕ) → Option Doubt
+doubt_of_steps q requests = first_doubt (is_unread q.request) (recorded_doubt (is_unrecorded (first_question q requests)) (is_foreign (first_question q requests)))
+
+-- whether a person is told of a doubt; with `--strict` the call refuses it
+abbrev pub settle : StepCall → Bool → Option Doubt → Result Bool RampRefusal
+settle c false d = Ok (is_some d)
+settle c true None = Ok false
+settle c true (Some d) = Err (Doubted c d)
+
+-- the report where a doubt is settled so
+abbrev pub beside : Result Bool RampRefusal → Came → Came
+beside (Err e) r = Err e
+beside (Ok told) (Ok r) = Ok (record r { is_told = told })
+beside (Ok told) (Err e) = Err e
+
+-- a doubt was settled as the definition gives, unless memory ran out
+abbrev pub Settles : Result (Option Remark) Told → Result Bool RampRefusal → Type 0
+Settles (Ok r) wanted = wanted ≡ Ok (is_some r)
+Settles (Err t) wanted = is_want t.refusal ≡ false → wanted ≡ Err t.refusal
