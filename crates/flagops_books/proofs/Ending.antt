@@ -54,7 +54,7 @@ unfolding IsUnitedFor
 where_free u at all told came = go (replaceable_at at u.out) came
   where
     go : (o : Result (Unit {0}) Refusal) → IsUnitedWhere o at u (Ok (noted all told)) → IsOk o × IsUnited at u.torn u.files no_notes false (Ok (noted all told))
-    go (Ok free) came = (tt, came)
+    go (Ok free) came = (refl, came)
     go (Err e) came = not_noted all told e came
 
 module _ (u : Uniting) where

@@ -22,7 +22,7 @@ use flag_defs::Flags;
 use flag_text::Outlet;
 use flagops_commands::explain;
 use flagops_files::{FileSet, Refusal, Remark, load_flags, tell};
-use flagops_remarks::Ends;
+use flagops_remarks::Ends as FileEnds;
 use flagops_words::Moment;
 use line_batches::Inlet;
 use note_streams::{Counted, RecordStop, record_stream};
@@ -137,7 +137,7 @@ fn stream<R: Threads + Sync, I: Inlet + Opening, O: Outlet, E: Outlet>(
 fn give_up<O: Outlet, E: Outlet>(
     alloc: Global,
     stop: RecordStop,
-    opening: Ends,
+    opening: FileEnds,
     out: &mut O,
     err: &mut E,
 ) -> u8
@@ -210,7 +210,7 @@ fn fault_of(fault: RecordFault) -> RolloutFault
 }
 
 /// A stream that is not recorded to its end.
-fn stopped(alloc: Global, stop: RecordStop, opening: Ends) -> Told
+fn stopped(alloc: Global, stop: RecordStop, opening: FileEnds) -> Told
     ensures { result.refusal ≡ Record stop }
 {
     Told {
@@ -220,20 +220,20 @@ fn stopped(alloc: Global, stop: RecordStop, opening: Ends) -> Told
 }
 
 /// What is told of it, by what the input began with.
-fn stop_line(alloc: Global, stop: RecordStop, opening: Ends) -> Result<String, AllocError> {
+fn stop_line(alloc: Global, stop: RecordStop, opening: FileEnds) -> Result<String, AllocError> {
     let reason = format!(in alloc; "{stop}")?;
     match (stop, opening) {
-        (RecordStop::Line(1), Ends::Marked) => marked_line(alloc, reason.as_str()),
+        (RecordStop::Line(1), FileEnds::Marked) => marked_line(alloc, reason.as_str()),
         _ => input_line(alloc, reason.as_str()),
     }
 }
 
 /// Tells what was not noted, where there is something to tell, and says whether there was.
-fn tell_counted<E: Outlet>(alloc: Global, counted: Counted, opening: Ends, err: &mut E) -> bool
+fn tell_counted<E: Outlet>(alloc: Global, counted: Counted, opening: FileEnds, err: &mut E) -> bool
     requires { E.is_broken err.old ≡ false }
     ensures { TellsIf (E.bytes err.old) (E.bytes err.new) (E.is_broken err.new) result }
 {
-    let is_empty = matches!(opening, Ends::Empty);
+    let is_empty = matches!(opening, FileEnds::Empty);
     if counted.long == 0 && !counted.torn && !is_empty {
         return false;
     }

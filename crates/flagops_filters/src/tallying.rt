@@ -24,7 +24,7 @@ use flag_defs::Flags;
 use flag_text::Outlet;
 use flagops_commands::explain;
 use flagops_files::{FileSet, Outcome, Refusal, Remark, Status, load_flags};
-use flagops_remarks::Ends;
+use flagops_remarks::Ends as FileEnds;
 use flagops_words::Factor;
 use line_batches::Inlet;
 use logic_ast::{Site, site};
@@ -120,7 +120,7 @@ fn over<I: Inlet + Opening>(alloc: Global, target: Target, input: &mut I) -> Res
 }
 
 /// The file of a tally.
-fn printed(alloc: Global, came: &StreamTally, opening: Ends) -> Result<Outcome, Told>
+fn printed(alloc: Global, came: &StreamTally, opening: FileEnds) -> Result<Outcome, Told>
     ensures { PrintsTally came.now.tally result }
 {
     match print_tally(alloc, &came.tally) {
@@ -137,9 +137,9 @@ fn printed(alloc: Global, came: &StreamTally, opening: Ends) -> Result<Outcome, 
 }
 
 /// What is told where bytes stood behind the last line, and of an input without bytes.
-fn beside(alloc: Global, torn: bool, opening: Ends) -> Option<Remark> {
+fn beside(alloc: Global, torn: bool, opening: FileEnds) -> Option<Remark> {
     let line = match opening {
-        Ends::Empty => "tally: the standard input is empty, and nothing is counted\n",
+        FileEnds::Empty => "tally: the standard input is empty, and nothing is counted\n",
         _ if torn => "tally: the last line has no end and is passed over\n",
         _ => return None,
     };
@@ -147,7 +147,7 @@ fn beside(alloc: Global, torn: bool, opening: Ends) -> Option<Remark> {
 }
 
 /// A stream that is not tallied to its end.
-fn stopped(alloc: Global, stop: TallyStop, opening: Ends) -> Told
+fn stopped(alloc: Global, stop: TallyStop, opening: FileEnds) -> Told
     ensures { result.refusal ≡ FilterRefusal.Tally stop }
 {
     Told {
@@ -157,10 +157,10 @@ fn stopped(alloc: Global, stop: TallyStop, opening: Ends) -> Told
 }
 
 /// What is told of it, by what the input began with.
-fn stop_line(alloc: Global, stop: TallyStop, opening: Ends) -> Result<String, AllocError> {
+fn stop_line(alloc: Global, stop: TallyStop, opening: FileEnds) -> Result<String, AllocError> {
     let reason = format!(in alloc; "{stop}")?;
     match (stop, opening) {
-        (TallyStop::Filter(FilterFault::Line(1)), Ends::Marked) => {
+        (TallyStop::Filter(FilterFault::Line(1)), FileEnds::Marked) => {
             marked_line(alloc, reason.as_str())
         }
         _ => input_line(alloc, reason.as_str()),

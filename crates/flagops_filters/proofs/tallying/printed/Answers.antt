@@ -4,6 +4,6 @@ use Rattle.flagops_filters.proofs.tallying.printed.Goals as goal
 
 pub returns-in-Ok : goal.returns-in-Ok
 returns-in-Ok c =
-    let told = is_some c.torn_remark.result in
+    let told = is_some c.beside.result in
     let made : List ℕ → Report = λ t. record { text = t; status = 0; is_told = told } in
     (told, ap made (ap (λ (w : Vec ℕ Global). w.items) c.into_bytes.ensures.value ∙ c.in-Ok.ensures.text))
