@@ -9,7 +9,7 @@ use Rattle.flagops_files.specs.Refusal.{GivesOne}
 use Rattle.flagops_files.specs.Report.{outcome_view}
 use Rattle.flagops_files.specs.declared.outcome.Outcome.{Outcome}
 use Rattle.flagops_files.specs.declared.refused.Refused.{Refused}
-use Rattle.flagops_books.proofs.Ending.{as_many, no_union, said_of, stored_reported, stray_reported, told_ok}
+use Rattle.flagops_books.proofs.Ending.{as_many, left, no_union, said_of, stored_reported, stray_reported, told_ok}
 use Rattle.flagops_books.proofs.command.outcome.Goals as goal
 
 pub returns-in_err-came-clause-exact : goal.returns-in_err-came-clause-exact
@@ -45,3 +45,11 @@ returns-in-Stopped-clause-exact g c =
     let came = c.in_ok-came.ensures.exact in
     stray_reported u old (g.F.FileSet.holding c.united_for.new.files) c.in-Stopped.outcome c.united_for.ensures.kept
     (subst (λ (s : Step). IfSome old (λ at. GivesUnited (Ok s) (IsUnitedFor u at))) c.in-Stopped.is came)
+
+pub returns-in-Noted-clause-left : goal.returns-in-Noted-clause-left
+returns-in-Noted-clause-left g c =
+    let u = uniting_view c.args.asked.now in
+    let old = g.F.FileSet.holding c.args.files.now in
+    let came = c.in_ok-came.ensures.exact in
+    left u old (g.F.FileSet.holding c.united_for.new.files) (g.F.FileSet.holding c.stored.new.files) c.in-Noted.all c.united_for.ensures.kept
+    (subst (λ (s : Step). IfSome old (λ at. GivesUnited (Ok s) (IsUnitedFor u at))) c.in-Noted.is came) c.stored.ensures.others
