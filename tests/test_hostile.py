@@ -40,7 +40,7 @@ class Hostile(Script):
 class Libraries(Script):
     def test_refused_requests_for_memory(self):
         self.none_bad("memory.py", 2)
-        self.assertEqual(self.last("streams.py", 2), "8 cases, 0 bad")
+        self.none_bad("streams.py", 2)
 
     def test_failing_devices(self):
         self.none_bad("devices.py", 1, "check")

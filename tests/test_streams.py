@@ -146,7 +146,11 @@ class Streams(unittest.TestCase):
                 file.write(text)
         port = free_port()
         server = self.start("serve", port, str(subscribers), *names, "--wait", wait)
-        self.assertIn(f"127.0.0.1:{port},", server.stderr.readline())
+        line = server.stderr.readline()
+        # Documents that will be refused are told before.
+        while line and "listens on" not in line:
+            line = server.stderr.readline()
+        self.assertIn(f"127.0.0.1:{port},", line)
         return server, port
 
     def assert_ends(self, child, printed, status):
