@@ -76,6 +76,11 @@ class Trial:
         self.judge(kind, case, ran, ran.out == self.right.out and ran.status == self.right.status, self.after)
 
 
+def looks_first(trial):
+    """Whether the file that is written is looked at before others are loaded."""
+    return trial.tried.name.startswith("book ")
+
+
 def missing(trial):
     """Each file that is loaded is not there, or a folder."""
     for name in trial.tried.loads(trial.before):
@@ -105,9 +110,9 @@ def endless(trial):
 
 def reads(trial):
     """Each read and each open of what is loaded fails, is interrupted or is short. A book that is replaced and can't be read
-    counts as none."""
-    looks = trial.tried.name.startswith("drive ") and "--add" not in trial.tried.name
-    for number in range(1, 1 + len(trial.tried.loads(trial.before))):
+    counts as none; `book` looks at it before it loads."""
+    looks = looks_first(trial) or trial.tried.name.startswith("drive ") and "--add" not in trial.tried.name
+    for number in range(1 + looks_first(trial), 1 + looks_first(trial) + len(trial.tried.loads(trial.before))):
         trial.judge_refused("an open without right", number, trial.run(CALL="open", CALL_AT=number, CALL_HOW="fail"), UNREADABLE)
         trial.judge_same("an open interrupted", number, trial.run(CALL="open", CALL_AT=number, CALL_HOW="interrupt"))
     for call, shape in (("read", UNREAD_LINES if trial.tried.stdin else UNREADABLE), ("recv", READ_FAULT)):
@@ -133,7 +138,7 @@ def outputs(trial):
 
 def books(trial):
     """Each step of the writing of a file fails: the old file, alone, or a step that the program can do without."""
-    loads = len(trial.tried.loads(trial.before))
+    loads = looks_first(trial) + len(trial.tried.loads(trial.before))
     for call in STEPS if trial.tried.writes else []:
         for number in range(1 + (loads if call in ("open", "statx", "close") else 0), 1 + trial.made(call)):
             ran = trial.run(CALL=call, CALL_AT=number, CALL_HOW="fail")
