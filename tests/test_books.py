@@ -1,6 +1,8 @@
 """Books: what `drive` notes and writes, what is read of a book file or refused, and what `book` makes of books and note lines."""
 import json
 import random
+import resource
+import subprocess
 import unittest
 
 from given import BOOK, EMPTY_BOOK, FREE, document
@@ -349,6 +351,16 @@ class Notes(ProgramTest):
                     told = self.assert_booked(words, {"n": cut}, len(texts), book_of(pages))
                     self.assertEqual(told != "", cut != "" and not cut.endswith("\n"), told)
                     self.assertTrue(told == "" or told.startswith('note: "n": the last line has no end'), told)
+
+    def test_lines_without_end(self):
+        """Reading ends with the piece of 16,777,216 bytes in whose beginning a line is no note."""
+        few = {"preexec_fn": lambda: resource.setrlimit(resource.RLIMIT_AS, (10**9, 10**9))}
+        notes = """yes '["a",0,null,"k"]' | head -n 1000000; """
+        for written, line in (("", 1), (notes, 1_000_001)):
+            with self.subTest(line=line), subprocess.Popen(["sh", "-c", f"{written}yes '[1]'"], stdout=subprocess.PIPE) as writer:
+                ran = run(["book", "b", "-"], {}, stdin=writer.stdout, **few)
+                writer.stdout.close()
+                self.assertEqual((ran.status, ran.out), (1, f'refused book 1 Line "-" {line}\n'))
 
     def test_each_file_is_told_of(self):
         files = {"one": "x\n" + note() + "y\n", "two": note(), "three": note(text="z") + "[", "four": "x\n["}

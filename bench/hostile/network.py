@@ -16,6 +16,7 @@ import json
 import os
 import random
 import re
+import resource
 import signal
 import socket
 import struct
@@ -50,6 +51,7 @@ def flags(count, length=4):
 def started(words, **how):
     """A run that goes on; `main` ends what is left of them."""
     CHILDREN.append(subprocess.Popen([PROGRAM, *words], stdout=subprocess.PIPE, **how))
+    CHILDREN[-1].beside = resource.getrusage(resource.RUSAGE_SELF).ru_maxrss
     return CHILDREN[-1]
 
 
@@ -57,13 +59,27 @@ def ended(child, seconds=SECONDS):
     """How a run ends within these seconds: its status (nothing where it went on), what it printed, kilobytes."""
     timer = threading.Timer(seconds, child.kill)
     timer.start()
+    seen = [0]
+    watcher = threading.Thread(target=watched, args=(child.pid, seen))
+    watcher.start()
     out = child.stdout.read().decode(errors="replace")
+    os.waitid(os.P_PID, child.pid, os.WEXITED | os.WNOWAIT)
+    watcher.join()
     _, status, usage = os.wait4(child.pid, 0)
     is_late = not timer.is_alive()
     timer.cancel()
     child.returncode = os.waitstatus_to_exitcode(status)
     child.stdout.close()
-    return (None if is_late else child.returncode), out, usage.ru_maxrss
+    # The system counts what this script had when it began the run: where the run took no more, what was seen of it counts.
+    kilobytes = usage.ru_maxrss if usage.ru_maxrss > child.beside else seen[0]
+    return (None if is_late else child.returncode), out, kilobytes
+
+
+def watched(pid, seen):
+    """Looks at the most memory that a run has had, until it has ended."""
+    while kilobytes := highest(pid):
+        seen[0] = kilobytes
+        time.sleep(0.005)
 
 
 def closed(stream, is_reset):

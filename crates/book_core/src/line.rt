@@ -13,10 +13,8 @@ use crate::fault::BookFileFault;
 use crate::page::Page;
 use crate::plain::plain_text;
 use flag_text::{TextFault, Tree, read_tree};
+use limits::SITES;
 use std::alloc::{AllocError, Global};
-
-/// The numbers of sites are below this.
-const SITES: i64 = 1 << 32;
 
 /// What a line stands for.
 #[derive(Drop)]

@@ -12,14 +12,9 @@ use crate::fault::BookFault;
 use crate::inputs::PageInputs;
 use crate::noted::Noted;
 use crate::page::Page;
+use limits::{INPUT_BYTES, PAGE_INPUTS};
 use std::alloc::{AllocError, Global};
 use std::collections::BTreeMap;
-
-/// The most inputs that a page takes.
-pub(crate) const MOST_INPUTS: usize = 1_000_000;
-
-/// The most bytes that an input has.
-pub(crate) const MOST_BYTES: usize = 1024;
 
 /// Notes an input on a page that has these inputs.
 pub(crate) fn note_on(
@@ -33,10 +28,10 @@ pub(crate) fn note_on(
     ensures refused { OnErr result (inputs_view inputs.new ≡ inputs_view inputs.old) }
     ensures no_memory { page_reply (inputs_view inputs.old) input.now ≢ Ok Noted.New → result ≡ page_reply (inputs_view inputs.old) input.now }
 {
-    if input.len() > MOST_BYTES {
+    if input.len() > INPUT_BYTES {
         return Err(BookFault::InputTooLong);
     }
-    let full = inputs.len() >= MOST_INPUTS;
+    let full = inputs.len() >= PAGE_INPUTS;
     if inputs.contains(input) {
         return Ok(Noted::Again);
     }
@@ -79,7 +74,7 @@ fn note_first(
     ensures refused { OnErr result (contents_view pages.new.entries ≡ contents_view pages.old.entries) }
     ensures no_memory { reply_to (contents_view pages.old.entries) page.now input.now ≢ Ok Noted.New → result ≡ reply_to (contents_view pages.old.entries) page.now input.now }
 {
-    if input.len() > MOST_BYTES {
+    if input.len() > INPUT_BYTES {
         return Err(BookFault::InputTooLong);
     }
     let inputs = PageInputs::of_one(alloc, String::from_str(alloc, input)?)?;

@@ -15,7 +15,7 @@ use crate::fault::BookFileFault;
 use crate::inputs::{PageInputs, is_above};
 use crate::line::{Line, Lines, cut, is_header};
 use crate::page::Page;
-use crate::pages::{MOST_BYTES, MOST_INPUTS};
+use limits::{INPUT_BYTES, PAGE_INPUTS};
 use std::alloc::Global;
 use std::collections::BTreeMap;
 
@@ -151,13 +151,13 @@ fn add_input(inputs: &mut Vec<String>, input: String, number: u64) -> Result<(),
     ensures faultless { OnOk result (input_fault number (map string_bytes inputs.old.items) (string_bytes input) ≡ None) }
     ensures fault { IfErr result (λ e. e ≢ BookFileFault.WantOfMemory → input_fault number (map string_bytes inputs.old.items) (string_bytes input) ≡ Some e) }
 {
-    if input.len() > MOST_BYTES {
+    if input.len() > INPUT_BYTES {
         return Err(BookFileFault::InputTooLong(number));
     }
     if !is_above(inputs.as_slice(), input.as_str()) {
         return Err(BookFileFault::Order(number));
     }
-    if inputs.len() >= MOST_INPUTS {
+    if inputs.len() >= PAGE_INPUTS {
         return Err(BookFileFault::PageFull(number));
     }
     inputs.push(input)?;

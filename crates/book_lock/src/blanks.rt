@@ -11,11 +11,9 @@ use crate::seat::Seat;
 use crate::shared::SharedBook;
 use atomic_table::{Refused, Table};
 use book_core::Book;
+use limits::SEATS;
 use std::alloc::{AllocError, Global};
 use std::marker::{Model, PhantomData};
-
-/// The most seats of a book.
-const MOST_SEATS: usize = 64;
 
 /// A book of so many seats, before its name is picked.
 #[derive(Drop)]
@@ -48,7 +46,7 @@ impl Blanks {
         if seats == 0 {
             return Err(SeatsFault::NoSeats);
         }
-        if seats > MOST_SEATS {
+        if seats > SEATS {
             return Err(SeatsFault::TooManySeats);
         }
         let mut slots = Vec::with_capacity(alloc, 1)?;

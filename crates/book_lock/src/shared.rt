@@ -11,12 +11,10 @@ use crate::lock::BookLock;
 use crate::name::BookName;
 use crate::seat::{Seat, news_in};
 use book_core::{BookFault, Exposure, Noted, Page};
+use limits::INPUT_BYTES;
 use std::alloc::{AllocError, Global};
 use std::marker::PhantomData;
 use std::sync::Wait;
-
-/// The most bytes that an input has.
-const MOST_BYTES: usize = 1024;
 
 /// A book that threads share. Each thread notes through a seat of its own.
 #[derive(Drop)]
@@ -51,7 +49,7 @@ impl<L: BookName> SharedBook<L> {
         ensures full { result ≡ Err BookFault.PageFull → Looks seat.old seat.new × (reply_after seat.new.seen page.now input.now ≡ Err BookFault.PageFull) }
         ensures wanted { result ≡ Err BookFault.WantOfMemory → Looks seat.old seat.new × (reply_after seat.new.seen page.now input.now ≡ Ok Noted.New) }
     {
-        if input.len() > MOST_BYTES {
+        if input.len() > INPUT_BYTES {
             return Err(BookFault::InputTooLong);
         }
         if seat.calls == u64::MAX {

@@ -17,12 +17,12 @@ use crate::gate::Gate;
 use crate::gather::{Harvest, gathered, parts_of};
 use crate::known::known_pages;
 use crate::order::in_order;
-use crate::reach::MOST_BYTES;
 use crate::worker::Round;
 use book_core::Book;
 use book_lock::{Blanks, BookName, Seat, SeatsFault, SharedBook, seal};
 use flag_defs::Flags;
 use flag_resolve::Resolution;
+use limits::INPUT_BYTES;
 use logic_evaluator::Reached;
 use std::alloc::Global;
 use std::marker::Brand;
@@ -171,7 +171,7 @@ fn long_in(reached: &[Reached]) -> usize
 {
     let mut long = 0;
     for reach in reached {
-        if reach.input.len() > MOST_BYTES {
+        if reach.input.len() > INPUT_BYTES {
             long += 1;
         }
     }

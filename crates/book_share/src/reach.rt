@@ -14,13 +14,11 @@ use crate::known::targeting_of;
 use book_core::{BookFault, Page};
 use book_lock::{BookName, Seat, SharedBook};
 use flag_defs::Flags;
+use limits::INPUT_BYTES;
 use logic_ast::{Expr, LogicFault, by_text};
 use logic_evaluator::Reached;
 use std::alloc::{AllocError, Global};
 use std::sync::Wait;
-
-/// The most bytes that an input has.
-pub(crate) const MOST_BYTES: usize = 1024;
 
 /// An input that a full page refused.
 #[derive(Drop)]
@@ -143,7 +141,7 @@ fn note_one<L: BookName, R: Wait>(
     ensures full { IfOk result (λ _. AreFull seat.old.seen refused.old.items → AreFull seat.new.seen refused.new.items) }
     ensures grown { IfOk result (λ _. length (own seat.new) ≤ length (own seat.old) + 1) }
 {
-    if input.len() > MOST_BYTES {
+    if input.len() > INPUT_BYTES {
         return Ok(());
     }
     match book.note(rt, alloc, seat, page, input) {

@@ -4,13 +4,10 @@ ghost use Rattle.flag_text.specs.Shape.{Shape, is_tidy};
 ghost use Rattle.flag_documents.specs.Measure.{capped, plus, beside, around, when, item_in_front, in_place_of_bucket, scalar_of, list_measure, object_measure, literal_measure, member_in_front, measure};
 ghost use Rattle.flag_documents.specs.Readable.{is_within, is_readable, reads};
 
+use limits::{EXPRESSION_LEVELS, EXPRESSION_NODES};
+
 /// Numbers of nodes, levels and bytes count up to this one, which is above every limit.
 pub(crate) const MOST: u32 = 4_194_305;
-
-/// The limits of an expression.
-const MAX_NODES: u32 = 10_000;
-
-const MAX_LEVELS: u32 = 100;
 
 /// How large a tree is in one way of reading it, and whether nothing is wrong with it.
 #[derive(Clone, Copy)]
@@ -106,7 +103,7 @@ impl Reading {
     pub(crate) fn is_within(self) -> bool
         ensures { result ≡ is_within self }
     {
-        self.nodes <= MAX_NODES && self.levels <= MAX_LEVELS
+        self.nodes <= EXPRESSION_NODES && self.levels <= EXPRESSION_LEVELS
     }
 }
 

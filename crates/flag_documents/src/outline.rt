@@ -8,11 +8,9 @@ ghost use Rattle.flag_documents.specs.Definition.{default_of, member_count, stat
 
 use crate::kind::are_of_one_kind;
 use flag_text::{Tree, member_by_halving};
+use limits::VARIANTS;
 
-/// The most variants of a flag, and the most levels of them together.
-const MAX_VARIANTS: usize = 64;
-
-const MAX_LEVELS: usize = 100;
+const MAX_LEVELS: usize = limits::EXPRESSION_LEVELS as usize;
 
 /// State, variants and default variant of a flag that has them.
 #[derive(Clone, Copy)]
@@ -88,7 +86,7 @@ pub(crate) fn are_few(variants: &[(String, Tree)]) -> bool
     ensures { result ≡ (nat_le 1 (member_count (members_view variants.now)) && nat_le (member_count (members_view variants.now)) 64) }
 {
     let count = variants.len();
-    1 <= count && count <= MAX_VARIANTS
+    1 <= count && count <= VARIANTS
 }
 
 /// Whether all numbers are whole, and there are at most 100 levels.

@@ -17,7 +17,7 @@ use std::alloc::{AllocError, Global};
 
 /// The most levels of the form of a targeting that can be read: one more than its expression may have, since a literal
 /// bucket is a list that is not counted.
-const MAX_LEVELS: usize = 101;
+const MAX_LEVELS: usize = limits::EXPRESSION_LEVELS as usize + 1;
 
 /// The expression of a flag's targeting, with its references replaced, where it has one. The condition is that the targeting
 /// does not break the flag, and that all targetings of the document were weighed and found light. It fails only where

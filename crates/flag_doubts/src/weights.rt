@@ -9,7 +9,7 @@ use bucket_core::weight_of;
 use logic_ast::{Bucket, Node};
 
 /// The most that the weights of a rule sum to.
-const MAX_TOTAL: u64 = 2_147_483_647;
+const MAX_TOTAL: u64 = bucket_core::MAX_TOTAL as u64;
 
 /// Whether some `fractional`, wherever it stands, has such buckets.
 #[cycle(weights)]

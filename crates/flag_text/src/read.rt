@@ -11,13 +11,9 @@ use crate::fault::TextFault;
 use crate::tokens::read;
 use crate::tree::{Tree, fits, has_other};
 use json::{Reader, Scratch};
+use limits::{JSON_LEVELS, TREE_LEVELS};
 use simdutf8::basic;
 use std::alloc::Global;
-
-const MAX_LEVELS: usize = 120;
-
-/// How deep lists and objects of a JSON text nest at most, as `serde_json` reads it.
-const MAX_DEPTH: usize = 127;
 
 /// The tree that the bytes of a JSON text stand for, with `Other` for each number that is not whole.
 /// A member that is repeated under its name takes the place of the one before. `max` is the most bytes
@@ -47,7 +43,7 @@ fn text_tree(alloc: Global, text: &str, scratch: &mut Scratch) -> Result<Tree, T
     ensures kind { result ≢ Err TextFault.TooLarge }
 {
     let mut reader = Reader::new(text, scratch)?;
-    let tree = read(alloc, &mut reader, MAX_DEPTH)?;
+    let tree = read(alloc, &mut reader, JSON_LEVELS)?;
     if reader.next().is_some() {
         return Err(TextFault::NotJson);
     }
@@ -76,7 +72,7 @@ pub fn whole_tree(tree: Tree) -> Result<Tree, TextFault>
     ensures whole { is_tidy (view tree) ≡ true → IfOk result (λ t. is_whole (view t) ≡ true) }
     ensures shallow { IfOk result (λ t. levels (view t) ≤ max_levels) }
 {
-    if !fits(&tree, MAX_LEVELS) {
+    if !fits(&tree, TREE_LEVELS) {
         return Err(TextFault::TooDeep);
     }
     if has_other(&tree) {

@@ -31,9 +31,9 @@ use flagops_network::{follow, open_standard, serve};
 use flagops_pictures::{picture, picture_ramp, plan_picture};
 use flagops_ramps::{apply_step, ramp, verify_ramp};
 use flagops_service::ofrep;
-use flagops_streams::PersistentInput;
 use line_batches::{Inlet, ReadInlet};
-use outputs::Persistent;
+use outputs::StandardOutput;
+use persistent_io::PersistentInput;
 use progress::{BesideLine, Counted, Progress, TerminalLine};
 use std::alloc::Global;
 use std::convert::AsStr;
@@ -70,15 +70,15 @@ fn main(rt: HostRuntime) -> ExitCode {
     let input = OpenedInlet::new(ReadInlet::new(input));
     let files = SystemFiles::watched(&rt, &progress);
     let (trouble, unread) = (AtomicI32::new(0), AtomicI32::new(0));
-    let out = Persistent::new(rt.stdout(), &trouble);
+    let out = StandardOutput::new(rt.stdout(), &trouble);
     let out = WriteOutlet::new(BesideLine::new(&rt, &line, out, goes_on));
-    let err = Persistent::new(rt.stderr(), &unread);
+    let err = StandardOutput::new(rt.stderr(), &unread);
     let err = WriteOutlet::new(BesideLine::new(&rt, &line, err, false));
     let code = match on_stack(&rt, words, input, files, out, err, &watch) {
         Some(code) => code,
         None => {
-            let mut out = WriteOutlet::new(Persistent::new(rt.stdout(), &trouble));
-            let mut err = WriteOutlet::new(Persistent::new(rt.stderr(), &unread));
+            let mut out = WriteOutlet::new(StandardOutput::new(rt.stdout(), &trouble));
+            let mut err = WriteOutlet::new(StandardOutput::new(rt.stderr(), &unread));
             ExitCode::from(want(&mut out, &mut err, Call::Flagops))
         }
     };

@@ -1,44 +1,40 @@
 //! The standard outputs as the program writes them.
 ghost use Rattle.std.specs.Prelude.{◌≡◌};
 
+use persistent_io::PersistentOutput;
 use std::io::{self, ErrorKind, Write};
 use std::sync::atomic::{AtomicI32, Ordering};
 
-/// How often a write is made again that signals interrupt one after the other.
-const MOST_INTERRUPTIONS: u32 = 1_000_000;
-
-/// A writer whose writes are made again where a signal interrupts them: an interrupted write has written nothing.
-/// The number that the system gives the failure of a write is left in `trouble`.
+/// A writer whose interrupted writes are made again. The number that the system gives the failure of a write is left in `trouble`.
 #[derive(Drop)]
-pub struct Persistent<'a, W> {
-    writer: W,
+pub struct StandardOutput<'a, W> {
+    writer: PersistentOutput<W>,
     trouble: &'a AtomicI32,
 }
 
-impl<'a, W: Write> Persistent<'a, W> {
+impl<'a, W: Write> StandardOutput<'a, W> {
     /// It holds the bytes that the writer holds.
-    pub fn new(writer: W, trouble: &'a AtomicI32) -> Persistent<'a, W>
-        ensures { ⟦<Persistent<'a, W> as Write>⟧.contents result ≡ W.contents writer }
+    pub fn new(writer: W, trouble: &'a AtomicI32) -> StandardOutput<'a, W>
+        ensures { ⟦<StandardOutput<'a, W> as Write>⟧.contents result ≡ W.contents writer }
     {
-        Persistent { writer, trouble }
+        StandardOutput {
+            writer: PersistentOutput::new(writer),
+            trouble,
+        }
     }
 }
 
-impl<'a, W: Write> Write for Persistent<'a, W> {
-    ghost contents = { λ p. W.contents p.writer };
+impl<'a, W: Write> Write for StandardOutput<'a, W> {
+    ghost contents = { λ p. ⟦<PersistentOutput<W> as Write>⟧.contents p.writer };
 
     fn write(&mut self, buf: &[u8]) -> io::Result<usize> {
-        for _ in 0..MOST_INTERRUPTIONS {
-            match self.writer.write(buf) {
-                Ok(count) => return Ok(count),
-                Err(e) if e.kind() == ErrorKind::Interrupted => {}
-                Err(e) => {
-                    remember(self.trouble, e);
-                    return Err(e);
-                }
+        match self.writer.write(buf) {
+            Ok(count) => Ok(count),
+            Err(e) => {
+                remember(self.trouble, e);
+                Err(e)
             }
         }
-        self.writer.write(buf)
     }
 
     fn flush(&mut self) -> io::Result<()> {

@@ -10,10 +10,8 @@ ghost use Rattle.flagops_checks.specs.Names.{AreKnown, HasUnread};
 use crate::plain::is_plain;
 use flag_doubts::{Repeated, repeated_in};
 use flag_text::{Tree, read_doc};
+use limits::TEXT_BYTES;
 use std::alloc::{AllocError, Global};
-
-/// The most bytes of a document.
-const LIMIT: usize = 4_194_304;
 
 /// The members of a document that are not read, and what stands more than once in it.
 #[derive(Drop)]
@@ -80,7 +78,7 @@ fn tree_of(alloc: Global, bytes: &[u8]) -> Result<Tree, AllocError>
     ensures tree { IfOk result (λ t. view t ≡ tree_in bytes.now) }
     ensures tidy { IfOk result (λ t. is_tidy (view t) ≡ true) }
 {
-    match read_doc(alloc, bytes, LIMIT) {
+    match read_doc(alloc, bytes, TEXT_BYTES) {
         Ok(tree) => Ok(tree),
         Err(_) => Err(AllocError),
     }

@@ -18,13 +18,11 @@ use book_core::{Book, print_book};
 use book_share::{DriveFault, Driven, drive};
 use flag_defs::Flags;
 use flag_text::Tree;
+use limits::SEATS;
 use progress::Meter;
 use std::alloc::Global;
 use std::sync::Wait;
 use std::thread::Threads;
-
-/// The most workers.
-const MOST_WORKERS: usize = 64;
 
 /// The whole output of the command.
 #[derive(Debug, Drop)]
@@ -113,7 +111,7 @@ fn fault_of(workers: usize) -> Option<DriveFault>
 {
     if workers == 0 {
         Some(DriveFault::NoWorkers)
-    } else if workers > MOST_WORKERS {
+    } else if workers > SEATS {
         Some(DriveFault::TooManyWorkers)
     } else {
         None

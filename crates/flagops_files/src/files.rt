@@ -107,7 +107,8 @@ pub trait FileSet {
 
     /// The bytes of the file at the path, a book or note lines, cut after `max + 1`. A file that begins as neither is judged by its
     /// first 16,777,216 bytes: no more of it is read. Where lines that are none are passed over (`passing`), that is one without
-    /// a line's end there.
+    /// a line's end there. Files that do not tell their bytes may end behind the line of no note that is not passed over, for which
+    /// the caller refuses them.
     fn read_notes(
         &mut self,
         alloc: Global,

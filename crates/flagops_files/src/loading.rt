@@ -19,13 +19,13 @@ use rule_text::{RuleTextFault, read_rule_text};
 use std::alloc::Global;
 
 /// The largest rule or plan file, in bytes.
-pub const RULE_LIMIT: u32 = 67_108_864;
+pub const RULE_LIMIT: u32 = limits::FILE_BYTES as u32;
 
 /// The most bytes of a rule file of which a tree is made to tell what is wrong: a tree takes some 30 times as many.
 const LOOKED_INTO: usize = 1 << 20;
 
 /// The largest request, key file, document or context, in bytes.
-pub const TEXT_LIMIT: u32 = 4_194_304;
+pub const TEXT_LIMIT: u32 = limits::TEXT_BYTES as u32;
 
 /// The bytes of the file at a path, cut after one more than so many.
 #[tactic(auto, using(crate::proofs::Told::says))]

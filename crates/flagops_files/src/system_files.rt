@@ -5,12 +5,17 @@ ghost use Rattle.flagops_files.specs.Files.{is_unreadable};
 use crate::beginning::{may_begin_record, may_note};
 use crate::files::{FIRST_PIECE, FileSet, LoadFault, NOTES_PIECE, StoreFault};
 use crate::replacing::{plain_file, replace};
+use line_batches::cut_line;
+use note_books::{begins_astray, begins_book};
 use progress::{Counted, Meter, Progress};
 use std::alloc::{AllocError, Global};
 use std::fs::OpenFile;
-use std::io::{ErrorKind, Print, Read};
+use std::io::{ErrorKind, Print, Read, Take};
 use std::rt::Files;
 use std::{fs, io};
+
+/// How many lines of a piece are judged before the next one is read.
+const JUDGED: usize = 1000;
 
 /// The files that a runtime reaches. What they hold is not known. `-` is the standard input where it is read, and the standard
 /// output where it is written.
@@ -227,11 +232,48 @@ fn read_notes_front<R: Files>(
     file.read_to_end(&mut bytes)?;
     if may_note(bytes.as_slice(), passing) {
         bytes.reserve(len.saturating_sub(piece) as usize)?;
-        file.set_limit(limit.saturating_sub(piece));
-        file.read_to_end(&mut bytes)?;
+        let is_judged = !passing && !begins_book(bytes.as_slice());
+        read_on(alloc, &mut file, &mut bytes, is_judged, limit)?;
         bytes.truncate(limit as usize);
     }
     Ok(bytes)
+}
+
+/// Reads on, a piece at a time. Where lines are judged it ends behind a piece in whose beginning is the line of no note, since
+/// the file is refused for that line, or for one before it, whatever comes behind.
+fn read_on<R: Read>(
+    alloc: Global,
+    file: &mut Take<R>,
+    bytes: &mut Vec<u8>,
+    is_judged: bool,
+    limit: u64,
+) -> io::Result<()> {
+    let mut from = 0;
+    for _ in 0..=limit / NOTES_PIECE as u64 {
+        let len = bytes.len();
+        let is_over = len.saturating_sub(from) < NOTES_PIECE || len as u64 >= limit;
+        if is_over
+            || is_judged && begins_astray(alloc, lines_from(bytes.as_slice(), from), JUDGED)?
+        {
+            return Ok(());
+        }
+        from = len;
+        file.set_limit(limit.saturating_sub(len as u64).min(NOTES_PIECE as u64));
+        file.read_to_end(bytes)?;
+    }
+    Ok(())
+}
+
+/// The bytes from the first line on that begins behind so many, or from the first byte on.
+fn lines_from(bytes: &[u8], from: usize) -> &[u8] {
+    if from == 0 || from > bytes.len() {
+        return bytes;
+    }
+    let (_, rest) = bytes.split_at(from);
+    match cut_line(rest) {
+        Some((_, lines)) => lines,
+        None => &[],
+    }
 }
 
 /// The first piece of the plain file at the path, where there is one.

@@ -22,7 +22,7 @@ use tally_core::{JoinFault, PageTally, join as joined};
 use tally_text::{TallyFileFault, print_tally, read_tally};
 
 /// The largest file of a tally, in bytes.
-const TALLY_LIMIT: u64 = 67_108_864;
+const TALLY_LIMIT: u64 = limits::FILE_BYTES as u64;
 
 /// Does what the words after the program's name ask of `join`, which is the first of them, and gives the status to end with. It
 /// prints the tally of the lines of all, or the line of a refusal with status 1.

@@ -10,16 +10,14 @@ ghost use Rattle.flagops_filters.specs.Words.{join_app, max_workers, record_app,
 use clap::builder::ValueParser;
 use clap::error::ErrorKind;
 use clap::{Arg, Command, Error};
+use limits::LATEST_MOMENT;
 use std::alloc::{AllocError, Global};
 
 /// The largest factor, and the largest number of a site.
 const LARGEST_32: u64 = 4_294_967_295;
 
-/// The latest moment, 2^53-1.
-const LATEST_MOMENT: u64 = 9_007_199_254_740_991;
-
 /// The most workers.
-pub const MOST_WORKERS: u64 = 64;
+pub const MOST_WORKERS: u64 = limits::SEATS as u64;
 
 /// The command `record`. Its name is the first of the words, as a program's.
 #[tactic(auto, unfolding(crate::specs::Words::record_app))]

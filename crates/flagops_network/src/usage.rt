@@ -13,7 +13,7 @@ use std::alloc::{AllocError, Global};
 pub const LARGEST_PORT: u64 = 65_535;
 
 /// The most subscribers.
-pub const MOST_SUBSCRIBERS: u64 = 64;
+pub const MOST_SUBSCRIBERS: u64 = limits::SEATS as u64;
 
 /// The most turns of a follower.
 pub const MOST_TURNS: u64 = 1_000_000;

@@ -33,7 +33,7 @@ use std::convert::AsStr;
 use std::thread::Threads;
 
 /// The largest file of answers, in bytes.
-const RAMP_LIMIT: u64 = 67_108_864;
+const RAMP_LIMIT: u64 = limits::FILE_BYTES as u64;
 
 /// Does what the words after the program's name ask of `verify-ramp`, which is the first of them, and gives the status to end
 /// with. It prints what each step costs, or the line of a refusal with status 1.

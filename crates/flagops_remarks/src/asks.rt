@@ -4,14 +4,12 @@ ghost use Rattle.flagops_remarks.specs.Named.{Names, NamesWord};
 
 use crate::lines::{Lines, Opening};
 use flag_text::Tree;
+use limits::SEATS;
 use std::alloc::{AllocError, Global};
 use unread_members::Reader;
 
 /// The latest moment, 2^53-1.
-const LATEST_MOMENT: i64 = 9_007_199_254_740_991;
-
-/// The most threads that answer asks.
-const MOST_WORKERS: usize = 64;
+const LATEST_MOMENT: i64 = limits::LATEST_MOMENT as i64;
 
 /// The asks for each input from which on it is told how many there are.
 const MANY: u128 = 20;
@@ -146,7 +144,7 @@ pub fn of_workers(alloc: Global, workers: usize, fault: &str) -> Result<String, 
     ensures names { IfOk result (λ s. NamesWord (codes "WORKERS") (string_bytes s)) }
 {
     let mut lines = Lines::new(alloc);
-    if workers == 0 || workers > MOST_WORKERS {
+    if workers == 0 || workers > SEATS {
         lines.put(" is ");
         lines.put_shown(&workers);
         lines.put(

@@ -12,10 +12,8 @@ use crate::way::Way;
 use crate::wrongs::{put_wrong, unplaced};
 use flag_defs::{Breach, breaches};
 use flag_text::{Tree, read_doc};
+use limits::TEXT_BYTES;
 use std::alloc::{AllocError, Global};
-
-/// The most bytes of a document.
-const LIMIT: usize = 4_194_304;
 
 /// A line for each broken flag of the document that the bytes are, in the order of the keys: the first rule that it
 /// breaks, and where.
@@ -23,7 +21,7 @@ const LIMIT: usize = 4_194_304;
 pub fn of_breaches(alloc: Global, bytes: &[u8]) -> Result<String, AllocError>
     ensures { IfOk result (λ s. TellsBroken bytes.now (string_bytes s)) }
 {
-    let Ok(document) = read_doc(alloc, bytes, LIMIT) else {
+    let Ok(document) = read_doc(alloc, bytes, TEXT_BYTES) else {
         return Err(AllocError);
     };
     let found = breaches(alloc, &document)?;

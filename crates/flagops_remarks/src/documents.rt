@@ -6,13 +6,8 @@ use crate::lines::{Lines, Opening};
 use crate::texts::put_not_json;
 use flag_defs::DefFault;
 use flag_text::{Tree, read_doc};
+use limits::{FLAGS, TEXT_BYTES};
 use std::alloc::{AllocError, Global};
-
-/// The most bytes of a document.
-const LIMIT: usize = 4_194_304;
-
-/// The most flags of a document.
-const MOST_FLAGS: usize = 10_000;
 
 /// Of the bytes of a file.
 pub fn of_document(
@@ -39,7 +34,7 @@ pub fn of_document(
 /// What stands in the place of the flags.
 fn put_no_flags(lines: &mut Lines, bytes: &[u8]) {
     lines.put(" is no flag document: ");
-    match read_doc(lines.alloc, bytes, LIMIT) {
+    match read_doc(lines.alloc, bytes, TEXT_BYTES) {
         Ok(document) => put_other(lines, &document),
         Err(_) => lines.put("it has no \"flags\""),
     }
@@ -64,9 +59,9 @@ fn put_other(lines: &mut Lines, document: &Tree) {
 fn put_too_large(lines: &mut Lines, bytes: &[u8]) {
     lines.put(" is too large: ");
     let flags = flags_in(lines.alloc, bytes);
-    if bytes.len() > LIMIT {
+    if bytes.len() > TEXT_BYTES {
         put_count(lines, bytes.len(), " bytes");
-    } else if flags > MOST_FLAGS {
+    } else if flags > FLAGS {
         put_count(lines, flags, " flags");
     } else {
         lines.put("it is too long with its references replaced");
@@ -84,7 +79,7 @@ fn put_count(lines: &mut Lines, count: usize, of: &str) {
 
 /// The number of flags in a document.
 fn flags_in(alloc: Global, bytes: &[u8]) -> usize {
-    let Ok(document) = read_doc(alloc, bytes, LIMIT) else {
+    let Ok(document) = read_doc(alloc, bytes, TEXT_BYTES) else {
         return 0;
     };
     match document.member("flags") {

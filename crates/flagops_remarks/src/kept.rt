@@ -7,12 +7,10 @@ use crate::sites::Place;
 use flag_defs::Flags;
 use flag_text::{TextFault, Tree, read_doc};
 use kept_document::KeepFault;
+use limits::TEXT_BYTES;
 use logic_ast::{Expr, write_expr};
 use site_places::{SitePlace, place_of_site};
 use std::alloc::{AllocError, Global};
-
-/// The most bytes of a document.
-const LIMIT: usize = 4_194_304;
 
 /// Of the document at a path, whose bytes mean these flags, and the site of a flag in it.
 pub fn of_kept(
@@ -55,7 +53,7 @@ fn put_evaluator(lines: &mut Lines, place: Place<'_>, bytes: &[u8]) {
     let Some(targeting) = place.targeting() else {
         return;
     };
-    match read_doc(lines.alloc, bytes, LIMIT) {
+    match read_doc(lines.alloc, bytes, TEXT_BYTES) {
         Ok(document) => put_evaluator_in(lines, place, targeting, &document),
         Err(TextFault::WantOfMemory) => lines.fall_short(AllocError),
         Err(_) => {}

@@ -6,11 +6,9 @@ use crate::lines::{Lines, Opening};
 use crate::requests::pairs;
 use crate::texts::of_text;
 use flag_text::{Tree, read_tree};
+use limits::FILE_BYTES;
 use plan_text::PlanFileFault;
 use std::alloc::{AllocError, Global};
-
-/// The most bytes of a plan file.
-const LIMIT: usize = 67_108_864;
 
 /// Of bytes that are no plan.
 pub fn of_plan_file(
@@ -24,9 +22,9 @@ pub fn of_plan_file(
     if fault != PlanFileFault::BadPlan {
         return of_fault(alloc, path, None, fault);
     }
-    match read_tree(alloc, bytes, LIMIT) {
+    match read_tree(alloc, bytes, FILE_BYTES) {
         Ok(tree) => of_fault(alloc, path, Some(&tree), fault),
-        Err(fault) => of_text(alloc, path, bytes, LIMIT, fault),
+        Err(fault) => of_text(alloc, path, bytes, FILE_BYTES, fault),
     }
 }
 

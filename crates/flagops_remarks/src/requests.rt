@@ -5,12 +5,10 @@ ghost use Rattle.flagops_remarks.specs.Named.{Names};
 use crate::lines::{Lines, Opening};
 use crate::texts::of_text;
 use flag_text::{Tree, read_tree};
+use limits::TEXT_BYTES;
 use price_core::PriceFault;
 use std::alloc::{AllocError, AllocFailed, Global};
 use std::collections::BTreeSet;
-
-/// The most bytes of a request.
-const LIMIT: usize = 4_194_304;
 
 /// What a request looks like.
 const LOOK: &str = "{\"plan\":1,\"flag\":\"KEY\",\"site\":0,\"totals\":{\"NAME\":n,..}}";
@@ -24,9 +22,9 @@ pub fn of_request(
 ) -> Result<String, AllocError>
     ensures names { IfOk result (λ s. Names path.now (string_bytes s)) }
 {
-    match read_tree(alloc, bytes, LIMIT) {
+    match read_tree(alloc, bytes, TEXT_BYTES) {
         Ok(tree) => of_tree(alloc, path, &tree, fault),
-        Err(fault) => of_text(alloc, path, bytes, LIMIT, fault),
+        Err(fault) => of_text(alloc, path, bytes, TEXT_BYTES, fault),
     }
 }
 

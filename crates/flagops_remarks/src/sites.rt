@@ -8,13 +8,11 @@ use crate::requests::{of_request, pairs, range, totals};
 use bucket_core::{Rule, total_weight};
 use flag_defs::{Flag, Flags};
 use flag_text::{Tree, read_tree};
+use limits::TEXT_BYTES;
 use logic_ast::{Expr, LogicFault, site, sites};
 use price_core::Request;
 use rollout_checks::RolloutFault;
 use std::alloc::{AllocError, Global};
-
-/// The most bytes of a request.
-const LIMIT: usize = 4_194_304;
 
 /// A site of a flag in a document.
 #[derive(Clone, Copy)]
@@ -220,7 +218,7 @@ fn put_unknown_asked(lines: &mut Lines, place: Place<'_>, request: &[u8]) {
         lines.put("there is no such flag");
         return;
     }
-    match read_tree(lines.alloc, request, LIMIT) {
+    match read_tree(lines.alloc, request, TEXT_BYTES) {
         Ok(tree) => {
             let entries = place.entries(lines);
             put_unknown(lines, place, &tree, entries.as_slice());
@@ -307,7 +305,7 @@ pub(crate) fn is_among(variants: &[String], name: &str) -> bool {
 
 /// Both sums of the totals, and that of the rule's weights.
 fn put_sums(lines: &mut Lines, place: Place<'_>, request: &[u8], factor: u32) {
-    let (low, high) = match read_tree(lines.alloc, request, LIMIT) {
+    let (low, high) = match read_tree(lines.alloc, request, TEXT_BYTES) {
         Ok(tree) => sums(&tree),
         Err(_) => (0, 0),
     };

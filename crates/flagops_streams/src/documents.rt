@@ -9,11 +9,9 @@ ghost use Rattle.flagops_streams.specs.Refusal.{GivesUnlessWant, is_unreadable};
 
 use crate::refusal::Refusal;
 use flag_defs::Flags;
+use limits::SOURCES;
 use source_merge::{SourceFault, Sources};
 use std::alloc::{AllocError, Global};
-
-/// The most documents, each of which has a source of its own.
-const MOST_DOCUMENTS: usize = 16;
 
 /// The documents to be published, by their bytes, and the sources that they are merged from: one for each, and one more
 /// where a document is still to be put.
@@ -53,7 +51,7 @@ impl Documents {
         ensures loads { IfErr result (λ refusal. is_unreadable refusal ≡ false) }
     {
         let place = self.texts.len();
-        if place >= MOST_DOCUMENTS {
+        if place >= SOURCES {
             return Err(Refusal::Add(SourceFault::TooMany));
         }
         let name = name_of(alloc, place as u64 + 1)?;

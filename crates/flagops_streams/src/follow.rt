@@ -9,13 +9,13 @@ ghost use Rattle.flagops_streams.specs.Printed.{Follows, Printed, last_line, sna
 ghost use Rattle.flagops_streams.specs.Report.{FindsNobody, Writes};
 ghost use Rattle.flagops_streams.specs.Told.{TellsLate};
 
-use crate::persistent::PersistentInput;
 use crate::refusal::Refusal;
 use crate::remark::{say_late, say_unreachable};
 use crate::report::{refuse, write_three};
 use crate::timely::Timely;
 use core::mem::replace_with;
 use flag_text::{Outlet, write_whole};
+use persistent_io::PersistentInput;
 use snap_core::Snapshot;
 use std::alloc::{AllocError, Global};
 use std::cell::Cell;

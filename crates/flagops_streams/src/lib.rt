@@ -32,7 +32,6 @@ mod board;
 mod documents;
 mod follow;
 mod parting;
-mod persistent;
 mod refusal;
 mod remark;
 mod report;
@@ -43,7 +42,6 @@ mod timely;
 
 pub use documents::{Documents, merge_next};
 pub use follow::{follow_lines, follow_port};
-pub use persistent::PersistentInput;
 pub use refusal::Refusal;
 pub use remark::{Remarks, say_refused};
 pub use report::{refuse, write_line};

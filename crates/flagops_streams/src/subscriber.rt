@@ -5,6 +5,7 @@ use crate::board::{Board, Gone, Numbers};
 use crate::parting::part;
 use crate::timed::Timed;
 use flag_text::WriteOutlet;
+use persistent_io::PersistentOutput;
 use snap_share::{Current, ReadSeat, ShareFault, ShareName, Told};
 use std::cell::Cell;
 use std::io::Write;
@@ -12,7 +13,7 @@ use std::net::TcpStream;
 use std::sync::Wait;
 use std::time::Clock;
 use sync_frames::SharedSnapshot;
-use sync_server::{PersistentOutput, StreamEnd, serve_stream};
+use sync_server::{StreamEnd, serve_stream};
 
 /// The most turns of one stream.
 const MOST_TURNS: u64 = 1_000;

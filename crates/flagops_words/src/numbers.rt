@@ -3,7 +3,7 @@ ghost use Rattle.std.specs.Prelude.{◌≡◌, ◌≤◌, ◌<◌, ◌^◌, ◌&
 ghost use Rattle.flagops_words.specs.Numbers.{factor_in, max_16, max_32, moment_in, number_in};
 
 /// The latest moment, 2^53-1.
-pub const LATEST_MOMENT: u64 = 9_007_199_254_740_991;
+pub const LATEST_MOMENT: u64 = limits::LATEST_MOMENT;
 
 /// The largest number of 16 bits.
 pub const LARGEST_16: u64 = 65_535;

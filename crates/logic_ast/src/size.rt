@@ -6,16 +6,13 @@ ghost use Rattle.logic_ast.specs.Size.{around, full_size, items_size, members_si
 use crate::operator::is_fractional;
 use bucket_core::literal_bucket;
 use flag_text::Tree;
-
-const MAX_NODES: u32 = 10_000;
-
-const MAX_LEVELS: u32 = 100;
+use limits::{EXPRESSION_LEVELS, EXPRESSION_NODES};
 
 /// Whether the expression has more than 10,000 nodes or 100 levels. It stops where either is passed.
 pub(crate) fn is_too_big(tree: &Tree) -> bool
     ensures { result ≡ is_too_big (view tree.now) }
 {
-    count(tree, MAX_LEVELS, MAX_NODES).is_none()
+    count(tree, EXPRESSION_LEVELS, EXPRESSION_NODES).is_none()
 }
 
 /// What is left for the parts of a list or an object.

@@ -9,10 +9,8 @@ ghost use Rattle.note_lines.specs.Reading.{parts_note, shape_note};
 use crate::note::Note;
 use book_core::Page;
 use flag_text::Tree;
+use limits::SITES;
 use std::alloc::{AllocError, Global};
-
-/// The numbers of sites are below this.
-const SITES: i64 = 1 << 32;
 
 /// The note of a list `[FLAG,SITE,BY,INPUT]`.
 pub(crate) fn tree_note(alloc: Global, tree: &Tree) -> Result<Option<Note>, AllocError>

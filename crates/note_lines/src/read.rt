@@ -10,10 +10,8 @@ use crate::note::Note;
 use crate::parts::tree_note;
 use crate::print::note_line;
 use flag_text::{TextFault, Tree, read_tree};
+use limits::INPUT_BYTES;
 use std::alloc::{AllocError, Global};
-
-/// The most bytes that the input of a note has.
-const MOST_BYTES: usize = 1024;
 
 /// The note whose line this is, with its line feed: none where it is the line of no note. A list that is spelled
 /// otherwise than [`note_line`](crate::note_line) spells it, with a blank or another escape, is no line of a note, and so is
@@ -61,7 +59,7 @@ fn spelled_note(alloc: Global, tree: &Tree, line: &[u8]) -> Result<Option<Note>,
     let Some(note) = tree_note(alloc, tree)? else {
         return Ok(None);
     };
-    if note.input.len() > MOST_BYTES {
+    if note.input.len() > INPUT_BYTES {
         return Ok(None);
     }
     if has_line(alloc, &note, line)? {

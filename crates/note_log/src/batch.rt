@@ -3,13 +3,11 @@ ghost use Rattle.std.specs.Prelude.{IfOk, OnOk};
 ghost use Rattle.note_log.specs.Batch.{Adds, IsBatch};
 
 use bytes::BytesMut;
+use limits::INPUT_BYTES;
 use lru::LruCache;
 use note_lines::{Note, note_line};
 use std::alloc::{AllocError, Global};
 use std::hash::RandomState;
-
-/// The most bytes that the input of a note has.
-const MOST_BYTES: usize = 1024;
 
 /// The lines of notes, and the same one after the other.
 #[derive(Drop)]
@@ -49,7 +47,7 @@ impl Batch {
     ) -> Result<(), AllocError>
         ensures { OnOk result (Adds note.now remembered.now.entries self.old self.new) }
     {
-        if note.input.len() > MOST_BYTES {
+        if note.input.len() > INPUT_BYTES {
             self.too_long = self.too_long.saturating_add(1);
             return Ok(());
         }

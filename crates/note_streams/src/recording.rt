@@ -8,6 +8,7 @@ ghost use Rattle.note_streams.specs.Stop.{is_output_fault};
 use crate::runs::{record_runs, write_runs};
 use crate::stop::RecordStop;
 use flag_text::Outlet;
+use limits::TEXT_BYTES;
 use line_batches::{Inlet, cut_lines, fill};
 use record_lines::Recorder;
 use std::alloc::Global;
@@ -21,9 +22,6 @@ pub(crate) const BATCH: usize = 8_388_608;
 
 /// The bytes of a batch from which on several workers record it.
 const SHARED: usize = 65_536;
-
-/// The most bytes that a line has.
-pub(crate) const MOST_LINE: usize = 4_194_304;
 
 /// The most bytes that a stream has, 2^60.
 pub(crate) const MOST_BYTES: u64 = 1_152_921_504_606_846_976;
@@ -117,7 +115,7 @@ fn record_batch<'a, R: Threads + Sync, O: Outlet>(
     if written.refused {
         return Err(RecordStop::Line(totals.lines));
     }
-    if rest.len() > MOST_LINE {
+    if rest.len() > TEXT_BYTES {
         return Err(RecordStop::Line(totals.lines + 1));
     }
     Ok(rest)

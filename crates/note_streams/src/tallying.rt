@@ -5,9 +5,10 @@ ghost use Rattle.line_tally.specs.Lines.{untallied};
 ghost use Rattle.note_streams.specs.Batch.{TalliesBatch};
 ghost use Rattle.note_streams.specs.Tallied.{TalliesStream};
 
-use crate::recording::{BATCH, MOST_BYTES, MOST_LINE, PIECE};
+use crate::recording::{BATCH, MOST_BYTES, PIECE};
 use crate::stop::TallyStop;
 use book_core::Page;
+use limits::TEXT_BYTES;
 use line_batches::{Inlet, cut_line, fill};
 use std::alloc::Global;
 use tally_core::PageTally;
@@ -68,13 +69,13 @@ fn tally_batch<'a>(
 {
     let mut rest = bytes;
     'lines: while let Some((line, behind)) = cut_line(rest) {
-        if line.len() > MOST_LINE + 1 {
+        if line.len() > TEXT_BYTES + 1 {
             return Err(TallyStop::Filter(FilterFault::Line(filter.lines() + 1)));
         }
         filter.take(alloc, line)?;
         rest = behind;
     }
-    if rest.len() > MOST_LINE {
+    if rest.len() > TEXT_BYTES {
         return Err(TallyStop::Filter(FilterFault::Line(filter.lines() + 1)));
     }
     Ok(rest)

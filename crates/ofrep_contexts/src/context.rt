@@ -13,7 +13,7 @@ use flag_text::{Tree, position_of, read_doc, whole_tree};
 use std::alloc::Global;
 
 /// The most bytes of a request's body.
-pub const MAX_BODY: usize = 4_194_304;
+pub const MAX_BODY: usize = limits::TEXT_BYTES;
 
 /// The evaluation context that the body of a request carries: the object that is its member `context`. Where that is absent or
 /// null, or the body is empty, it is the empty object. The body's other members are passed over.

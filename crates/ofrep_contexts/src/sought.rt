@@ -6,7 +6,7 @@ ghost use Rattle.ofrep_contexts.specs.Way as spec;
 use crate::fault::ContextFault;
 
 /// How many levels a context may have.
-const MAX_LEVELS: u32 = 120;
+const MAX_LEVELS: u32 = limits::TREE_LEVELS as u32;
 
 /// What is looked for in a context that is refused.
 #[derive(Clone, Copy)]

@@ -3,12 +3,13 @@ ghost use Rattle.std.specs.Prelude.{◌≡◌, ◌<◌, false, IfSome};
 
 use crate::board::Board;
 use flag_text::WriteOutlet;
+use persistent_io::PersistentOutput;
 use snap_share::{Current, ReadSeat, ShareName};
 use std::io;
 use std::io::{ErrorKind, Read, Write};
 use std::net::TcpStream;
 use std::time::Duration;
-use sync_server::{NextNumber, PersistentOutput, serve_stream};
+use sync_server::{NextNumber, serve_stream};
 
 /// The milliseconds between two looks for a later snapshot.
 const PAUSE_MILLIS: u64 = 100;

@@ -6,6 +6,7 @@ use crate::posts::Post;
 use crate::streams::stream_beside;
 use flag_text::WriteOutlet;
 use http_server::Config;
+use limits::TEXT_BYTES;
 use note_log::NoteLog;
 use ofrep_connections::answer_connections;
 use ofrep_worker::OfrepWorker;
@@ -17,9 +18,6 @@ use std::net::{Net, TcpListener, TcpStream};
 use std::sync::Wait;
 use std::thread::{self, Builder, Threads};
 use std::time::Clock;
-
-/// The most bytes of a request's body. A longer one is answered with 413.
-const MOST_BODY: usize = 4_194_304;
 
 /// While more bytes than this wait to be sent on a connection, no request is read from it.
 const MOST_PENDING: usize = 16_777_216;
@@ -120,7 +118,7 @@ fn answer<J: ShareName, R: Net + Clock>(
     };
     let mut worker = OfrepWorker::new(rt, alloc, seat, log, &board.counts);
     let config = Config {
-        max_body_len: MOST_BODY,
+        max_body_len: TEXT_BYTES,
         max_pending: MOST_PENDING,
         ..Config::default()
     };

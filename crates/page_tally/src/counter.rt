@@ -6,12 +6,10 @@ ghost use Rattle.page_tally.specs.Folding.{passing, starting, with_input, with_i
 ghost use Rattle.page_tally.specs.Points.{points_if, with_points};
 
 use bucket_core::scale;
+use limits::PAGE_INPUTS;
 use murmur_core::hash;
 use std::alloc::{AllocError, Global};
 use std::marker::Model;
-
-/// The most inputs that a page takes.
-pub(crate) const MOST_INPUTS: usize = 1_000_000;
 
 /// How many inputs of a page were read, and, on the page that is asked for, how many fall on each of so many points.
 #[derive(Drop)]
@@ -67,7 +65,7 @@ impl Counter {
     pub(crate) fn has_room(&self) -> bool
         ensures { result ≡ nat_lt self.now.inputs most_inputs }
     {
-        self.inputs < MOST_INPUTS
+        self.inputs < PAGE_INPUTS
     }
 
     /// Counts one input more.
@@ -94,7 +92,7 @@ impl Counter {
     pub(crate) fn has_room_for(&self, inputs: usize) -> bool
         ensures { result ≡ nat_le (self.now.inputs + inputs) most_inputs }
     {
-        inputs <= MOST_INPUTS - self.inputs
+        inputs <= PAGE_INPUTS - self.inputs
     }
 
     /// Counts so many inputs more, at these points.

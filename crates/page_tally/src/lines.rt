@@ -12,10 +12,8 @@ use crate::input::is_below;
 use crate::line::{Line, read_line};
 use crate::plain::short_line;
 use book_core::BookFileFault;
+use limits::INPUT_BYTES;
 use std::alloc::Global;
-
-/// The most bytes that an input has.
-pub(crate) const MOST_BYTES: usize = 1024;
 
 /// The bytes that are left of a file, and the number of lines that were taken before them.
 #[derive(Drop)]

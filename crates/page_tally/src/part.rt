@@ -7,10 +7,10 @@ ghost use Rattle.book_core.specs.Page.{bytes_cmp};
 ghost use Rattle.page_tally.specs.Parts.{IsEndOf, IsJoined, IsPart, IsPartOf};
 ghost use Rattle.page_tally.specs.Points.{points_if};
 
-use crate::counter::MOST_INPUTS;
 use crate::input::is_below;
 use crate::plain::short_line;
 use bucket_core::scale;
+use limits::PAGE_INPUTS;
 use murmur_core::hash;
 use std::alloc::{AllocError, Global};
 
@@ -33,7 +33,7 @@ impl<'a> Part<'a> {
         ensures part { OnOk result ((bytes : List ℕ) → IsPartOf bytes total self.old → IsPartOf bytes total self.new) }
         ensures shorter { IfOk result (λ taken. taken ≡ true → length self.new.rest.now < length self.old.rest.now) }
     {
-        if self.inputs >= MOST_INPUTS {
+        if self.inputs >= PAGE_INPUTS {
             return Ok(false);
         }
         let Some((input, rest)) = short_line(self.rest) else {
@@ -76,8 +76,8 @@ impl<'a> Part<'a> {
     {
         self.rest.len() == behind.len()
             && is_below(self.last, next.first)
-            && self.inputs <= MOST_INPUTS
-            && next.inputs <= MOST_INPUTS - self.inputs
+            && self.inputs <= PAGE_INPUTS
+            && next.inputs <= PAGE_INPUTS - self.inputs
     }
 
     /// This part and the one behind as one.

@@ -8,7 +8,7 @@ ghost use Rattle.book_core.specs.Reading.{adds, lines_of};
 ghost use Rattle.page_tally.specs.Plain.{is_plain};
 
 use crate::ascii::plain_end;
-use crate::lines::MOST_BYTES;
+use limits::INPUT_BYTES;
 use std::str;
 
 /// The text that a line stands for, where it is a quoted text without an escape and nothing stands around it. `None`
@@ -54,7 +54,7 @@ pub(crate) fn short_line(bytes: &[u8]) -> Option<(&[u8], &[u8])>
     ensures shorter { IfSome result (λ r. length r.1.now < length bytes.now) }
 {
     let (input, rest) = plain_line(bytes)?;
-    if input.len() > MOST_BYTES {
+    if input.len() > INPUT_BYTES {
         return None;
     }
     Some((input, rest))

@@ -12,9 +12,10 @@ ghost use Rattle.page_tally.specs.Tally.{tally_of};
 use crate::counter::Counter;
 use crate::input::{Input, is_above};
 use crate::line::{Line, is_header};
-use crate::lines::{Lines, MOST_BYTES, cut};
+use crate::lines::{Lines, cut};
 use crate::run::read_run;
 use book_core::{BookFileFault, Page};
+use limits::INPUT_BYTES;
 use std::alloc::Global;
 use std::thread::Threads;
 
@@ -231,7 +232,7 @@ fn add_input(
     ensures fault { IfErr result (λ e. next_fault number (last_view last.now) counter.old.inputs (input_view input.now) ≡ Some e) }
 {
     let bytes = input.bytes();
-    if bytes.len() > MOST_BYTES {
+    if bytes.len() > INPUT_BYTES {
         return Err(BookFileFault::InputTooLong(number));
     }
     if !is_above(last, bytes) {

@@ -17,10 +17,10 @@ use crate::fault::PlanFileFault;
 use crate::order::{alpha_rises, beta_rises};
 use crate::planned::Planned;
 use crate::print::planned_text;
-use crate::read::MAX_PLAN;
 use crate::scan::scan;
 use bucket_core::Rule;
 use flag_text::is_in_range;
+use limits::FILE_BYTES;
 use simdutf8::basic;
 use std::alloc::{AllocError, Global};
 use transport_instance::Certificate;
@@ -36,7 +36,7 @@ pub(crate) fn plain_of(alloc: Global, bytes: &[u8]) -> Result<Option<Planned>, P
     ensures large { max_plan < length bytes.now → result ≡ Ok None }
     ensures no_text { is_utf8 bytes.now ≡ false → result ≡ Ok None }
 {
-    if bytes.len() > MAX_PLAN {
+    if bytes.len() > FILE_BYTES {
         return Ok(None);
     }
     match basic::from_utf8(bytes) {

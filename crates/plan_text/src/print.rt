@@ -8,9 +8,9 @@ ghost use Rattle.plan_text.specs.PlanFile.{planned_written, max_plan, IsWhole, p
 
 use crate::fault::PlanFileFault;
 use crate::planned::Planned;
-use crate::read::MAX_PLAN;
 use crate::writing::write_planned;
 use json::Writer;
+use limits::FILE_BYTES;
 use std::alloc::{AllocError, Global};
 
 /// The bytes of the plan file of an answer, which read as the answer where it is in order. It refuses more than 67108864
@@ -21,7 +21,7 @@ pub fn print_planned(alloc: Global, planned: &Planned) -> Result<Vec<u8>, PlanFi
     ensures reads_back { IfOk result (λ v. IsOrdered (planned_view planned.now) → answer_of v.items ≡ Ok (planned_view planned.now)) }
 {
     let text = planned_text(alloc, planned)?;
-    if text.len() > MAX_PLAN {
+    if text.len() > FILE_BYTES {
         return Err(PlanFileFault::TooLarge);
     }
     Ok(text)
@@ -36,7 +36,7 @@ pub fn print_planned_line(alloc: Global, planned: &Planned) -> Result<Vec<u8>, P
     ensures reads_back { IfOk result (λ v. IsOrdered (planned_view planned.now) → answer_of v.items ≡ Ok (planned_view planned.now)) }
 {
     let mut line = print_planned(alloc, planned)?;
-    if line.len() == MAX_PLAN {
+    if line.len() == FILE_BYTES {
         return Err(PlanFileFault::TooLarge);
     }
     line.push(b'\n')?;

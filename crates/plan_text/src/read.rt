@@ -16,11 +16,9 @@ use crate::planned::Planned;
 use crate::rows::{read_alpha, read_beta, read_entries, read_names};
 use bucket_core::{Rule, RuleFault};
 use flag_text::{Tree, read_tree};
+use limits::FILE_BYTES;
 use std::alloc::Global;
 use transport_instance::{Certificate, Cut, CutKind};
-
-/// The largest plan file, in bytes.
-pub(crate) const MAX_PLAN: usize = 64 << 20;
 
 const COSTS: i64 = 1 << 53;
 
@@ -39,7 +37,7 @@ pub fn read_planned(alloc: Global, bytes: &[u8]) -> Result<Planned, PlanFileFaul
     if let Some(planned) = plain_of(alloc, bytes)? {
         return Ok(planned);
     }
-    let tree = read_tree(alloc, bytes, MAX_PLAN)?;
+    let tree = read_tree(alloc, bytes, FILE_BYTES)?;
     planned_of(alloc, &tree)
 }
 

@@ -14,11 +14,10 @@ use crate::change::{Change, once_each};
 use crate::fault::PriceFault;
 use crate::totals::Limit;
 use flag_text::Tree;
+use limits::SITES;
 use std::alloc::Global;
 
 const TOTALS: i64 = 1 << 31;
-
-const SITES: i64 = 1 << 32;
 
 /// A request as it is written.
 #[derive(Drop)]

@@ -18,11 +18,9 @@ use crate::fault::PriceFault;
 use crate::prices::Prices;
 use crate::totals::{Limit, Totals, limits_on};
 use flag_text::{Tree, read_tree};
+use limits::TEXT_BYTES;
 use std::alloc::Global;
 use std::marker::Model;
-
-/// The largest request, in bytes.
-const MAX_REQUEST: usize = 4 << 20;
 
 const MAX_PRICE: i64 = 1_000_000;
 
@@ -57,7 +55,7 @@ impl Request {
         ensures large { max_request < length bytes.now → IsErrOf result PriceFault.BadRequest }
         ensures no_text { length bytes.now ≤ max_request → is_utf8 bytes.now ≡ false → IsErrOf result PriceFault.BadRequest }
     {
-        let tree = read_tree(alloc, bytes, MAX_REQUEST)?;
+        let tree = read_tree(alloc, bytes, TEXT_BYTES)?;
         requested(alloc, &tree)
     }
 

@@ -14,11 +14,9 @@ ghost use Rattle.ramp_steps.specs.Lines.{is_step, ramp_of, step_in, step_of};
 
 use crate::fault::RampFileFault;
 use flag_text::{TextFault, Tree, print_tree, read_tree};
+use limits::FILE_BYTES;
 use plan_text::{PlanFileFault, Planned, read_planned};
 use std::alloc::{AllocError, Global};
-
-/// The largest file of answers, in bytes: that of a plan.
-const MAX_RAMP: usize = 64 << 20;
 
 /// The answers of a file: a line `{"plan":PLAN,"step":N}` for each step, N from 1, each with its line feed.
 ///
@@ -28,7 +26,7 @@ pub fn read_ramp(alloc: Global, bytes: &[u8]) -> Result<Vec<Planned>, RampFileFa
     ensures exact { GivesUnless RampFileFault.WantOfMemory (λ v. map planned_view v.items) result (ramp_of bytes.now) }
     ensures large { max_plan < length bytes.now → IsErrOf result RampFileFault.TooLarge }
 {
-    if bytes.len() > MAX_RAMP {
+    if bytes.len() > FILE_BYTES {
         return Err(RampFileFault::TooLarge);
     }
     let mut answers = Vec::new(alloc);
@@ -71,7 +69,7 @@ fn feed_at(bytes: &[u8]) -> Option<usize>
 fn read_step(alloc: Global, step: u64, line: &[u8]) -> Result<Option<Planned>, AllocError>
     ensures { IfOk result (λ o. option_map planned_view o ≡ step_of step line.now) }
 {
-    match read_tree(alloc, line, MAX_RAMP) {
+    match read_tree(alloc, line, FILE_BYTES) {
         Ok(tree) => step_in(alloc, step, &tree),
         Err(TextFault::WantOfMemory) => Err(AllocError),
         Err(_) => Ok(None),

@@ -8,11 +8,9 @@ ghost use Rattle.plan_text.specs.PlanFile.{IsWhole, max_plan, planned_written};
 ghost use Rattle.ramp_steps.specs.Lines.{ramp_file, step_line};
 ghost use Rattle.plan_text.specs.declared.fault.PlanFileFault.TheVariants.{TooLarge, WantOfMemory};
 
+use limits::FILE_BYTES;
 use plan_text::{PlanFileFault, Planned, print_planned};
 use std::alloc::Global;
-
-/// The largest file of answers, in bytes: that of a plan.
-const MAX_RAMP: usize = 64 << 20;
 
 /// The file of the answers to steps: a line `{"plan":PLAN,"step":N}` for each, N from 1. It refuses more than 67108864 bytes
 /// with `TooLarge`. The condition is that the numbers of each answer are whole.
@@ -23,7 +21,7 @@ pub fn print_ramp(alloc: Global, answers: &[Planned]) -> Result<Vec<u8>, PlanFil
     let mut text = Vec::new(alloc);
     for i in 0..answers.len() {
         let line = step_line(alloc, i as u64 + 1, &answers[i])?;
-        if line.len() > MAX_RAMP - text.len() {
+        if line.len() > FILE_BYTES - text.len() {
             return Err(PlanFileFault::TooLarge);
         }
         text.extend_from_slice(line.as_slice())?;

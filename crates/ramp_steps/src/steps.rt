@@ -12,14 +12,9 @@ ghost use Rattle.ramp_steps.specs.Steps.{AskAlike, AsksAsTree, if_steps, judged,
 use crate::fault::StepsFault;
 use crate::request::request_with;
 use flag_text::{Tree, print_tree, read_tree};
+use limits::{RAMP_STEPS, TEXT_BYTES};
 use price_core::{PriceFault, Request};
 use std::alloc::{AllocError, Global};
-
-/// The largest text of steps, in bytes: that of a request.
-const MAX_REQUEST: usize = 4 << 20;
-
-/// The most steps.
-const MOST_STEPS: usize = 100;
 
 /// The requests of the steps that a JSON text of at most 4,194,304 bytes stands for: 1 to 100, each the text with the totals of
 /// the step as its `"totals"`, in the place of `"steps"`. Members whose names come after `steps` are passed over. All ask for a
@@ -34,7 +29,7 @@ pub fn read_steps(alloc: Global, bytes: &[u8]) -> Result<Vec<Vec<u8>>, StepsFaul
     ensures large { max_request < length bytes.now → IsErrOf result StepsFault.Shape }
     ensures no_text { length bytes.now ≤ max_request → is_utf8 bytes.now ≡ false → IsErrOf result StepsFault.Shape }
 {
-    let tree = read_tree(alloc, bytes, MAX_REQUEST)?;
+    let tree = read_tree(alloc, bytes, TEXT_BYTES)?;
     requests_of(alloc, &tree)
 }
 
@@ -74,7 +69,7 @@ fn some_steps(steps: &[Tree]) -> Option<&[Tree]>
     ensures same { IfSome result (λ ts. ts.now ≡ steps.now) }
     ensures few { IfSome result (λ ts. length ts.now ≤ most_steps) }
 {
-    if 1 <= steps.len() && steps.len() <= MOST_STEPS {
+    if 1 <= steps.len() && steps.len() <= RAMP_STEPS {
         Some(steps)
     } else {
         None

@@ -10,10 +10,8 @@ ghost use Rattle.record_lines.specs.Lines.{lines_view};
 use crate::recorded::Recorded;
 use crate::scene::Recorder;
 use flag_text::{TextFault, Tree, read_tree};
+use limits::TEXT_BYTES;
 use std::alloc::{AllocError, Global};
-
-/// The most bytes that a line has.
-const MOST_LINE: usize = 4_194_304;
 
 /// What is recorded of some lines, without their line feeds, up to the first that is no context. Want of memory is its one
 /// fault.
@@ -47,7 +45,7 @@ fn record_line(
     ensures { OnOk result (recorded_view out.new ≡ joined (recorded_view out.old) (of_line (scene_of recorder.now) line.now)) }
 {
     out.lines += 1;
-    if line.len() > MOST_LINE {
+    if line.len() > TEXT_BYTES {
         out.refused = true;
         return Ok(());
     }

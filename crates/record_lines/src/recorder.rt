@@ -18,14 +18,12 @@ use book_core::Page;
 use flag_defs::{Flag, Flags};
 use flag_resolve::{Kind, resolve};
 use flag_text::Tree;
+use limits::INPUT_BYTES;
 use logic_eval::Reached;
 use note_lines::note_line;
 use site_pages::pages_of;
 use std::alloc::{AllocError, Global};
 use thiserror::Error;
-
-/// The most bytes that a noted input has.
-const MOST_BYTES: usize = 1024;
 
 /// Why nothing is recorded of a flag.
 #[derive(Clone, Copy, Debug, PartialEq, Eq, Error)]
@@ -154,7 +152,7 @@ impl<'a> Recorder<'a> {
         ensures refused { out.new.refused ≡ out.old.refused }
     {
         let input = reach.input.as_str();
-        if input.len() > MOST_BYTES {
+        if input.len() > INPUT_BYTES {
             out.long = out.long.saturating_add(1);
             return Ok(());
         }

@@ -15,10 +15,8 @@ use crate::part::{Extent, part_from, read_item};
 use bucket_core::RuleFault;
 use flag_text::TextFault;
 use json::{Reader, Scratch, Token};
+use limits::JSON_LEVELS;
 use std::alloc::{AllocError, Global};
-
-/// How deep lists and objects of a JSON text nest at most, as `serde_json` reads it.
-pub(crate) const MAX_DEPTH: usize = 127;
 
 /// A text with more lists than this is judged before an entry is kept, which costs a second reading of its tokens: the entries
 /// of fewer take no more than 350 MB beside a text of 64 MiB.
@@ -80,7 +78,7 @@ fn read_whole(alloc: Global, reader: &mut Reader<'_>, count: usize) -> Result<Fo
     if let Token::BeginArray = token {
         return read_list(alloc, reader, count);
     }
-    let part = part_from(alloc, token, reader, MAX_DEPTH)?;
+    let part = part_from(alloc, token, reader, JSON_LEVELS)?;
     Ok((None, part.extent))
 }
 
@@ -94,11 +92,11 @@ fn read_list(alloc: Global, reader: &mut Reader<'_>, count: usize) -> Result<Fou
     let mut is_rule = true;
     let mut extent = Extent::none();
     'buckets: while !reader.take_end_array() {
-        let (bucket, item_extent) = read_item(alloc, reader, MAX_DEPTH - 1)?;
+        let (bucket, item_extent) = read_item(alloc, reader, JSON_LEVELS - 1)?;
         is_rule = keep(alloc, &mut found, is_rule, bucket)?;
         extent = extent.and(item_extent);
     }
-    Ok((found_if(is_rule, found), extent.around(MAX_DEPTH - 1)))
+    Ok((found_if(is_rule, found), extent.around(JSON_LEVELS - 1)))
 }
 
 /// Keeps a bucket behind those that were found, while each item is one.

@@ -12,12 +12,12 @@ ghost use Rattle.rule_text.specs.Reading.{is_want};
 ghost use Rattle.rule_text.specs.declared.fault.RuleTextFault.TheVariants.{Text};
 ghost use Rattle.flag_text.specs.declared.fault.TextFault.TheVariants as texts;
 
-use crate::buckets::MAX_DEPTH;
 use crate::fault::RuleTextFault;
 use crate::part::{Extent, part_from, read_item};
 use bucket_core::RuleFault;
 use flag_text::TextFault;
 use json::{Reader, Scratch, Token};
+use limits::JSON_LEVELS;
 use std::alloc::Global;
 
 /// What a text is to a rule.
@@ -73,7 +73,7 @@ fn look_whole(alloc: Global, reader: &mut Reader<'_>) -> Result<Outline, TextFau
     if let Token::BeginArray = token {
         return look_list(alloc, reader);
     }
-    let part = part_from(alloc, token, reader, MAX_DEPTH)?;
+    let part = part_from(alloc, token, reader, JSON_LEVELS)?;
     Ok(Outline {
         is_rule: false,
         count: 0,
@@ -91,7 +91,7 @@ fn look_list(alloc: Global, reader: &mut Reader<'_>) -> Result<Outline, TextFaul
     let mut count = 0usize;
     let mut extent = Extent::none();
     'buckets: while !reader.take_end_array() {
-        let (bucket, item_extent) = read_item(alloc, reader, MAX_DEPTH - 1)?;
+        let (bucket, item_extent) = read_item(alloc, reader, JSON_LEVELS - 1)?;
         is_rule &= bucket.is_some();
         count = count.saturating_add(1);
         extent = extent.and(item_extent);
@@ -99,6 +99,6 @@ fn look_list(alloc: Global, reader: &mut Reader<'_>) -> Result<Outline, TextFaul
     Ok(Outline {
         is_rule,
         count,
-        extent: extent.around(MAX_DEPTH - 1),
+        extent: extent.around(JSON_LEVELS - 1),
     })
 }

@@ -7,14 +7,12 @@ use crate::fault::WorldFault;
 use crate::hub::Hub;
 use crate::names::{has_double, sources_of};
 use book_core::Book;
+use limits::SOURCES;
 use source_merge::Sources;
 use std::alloc::Global;
 
-/// The most sources.
-const MOST_SOURCES: usize = 16;
-
 /// The most seats.
-const MOST_SEATS: u32 = 64;
+const MOST_SEATS: u32 = limits::SEATS as u32;
 
 /// A flag service: its sources, the last published snapshot with its subscribers, and the book of what was noted.
 #[derive(Drop)]
@@ -40,7 +38,7 @@ impl World {
         if has_double(sources) {
             return Err(WorldFault::Known);
         }
-        if sources.len() > MOST_SOURCES {
+        if sources.len() > SOURCES {
             return Err(WorldFault::TooMany);
         }
         if seats == 0 {

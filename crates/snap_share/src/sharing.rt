@@ -11,13 +11,11 @@ use crate::seat::ReadSeat;
 use crate::stamp::Stamp;
 use flag_defs::Flags;
 use left_right::writer::Writer;
+use limits::SEATS;
 use snap_core::Snapshot;
 use std::alloc::Global;
 use std::sync::{Arc, Wait};
 use sync_frames::FramedSnapshot;
-
-/// The most seats.
-const MOST_SEATS: usize = 64;
 
 /// Shares flags with number 1: a publisher, and so many seats that know them. Without seats it is refused with NoSeats, with
 /// more than 64 with TooManySeats, then with NoReader where the copies gave no place for a reader. The condition is that
@@ -39,7 +37,7 @@ pub fn share<J: ShareName, R: Wait>(
     if seats == 0 {
         return Err(ShareFault::NoSeats);
     }
-    if seats > MOST_SEATS {
+    if seats > SEATS {
         return Err(ShareFault::TooManySeats);
     }
     share_among(rt, alloc, history, flags, seats)

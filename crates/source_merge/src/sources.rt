@@ -12,10 +12,8 @@ use crate::choice::chosen;
 use crate::fault::SourceFault;
 use flag_defs::{DefFault, Flag, Flags, read_flags};
 use indexmap::IndexMap;
+use limits::SOURCES;
 use std::alloc::{AllocError, Global};
-
-/// The most sources.
-const MOST_SOURCES: usize = 16;
 
 /// Sources of flags by their names, in the order in which they were added, each with the document that it last accepted.
 #[derive(Drop)]
@@ -46,7 +44,7 @@ impl Sources {
         if knows(&self.documents, name) {
             return Err(SourceFault::Known);
         }
-        if self.documents.len() >= MOST_SOURCES {
+        if self.documents.len() >= SOURCES {
             return Err(SourceFault::TooMany);
         }
         push(alloc, &mut self.documents, name)?;

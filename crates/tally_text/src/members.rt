@@ -10,10 +10,8 @@ ghost use Rattle.tally_text.specs.Members.{head_of_shape, number_of_shape, end_o
 use crate::head::Head;
 use book_core::Page;
 use flag_text::Tree;
+use limits::SITES;
 use std::alloc::{AllocError, Global};
-
-/// The numbers of sites and totals are below this.
-const SITES: i64 = 1 << 32;
 
 /// The numbers of inputs are below this.
 const INPUTS: i64 = 1 << 53;

@@ -25,6 +25,7 @@ use flagops_files::{
     load_rule, load_tree, quoted,
 };
 use flagops_remarks::{of_keys, of_noted, of_request, of_weights};
+use limits::{INPUT_BYTES, PAGE_INPUTS};
 use price_core::{Prices, Request, first_forbidden, switch_cost_of};
 use std::alloc::{AllocError, AllocFailed, Global};
 use std::thread::Threads;
@@ -180,12 +181,6 @@ fn no_keys(alloc: Global, path: &str, place: Option<usize>, value: &Tree) -> Ref
     }
 }
 
-/// The most keys that a page takes.
-const MOST_KEYS: usize = 1_000_000;
-
-/// The most bytes that each of them has.
-const MOST_KEY_BYTES: usize = 1024;
-
 /// What the change costs the keys of the file at a path, each of which pays once. Where a page would refuse none of them
 /// they are paid for as they lie, sorted, and no page is made.
 fn weigh_keys<R: Threads + Sync>(
@@ -216,14 +211,14 @@ fn weigh_keys<R: Threads + Sync>(
 fn are_taken(keys: &[String]) -> bool
     ensures { result ≡ are_taken keys.now }
 {
-    keys.len() <= MOST_KEYS && are_short(keys)
+    keys.len() <= PAGE_INPUTS && are_short(keys)
 }
 
 fn are_short(keys: &[String]) -> bool
     ensures { result ≡ are_short keys.now }
 {
     for key in keys {
-        if key.len() > MOST_KEY_BYTES {
+        if key.len() > INPUT_BYTES {
             return false;
         }
     }

@@ -7,15 +7,15 @@ use Rattle.book_core.proofs.Noting.{long_reply, new_reply}
 use Rattle.book_core.proofs.Paged.{inputs_on-none, reply_to-on, page_added}
 use Rattle.book_core.proofs.pages.note_first.Goals as goal
 
-pub returns-then-input-gt-MOST_BYTES-clause-exact : goal.returns-then-input-gt-MOST_BYTES-clause-exact
-returns-then-input-gt-MOST_BYTES-clause-exact c = λ _.
+pub returns-then-input-gt-INPUT_BYTES-clause-exact : goal.returns-then-input-gt-INPUT_BYTES-clause-exact
+returns-then-input-gt-INPUT_BYTES-clause-exact c = λ _.
     let none = inputs_on-none c.args.pages.now.entries c.args.page.now c.requires in
-    reply_to-on (contents_view c.args.pages.now.entries) c.args.page.now c.args.input.now [] none ∙ long_reply [] c.args.input.now c.if-input-gt-MOST_BYTES.true
+    reply_to-on (contents_view c.args.pages.now.entries) c.args.page.now c.args.input.now [] none ∙ long_reply [] c.args.input.now c.if-input-gt-INPUT_BYTES.true
 
 pub returns-clause-exact : goal.returns-clause-exact
 returns-clause-exact c =
     let none = inputs_on-none c.args.pages.now.entries c.args.page.now c.requires in
-    reply_to-on (contents_view c.args.pages.now.entries) c.args.page.now c.args.input.now [] none ∙ new_reply [] c.args.input.now c.if-input-gt-MOST_BYTES.false refl (omega arith)
+    reply_to-on (contents_view c.args.pages.now.entries) c.args.page.now c.args.input.now [] none ∙ new_reply [] c.args.input.now c.if-input-gt-INPUT_BYTES.false refl (omega arith)
 
 pub returns-clause-noted : goal.returns-clause-noted
 returns-clause-noted c =
@@ -26,32 +26,32 @@ returns-clause-noted c =
     ap contents_view (c.in_ok-insert.ensures.entries ∙ ap (λ k. insert_entry page_cmp es k inputs) c.in_ok-copy.ensures)
     ∙ page_added es c.args.page.now inputs input c.requires one
 
-pub returns-then-input-gt-MOST_BYTES-clause-no_memory : goal.returns-then-input-gt-MOST_BYTES-clause-no_memory
-returns-then-input-gt-MOST_BYTES-clause-no_memory c = λ _.
+pub returns-then-input-gt-INPUT_BYTES-clause-no_memory : goal.returns-then-input-gt-INPUT_BYTES-clause-no_memory
+returns-then-input-gt-INPUT_BYTES-clause-no_memory c = λ _.
     let none = inputs_on-none c.args.pages.now.entries c.args.page.now c.requires in
-    sym (reply_to-on (contents_view c.args.pages.now.entries) c.args.page.now c.args.input.now [] none ∙ long_reply [] c.args.input.now c.if-input-gt-MOST_BYTES.true)
+    sym (reply_to-on (contents_view c.args.pages.now.entries) c.args.page.now c.args.input.now [] none ∙ long_reply [] c.args.input.now c.if-input-gt-INPUT_BYTES.true)
 
 pub returns-in_err-from_str-clause-no_memory : goal.returns-in_err-from_str-clause-no_memory
 returns-in_err-from_str-clause-no_memory c = λ other.
     let none = inputs_on-none c.args.pages.now.entries c.args.page.now c.requires in
-    absurd (other (reply_to-on (contents_view c.args.pages.now.entries) c.args.page.now c.args.input.now [] none ∙ new_reply [] c.args.input.now c.if-input-gt-MOST_BYTES.false refl (omega arith)))
+    absurd (other (reply_to-on (contents_view c.args.pages.now.entries) c.args.page.now c.args.input.now [] none ∙ new_reply [] c.args.input.now c.if-input-gt-INPUT_BYTES.false refl (omega arith)))
 
 pub returns-in_err-inputs-clause-no_memory : goal.returns-in_err-inputs-clause-no_memory
 returns-in_err-inputs-clause-no_memory c = λ other.
     let none = inputs_on-none c.args.pages.now.entries c.args.page.now c.requires in
-    absurd (other (reply_to-on (contents_view c.args.pages.now.entries) c.args.page.now c.args.input.now [] none ∙ new_reply [] c.args.input.now c.if-input-gt-MOST_BYTES.false refl (omega arith)))
+    absurd (other (reply_to-on (contents_view c.args.pages.now.entries) c.args.page.now c.args.input.now [] none ∙ new_reply [] c.args.input.now c.if-input-gt-INPUT_BYTES.false refl (omega arith)))
 
 pub returns-in_err-copy-clause-no_memory : goal.returns-in_err-copy-clause-no_memory
 returns-in_err-copy-clause-no_memory c = λ other.
     let none = inputs_on-none c.args.pages.now.entries c.args.page.now c.requires in
-    absurd (other (reply_to-on (contents_view c.args.pages.now.entries) c.args.page.now c.args.input.now [] none ∙ new_reply [] c.args.input.now c.if-input-gt-MOST_BYTES.false refl (omega arith)))
+    absurd (other (reply_to-on (contents_view c.args.pages.now.entries) c.args.page.now c.args.input.now [] none ∙ new_reply [] c.args.input.now c.if-input-gt-INPUT_BYTES.false refl (omega arith)))
 
 pub returns-in_err-insert-clause-no_memory : goal.returns-in_err-insert-clause-no_memory
 returns-in_err-insert-clause-no_memory c = λ other.
     let none = inputs_on-none c.args.pages.now.entries c.args.page.now c.requires in
-    absurd (other (reply_to-on (contents_view c.args.pages.now.entries) c.args.page.now c.args.input.now [] none ∙ new_reply [] c.args.input.now c.if-input-gt-MOST_BYTES.false refl (omega arith)))
+    absurd (other (reply_to-on (contents_view c.args.pages.now.entries) c.args.page.now c.args.input.now [] none ∙ new_reply [] c.args.input.now c.if-input-gt-INPUT_BYTES.false refl (omega arith)))
 
 pub returns-clause-no_memory : goal.returns-clause-no_memory
 returns-clause-no_memory c = λ other.
     let none = inputs_on-none c.args.pages.now.entries c.args.page.now c.requires in
-    absurd (other (reply_to-on (contents_view c.args.pages.now.entries) c.args.page.now c.args.input.now [] none ∙ new_reply [] c.args.input.now c.if-input-gt-MOST_BYTES.false refl (omega arith)))
+    absurd (other (reply_to-on (contents_view c.args.pages.now.entries) c.args.page.now c.args.input.now [] none ∙ new_reply [] c.args.input.now c.if-input-gt-INPUT_BYTES.false refl (omega arith)))

@@ -47,4 +47,4 @@ returns-clause-exact g c =
     let is = recorded_of_cut s lines c.as_slice.result.now c.in_ok-runs.runs.items runs c.as_slice.ensures.value c.as_slice-2.ensures.value c.in_ok-runs.ensures in
     let exact = c.in-Some.ensures.exact in
     leaves s c.args.bytes.now c.in_ok-lines.rest.now lines (runs_view runs) is c.in_ok-lines.ensures.cut c.in_ok-lines.ensures.rest before (before + c.in-Some.written.lines) (g.O.Outlet.bytes c.args.out.now) (g.O.Outlet.bytes c.write_runs.new.out)
-    exact.2 (sym exact.1 ∙ c.if-written.false) c.if-rest-gt-MOST_LINE.false (ap (λ (n : ℕ). before + n) exact.0) c.in_ok-lines.ensures.fewer
+    exact.2 (sym exact.1 ∙ c.if-written.false) c.if-rest-gt-TEXT_BYTES.false (ap (λ (n : ℕ). before + n) exact.0) c.in_ok-lines.ensures.fewer

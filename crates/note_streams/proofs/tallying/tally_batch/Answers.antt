@@ -46,9 +46,9 @@ returns-in_err-take c =
     subst (TalliesBatch c.args.bytes.now c.args.filter.now c.take.new.self) (sym is)
     (λ other more. stops_all c.args.filter.now f c.args.bytes.now c.lines.rest.now fault c.lines.invariant.goes (stops_line c.lines.rest.now c.in-Some.line.now c.in-Some.behind.now c.in-Some.ensures.parts f c.take.new.self fault (omega (arith, c.if-line.false)) refuses) more)
 
-pub returns-then-rest-gt-MOST_LINE : goal.returns-then-rest-gt-MOST_LINE
-returns-then-rest-gt-MOST_LINE c =
+pub returns-then-rest-gt-TEXT_BYTES : goal.returns-then-rest-gt-TEXT_BYTES
+returns-then-rest-gt-TEXT_BYTES c =
     let f = c.lines.filter in
-    let number : c.lines-then-rest-gt-MOST_LINE.result ≡ f.lines = search rules in
+    let number : c.lines-then-rest-gt-TEXT_BYTES.result ≡ f.lines = search rules in
     λ other more. subst (λ (n : ℕ). Tallies c.args.filter.now.tally c.args.filter.now.lines (parts_of (c.args.bytes.now ++ more)) (Err (Line (n + 1)))) (sym number)
-    (stops_all c.args.filter.now f c.args.bytes.now c.lines.rest.now (Line (f.lines + 1)) c.lines.invariant.goes (stops_rest f c.lines.rest.now c.in_default.ensures.parts (omega (arith, c.if-rest-gt-MOST_LINE.true))) more)
+    (stops_all c.args.filter.now f c.args.bytes.now c.lines.rest.now (Line (f.lines + 1)) c.lines.invariant.goes (stops_rest f c.lines.rest.now c.in_default.ensures.parts (omega (arith, c.if-rest-gt-TEXT_BYTES.true))) more)

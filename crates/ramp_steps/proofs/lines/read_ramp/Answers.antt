@@ -10,7 +10,7 @@ use Rattle.ramp_steps.proofs.lines.read_ramp.Goals as goal
 pub returns-in-None-clause-exact : goal.returns-in-None-clause-exact
 returns-in-None-clause-exact c = λ other.
     let none : step_of c.lines.step c.in-Some.line.now ≡ None = sym c.in_ok-planned.ensures ∙ ap (option_map planned_view) c.in-None.is in
-    small c.args.bytes.now (omega (arith, c.if-bytes-gt-MAX_RAMP.false)) ∙ c.lines.invariant.read
+    small c.args.bytes.now (omega (arith, c.if-bytes-gt-FILE_BYTES.false)) ∙ c.lines.invariant.read
     ∙ line_refused c.lines.rest.now c.in-Some.line.now c.in-Some.after.now c.lines.step c.in-Some.ensures.parts (map planned_view c.lines.answers.items) none
 
 pub lines-preserved : goal.lines-preserved

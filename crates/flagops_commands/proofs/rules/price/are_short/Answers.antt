@@ -10,5 +10,5 @@ long_here : (keys : List (String Global)) (i : ℕ) (key : String Global) → i 
 long_here keys i key below is long =
     ap are_short (from_here keys i key below is) ∙ ap (λ (b : Bool). b && are_short (drop (i + 1) keys)) (lt-leb (length (string_bytes key)) most_bytes long)
 
-pub returns-then-len-gt-MOST_KEY_BYTES : goal.returns-then-len-gt-MOST_KEY_BYTES
-returns-then-len-gt-MOST_KEY_BYTES c = sym (c.loop-key.invariant ∙ long_here c.args.keys.now c.loop-key.key-index c.key-item.result (omega arith) c.key-item.is (omega arith))
+pub returns-then-len-gt-INPUT_BYTES : goal.returns-then-len-gt-INPUT_BYTES
+returns-then-len-gt-INPUT_BYTES c = sym (c.loop-key.invariant ∙ long_here c.args.keys.now c.loop-key.key-index c.key-item.result (omega arith) c.key-item.is (omega arith))

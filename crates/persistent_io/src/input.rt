@@ -1,10 +1,8 @@
 //! Reads that are made again where they are interrupted.
 ghost use Rattle.std.specs.Prelude.{◌≡◌};
 
+use limits::INTERRUPTIONS;
 use std::io::{self, ErrorKind, Read};
-
-/// How often a read is made again that signals interrupt one after the other.
-const MOST_INTERRUPTIONS: u32 = 1_000_000;
 
 /// A reader whose reads are made again where a signal interrupts them, or where the process was stopped and goes on: an
 /// interrupted read has read nothing.
@@ -26,7 +24,7 @@ impl<R: Read> Read for PersistentInput<R> {
     ghost remaining = { λ p. R.remaining p.reader };
 
     fn read(&mut self, buf: &mut [u8]) -> io::Result<usize> {
-        for _ in 0..MOST_INTERRUPTIONS {
+        for _ in 0..INTERRUPTIONS {
             match self.reader.read(buf) {
                 Err(e) if e.kind() == ErrorKind::Interrupted => {}
                 outcome => return outcome,

@@ -1,5 +1,5 @@
 use Rattle.std.specs.Io.KnownBytes.{Keeps}
-use Rattle.flagops.proofs.outputs.PersistentWrite.write.Given as goal
+use Rattle.persistent_io.proofs.output.PersistentOutputWrite.write.Given as goal
 
 -- interrupted writes have written nothing
 abbrev pub invariant-loop : goal.invariant-loop

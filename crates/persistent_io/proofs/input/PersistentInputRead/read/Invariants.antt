@@ -1,5 +1,5 @@
 use Rattle.std.specs.Io.KnownBytes.{Keeps}
-use Rattle.flagops_streams.proofs.persistent.PersistentInputRead.read.Given as goal
+use Rattle.persistent_io.proofs.input.PersistentInputRead.read.Given as goal
 
 -- interrupted reads have read nothing
 abbrev pub invariant-loop : goal.invariant-loop

@@ -1,10 +1,8 @@
 //! Writes that are made again where they are interrupted.
 ghost use Rattle.std.specs.Prelude.{◌≡◌};
 
+use limits::INTERRUPTIONS;
 use std::io::{self, ErrorKind, Write};
-
-/// How often a write is made again that signals interrupt one after the other.
-const MOST_INTERRUPTIONS: u32 = 1_000_000;
 
 /// A writer whose writes are made again where a signal interrupts them, or where the process was stopped and goes on: an
 /// interrupted write has written nothing.
@@ -26,7 +24,7 @@ impl<W: Write> Write for PersistentOutput<W> {
     ghost contents = { λ p. W.contents p.writer };
 
     fn write(&mut self, buf: &[u8]) -> io::Result<usize> {
-        for _ in 0..MOST_INTERRUPTIONS {
+        for _ in 0..INTERRUPTIONS {
             match self.writer.write(buf) {
                 Err(e) if e.kind() == ErrorKind::Interrupted => {}
                 outcome => return outcome,
