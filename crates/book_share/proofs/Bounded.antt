@@ -26,7 +26,7 @@ use Rattle.logic_evaluator.specs.Run.{Reach, Run, cost, reach, ends, gives, afte
 use Rattle.logic_evaluator.specs.Scope.{Situation, root_scope, default_input, size, variable}
 use Rattle.logic_evaluator.specs.Truth.{is_true}
 use Rattle.logic_evaluator.proofs.Budgets.{reached_of-append, units_of-append}
-use Rattle.flag_resolve.specs.Kind.{is_of_kind}
+use Rattle.flag_documents.specs.Kind.{is_of_kind}
 use Rattle.flag_resolve.specs.Resolution.{Asked, given, given_default, chosen as chosen_variant, targeted, evaluated, enabled, found, resolution_of, default_of, variant_named, name_in}
 use Rattle.flag_resolve.specs.Resolved.{Resolved}
 use Rattle.flag_resolve.specs.Views.{resolution_view}

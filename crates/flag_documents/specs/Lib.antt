@@ -7,6 +7,7 @@ pub mod Fault
 pub mod Flag
 pub mod Foreseen
 pub mod Inlining
+pub mod Kind
 pub mod Law
 pub mod Least
 pub mod Lent

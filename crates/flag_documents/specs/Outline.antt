@@ -1,19 +1,11 @@
 -- What a definition says beside its targeting.
-use Rattle.std.specs.Prelude.{ℕ, List, codes, Bool, is_some, Option, option_map, option_and_then, option_copied}
-use Rattle.flag_text.specs.Readers.{as_bool, as_text, as_whole, as_object, find_member}
-use Rattle.flag_text.specs.Shape.{Shape, Members}
+use Rattle.std.specs.Prelude.{ℕ, List, codes, Bool, Option, option_map, option_and_then, option_copied}
+use Rattle.flag_text.specs.Readers.{find_member}
+use Rattle.flag_text.specs.Shape.{Members}
 use Rattle.flag_text.specs.View.{members_view}
 use Rattle.logic_ast.specs.Expression.{Expression}
 use Rattle.flag_documents.specs.Definition.{Rules, state_of, variants_of, default_of}
-use Rattle.flag_documents.specs.declared.kind.Kind.{Kind}
-use Rattle.flag_documents.specs.declared.kind.Kind.TheVariants as kind
 use Rattle.flag_documents.specs.declared.outline.Outline as program
-
-abbrev pub is_of : Kind → Shape → Bool
-is_of kind.Bool t = is_some (as_bool t)
-is_of kind.Text t = is_some (as_text t)
-is_of kind.Whole t = is_some (as_whole t)
-is_of kind.Object t = is_some (as_object t)
 
 -- state, variants and default variant
 pub record Outline : Type 0 where

@@ -1,35 +1,64 @@
-//! The kind of a flag's values.
+//! The kinds of values.
 ghost use Rattle.std.specs.Prelude.{◌≡◌};
 ghost use Rattle.flag_text.specs.View.{view, members_view};
 ghost use Rattle.flag_documents.specs.Definition.{all_values, are_of_one_kind};
+ghost use Rattle.flag_documents.specs.Kind.{is_of_kind, kind_named, word_of};
 
 use flag_text::Tree;
 
-/// What all variants of a flag are.
-#[derive(Clone, Copy)]
-pub(crate) enum Kind {
+/// The kind of value that a flag is asked for (OpenFeature: boolean, string, number and structure evaluation).
+#[derive(Clone, Copy, Debug, PartialEq, Eq)]
+pub enum Kind {
+    /// `true` or `false`.
     Bool,
+    /// A text.
     Text,
+    /// A whole number.
     Whole,
+    /// An object.
     Object,
 }
 
 impl Kind {
-    ghost use Rattle.flag_documents.specs.Outline.{is_of};
+    /// The kind of this word: `bool`, `text`, `whole` or `object`.
+    pub fn named(word: &str) -> Option<Kind>
+        ensures { result ≡ kind_named word.now }
+    {
+        match word {
+            "bool" => Some(Kind::Bool),
+            "text" => Some(Kind::Text),
+            "whole" => Some(Kind::Whole),
+            "object" => Some(Kind::Object),
+            _ => None,
+        }
+    }
 
-    fn is_of(self, tree: &Tree) -> bool
-        ensures { result ≡ is_of self (view tree.now) }
+    /// The word for the kind.
+    pub fn as_str(&self) -> &'static str
+        ensures { result.now ≡ word_of self.now }
     {
         match self {
-            Kind::Bool => tree.as_bool().is_some(),
-            Kind::Text => tree.as_text().is_some(),
-            Kind::Whole => tree.as_whole().is_some(),
-            Kind::Object => tree.as_object().is_some(),
+            Kind::Bool => "bool",
+            Kind::Text => "text",
+            Kind::Whole => "whole",
+            Kind::Object => "object",
+        }
+    }
+
+    /// Whether the value is of this kind. A null and a list are of none.
+    pub fn is_of(&self, value: &Tree) -> bool
+        ensures { result ≡ is_of_kind self.now (view value.now) }
+    {
+        match self {
+            Kind::Bool => value.as_bool().is_some(),
+            Kind::Text => value.as_text().is_some(),
+            Kind::Whole => value.as_whole().is_some(),
+            Kind::Object => value.as_object().is_some(),
         }
     }
 
     fn is_of_all(self, variants: &[(String, Tree)]) -> bool
-        ensures { result ≡ all_values (is_of self) (members_view variants.now) }
+        ensures { result ≡ all_values (is_of_kind self) (members_view variants.now) }
     {
         for (_, value) in variants {
             if !self.is_of(value) {

@@ -65,6 +65,7 @@ pub use copy::copy_entries;
 pub use document::read_entries;
 pub use fault::DefFault;
 pub use flag::Flag;
+pub use kind::Kind;
 pub use laws::a_document_has_one_meaning;
 pub use lent::{are_heavy, copy_lent};
 pub use limits::{MAX_BYTES, MAX_FLAGS};

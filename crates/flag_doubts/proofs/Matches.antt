@@ -3,7 +3,7 @@ use Rattle.std.proofs.Common.{◌≡◌, ◌≢◌, inl, inr, ℕ, Bool, true, f
 use Rattle.std.specs.List.{list_any}
 use Rattle.flag_documents.specs.Definition.{Definition, broken, good}
 use Rattle.flag_documents.specs.Flag.{variant_of}
-use Rattle.flag_resolve.specs.Kind.{is_of_kind}
+use Rattle.flag_documents.specs.Kind.{is_of_kind}
 use Rattle.flag_resolve.specs.Resolution.{Asked, chosen, default_of, defined, enabled, evaluated, failed, found, given_default, name_in, resolution_of, targeted, variant_named}
 use Rattle.flag_resolve.specs.Resolved.{Resolved}
 use Rattle.flag_resolve.specs.declared.code.Code.TheVariants.{TypeMismatch}

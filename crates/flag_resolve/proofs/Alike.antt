@@ -10,7 +10,7 @@ use Rattle.logic_evaluator.specs.Run.{Reach}
 use Rattle.logic_evaluator.specs.Scope.{Situation}
 use Rattle.logic_evaluator.specs.declared.fault.EvalFault.{EvalFault}
 use Rattle.flag_resolve.specs.Alike.{with_reached, ResolvesAlike, OthersStay}
-use Rattle.flag_resolve.specs.Kind.{is_of_kind}
+use Rattle.flag_documents.specs.Kind.{is_of_kind}
 use Rattle.flag_resolve.specs.Resolution.{Asked, failed, variant_named, default_of, name_in, given, given_default, chosen, targeted, evaluated, defined, found, resolution_of}
 use Rattle.flag_resolve.specs.Resolved.{Resolved}
 use Rattle.flag_resolve.specs.declared.code.Code.TheVariants.{InvalidContext}

@@ -12,7 +12,7 @@ use Rattle.logic_evaluator.specs.Evaluation.{evaluation_of}
 use Rattle.logic_evaluator.specs.Run.{Reach}
 use Rattle.logic_evaluator.specs.Scope.{Situation}
 use Rattle.logic_evaluator.specs.declared.fault.EvalFault.{EvalFault}
-use Rattle.flag_resolve.specs.Kind.{is_of_kind}
+use Rattle.flag_documents.specs.Kind.{is_of_kind}
 use Rattle.flag_resolve.specs.Lawful.{IsLawful, is_error}
 use Rattle.flag_resolve.specs.Resolution.{Asked, defaulted, failed, given, variant_named, default_of, name_in, given_default, chosen, targeted, evaluated, enabled, defined, found, resolution_of}
 use Rattle.flag_resolve.specs.Resolved.{Resolved}

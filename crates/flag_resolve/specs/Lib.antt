@@ -1,5 +1,4 @@
 pub mod Alike
-pub mod Kind
 pub mod Lawful
 pub mod Printing
 pub mod Resolution

@@ -12,11 +12,11 @@ use Rattle.logic_evaluator.specs.Evaluation.{evaluation_of}
 use Rattle.logic_evaluator.specs.Run.{Reach}
 use Rattle.logic_evaluator.specs.Scope.{Situation}
 use Rattle.logic_evaluator.specs.declared.fault.EvalFault.{EvalFault}
-use Rattle.flag_resolve.specs.Kind.{is_of_kind}
+use Rattle.flag_documents.specs.Kind.{is_of_kind}
 use Rattle.flag_resolve.specs.Resolved.{Resolved}
 use Rattle.flag_resolve.specs.declared.code.Code.{Code}
 use Rattle.flag_resolve.specs.declared.code.Code.TheVariants.{ProviderNotReady, InvalidContext, FlagNotFound, ParseError, General, TypeMismatch}
-use Rattle.flag_resolve.specs.declared.kind.Kind.{Kind}
+use Rattle.flag_documents.specs.declared.kind.Kind.{Kind}
 use Rattle.flag_resolve.specs.declared.reason.Reason.{Reason}
 use Rattle.flag_resolve.specs.declared.reason.Reason.TheVariants.{Error, Disabled, Static, Default, TargetingMatch}
 

@@ -5,9 +5,9 @@ ghost use Rattle.flag_text.specs.View.{view};
 ghost use Rattle.logic_evaluator.specs.Views.{reach_view};
 
 use crate::code::Code;
-use crate::kind::Kind;
 use crate::reason::Reason;
 use crate::resolution::Resolution;
+use flag_documents::Kind;
 use flag_text::Tree;
 use logic_eval::Reached;
 use std::alloc::{AllocError, Global};

@@ -13,10 +13,10 @@ ghost use Rattle.flag_resolve.specs.Views.{asked_view, resolution_view, variant_
 
 use crate::asked::{Asked, Variant};
 use crate::code::Code;
-use crate::kind::Kind;
 use crate::reason::Reason;
 use crate::resolution::Resolution;
 use flag_defs::{Flag, Flags};
+use flag_documents::Kind;
 use flag_text::Tree;
 use logic_ast::Expr;
 use logic_eval::{Context, EvalFault, Reached, eval};

@@ -29,7 +29,6 @@
 mod asked;
 mod cases;
 mod code;
-mod kind;
 mod laws;
 mod print;
 mod reason;
@@ -37,7 +36,7 @@ mod resolution;
 
 pub use cases::resolve;
 pub use code::Code;
-pub use kind::Kind;
+pub use flag_documents::Kind;
 pub use laws::the_same_value_resolves_alike;
 pub use print::print_resolution;
 pub use reason::Reason;

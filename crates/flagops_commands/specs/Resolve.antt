@@ -5,7 +5,7 @@ use Rattle.flag_text.specs.Shape.{Shape}
 use Rattle.flag_documents.specs.Document.{Definitions}
 use Rattle.flag_resolve.specs.Printing.{resolution_text}
 use Rattle.flag_resolve.specs.Resolution.{resolution_of}
-use Rattle.flag_resolve.specs.declared.kind.Kind.{Kind}
+use Rattle.flag_documents.specs.declared.kind.Kind.{Kind}
 use Rattle.flagops_files.specs.Documents.{IsDocumentAt}
 use Rattle.flagops_files.specs.Files.{Holding}
 use Rattle.flagops_files.specs.Loading.{◌>>=◌, max_text, refused_by, tree_at}

@@ -13,9 +13,9 @@ use Rattle.flag_documents.specs.Definition.{Definition, broken, good, Rules, all
 use Rattle.flag_documents.specs.Flag.{flag_view, is_broken, is_definition, member_names, variant_of, variants_in}
 use Rattle.flag_documents.specs.Rules.{are_rules}
 use Rattle.flag_documents.specs.declared.flag.Flag.{Flag}
-use Rattle.flag_resolve.specs.Kind.{is_of_kind}
-use Rattle.flag_resolve.specs.declared.kind.Kind.{Kind}
-use Rattle.flag_resolve.specs.declared.kind.Kind.TheVariants as kind
+use Rattle.flag_documents.specs.Kind.{is_of_kind}
+use Rattle.flag_documents.specs.declared.kind.Kind.{Kind}
+use Rattle.flag_documents.specs.declared.kind.Kind.TheVariants as kind
 use Rattle.ofrep_answers.specs.Kind.{kind_in, kind_of, variants_kind}
 
 -- a value of a kind has that kind

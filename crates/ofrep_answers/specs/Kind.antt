@@ -3,8 +3,8 @@ use Rattle.std.specs.Prelude.{Option, Some, None}
 use Rattle.flag_text.specs.Shape.{Shape, null, boolean, whole, other, text, list, object, Members, no_members, member}
 use Rattle.flag_documents.specs.Definition.{Definition}
 use Rattle.flag_documents.specs.Flag.{variants_in}
-use Rattle.flag_resolve.specs.declared.kind.Kind.{Kind}
-use Rattle.flag_resolve.specs.declared.kind.Kind.TheVariants as kind
+use Rattle.flag_documents.specs.declared.kind.Kind.{Kind}
+use Rattle.flag_documents.specs.declared.kind.Kind.TheVariants as kind
 
 -- the kind of a variant's value
 abbrev pub kind_of : Shape → Kind

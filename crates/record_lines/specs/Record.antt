@@ -12,7 +12,7 @@ use Rattle.flag_documents.specs.Flag.{is_broken, targeting_in}
 use Rattle.logic_ast.specs.Expression.{Expression}
 use Rattle.logic_evaluator.specs.Run.{Reach}
 use Rattle.flag_resolve.specs.Resolution.{resolved_by}
-use Rattle.flag_resolve.specs.declared.kind.Kind.TheVariants as kind
+use Rattle.flag_documents.specs.declared.kind.Kind.TheVariants as kind
 use Rattle.book_core.specs.Page.{PageName}
 use Rattle.note_lines.specs.Note.{most_noted, note_line}
 use Rattle.site_pages.specs.Pages.{ArePages}

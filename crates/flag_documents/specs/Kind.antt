@@ -3,8 +3,8 @@ use Rattle.std.specs.Prelude.{ℕ, List, codes, Bool, is_some, Option, Some, Non
 use Rattle.std.specs.Str.{bytes_eq}
 use Rattle.flag_text.specs.Readers.{as_bool, as_text, as_whole, as_object}
 use Rattle.flag_text.specs.Shape.{Shape}
-use Rattle.flag_resolve.specs.declared.kind.Kind.{Kind}
-use Rattle.flag_resolve.specs.declared.kind.Kind.TheVariants as kind
+use Rattle.flag_documents.specs.declared.kind.Kind.{Kind}
+use Rattle.flag_documents.specs.declared.kind.Kind.TheVariants as kind
 
 -- the value is of this kind
 abbrev pub is_of_kind : Kind → Shape → Bool
