@@ -10,7 +10,7 @@ use Rattle.flagops_commands.specs.Commands.{LeavesAsked}
 use Rattle.flagops_commands.specs.Ended.{AnswersAsked, AnswersStored, AnswersUnread, TellsUnasked}
 use Rattle.flagops_files.specs.Files.{Holding}
 use Rattle.flagops_filters.specs.Ended.{AnswersJoin, AnswersRecord, AnswersTally, TellsJoin, TellsRecord, TellsTally}
-use Rattle.flagops_network.specs.Ended.{AnswersServe, FollowsAsked, RefusesUnread, ServesAsked, TellsFollow, TellsServe}
+use Rattle.flagops_streams.specs.Ended.{AnswersServe, FollowsAsked, RefusesUnread, ServesAsked, TellsFollow, TellsServe}
 use Rattle.flagops_pictures.specs.Ended as pictures
 use Rattle.flagops_pictures.specs.Ended.{AnswersPicture, AnswersPlan, TellsPicture, TellsPlan}
 use Rattle.flagops_pictures.specs.Planning.{LeavesPicture}

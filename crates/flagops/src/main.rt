@@ -3,7 +3,7 @@
 //!
 //! What it does is `flagops_commands::run`, whose contract says what is written and which status is given; its clauses stand
 //! again at [`flagops`], over the status of the process. Beside it stand the two commands that use the network, `serve` and
-//! `follow` of `flagops_network`, those on a rollout in steps, `ramp`, `verify-ramp` and `apply --step` of `flagops_ramps`, and those
+//! `follow` of `flagops_streams`, those on a rollout in steps, `ramp`, `verify-ramp` and `apply --step` of `flagops_ramps`, and those
 //! that draw, `picture` and `plan --picture` of `flagops_pictures`, the service, `ofrep` of `flagops_service`, the filters of
 //! `flagops_filters`, `record` and `tally`, which read the standard input, and `join`, `book` of `flagops_books`, and `check` of
 //! `flagops_checks`.
@@ -27,10 +27,10 @@ use flagops_checks::check;
 use flagops_commands::{complain, run};
 use flagops_files::{Call, FileSet, SystemFiles, want};
 use flagops_filters::{OpenedInlet, Opening, join, record, tally};
-use flagops_network::{follow, open_standard, serve};
 use flagops_pictures::{picture, picture_ramp, plan_picture};
 use flagops_ramps::{apply_step, ramp, verify_ramp};
 use flagops_service::ofrep;
+use flagops_streams::{follow, open_standard, serve};
 use line_batches::{Inlet, ReadInlet};
 use outputs::StandardOutput;
 use persistent_io::PersistentInput;

@@ -4,8 +4,8 @@ use Rattle.flag_documents.specs.Document.{Definitions}
 use Rattle.flag_defs.specs.declared.flags.Flags.{Flags}
 use Rattle.source_merge.specs.Sources.{SourceList}
 use Rattle.flagops_files.specs.Files.{Holding}
-use Rattle.flagops_network.specs.Loading.{Loaded, loaded_at}
-use Rattle.flagops_network.proofs.DocumentsLoaded.{where_known}
+use Rattle.flagops_streams.specs.Loading.{Loaded, loaded_at}
+use Rattle.flagops_streams.proofs.DocumentsLoaded.{where_known}
 use Rattle.flagops_streams.specs.Documents.{Answer, Gives, MayFail, Merges, count_of}
 use Rattle.flagops_streams.specs.Refusal.{is_want}
 use Rattle.flagops_streams.specs.declared.refusal.Refusal.{Refusal}

@@ -1,6 +1,6 @@
 //! The command `ofrep`.
 ghost use Rattle.std.specs.Prelude.{◌≡◌, ◌<◌, false, length, map, vec_len};
-ghost use Rattle.flagops_network.specs.Loading.{documents_view};
+ghost use Rattle.flagops_streams.specs.Loading.{documents_view};
 ghost use Rattle.flagops_streams.specs.Documents.{Answer, count_of, documents_in};
 ghost use Rattle.source_merge.specs.View.{sources_view};
 ghost use Rattle.flagops_service.specs.Ended.{AnswersOfrep, Begins, Reports, ServesOfrep, TellsOfrep};
@@ -21,8 +21,7 @@ use flag_defs::Flags;
 use flag_text::Outlet;
 use flagops_commands::explain;
 use flagops_files::FileSet;
-use flagops_network::loaded;
-use flagops_streams::{Documents, Refusal, write_line};
+use flagops_streams::{Documents, Refusal, loaded, write_line};
 use ofrep_service::{Board, work_beside};
 use snap_share::{History, Publisher, ReadSeat, ShareName, share};
 use std::alloc::AllocError;

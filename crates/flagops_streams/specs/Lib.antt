@@ -1,6 +1,10 @@
 pub mod Documents
+pub mod Ended
 pub mod Ending
+pub mod Loading
+pub mod Mistakes
 pub mod Printed
 pub mod Refusal
 pub mod Report
 pub mod Told
+pub mod Words

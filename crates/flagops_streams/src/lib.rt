@@ -1,20 +1,22 @@
-//! What the commands of streams do: `serve` publishes documents to its subscribers, `follow` prints what it is sent.
+//! Streams of snapshots: the commands `serve`, which publishes flag documents to its subscribers, and `follow`, which prints what
+//! it is sent.
+//!
+//! [`serve`] and [`follow`] take the words after the program's name, of which their own name is the first, and two outlets,
+//! `serve` files too, as `flagops_commands::run` does for every other command. They read the words by `clap` and load the
+//! files. [`serve_documents`] and [`follow_port`] do what is asked: they alone are handed the network and threads. What they do is
+//! - [`follow_lines`], over any inlet and outlet: the line of each snapshot when it has come, and at the end why;
+//! - a thread for each subscriber that runs `serve_stream` over its seat, and the numbers that the publisher puts on a board.
 //!
 //! ```rust
 //! use flag_text::WriteOutlet;
-//! use flagops_streams::follow_lines;
-//! use sync_server::ReadInlet;
+//! use flagops_files::SystemFiles;
+//! use flagops_streams::serve;
 //!
-//! let frame = b"\x00\x00\x00\x14\x00\x00\x00\x00\x00\x00\x00\x01{\"flags\":{}}";
-//! let mut inlet = ReadInlet::new(frame.as_slice());
-//! let out = WriteOutlet::new(rt.stdout());
-//! let (out, status) = follow_lines(alloc, &mut inlet, out, 1000);
-//! assert!(rt; status == 0);    // it printed `snapshot 1 flags 0` and `ended`
+//! let words = ["serve", "8013", "2", "flags.json"];
+//! let mut out = WriteOutlet::new(rt.stdout());
+//! let mut err = WriteOutlet::new(rt.stderr());
+//! let status = serve(&rt, words.as_slice(), &mut SystemFiles::new(&rt), &mut out, &mut err);
 //! ```
-//!
-//! [`serve_documents`] and [`follow_port`] alone are handed the network and threads. What they do is
-//! - [`follow_lines`], over any inlet and outlet: the line of each snapshot when it has come, and at the end why;
-//! - a thread for each subscriber that runs `serve_stream` over its seat, and the numbers that the publisher puts on a board.
 //!
 //! Proved of [`follow_lines`]: what is on the output are the lines of all snapshots that are whole in the bytes read, and a
 //! last line that says how these ended, with its status; or a front of that with status 1 where the output failed
@@ -22,27 +24,42 @@
 //! is not accepted, or a refusal of the network, the threads or memory (`Documents`); it is written as one line (`Report`).
 //! What was published are the merges of the documents, in order.
 //!
+//! Proved of the commands, over words and paths (`Ended`): of words with a mistake, that it is told; of `serve`, that the output
+//! is one line, which the documents at these paths make, and which one where a file can't be read, and that files are only read;
+//! of `follow`, that the output is the lines of the snapshots of some stream and how it ended, or that nobody listens.
+//!
 //! What is told a person on the error outlet changes nothing of this. Where there is a refusal, something is told; else nothing
 //! is but that documents will be refused and that subscribers come and go, by `serve`, and that nothing came, by `follow`
 //! (`Told`).
 #![tactic(auto)]
 
 mod arrivals;
+mod asked;
 mod board;
 mod documents;
 mod follow;
+mod follow_command;
+mod loading;
 mod parting;
 mod refusal;
 mod remark;
 mod report;
 mod serve;
+mod serve_command;
+mod standard;
 mod subscriber;
 mod timed;
 mod timely;
+mod usage;
+mod words;
 
 pub use documents::{Documents, merge_next};
 pub use follow::{follow_lines, follow_port};
+pub use follow_command::follow;
+pub use loading::{Unloaded, loaded};
 pub use refusal::Refusal;
 pub use remark::{Remarks, say_refused};
 pub use report::{refuse, write_line};
 pub use serve::serve_documents;
+pub use serve_command::serve;
+pub use standard::open_standard;

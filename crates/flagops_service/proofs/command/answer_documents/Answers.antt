@@ -1,7 +1,7 @@
 use Rattle.std.proofs.Common.{List, [], ◌∷◌, ◌++◌, ℕ, Vec, Global, Err, Ok, inr, subst, sym}
 use Rattle.std.proofs.lemmas.List.{length-map}
 use Rattle.flag_defs.specs.Flags.{flags_view}
-use Rattle.flagops_network.specs.Loading.{documents_view}
+use Rattle.flagops_streams.specs.Loading.{documents_view}
 use Rattle.flagops_streams.specs.Documents.{Answer, Gives, texts_of}
 use Rattle.flagops_service.specs.Ended.{Reports}
 use Rattle.flagops_service.specs.Words.{answering_view, seats_of}

@@ -1,16 +1,19 @@
 //! The command `serve`.
 ghost use Rattle.std.specs.Prelude.{◌≡◌, false, map};
-ghost use Rattle.flagops_network.specs.Ended.{AnswersServe, RefusesUnread, ServesAsked, TellsServe};
+ghost use Rattle.flagops_streams.specs.Ended.{AnswersServe, RefusesUnread, ServesAsked, TellsServe};
 ghost use Rattle.flagops_streams.specs.Told.{TellsText};
 
 use crate::loading::{Unloaded, loaded};
+use crate::refusal::Refusal;
+use crate::remark::{Remarks, say_refused};
+use crate::report::refuse;
+use crate::serve::serve_documents;
 use crate::words::read_serve;
 use flag_defs::DefFault;
 use flag_text::Outlet;
 use flagops_commands::explain;
 use flagops_files::{FileSet, tell};
 use flagops_remarks::{of_document, of_unreadable};
-use flagops_streams::{Refusal, Remarks, refuse, say_refused, serve_documents};
 use std::alloc::{AllocError, Global};
 use std::convert::AsStr;
 use std::io;

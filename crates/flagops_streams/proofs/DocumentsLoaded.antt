@@ -6,8 +6,8 @@ use Rattle.flagops_files.specs.Loading.{◌>>=◌}
 use Rattle.flagops_streams.specs.Documents.{Answer, ServesTo}
 use Rattle.flagops_streams.specs.Refusal.{is_want}
 use Rattle.flagops_streams.specs.declared.refusal.Refusal.{Refusal}
-use Rattle.flagops_network.specs.Loading.{AnswersTo, Loaded, ServesLoaded, loaded_at, loaded_from, loaded_next}
-use Rattle.flagops_network.specs.Words.{Serving}
+use Rattle.flagops_streams.specs.Loading.{AnswersTo, Loaded, ServesLoaded, loaded_at, loaded_from, loaded_next}
+use Rattle.flagops_streams.specs.Words.{Serving}
 
 -- what follows for files whose bytes are known
 pub where_known : {A : Type 0} (h : Option A) (P Q : A → Type 0) → ((a : A) → P a → Q a) → IfSome h P → IfSome h Q

@@ -1,12 +1,12 @@
 //! The command `follow`.
 ghost use Rattle.std.specs.Prelude.{◌≡◌, false, map};
-ghost use Rattle.flagops_network.specs.Ended.{FollowsAsked, TellsFollow};
+ghost use Rattle.flagops_streams.specs.Ended.{FollowsAsked, TellsFollow};
 
 use crate::asked::Following;
+use crate::follow::follow_port;
 use crate::words::read_follow;
 use flag_text::Outlet;
 use flagops_commands::explain;
-use flagops_streams::follow_port;
 use std::convert::AsStr;
 use std::net::Net;
 use std::time::Clock;

@@ -8,7 +8,7 @@ use Rattle.clap.specs.Words.{App, HasMatchesOf, IsAmong, Kinds, Text, found_of, 
 use Rattle.clap.specs.declared.error.kind.ErrorKind.{ErrorKind}
 use Rattle.clap.specs.declared.error.kind.ErrorKind.TheVariants.{InvalidValue, OutOfMemory}
 use Rattle.clap.specs.declared.parser.matches.ArgMatches.{ArgMatches}
-use Rattle.flagops_network.specs.Words.{IsToldBy, asked_in, faults_in, follow_app, if_any, serve_app, serve_begun}
+use Rattle.flagops_streams.specs.Words.{IsToldBy, asked_in, faults_in, follow_app, if_any, serve_app, serve_begun}
 
 pub ruleset values = (first_value-rows, raw_values-rows)
 

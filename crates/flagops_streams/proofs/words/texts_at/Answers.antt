@@ -1,8 +1,8 @@
 use Rattle.std.proofs.Common.{rules, ◌∙◌}
 use Rattle.clap.proofs.WalkLemmas.{raw_values-rows}
 use Rattle.clap.specs.Words.{found_of}
-use Rattle.flagops_network.proofs.Matched.{any_texts, no_texts}
-use Rattle.flagops_network.proofs.words.texts_at.Goals as goal
+use Rattle.flagops_streams.proofs.Matched.{any_texts, no_texts}
+use Rattle.flagops_streams.proofs.words.texts_at.Goals as goal
 
 pub returns-then-is_empty-clause-texts : goal.returns-then-is_empty-clause-texts
 returns-then-is_empty-clause-texts c =

@@ -1,11 +1,12 @@
 //! The documents that `serve` is asked for.
 ghost use Rattle.std.specs.Prelude.{◌≡◌, ◌+◌, ◌||◌, length, map, IfOk, IfSome, OnOk};
-ghost use Rattle.flagops_network.specs.Loading.{LoadsTo, documents_view, is_unread, is_unread_next, loaded_at, loaded_next};
+ghost use Rattle.flagops_streams.specs.Loading.{LoadsTo, documents_view, is_unread, is_unread_next, loaded_at, loaded_next};
 ghost use Rattle.flagops_streams.specs.Documents.{documents_in};
 ghost use Rattle.flagops_streams.specs.Refusal.{GivesUnlessWant};
 
+use crate::documents::Documents;
+use crate::refusal::Refusal;
 use flagops_files::{FileSet, LoadFault, TEXT_LIMIT};
-use flagops_streams::{Documents, Refusal};
 use std::alloc::Global;
 
 /// Why the documents were not loaded, and the path of the one where that was seen.

@@ -11,8 +11,8 @@ use Rattle.flagops_streams.specs.Refusal.{is_unreadable, is_want}
 use Rattle.flagops_streams.specs.declared.documents.Documents.{Documents}
 use Rattle.flagops_streams.specs.declared.refusal.Refusal.{Refusal}
 use Rattle.flagops_streams.specs.declared.refusal.Refusal.TheVariants.{Unloaded, Unreadable}
-use Rattle.flagops_network.specs.Words.{Serving}
-use Rattle.flagops_network.specs.declared.loading.Unloaded as code
+use Rattle.flagops_streams.specs.Words.{Serving}
+use Rattle.flagops_streams.specs.declared.loading.Unloaded as code
 
 -- documents by their bytes, and the sources that they are merged from
 pub record Loaded : Type 0 where

@@ -1,6 +1,6 @@
 use Rattle.std.proofs.Common.{◌∙◌}
 use Rattle.flagops_words.proofs.Spelled.{read, unread}
-use Rattle.flagops_network.proofs.words.spelled.Goals as goal
+use Rattle.flagops_streams.proofs.words.spelled.Goals as goal
 
 pub returns-in-Err-clause-number : goal.returns-in-Err-clause-number
 returns-in-Err-clause-number c = unread c.args.least c.args.most c.args.word.now c.parse.result _ c.parse.ensures.value.0 c.in-Err.is

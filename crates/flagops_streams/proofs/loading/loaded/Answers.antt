@@ -1,9 +1,9 @@
 use Rattle.std.proofs.Common.{arith, ◌≡◌, ◌+◌, ◌∙◌, Err, Ok, ap, drop, false, map, sym}
 use Rattle.std.proofs.lemmas.List.{drop_all}
 use Rattle.flagops_streams.specs.Refusal.{is_want}
-use Rattle.flagops_network.specs.Loading.{documents_view, loaded_at, loaded_from}
-use Rattle.flagops_network.proofs.DocumentsLoaded.{both_known, first_left, refused_next, where_known}
-use Rattle.flagops_network.proofs.loading.loaded.Goals as goal
+use Rattle.flagops_streams.specs.Loading.{documents_view, loaded_at, loaded_from}
+use Rattle.flagops_streams.proofs.DocumentsLoaded.{both_known, first_left, refused_next, where_known}
+use Rattle.flagops_streams.proofs.loading.loaded.Goals as goal
 
 pub returns-in-Err-clause-exact : goal.returns-in-Err-clause-exact
 returns-in-Err-clause-exact g c =

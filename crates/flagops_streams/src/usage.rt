@@ -2,7 +2,7 @@
 ghost use Rattle.std.specs.Prelude.{◌≡◌, IfOk, false};
 ghost use Rattle.clap.specs.Words.{app_of, kind_of, rule_of};
 ghost use Rattle.clap.specs.declared.error.kind.ErrorKind.TheVariants.{InvalidValue};
-ghost use Rattle.flagops_network.specs.Words.{follow_app, number, serve_app, serve_begun, some_words, wait_option};
+ghost use Rattle.flagops_streams.specs.Words.{follow_app, number, serve_app, serve_begun, some_words, wait_option};
 
 use clap::builder::ValueParser;
 use clap::error::ErrorKind;

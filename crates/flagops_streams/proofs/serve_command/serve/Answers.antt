@@ -3,10 +3,10 @@ use Rattle.flagops_commands.specs.Telling.{Wants}
 use Rattle.flagops_streams.specs.Documents.{count_of}
 use Rattle.flagops_streams.specs.Report.{Reports}
 use Rattle.flagops_streams.specs.Told.{IsServeLine}
-use Rattle.flagops_network.specs.Loading.{documents_view}
-use Rattle.flagops_network.specs.Words.{serve_by, serving_view}
-use Rattle.flagops_network.proofs.DocumentsLoaded.{all_served, answered, none_served}
-use Rattle.flagops_network.proofs.serving.serve.Goals as goal
+use Rattle.flagops_streams.specs.Loading.{documents_view}
+use Rattle.flagops_streams.specs.Words.{serve_by, serving_view}
+use Rattle.flagops_streams.proofs.DocumentsLoaded.{all_served, answered, none_served}
+use Rattle.flagops_streams.proofs.serve_command.serve.Goals as goal
 
 pub returns-in-Ok-loaded-clause-answers : goal.returns-in-Ok-loaded-clause-answers
 returns-in-Ok-loaded-clause-answers g c =

@@ -10,8 +10,8 @@ use Rattle.clap.specs.declared.error.kind.ErrorKind.{ErrorKind}
 use Rattle.clap.specs.declared.error.kind.ErrorKind.TheVariants.{InvalidValue, OutOfMemory}
 use Rattle.flagops_words.specs.Numbers.{number_in}
 use Rattle.flagops_words.specs.Words.{◌>>=◌, if_faultless, option_number, required}
-use Rattle.flagops_network.specs.declared.asked.Following as code_follow
-use Rattle.flagops_network.specs.declared.asked.Serving as code_serve
+use Rattle.flagops_streams.specs.declared.asked.Following as code_follow
+use Rattle.flagops_streams.specs.declared.asked.Serving as code_serve
 
 -- documents, by their paths, for so many subscribers on a port, each within so many seconds, 0 for ever
 pub record Serving : Type 0 where

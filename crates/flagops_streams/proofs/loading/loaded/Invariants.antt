@@ -1,7 +1,7 @@
 use Rattle.std.proofs.Common.{◌≡◌, drop, map, IfSome}
 use Rattle.flagops_streams.specs.Documents.{documents_in}
-use Rattle.flagops_network.specs.Loading.{documents_view, loaded_at, loaded_from}
-use Rattle.flagops_network.proofs.loading.loaded.Given as goal
+use Rattle.flagops_streams.specs.Loading.{documents_view, loaded_at, loaded_from}
+use Rattle.flagops_streams.proofs.loading.loaded.Given as goal
 
 -- The paths left give what all of them give. A document for each path so far, of which each could be read, and files that are
 -- only read.

@@ -2,7 +2,7 @@
 ghost use Rattle.std.specs.Prelude.{◌≡◌, ◌≤◌, ◌<◌, ◌&&◌, nat_le, None, if◌then◌else◌, IfErr, IfOk, IfSome, Some, length, map, option_map};
 ghost use Rattle.clap.specs.Words.{found_of, kind_of, rows_of};
 ghost use Rattle.flagops_words.specs.Numbers.{number_in};
-ghost use Rattle.flagops_network.specs.Words.{IsToldBy, follow_by, follow_faults, following_in, following_view, number_at, serve_by, serve_faults, serving_in, serving_view, texts_at, wait_in};
+ghost use Rattle.flagops_streams.specs.Words.{IsToldBy, follow_by, follow_faults, following_in, following_view, number_at, serve_by, serve_faults, serving_in, serving_view, texts_at, wait_in};
 
 use crate::asked::{Following, Serving};
 use crate::usage::{

@@ -1,2 +1,0 @@
-pub mod DocumentsLoaded
-pub mod Matched

@@ -1,4 +1,0 @@
-pub mod Ended
-pub mod Loading
-pub mod Mistakes
-pub mod Words
