@@ -3,7 +3,7 @@ use Rattle.std.proofs.Common.{◌≡◌, false, Option, Some, None}
 use Rattle.flag_text.specs.Shape.{Shape, Members}
 use Rattle.logic_ast.specs.Expression.{Expression}
 use Rattle.flag_documents.specs.Definition.{targeting_of}
-use Rattle.flag_documents.specs.Inlining.{has_reference, IsInlined}
+use Rattle.flag_references.specs.Inlining.{has_reference, IsInlined}
 use Rattle.flag_documents.specs.Targeting.{IsGoodTargeting}
 use Rattle.flag_documents.proofs.Law.{same}
 use Rattle.flag_documents.proofs.Targetings.{form-good}

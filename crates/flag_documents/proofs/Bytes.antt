@@ -20,7 +20,7 @@ use Rattle.flag_documents.specs.Definition.{Definition}
 use Rattle.flag_documents.specs.Document.{Definitions, definition_written, definitions_written, max_bytes, printed}
 use Rattle.flag_documents.specs.Flag.{flag_view, is_definition}
 use Rattle.flag_documents.specs.Lent.{entry_bytes, lent_view}
-use Rattle.flag_documents.specs.Measure.{capped}
+use Rattle.flag_references.specs.Measure.{capped}
 use Rattle.flag_documents.specs.declared.flag.Flag.{Flag}
 use Rattle.flag_documents.proofs.Lawful.{lawful_flag}
 use Rattle.flag_documents.proofs.Printed.{whole_definitions}

@@ -10,7 +10,7 @@ use Rattle.logic_ast.specs.Reading.{expression_from, object_from, expressions_fr
 use Rattle.logic_ast.specs.Sites.{sites, sites_in_by, sites_in_bucket}
 use Rattle.logic_ast.specs.Writing.{written, all_written, by_written, buckets_written, bucket_written}
 use Rattle.logic_ast.specs.declared.operator.Operator.{Operator}
-use Rattle.flag_documents.specs.Inlining.{name_in, has_reference, items_have_reference}
+use Rattle.flag_references.specs.Inlining.{name_in, has_reference, items_have_reference}
 use Rattle.flag_documents.proofs.Unreferred.{neither, outside}
 
 operator_clear : (o : Option Operator) (es : Expressions) → items_have_reference (all_written es) ≡ false → has_reference (written (operation_of o es)) ≡ false

@@ -4,7 +4,7 @@ use Rattle.bucket_core.specs.Reading.{bucket_with, weight_of}
 use Rattle.flag_text.specs.Shape.{Shape, null, boolean, whole, other, text, list, object, Items, no_items, item, Members, no_members, member, levels, items_levels, members_levels}
 use Rattle.logic_ast.specs.Operator.{is_fractional}
 use Rattle.logic_ast.specs.Size.{Size, unless_literal, full_size, items_size, members_size, expression_size, object_size, expressions_size, arguments_size, site_size, buckets_size, bucket_parts_size, bucket_size}
-use Rattle.flag_documents.proofs.Sizes.{place_size, buckets_size-item}
+use Rattle.flag_references.proofs.Sizes.{place_size, buckets_size-item}
 
 -- a tree in full has as many levels as are counted
 mutual

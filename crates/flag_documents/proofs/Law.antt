@@ -21,7 +21,7 @@ use Rattle.logic_ast.specs.declared.fault.LogicFault.{LogicFault}
 use Rattle.flag_documents.specs.Definition.{Rules, Definition, broken, good, state_named, state_of, are_of_one_kind, member_count, are_variants, variants_of, default_of, or_null, targeting_of, HasTargeting, IsGood, Means}
 use Rattle.flag_documents.specs.Document.{Definitions, with_default, with_targeting, state_text, definition_written, definitions_written, printed, limited, max_flags, max_bytes, AllMean, TextMeans, DocumentMeans}
 use Rattle.flag_documents.specs.Flag.{is_definition}
-use Rattle.flag_documents.specs.Inlining.{reference_of, by_reference, has_reference, items_have_reference, members_have_reference, replaced, items_replaced, members_replaced}
+use Rattle.flag_references.specs.Inlining.{reference_of, by_reference, has_reference, items_have_reference, members_have_reference, replaced, items_replaced, members_replaced}
 use Rattle.flag_documents.specs.Law.{document_written, ReadsBack}
 use Rattle.flag_documents.specs.Rules.{has_members, are_targetings, is_default, are_rules}
 use Rattle.flag_documents.proofs.Deep.{levels-read}

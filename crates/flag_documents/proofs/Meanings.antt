@@ -10,7 +10,7 @@ use Rattle.logic_ast.specs.Expression.{Expression}
 use Rattle.flag_documents.specs.Definition.{Rules, Definition, broken, good, targeting_of, HasTargeting, IsGood, Means, state_of, variants_of, default_of, or_null}
 use Rattle.flag_documents.specs.Document.{Definitions, AllMean, FlagsMean, TextMeans, HasOneMeaning, evaluators_in, flags_in, max_bytes, limited}
 use Rattle.flag_documents.specs.declared.fault.DefFault.{DefFault}
-use Rattle.flag_documents.proofs.Inlined.{one_form}
+use Rattle.flag_references.proofs.Inlined.{one_form}
 
 same : {A : Type 0} (o : Option A) (a b : A) → o ≡ Some a → o ≡ Some b → a ≡ b
 same o a b p q = cc

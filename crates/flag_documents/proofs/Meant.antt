@@ -20,7 +20,7 @@ use Rattle.flag_documents.specs.Definition.{Definition, broken, good, Means, or_
 use Rattle.flag_documents.specs.Document.{Definitions, AllMean, FlagsMean, definition_written, definitions_written, with_default, with_targeting, state_text, or_no_members, evaluators_in, printed, max_flags, max_bytes, flags_in, TextMeans, DocumentMeans}
 use Rattle.flag_documents.specs.Foreseen.{forecast_bytes}
 use Rattle.flag_documents.specs.Flag.{entries_view, flag_view, is_definition, member_names}
-use Rattle.flag_documents.specs.Least.{least, members_least}
+use Rattle.flag_references.specs.Least.{least, members_least}
 use Rattle.flag_documents.specs.Outline.{Outline, outline_of, rules_with}
 use Rattle.flag_documents.specs.Targeting.{IsForecast}
 use Rattle.flag_documents.specs.Weighing.{DefinitionTakes, AllTake, AreLight, IsAmong}
@@ -34,7 +34,7 @@ use Rattle.flag_documents.specs.declared.fault.DefFault.TheVariants.{WantOfMemor
 use Rattle.flag_documents.specs.declared.forecast.Forecast.{Forecast}
 use Rattle.flag_documents.specs.declared.forecast.Forecast.TheVariants as forecast
 use Rattle.flag_documents.proofs.Counted.{counted, is_object}
-use Rattle.flag_documents.proofs.Least.{text_of-least}
+use Rattle.flag_references.proofs.Least.{text_of-least}
 use Rattle.flag_documents.proofs.Outlines.{found, good_with, rules_lawful, broken_outline, broken_targeting}
 use Rattle.flag_documents.proofs.Printed.{whole_document}
 use Rattle.flag_documents.proofs.Sorted.{Entry}

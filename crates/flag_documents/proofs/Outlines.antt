@@ -15,7 +15,7 @@ use Rattle.logic_ast.specs.declared.fault.LogicFault.{LogicFault}
 use Rattle.logic_ast.specs.declared.operator.Operator.{Operator}
 use Rattle.logic_ast.proofs.WellFormed.{is_well_formed-from}
 use Rattle.flag_documents.specs.Definition.{Rules, IsGood, HasTargeting, state_of, variants_of, default_of, or_null, targeting_of, are_variants}
-use Rattle.flag_documents.specs.Inlining.{has_reference}
+use Rattle.flag_references.specs.Inlining.{has_reference}
 use Rattle.flag_documents.specs.Outline.{Outline, outline_of, with_state, with_variants, rules_with}
 use Rattle.flag_documents.specs.Rules.{has_members, is_targeting, are_targetings, is_default, are_rules}
 use Rattle.flag_documents.proofs.Clear.{clear}

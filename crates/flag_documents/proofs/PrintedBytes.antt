@@ -12,7 +12,7 @@ use Rattle.flag_documents.specs.Definition.{Definition}
 use Rattle.flag_documents.specs.Document.{definition_written}
 use Rattle.flag_documents.specs.Flag.{is_definition}
 use Rattle.flag_documents.specs.Lent.{entry_bytes}
-use Rattle.flag_documents.specs.Measure.{capped}
+use Rattle.flag_references.specs.Measure.{capped}
 use Rattle.flag_documents.specs.PrintedBytes.{escaped_bytes, text_bytes, with_member, tree_bytes, items_bytes, members_bytes}
 use Rattle.flag_documents.proofs.Bytes.{in_front, member_text-bytes, alone-bytes}
 use Rattle.flag_documents.proofs.Printed.{whole_definition}

@@ -8,21 +8,21 @@ use Rattle.logic_ast.specs.Expression.{Expression}
 use Rattle.logic_ast.specs.Size.{expression_size, is_over}
 use Rattle.flag_documents.specs.Breach.{AllTell, OutlineBreaks, TargetingBreaks, TargetingTells, Tells, end_rule, form_rule, is_null_or_object, outline_breach, variants_breach}
 use Rattle.flag_documents.specs.Definition.{HasTargeting, default_of, or_null, state_of, targeting_of, variants_of}
-use Rattle.flag_documents.specs.Inlining.{IsInlined, by_reference, has_reference, items_replaced, members_replaced, reference_in, replaced}
-use Rattle.flag_documents.specs.Measure.{measure}
+use Rattle.flag_references.specs.Inlining.{IsInlined, by_reference, has_reference, items_replaced, members_replaced, reference_in, replaced}
+use Rattle.flag_references.specs.Measure.{measure}
 use Rattle.flag_documents.specs.Outline.{Outline, outline_of, rules_with, with_state, with_variants}
-use Rattle.flag_documents.specs.Readable.{is_within}
-use Rattle.flag_documents.specs.Table.{IsEndOf}
+use Rattle.flag_references.specs.Readable.{is_within}
+use Rattle.flag_references.specs.Table.{IsEndOf}
 use Rattle.flag_documents.specs.declared.breach.Breach.{Breach}
 use Rattle.flag_documents.specs.declared.breach.Breach.TheVariants as breach
-use Rattle.flag_documents.specs.declared.measure.Measure.{Measure}
-use Rattle.flag_documents.proofs.Faults.{sound_full}
-use Rattle.flag_documents.proofs.Inlined.{map_some}
+use Rattle.flag_references.specs.declared.measure.Measure.{Measure}
+use Rattle.flag_references.proofs.Faults.{sound_full}
+use Rattle.flag_references.proofs.Inlined.{map_some}
 use Rattle.flag_documents.proofs.Outlines.{broken_outline, broken_targeting, found, good_with}
-use Rattle.flag_documents.proofs.Readable.{within_counts}
-use Rattle.flag_documents.proofs.Sizes.{counted}
-use Rattle.flag_documents.proofs.Standing.{inlined-is, refer_at}
-use Rattle.flag_documents.proofs.Tidy.{form-tidy}
+use Rattle.flag_references.proofs.Readable.{within_counts}
+use Rattle.flag_references.proofs.Sizes.{counted}
+use Rattle.flag_references.proofs.Standing.{inlined-is, refer_at}
+use Rattle.flag_references.proofs.Tidy.{form-tidy}
 
 -- ---- the outline
 

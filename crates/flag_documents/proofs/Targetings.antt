@@ -12,10 +12,11 @@ use Rattle.logic_ast.specs.Size.{Size, is_over, expression_size}
 use Rattle.logic_ast.specs.declared.expr.Expr.{Expr}
 use Rattle.logic_ast.specs.declared.fault.LogicFault.{LogicFault}
 use Rattle.flag_documents.specs.Definition.{targeting_of, read_targeting, HasTargeting}
-use Rattle.flag_documents.specs.Inlining.{has_reference, IsInlined}
-use Rattle.flag_documents.specs.Targeting.{HasForm, IsGoodTargeting, is_nothing}
+use Rattle.flag_references.specs.Inlining.{has_reference, IsInlined}
+use Rattle.flag_documents.specs.Targeting.{IsGoodTargeting, is_nothing}
+use Rattle.flag_references.specs.Forms.{HasForm}
 use Rattle.flag_documents.proofs.Deep.{levels-read}
-use Rattle.flag_documents.proofs.Inlined.{one_form}
+use Rattle.flag_references.proofs.Inlined.{one_form}
 use Rattle.flag_documents.proofs.Weighed.{is_read, read_some}
 
 -- an expression that can be read

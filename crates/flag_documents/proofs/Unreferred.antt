@@ -9,7 +9,7 @@ use Rattle.logic_ast.specs.Operator.{operator_name}
 use Rattle.logic_ast.specs.Sites.{with_entries, all_with_entries, by_with_entries, buckets_with_entries, literal_buckets, Site, site_at, entries_of, if_site, if_entries, replaced}
 use Rattle.logic_ast.specs.Writing.{applied, written, all_written, by_written, buckets_written, bucket_written}
 use Rattle.flag_documents.specs.Definition.{Rules, are_variants}
-use Rattle.flag_documents.specs.Inlining.{has_reference, items_have_reference}
+use Rattle.flag_references.specs.Inlining.{has_reference, items_have_reference}
 use Rattle.flag_documents.specs.Rules.{has_members, is_targeting, is_default, are_rules}
 
 pub neither : (a b : Bool) → a ≡ false → b ≡ false → (a || b) ≡ false

@@ -16,22 +16,22 @@ use Rattle.logic_ast.specs.Writing.{written}
 use Rattle.logic_ast.specs.declared.fault.LogicFault.{LogicFault}
 use Rattle.logic_ast.specs.declared.fault.LogicFault.TheVariants.{TooBig}
 use Rattle.flag_documents.specs.Definition.{read_targeting, targeting_of}
-use Rattle.flag_documents.specs.Inlining.{has_reference, replaced, members_replaced, IsInlined}
-use Rattle.flag_documents.specs.Least.{least}
-use Rattle.flag_documents.specs.Measure.{capped, measure}
-use Rattle.flag_documents.specs.Readable.{reads, is_readable}
-use Rattle.flag_documents.specs.Table.{IsEndOf}
+use Rattle.flag_references.specs.Inlining.{has_reference, replaced, members_replaced, IsInlined}
+use Rattle.flag_references.specs.Least.{least}
+use Rattle.flag_references.specs.Measure.{capped, measure}
+use Rattle.flag_references.specs.Readable.{reads, is_readable}
+use Rattle.flag_references.specs.Table.{IsEndOf}
 use Rattle.flag_documents.specs.Targeting.{IsForecast, end_forecast, is_nothing}
-use Rattle.flag_documents.specs.declared.measure.Measure.{Measure}
+use Rattle.flag_references.specs.declared.measure.Measure.{Measure}
 use Rattle.flag_documents.specs.declared.forecast.Forecast.{Forecast}
 use Rattle.flag_documents.specs.declared.forecast.Forecast.TheVariants.{Broken, Without, With}
-use Rattle.flag_documents.proofs.Expanded.{object-form}
-use Rattle.flag_documents.proofs.Inlined.{map_some, and_then_some, one_form}
-use Rattle.flag_documents.proofs.Least.{bytes-counted, bytes-least}
-use Rattle.flag_documents.proofs.Longer.{longer}
-use Rattle.flag_documents.proofs.Readable.{reads-readable}
-use Rattle.flag_documents.proofs.Standing.{refer_at, inlined-is}
-use Rattle.flag_documents.proofs.Tidy.{form-tidy}
+use Rattle.flag_references.proofs.Expanded.{object-form}
+use Rattle.flag_references.proofs.Inlined.{map_some, and_then_some, one_form}
+use Rattle.flag_references.proofs.Least.{bytes-counted, bytes-least}
+use Rattle.flag_references.proofs.Longer.{longer}
+use Rattle.flag_references.proofs.Readable.{reads-readable}
+use Rattle.flag_references.proofs.Standing.{refer_at, inlined-is}
+use Rattle.flag_references.proofs.Tidy.{form-tidy}
 
 -- ---- what is read
 

@@ -5,12 +5,12 @@ use Rattle.flag_text.specs.Shape.{Shape, null, object, Members, no_members, memb
 use Rattle.logic_ast.specs.Expression.{Expression}
 use Rattle.logic_ast.specs.Size.{expression_size, is_over}
 use Rattle.flag_documents.specs.Definition.{Rules, Means, broken, good, HasTargeting, are_of_one_kind, default_of, member_count, or_null, state_of, targeting_of, variants_of}
-use Rattle.flag_documents.specs.Inlining.{has_reference, IsInlined}
-use Rattle.flag_documents.specs.Readable.{is_within}
+use Rattle.flag_references.specs.Inlining.{has_reference, IsInlined}
+use Rattle.flag_references.specs.Readable.{is_within}
 use Rattle.flag_documents.specs.Targeting.{IsGoodTargeting}
 use Rattle.flag_documents.specs.declared.breach.Breach.{Breach}
 use Rattle.flag_documents.specs.declared.breach.Breach.TheVariants as breach
-use Rattle.flag_documents.specs.declared.measure.Measure.{Measure}
+use Rattle.flag_references.specs.declared.measure.Measure.{Measure}
 
 -- ---- beside the targeting
 

@@ -6,7 +6,7 @@ use Rattle.flag_text.specs.Readers.{as_bool, as_text, as_whole, as_object, find_
 use Rattle.flag_text.specs.Shape.{Shape, null, text, object, Members, no_members, member, is_whole, levels}
 use Rattle.logic_ast.specs.Expression.{Expression}
 use Rattle.logic_ast.specs.Reading.{reading}
-use Rattle.flag_documents.specs.Inlining.{has_reference, IsInlined}
+use Rattle.flag_references.specs.Inlining.{has_reference, IsInlined}
 
 -- of a flag that is good
 pub record Rules : Type 0 where

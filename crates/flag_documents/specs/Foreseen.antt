@@ -2,7 +2,7 @@
 use Rattle.std.specs.Prelude.{ℕ, List, [], ◌∷◌}
 use Rattle.flag_text.specs.Shape.{Shape, Members, no_members, member}
 use Rattle.flag_documents.specs.Definition.{broken, Means}
-use Rattle.flag_documents.specs.Measure.{plus}
+use Rattle.flag_references.specs.Measure.{plus}
 use Rattle.flag_documents.specs.Targeting.{IsGoodTargeting}
 use Rattle.flag_documents.specs.Weighing.{DefinitionTakes, targeting_member}
 use Rattle.flag_documents.specs.declared.forecast.Forecast.{Forecast}

@@ -6,17 +6,12 @@ pub mod Entries
 pub mod Fault
 pub mod Flag
 pub mod Foreseen
-pub mod Inlining
 pub mod Kind
 pub mod Law
-pub mod Least
 pub mod Lent
-pub mod Measure
 pub mod Members
 pub mod Outline
 pub mod PrintedBytes
-pub mod Readable
 pub mod Rules
-pub mod Table
 pub mod Targeting
 pub mod Weighing

@@ -3,7 +3,7 @@ use Rattle.std.specs.Prelude.{ℕ, ◌-◌, List, [], ◌∷◌, length, if◌th
 use Rattle.std.specs.Fmt.{signed_decimal}
 use Rattle.json.specs.Print.{escape_byte}
 use Rattle.flag_text.specs.Shape.{Shape, null, boolean, whole, other, text, list, object, Items, no_items, item, Members, no_members, member}
-use Rattle.flag_documents.specs.Measure.{capped, plus}
+use Rattle.flag_references.specs.Measure.{capped, plus}
 
 -- the bytes that stand for those of a text
 abbrev pub escaped_bytes : List ℕ → ℕ

@@ -11,7 +11,7 @@ use Rattle.logic_ast.specs.Formed.{is_well_formed}
 use Rattle.logic_ast.specs.Writing.{written}
 use Rattle.logic_ast.specs.declared.expr.Expr.{Expr}
 use Rattle.flag_documents.specs.Definition.{Rules, are_variants}
-use Rattle.flag_documents.specs.Inlining.{has_reference}
+use Rattle.flag_references.specs.Inlining.{has_reference}
 
 -- an object that has a member
 abbrev pub has_members : Shape → Bool

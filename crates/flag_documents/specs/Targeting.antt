@@ -1,15 +1,15 @@
--- What is known of a flag's targeting before its references are replaced, and the trees that have a form of so many levels.
+-- What is known of a flag's targeting before its references are replaced.
 use Rattle.std.specs.Prelude.{◌≡◌, ◌≤◌, ℕ, Bool, true, false, ◌&&◌, if◌then◌else◌, Option, Some, None, is_some}
 use Rattle.flag_text.specs.Readers.{as_object}
 use Rattle.flag_text.specs.Shape.{Shape, null, object, levels, Items, no_items, item, Members, no_members, member}
 use Rattle.logic_ast.specs.Expression.{Expression}
 use Rattle.logic_ast.specs.Writing.{written}
 use Rattle.flag_documents.specs.Definition.{HasTargeting}
-use Rattle.flag_documents.specs.Inlining.{IsInlined}
-use Rattle.flag_documents.specs.Least.{least}
-use Rattle.flag_documents.specs.Measure.{capped}
-use Rattle.flag_documents.specs.Readable.{reads}
-use Rattle.flag_documents.specs.declared.measure.Measure.{Measure}
+use Rattle.flag_references.specs.Inlining.{IsInlined}
+use Rattle.flag_references.specs.Least.{least}
+use Rattle.flag_references.specs.Measure.{capped}
+use Rattle.flag_references.specs.Readable.{reads}
+use Rattle.flag_references.specs.declared.measure.Measure.{Measure}
 use Rattle.flag_documents.specs.declared.forecast.Forecast.{Forecast}
 use Rattle.flag_documents.specs.declared.forecast.Forecast.TheVariants.{Broken, Without, With}
 
@@ -33,29 +33,3 @@ end_forecast t m = if is_nothing t then Without else (if is_some (as_object t) &
 -- the targeting does not break the flag
 abbrev pub IsGoodTargeting : Members → Shape → Type 0
 IsGoodTargeting evaluators t = (e : Option Expression) × HasTargeting evaluators t e
-
--- the tree has an inlined form of at most so many levels
-abbrev pub HasForm : Members → ℕ → Shape → Type 0
-HasForm evaluators most t = (u : Shape) × IsInlined evaluators t u × (levels u ≤ most)
-
-abbrev pub ItemsHaveForms : Members → ℕ → Items → Type 0
-ItemsHaveForms evaluators most no_items = Unit {0}
-ItemsHaveForms evaluators most (item t ts) = HasForm evaluators most t × ItemsHaveForms evaluators most ts
-
-abbrev pub MembersHaveForms : Members → ℕ → Members → Type 0
-MembersHaveForms evaluators most no_members = Unit {0}
-MembersHaveForms evaluators most (member k t ms) = HasForm evaluators most t × MembersHaveForms evaluators most ms
-
--- each item is the inlined form of the one at its place
-abbrev pub AreInlined : Members → Items → Items → Type 0
-AreInlined evaluators no_items no_items = Unit {0}
-AreInlined evaluators no_items (item u us) = ⊥
-AreInlined evaluators (item t ts) no_items = ⊥
-AreInlined evaluators (item t ts) (item u us) = IsInlined evaluators t u × AreInlined evaluators ts us
-
--- the same of members, under their names
-abbrev pub MembersAreInlined : Members → Members → Members → Type 0
-MembersAreInlined evaluators no_members no_members = Unit {0}
-MembersAreInlined evaluators no_members (member l u us) = ⊥
-MembersAreInlined evaluators (member k t ts) no_members = ⊥
-MembersAreInlined evaluators (member k t ts) (member l u us) = (k ≡ l) × IsInlined evaluators t u × MembersAreInlined evaluators ts us

@@ -5,9 +5,9 @@ use Rattle.flag_text.specs.Shape.{Shape, Members, no_members, member}
 use Rattle.logic_ast.specs.Expression.{Expression}
 use Rattle.flag_documents.specs.Definition.{Definition, broken, good, Means, or_null, member_count}
 use Rattle.flag_documents.specs.Document.{definition_written, max_flags, max_bytes}
-use Rattle.flag_documents.specs.Inlining.{IsInlined}
-use Rattle.flag_documents.specs.Least.{least}
-use Rattle.flag_documents.specs.Measure.{capped, plus}
+use Rattle.flag_references.specs.Inlining.{IsInlined}
+use Rattle.flag_references.specs.Least.{least}
+use Rattle.flag_references.specs.Measure.{capped, plus}
 
 -- the targeting of a definition, null where it has none
 abbrev pub targeting_member : Shape → Shape

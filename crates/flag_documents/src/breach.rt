@@ -10,9 +10,8 @@ ghost use Rattle.flag_documents.specs.Document.{evaluators_in, flags_in, or_no_m
 use crate::document::{evaluators_in, members_of};
 use crate::forecast::{Forecast, tree_forecast};
 use crate::kind::are_of_one_kind;
-use crate::measure::Measure;
 use crate::outline::{are_few, default_variant, state, variants};
-use crate::table::Evaluators;
+use flag_references::{Evaluators, Measure};
 use flag_text::{Tree, member_by_halving};
 use std::alloc::{AllocError, Global};
 

@@ -20,8 +20,7 @@ use crate::fault::DefFault;
 use crate::flag::Flag;
 use crate::forecast::Forecast;
 use crate::limits::{MAX_BYTES, MAX_FLAGS};
-use crate::measure::plus;
-use crate::table::Evaluators;
+use flag_references::{Evaluators, plus};
 use flag_text::{TextFault, Tree, read_doc};
 use std::alloc::{AllocError, Global};
 

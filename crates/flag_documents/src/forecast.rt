@@ -6,8 +6,7 @@ ghost use Rattle.flag_documents.specs.Definition.{or_null};
 ghost use Rattle.flag_documents.specs.Foreseen.{forecast_bytes};
 ghost use Rattle.flag_documents.specs.Targeting.{IsForecast, end_forecast, is_nothing};
 
-use crate::measure::Measure;
-use crate::table::Evaluators;
+use flag_references::{Evaluators, Measure};
 use flag_text::Tree;
 
 /// A targeting, before its references are replaced.

@@ -7,7 +7,7 @@ ghost use Rattle.std.specs.Ordering.{nat_cmp};
 ghost use Rattle.flag_documents.specs.Document.{max_bytes, max_flags, printed};
 ghost use Rattle.flag_documents.specs.Flag.{entries_view, flag_view};
 ghost use Rattle.flag_documents.specs.Lent.{entry_bytes, lent_view};
-ghost use Rattle.flag_documents.specs.Measure.{capped};
+ghost use Rattle.flag_references.specs.Measure.{capped};
 
 use crate::flag::Flag;
 use crate::limits::MAX_BYTES;

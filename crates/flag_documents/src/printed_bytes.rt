@@ -3,10 +3,10 @@ ghost use Rattle.std.specs.Prelude.{◌≡◌, length, nat_lt, if◌then◌else�
 ghost use Rattle.std.specs.Fmt.{signed_decimal};
 ghost use Rattle.json.specs.Print.{escape_byte, escape_letter};
 ghost use Rattle.flag_text.specs.View.{view, items_view, members_view};
-ghost use Rattle.flag_documents.specs.Measure.{capped};
+ghost use Rattle.flag_references.specs.Measure.{capped};
 ghost use Rattle.flag_documents.specs.PrintedBytes.{enclosed, escaped_bytes, items_bytes, members_bytes, text_bytes, tree_bytes, with_item, with_member};
 
-use crate::measure::{capped, plus};
+use flag_references::{capped, plus};
 use flag_text::Tree;
 use itoa::Buffer;
 

@@ -7,10 +7,8 @@ ghost use Rattle.flag_documents.specs.Definition.{or_null, targeting_of, HasTarg
 ghost use Rattle.flag_documents.specs.Targeting.{IsGoodTargeting};
 ghost use Rattle.flag_documents.specs.Weighing.{HasWeighed};
 
-use crate::expand::expanded;
 use crate::forecast::is_nothing;
-use crate::references::has_reference;
-use crate::table::Evaluators;
+use flag_references::{Evaluators, expanded, has_reference};
 use flag_text::Tree;
 use logic_ast::{Expr, LogicFault, read_expr};
 use std::alloc::{AllocError, Global};

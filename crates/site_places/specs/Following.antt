@@ -2,7 +2,7 @@
 use Rattle.std.specs.Prelude.{ℕ, zero, suc, List, [], ◌∷◌, ◌++◌, Option, Some, None}
 use Rattle.flag_text.specs.Readers.{find_member}
 use Rattle.flag_text.specs.Shape.{Shape, list, object, Items, no_items, item}
-use Rattle.flag_documents.specs.Inlining.{reference_in}
+use Rattle.flag_references.specs.Inlining.{reference_in}
 use Rattle.text_spans.specs.Path.{Step, name, index}
 
 -- the way leads to this part of the document on this path, into the evaluator of this name, or to no part

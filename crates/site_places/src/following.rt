@@ -1,7 +1,7 @@
 //! A way followed through a document.
 ghost use Rattle.std.specs.Prelude.{◌≡◌, IfOk, option_copied, reverse};
 ghost use Rattle.flag_text.specs.View.{members_view, view};
-ghost use Rattle.flag_documents.specs.Inlining.{name_in, reference_in, reference_of};
+ghost use Rattle.flag_references.specs.Inlining.{name_in, reference_in, reference_of};
 ghost use Rattle.text_spans.specs.View.{path_of, step_of};
 ghost use Rattle.site_places.specs.Following.{followed, led};
 ghost use Rattle.site_places.specs.View.{inside_view, spot_view};

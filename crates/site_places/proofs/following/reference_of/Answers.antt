@@ -1,5 +1,5 @@
 use Rattle.std.proofs.Common.{sym, arith}
-use Rattle.flag_documents.proofs.Named.{reference_of-many}
+use Rattle.flag_references.proofs.Named.{reference_of-many}
 use Rattle.site_places.proofs.following.reference_of.Goals as goal
 
 pub returns-in-len2-up : goal.returns-in-len2-up

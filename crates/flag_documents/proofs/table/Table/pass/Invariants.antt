@@ -1,5 +1,0 @@
-use Rattle.flag_documents.proofs.Passes.{IsPassing}
-use Rattle.flag_documents.proofs.table.Table.pass.Given as goal
-
-abbrev pub invariant-loop-i : goal.invariant-loop-i
-invariant-loop-i l = IsPassing l.initial.self l.self l.learned l.i

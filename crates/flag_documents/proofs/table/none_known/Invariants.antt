@@ -1,5 +1,0 @@
-use Rattle.std.proofs.Common.{◌≡◌, replicate, None}
-use Rattle.flag_documents.proofs.table.none_known.Given as goal
-
-abbrev pub invariant-loop : goal.invariant-loop
-invariant-loop l = l.measures.items ≡ replicate l.counter None

@@ -1,0 +1,17 @@
+pub mod Expanded
+pub mod Faults
+pub mod Heads
+pub mod Inlined
+pub mod Known
+pub mod Least
+pub mod Longer
+pub mod Measures
+pub mod Named
+pub mod Objects
+pub mod Passes
+pub mod Readable
+pub mod Sizes
+pub mod Standing
+pub mod Tables
+pub mod Tidy
+pub mod Told

@@ -1,0 +1,26 @@
+//! References to the shared evaluators of a document: what a tree is once they are replaced, how large it then is, and whether it
+//! is read as an expression, known before any is replaced.
+//!
+//! [`Evaluators::read`] measures the evaluators of a document, each over the measures of those that it refers to. From then on
+//! [`Evaluators::measure_of`] says of a tree whether it has an inlined form, and the [`Measure`] of that form, in time linear in
+//! the tree as it stands, [`Evaluators::end_of`] follows references to the tree at their end, and [`expanded`] makes the form
+//! itself, of a tree whose form has few enough levels. A chain of references costs no recursion.
+//!
+//! Proved, over the definitions in `specs/`: a tree has an inlined form where no reference in it names nothing or leads back to
+//! itself (`Inlining`); whether it has one, and its measure: nodes and levels as an expression, whether it is one, and in how
+//! many bytes it is printed at least (`Measure`, `Readable`, `Least`); what is expanded is that form (`Forms`).
+#![tactic(auto)]
+
+mod ends;
+mod expand;
+mod forms;
+mod inlined_measure;
+mod measure;
+mod references;
+mod table;
+mod walk;
+
+pub use expand::expanded;
+pub use measure::{Measure, Reading, capped, plus};
+pub use references::has_reference;
+pub use table::Evaluators;
