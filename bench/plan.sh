@@ -10,7 +10,7 @@ work=$(mktemp -d)
 trap 'rm -rf "$work"' EXIT
 mkdir -p "$work/crates/plan_bench/src" "$work/crates/plan_bench/proofs/run"
 printf 'plan_bench: bucket_core book_core price_core transport_instance transport_plan anyhow\n' > "$work/crates.txt"
-for crate in murmur_core flag_text bucket_core logic_ast book_core price_core transport_instance transport_network plan_text \
+for crate in limits murmur_core flag_text bucket_core logic_ast book_core price_core transport_instance transport_network plan_text \
     search_effort shortest_path flow_laws residual_arcs residual_flow augmenting_paths flow_passes flow_certificates \
     flow_answers flow_cuts transport_plan; do
     grep -E "^$crate:" "$root/crates.txt" >> "$work/crates.txt"

@@ -8,9 +8,9 @@ use Rattle.bucket_core.specs.Rule.{Entries, total_weight, choice}
 use Rattle.flag_text.specs.Readers.{as_object}
 use Rattle.flag_text.specs.Shape.{Shape, null, boolean, whole, other, text, list, object}
 use Rattle.flag_text.specs.View.{items_of}
-use Rattle.flag_documents.specs.Definition.{Definition}
-use Rattle.flag_documents.specs.Document.{Definitions}
-use Rattle.flag_documents.specs.Flag.{is_broken, is_enabled, targeting_in}
+use Rattle.flag_defs.specs.Definition.{Definition}
+use Rattle.flag_defs.specs.Document.{Definitions}
+use Rattle.flag_defs.specs.Flag.{is_broken, is_enabled, targeting_in}
 use Rattle.logic_ast.specs.Expression.{Expression, literal, operation, fractional, Expressions, no_expressions, expression, By, no_by, by, Buckets, no_buckets, bucket, Bucket, literal_bucket, computed_bucket}
 use Rattle.logic_ast.specs.Expression as ast
 use Rattle.logic_ast.specs.declared.operator.Operator.{Operator}
@@ -26,7 +26,7 @@ use Rattle.logic_evaluator.specs.Run.{Reach, Run, cost, reach, ends, gives, afte
 use Rattle.logic_evaluator.specs.Scope.{Situation, root_scope, default_input, size, variable}
 use Rattle.logic_evaluator.specs.Truth.{is_true}
 use Rattle.logic_evaluator.proofs.Budgets.{reached_of-append, units_of-append}
-use Rattle.flag_documents.specs.Kind.{is_of_kind}
+use Rattle.flag_defs.specs.Kind.{is_of_kind}
 use Rattle.flag_resolve.specs.Resolution.{Asked, given, given_default, chosen as chosen_variant, targeted, evaluated, enabled, found, resolution_of, default_of, variant_named, name_in}
 use Rattle.flag_resolve.specs.Resolved.{Resolved}
 use Rattle.flag_resolve.specs.Views.{resolution_view}

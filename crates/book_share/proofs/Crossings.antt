@@ -21,9 +21,9 @@ use Rattle.logic_ast.specs.contracts.node.Bucket as Bucket
 use Rattle.logic_ast.specs.contracts.node.Node as Node
 use Rattle.logic_ast.specs.contracts.operator.Operator as Operator
 use Rattle.logic_ast.specs.contracts.expr.Expr as Expr
-use Rattle.flag_documents.specs.contracts.flag.Flag as Flag
+use Rattle.flag_defs.specs.contracts.flag.Flag as Flag
 use Rattle.flag_defs.specs.contracts.flags.Flags as Flags
-use Rattle.flag_documents.specs.contracts.kind.Kind as Kind
+use Rattle.flag_defs.specs.contracts.kind.Kind as Kind
 use Rattle.book_core.specs.contracts.book.Book as Book
 use Rattle.book_core.specs.contracts.page.Page as Page
 use Rattle.atomic_table.proofs.shared.Shared.TheSendSync as shared

@@ -7,7 +7,7 @@ use Rattle.std.specs.Str.{bytes_eq}
 use Rattle.std.proofs.lemmas.List.Elements.{All-head, All-tail}
 use Rattle.std.proofs.lemmas.List.Folds.{list_any-append}
 use Rattle.std.proofs.lemmas.List.Sums.{sum_by-cons}
-use Rattle.flag_documents.specs.Document.{Definitions}
+use Rattle.flag_defs.specs.Document.{Definitions}
 use Rattle.book_core.specs.Book.{Contents, is_among, inputs_on, input_count, IsBook}
 use Rattle.book_core.specs.Calls.{Call, stands}
 use Rattle.book_core.specs.Page.{PageName, page_eq}

@@ -1,7 +1,7 @@
 -- The pages of sites that are made once for all notes, in private contracts alone.
 use Rattle.std.specs.Prelude.{◌≡◌, ℕ, List, Some, slice_get, String, Vec, string_bytes}
 use Rattle.std.specs.declared.alloc.Global.{Global}
-use Rattle.flag_documents.specs.Document.{Definitions}
+use Rattle.flag_defs.specs.Document.{Definitions}
 use Rattle.book_core.specs.Page.{PageName}
 use Rattle.book_share.specs.Asked.{page_of, targeting_of}
 

@@ -1,6 +1,6 @@
 //! What the workers made, put together.
 ghost use Rattle.std.specs.Prelude.{◌≡◌, ◌≢◌, ◌<◌, [], ℕ, List, length, slice_get, All, Err, IfOk, IfSome};
-ghost use Rattle.flag_documents.specs.Document.{Definitions};
+ghost use Rattle.flag_defs.specs.Document.{Definitions};
 ghost use Rattle.flag_defs.specs.Flags.{flags_view};
 ghost use Rattle.book_lock.specs.Counts.{own};
 ghost use Rattle.book_lock.specs.Seen.{unseen};

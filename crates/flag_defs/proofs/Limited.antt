@@ -1,9 +1,9 @@
 -- What limiting the list of a document's flags gives.
 use Rattle.std.proofs.Common.{Result, Ok, Err, subst}
 use Rattle.flag_text.specs.Outcome.{GivesUnless}
-use Rattle.flag_documents.specs.Document.{Definitions, limited}
-use Rattle.flag_documents.specs.declared.fault.DefFault.{DefFault}
-use Rattle.flag_documents.specs.declared.fault.DefFault.TheVariants.{WantOfMemory}
+use Rattle.flag_defs.specs.Document.{Definitions, limited}
+use Rattle.flag_defs.specs.declared.fault.DefFault.{DefFault}
+use Rattle.flag_defs.specs.declared.fault.DefFault.TheVariants.{WantOfMemory}
 use Rattle.flag_defs.specs.Flags.{flags_view, HoldsUnless}
 use Rattle.flag_defs.specs.declared.flags.Flags.{Flags}
 

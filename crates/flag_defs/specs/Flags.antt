@@ -5,10 +5,10 @@ use Rattle.std.specs.List.{All}
 use Rattle.std.specs.List.Sorted.{IsStrictlySortedBy}
 use Rattle.std.specs.Map.{keys_of}
 use Rattle.std.specs.Ordering.{nat_cmp}
-use Rattle.flag_documents.specs.Document.{Definitions, max_flags, max_bytes, printed}
-use Rattle.flag_documents.specs.Flag.{entries_view, is_definition}
-use Rattle.flag_documents.specs.declared.fault.DefFault.{DefFault}
-use Rattle.flag_documents.specs.declared.fault.DefFault.TheVariants.{WantOfMemory}
+use Rattle.flag_defs.specs.Document.{Definitions, max_flags, max_bytes, printed}
+use Rattle.flag_defs.specs.Flag.{entries_view, is_definition}
+use Rattle.flag_defs.specs.declared.fault.DefFault.{DefFault}
+use Rattle.flag_defs.specs.declared.fault.DefFault.TheVariants.{WantOfMemory}
 use Rattle.flag_defs.specs.declared.flags.Flags.{Flags}
 
 -- The keys rise strictly, each definition can be printed and read again, and both limits are kept.

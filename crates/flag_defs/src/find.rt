@@ -2,11 +2,11 @@
 ghost use Rattle.std.specs.Prelude.{◌≡◌, option_map};
 ghost use Rattle.std.specs.Map.{lookup};
 ghost use Rattle.std.specs.Str.{bytes_eq};
-ghost use Rattle.flag_documents.specs.Flag.{flag_view};
+ghost use Rattle.flag_defs.specs.Flag.{flag_view};
 ghost use Rattle.flag_defs.specs.Flags.{flags_view};
 
+use crate::flag::Flag;
 use crate::flags::Flags;
-use flag_documents::Flag;
 
 impl Flags {
     /// The flag of this key, where there is one, found by halving.

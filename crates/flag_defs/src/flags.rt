@@ -6,10 +6,10 @@ ghost use Rattle.std.specs.List.Sorted.{IsStrictlySortedBy};
 ghost use Rattle.std.specs.Map.{keys_of};
 ghost use Rattle.std.specs.Ordering.{nat_cmp};
 ghost use Rattle.std.proofs.lemmas.Map.Keys.{IsStrictlySortedBy-prop};
-ghost use Rattle.flag_documents.specs.Document.{max_flags, max_bytes, printed};
-ghost use Rattle.flag_documents.specs.Flag.{entries_view, flag_view};
+ghost use Rattle.flag_defs.specs.Document.{max_flags, max_bytes, printed};
+ghost use Rattle.flag_defs.specs.Flag.{entries_view, flag_view};
 
-use flag_documents::Flag;
+use crate::flag::Flag;
 
 /// Flags by their keys, which rise strictly as bytes: at most 10,000, printed in at most 4,194,304 bytes.
 #[derive(Drop)]

@@ -5,13 +5,16 @@ ghost use Rattle.std.specs.List.Sorted.{IsStrictlySortedBy};
 ghost use Rattle.std.specs.Map.{keys_of};
 ghost use Rattle.std.specs.Ordering.{nat_cmp};
 ghost use Rattle.flag_text.specs.Outcome.{GivesUnless};
-ghost use Rattle.flag_documents.specs.Document.{limited, max_bytes, max_flags, printed};
-ghost use Rattle.flag_documents.specs.Flag.{entries_view};
-ghost use Rattle.flag_documents.specs.Lent.{lent_view};
+ghost use Rattle.flag_defs.specs.Document.{limited, max_bytes, max_flags, printed};
+ghost use Rattle.flag_defs.specs.Flag.{entries_view};
+ghost use Rattle.flag_defs.specs.Lent.{lent_view};
 ghost use Rattle.flag_defs.specs.Flags.{flags_view};
 
+use crate::fault::DefFault;
+use crate::flag::Flag;
 use crate::flags::Flags;
-use flag_documents::{DefFault, Flag, MAX_FLAGS, are_heavy};
+use crate::lent::are_heavy;
+use limits::FLAGS;
 use std::alloc::{AllocError, Global};
 
 /// Flags of these entries, unless there are too many or they are printed in too many bytes.
@@ -20,7 +23,7 @@ pub(crate) fn limited(alloc: Global, flags: Vec<(String, Flag)>) -> Result<Flags
     ensures exact { GivesUnless DefFault.WantOfMemory flags_view result (limited (entries_view flags.items)) }
     ensures many { max_flags < length flags.items → IsErrOf result DefFault.TooLarge }
 {
-    if flags.len() > MAX_FLAGS {
+    if flags.len() > FLAGS {
         return Err(DefFault::TooLarge);
     }
     if weighs_too_much(alloc, flags.as_slice())? {

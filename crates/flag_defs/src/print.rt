@@ -6,14 +6,14 @@ ghost use Rattle.std.specs.Map.{keys_of};
 ghost use Rattle.std.specs.Ordering.{nat_cmp};
 ghost use Rattle.flag_text.specs.Shape.{object, no_members, member};
 ghost use Rattle.flag_text.specs.View.{view, members_view};
-ghost use Rattle.flag_documents.specs.Document.{DocumentMeans, printed};
-ghost use Rattle.flag_documents.specs.Flag.{entries_view};
+ghost use Rattle.flag_defs.specs.Document.{DocumentMeans, printed};
+ghost use Rattle.flag_defs.specs.Flag.{entries_view};
 ghost use Rattle.flag_defs.specs.Flags.{flags_view};
-ghost use Rattle.flag_documents.specs.Law.{ReadsBack, document_written};
+ghost use Rattle.flag_defs.specs.Law.{ReadsBack, document_written};
 
+use crate::flag::Flag;
 use crate::flags::Flags;
 use crate::write::write_entries;
-use flag_documents::Flag;
 use flag_text::{Tree, print_tree};
 use std::alloc::{AllocError, Global};
 

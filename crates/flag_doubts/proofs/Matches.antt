@@ -1,9 +1,9 @@
 -- A targeting that never gives a variant matches for nobody.
 use Rattle.std.proofs.Common.{◌≡◌, ◌≢◌, inl, inr, ℕ, Bool, true, false, not, ◌||◌, cond, nat_lt, is_none, is_some, codes, List, [], ◌∷◌, Option, Some, None, option_map, option_and_then, Result, Ok, Err, IfOk, refl, sym, ap, ◌∙◌, subst}
 use Rattle.std.specs.List.{list_any}
-use Rattle.flag_documents.specs.Definition.{Definition, broken, good}
-use Rattle.flag_documents.specs.Flag.{variant_of}
-use Rattle.flag_documents.specs.Kind.{is_of_kind}
+use Rattle.flag_defs.specs.Definition.{Definition, broken, good}
+use Rattle.flag_defs.specs.Flag.{variant_of}
+use Rattle.flag_defs.specs.Kind.{is_of_kind}
 use Rattle.flag_resolve.specs.Resolution.{Asked, chosen, default_of, defined, enabled, evaluated, failed, found, given_default, name_in, resolution_of, targeted, variant_named}
 use Rattle.flag_resolve.specs.Resolved.{Resolved}
 use Rattle.flag_resolve.specs.declared.code.Code.TheVariants.{TypeMismatch}

@@ -2,8 +2,8 @@
 use Rattle.std.specs.Prelude.{ℕ, List, codes, Bool, true, false, not, ◌||◌, is_none, is_some, Option, Some, None}
 use Rattle.std.specs.List.{list_any}
 use Rattle.flag_text.specs.Shape.{Shape}
-use Rattle.flag_documents.specs.Definition.{Definition}
-use Rattle.flag_documents.specs.Flag.{targeting_in, variant_of}
+use Rattle.flag_defs.specs.Definition.{Definition}
+use Rattle.flag_defs.specs.Flag.{targeting_in, variant_of}
 use Rattle.logic_ast.specs.Expression.{Expression}
 use Rattle.unread_members.specs.Unread.{unread_of}
 use Rattle.unread_members.specs.declared.reader.Reader.TheVariants as reader

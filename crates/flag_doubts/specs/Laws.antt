@@ -2,8 +2,8 @@
 use Rattle.std.specs.Prelude.{◌≡◌, ◌≢◌, ◌⊎◌, ℕ, Bool, ◌||◌, List, [], ◌∷◌, true, Option, Some, None, Ok}
 use Rattle.std.specs.Map.{lookup}
 use Rattle.std.specs.Str.{bytes_eq}
-use Rattle.flag_documents.specs.Definition.{Definition}
-use Rattle.flag_documents.specs.Document.{Definitions}
+use Rattle.flag_defs.specs.Definition.{Definition}
+use Rattle.flag_defs.specs.Document.{Definitions}
 use Rattle.flag_resolve.specs.Resolution.{Asked, name_in, resolution_of}
 use Rattle.flag_resolve.specs.declared.reason.Reason.TheVariants.{TargetingMatch}
 use Rattle.flag_text.specs.Shape.{Shape, null, boolean}

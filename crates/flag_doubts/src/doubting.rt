@@ -1,13 +1,13 @@
 //! What is doubted of one flag.
 ghost use Rattle.std.specs.Prelude.{◌≡◌};
 ghost use Rattle.flag_text.specs.View.{view};
-ghost use Rattle.flag_documents.specs.Flag.{flag_view};
+ghost use Rattle.flag_defs.specs.Flag.{flag_view};
 ghost use Rattle.flag_doubts.specs.Doubts.{gives_foreign, gives_none, is_unread, is_weighed_badly};
 
 use crate::doubt::FlagDoubts;
 use crate::results::{Sought, is_result};
 use crate::weights::has_bad_site;
-use flag_documents::Flag;
+use flag_defs::Flag;
 use flag_text::Tree;
 use unread_members::Reader;
 

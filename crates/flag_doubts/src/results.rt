@@ -2,8 +2,8 @@
 ghost use Rattle.std.specs.Prelude.{◌≡◌, [], ◌∷◌, false};
 ghost use Rattle.std.specs.List.{list_any};
 ghost use Rattle.flag_text.specs.View.{view as tree_view};
-ghost use Rattle.flag_documents.specs.Definition.{Definition};
-ghost use Rattle.flag_documents.specs.Flag.{flag_view, is_broken};
+ghost use Rattle.flag_defs.specs.Definition.{Definition};
+ghost use Rattle.flag_defs.specs.Flag.{flag_view, is_broken};
 ghost use Rattle.logic_ast.specs.Expression.{Expression, computed_bucket};
 ghost use Rattle.logic_ast.specs.View.{node_view, nodes_view, buckets_view};
 ghost use Rattle.flag_doubts.specs.Outcomes.{named, nameless, truth, computed, given_by, given_outcome, literal_outcomes, literal_name, operated, outcomes, all_outcomes, branches, names, name};
@@ -11,7 +11,7 @@ ghost use Rattle.flag_doubts.specs.Doubts.{has_truth};
 ghost use Rattle.flag_doubts.specs.Views.{is_sought};
 
 use crate::given::{Given, given_by};
-use flag_documents::Flag;
+use flag_defs::Flag;
 use flag_text::Tree;
 use logic_ast::{Bucket, Node, Operator};
 

@@ -119,10 +119,7 @@ impl<'a> Model for Evaluators<'a> {
 
 impl<'a> Evaluators<'a> {
     /// Measures the evaluators of a document, which takes about as long as reading them, in whatever order they stand.
-    pub fn read(
-        alloc: Global,
-        members: &'a [(String, Tree)],
-    ) -> Result<Evaluators<'a>, AllocError>
+    pub fn read(alloc: Global, members: &'a [(String, Tree)]) -> Result<Evaluators<'a>, AllocError>
         requires { members_are_tidy (members_view members.now) ≡ true }
         ensures { IfOk result (λ e. e ≡ members.entry.now) }
     {

@@ -4,15 +4,15 @@ use Rattle.std.specs.Map.{lookup}
 use Rattle.std.specs.Str.{bytes_eq}
 use Rattle.flag_text.specs.Readers.{as_object}
 use Rattle.flag_text.specs.Shape.{Shape, null, boolean, whole, other, text, list, object}
-use Rattle.flag_documents.specs.Definition.{Definition}
-use Rattle.flag_documents.specs.Document.{Definitions}
-use Rattle.flag_documents.specs.Flag.{is_broken, is_enabled, targeting_in}
+use Rattle.flag_defs.specs.Definition.{Definition}
+use Rattle.flag_defs.specs.Document.{Definitions}
+use Rattle.flag_defs.specs.Flag.{is_broken, is_enabled, targeting_in}
 use Rattle.logic_ast.specs.Expression.{Expression}
 use Rattle.logic_evaluator.specs.Evaluation.{evaluation_of}
 use Rattle.logic_evaluator.specs.Run.{Reach}
 use Rattle.logic_evaluator.specs.Scope.{Situation}
 use Rattle.logic_evaluator.specs.declared.fault.EvalFault.{EvalFault}
-use Rattle.flag_documents.specs.Kind.{is_of_kind}
+use Rattle.flag_defs.specs.Kind.{is_of_kind}
 use Rattle.flag_resolve.specs.Lawful.{IsLawful, is_error}
 use Rattle.flag_resolve.specs.Resolution.{Asked, defaulted, failed, given, variant_named, default_of, name_in, given_default, chosen, targeted, evaluated, enabled, defined, found, resolution_of}
 use Rattle.flag_resolve.specs.Resolved.{Resolved}

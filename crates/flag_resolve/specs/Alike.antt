@@ -2,8 +2,8 @@
 use Rattle.std.specs.Prelude.{◌≡◌, map, Some}
 use Rattle.std.specs.Map.{lookup}
 use Rattle.std.specs.Str.{bytes_eq}
-use Rattle.flag_documents.specs.Definition.{Rules, good}
-use Rattle.flag_documents.specs.Document.{Definitions}
+use Rattle.flag_defs.specs.Definition.{Rules, good}
+use Rattle.flag_defs.specs.Document.{Definitions}
 use Rattle.logic_ast.specs.Expression.{Expression}
 use Rattle.logic_evaluator.specs.Evaluation.{evaluation_of}
 use Rattle.logic_evaluator.specs.Laws.{each_reached}

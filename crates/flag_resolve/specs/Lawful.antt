@@ -1,6 +1,6 @@
 -- What holds of every resolution, whichever case it comes by.
 use Rattle.std.specs.Prelude.{◌≡◌, Bool, true, false, is_some, IfSome, IfNone}
-use Rattle.flag_documents.specs.Kind.{is_of_kind}
+use Rattle.flag_defs.specs.Kind.{is_of_kind}
 use Rattle.flag_resolve.specs.Resolution.{Asked}
 use Rattle.flag_resolve.specs.Resolved.{Resolved}
 use Rattle.flag_resolve.specs.declared.reason.Reason.{Reason}

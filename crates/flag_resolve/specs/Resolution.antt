@@ -4,19 +4,19 @@ use Rattle.std.specs.Map.{lookup}
 use Rattle.std.specs.Str.{bytes_eq}
 use Rattle.flag_text.specs.Readers.{as_object}
 use Rattle.flag_text.specs.Shape.{Shape, null, boolean, text}
-use Rattle.flag_documents.specs.Definition.{Definition}
-use Rattle.flag_documents.specs.Document.{Definitions}
-use Rattle.flag_documents.specs.Flag.{is_broken, is_enabled, default_variant_of, variant_of, targeting_in}
+use Rattle.flag_defs.specs.Definition.{Definition}
+use Rattle.flag_defs.specs.Document.{Definitions}
+use Rattle.flag_defs.specs.Flag.{is_broken, is_enabled, default_variant_of, variant_of, targeting_in}
 use Rattle.logic_ast.specs.Expression.{Expression}
 use Rattle.logic_evaluator.specs.Evaluation.{evaluation_of}
 use Rattle.logic_evaluator.specs.Run.{Reach}
 use Rattle.logic_evaluator.specs.Scope.{Situation}
 use Rattle.logic_evaluator.specs.declared.fault.EvalFault.{EvalFault}
-use Rattle.flag_documents.specs.Kind.{is_of_kind}
+use Rattle.flag_defs.specs.Kind.{is_of_kind}
 use Rattle.flag_resolve.specs.Resolved.{Resolved}
 use Rattle.flag_resolve.specs.declared.code.Code.{Code}
 use Rattle.flag_resolve.specs.declared.code.Code.TheVariants.{ProviderNotReady, InvalidContext, FlagNotFound, ParseError, General, TypeMismatch}
-use Rattle.flag_documents.specs.declared.kind.Kind.{Kind}
+use Rattle.flag_defs.specs.declared.kind.Kind.{Kind}
 use Rattle.flag_resolve.specs.declared.reason.Reason.{Reason}
 use Rattle.flag_resolve.specs.declared.reason.Reason.TheVariants.{Error, Disabled, Static, Default, TargetingMatch}
 

@@ -7,7 +7,7 @@ ghost use Rattle.logic_evaluator.specs.Views.{reach_view};
 use crate::code::Code;
 use crate::reason::Reason;
 use crate::resolution::Resolution;
-use flag_documents::Kind;
+use flag_defs::Kind;
 use flag_text::Tree;
 use logic_eval::Reached;
 use std::alloc::{AllocError, Global};

@@ -2,7 +2,7 @@
 ghost use Rattle.std.specs.Prelude.{◌≡◌, ◌<◌, ◌^◌, true, false, map, option_map, option_and_then, option_copied, IfOk};
 ghost use Rattle.flag_text.specs.Shape.{is_whole};
 ghost use Rattle.flag_text.specs.View.{view};
-ghost use Rattle.flag_documents.specs.Flag.{flag_view, is_broken};
+ghost use Rattle.flag_defs.specs.Flag.{flag_view, is_broken};
 ghost use Rattle.flag_defs.specs.Flags.{flags_view};
 ghost use Rattle.logic_ast.specs.Expr.{view as expr_view};
 ghost use Rattle.logic_evaluator.specs.Evaluation.{evaluation_of};
@@ -15,8 +15,7 @@ use crate::asked::{Asked, Variant};
 use crate::code::Code;
 use crate::reason::Reason;
 use crate::resolution::Resolution;
-use flag_defs::{Flag, Flags};
-use flag_documents::Kind;
+use flag_defs::{Flag, Flags, Kind};
 use flag_text::Tree;
 use logic_ast::Expr;
 use logic_eval::{Context, EvalFault, Reached, eval};

@@ -36,7 +36,7 @@ mod resolution;
 
 pub use cases::resolve;
 pub use code::Code;
-pub use flag_documents::Kind;
+pub use flag_defs::Kind;
 pub use laws::the_same_value_resolves_alike;
 pub use print::print_resolution;
 pub use reason::Reason;

@@ -1,9 +1,9 @@
 -- A flag of a document is judged as its definition says.
 use Rattle.std.proofs.Common.{◌≡◌, ◌++◌, ◌+◌, ◌∙◌, ℕ, zero, suc, Bool, List, [], ◌∷◌, Some, add-one, ap, drop, map, refl, sym, append_assoc}
 use Rattle.std.specs.List.{slice_get}
-use Rattle.flag_documents.specs.Definition.{Definition}
-use Rattle.flag_documents.specs.Document.{Definitions}
-use Rattle.flag_documents.specs.Flag.{is_broken}
+use Rattle.flag_defs.specs.Definition.{Definition}
+use Rattle.flag_defs.specs.Document.{Definitions}
+use Rattle.flag_defs.specs.Flag.{is_broken}
 use Rattle.flag_doubts.specs.Doubled.{is_doubled}
 use Rattle.flag_doubts.specs.Repeated.{is_repeated}
 use Rattle.flag_doubts.specs.declared.doubt.FlagDoubts.{FlagDoubts}

@@ -3,7 +3,7 @@ use Rattle.std.proofs.Common.{◌≡◌, ◌+◌, arith, inl, inr, suc, zero, �
 use Rattle.std.proofs.lemmas.Grind.{flat_map-append}
 use Rattle.std.proofs.lemmas.List.Folds.{list_any-append}
 use Rattle.std.specs.Prelude.{Result, Ok, Err}
-use Rattle.flag_documents.specs.Document.{Definitions}
+use Rattle.flag_defs.specs.Document.{Definitions}
 use Rattle.flagops_checks.specs.Judged.{Checked, are_wrong, checked, has_broken, has_doubted}
 use Rattle.flagops_checks.specs.Printed.{document_text, report_text}
 use Rattle.flagops_checks.specs.Documents.{AreChecked, IsCheckedAt, IsCheckedOf}

@@ -19,7 +19,7 @@ use Rattle.flag_text.specs.declared.fault.TextFault.TheVariants.{TooLarge}
 use Rattle.unread_members.specs.Unread.{first_unread, reads, unread_of}
 use Rattle.unread_members.specs.declared.reader.Reader.{Reader}
 use Rattle.unread_members.specs.declared.reader.Reader.TheVariants as reader
-use Rattle.flag_documents.specs.Document.{max_bytes, or_no_members}
+use Rattle.flag_defs.specs.Document.{max_bytes, or_no_members}
 use Rattle.flagops_checks.specs.Judged.{definition_of, is_unread, or_null, tree_in}
 use Rattle.flagops_checks.specs.Plain.{ArePlainFlags, AreRead, Each, IsPlain, IsPlainDefinition, IsPlainDocument, IsPlainMember, IsRead, OfObject}
 

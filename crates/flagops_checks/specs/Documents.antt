@@ -1,6 +1,6 @@
 -- What is found of the documents at paths.
 use Rattle.std.specs.Prelude.{◌≡◌, ℕ, List, [], ◌∷◌, Result, Ok, Err}
-use Rattle.flag_documents.specs.Document.{Definitions}
+use Rattle.flag_defs.specs.Document.{Definitions}
 use Rattle.flagops_checks.specs.Judged.{Checked, checked}
 use Rattle.flagops_files.specs.Documents.{IsDocumentIn}
 use Rattle.flagops_files.specs.Files.{Holding, load_of}

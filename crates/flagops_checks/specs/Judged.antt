@@ -1,9 +1,9 @@
 -- What is found of the flags of a document.
 use Rattle.std.specs.Prelude.{◌||◌, ℕ, Bool, false, is_some, List, map, Option, Some, None, Result, Ok, Err}
 use Rattle.std.specs.List.{list_any}
-use Rattle.flag_documents.specs.Definition.{Definition}
-use Rattle.flag_documents.specs.Document.{Definitions, flags_in, max_bytes, or_no_members}
-use Rattle.flag_documents.specs.Flag as documents
+use Rattle.flag_defs.specs.Definition.{Definition}
+use Rattle.flag_defs.specs.Document.{Definitions, flags_in, max_bytes, or_no_members}
+use Rattle.flag_defs.specs.Flag as documents
 use Rattle.flag_doubts.specs.Doubled as doubled
 use Rattle.flag_doubts.specs.Doubts as doubts
 use Rattle.flag_doubts.specs.Repeated as repeated

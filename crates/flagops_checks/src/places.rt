@@ -1,6 +1,6 @@
 //! The first place in a targeting at which something is doubted: the steps to it, and what stands there.
 ghost use Rattle.std.specs.Prelude.{◌≡◌, false};
-ghost use Rattle.flag_documents.specs.Flag.{flag_view, is_broken};
+ghost use Rattle.flag_defs.specs.Flag.{flag_view, is_broken};
 
 use bucket_core::weight_of;
 use flag_defs::Flag;

@@ -1,6 +1,6 @@
 //! Why a flag is doubted, in words.
 ghost use Rattle.std.specs.Prelude.{◌≡◌, false};
-ghost use Rattle.flag_documents.specs.Flag.{flag_view, is_broken};
+ghost use Rattle.flag_defs.specs.Flag.{flag_view, is_broken};
 
 use crate::judging::Judged;
 use crate::places::{foreign_in, ill_in};

@@ -7,7 +7,7 @@ use Rattle.bucket_core.specs.Rule.{refinement, total_weight}
 use Rattle.book_core.specs.Book.{Contents, Inputs, inputs_on}
 use Rattle.book_core.specs.Counts.{counts_of}
 use Rattle.book_core.specs.Page.{page_eq}
-use Rattle.flag_documents.specs.Document.{Definitions}
+use Rattle.flag_defs.specs.Document.{Definitions}
 use Rattle.price_core.specs.Limits.{Limits}
 use Rattle.price_core.specs.Request.{Asked, asked_of}
 use Rattle.rollout_checks.proofs.Bounded.{came}

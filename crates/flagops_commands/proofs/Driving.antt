@@ -2,7 +2,7 @@
 use Rattle.std.proofs.Common.{◌≡◌, ◌≢◌, ℕ, Bool, List, Option, Some, None, true, false, IfSome, is_some, inl, inr, refl, ap, ◌∙◌, subst, sym}
 use Rattle.std.specs.Prelude.{IsErrOf, IsOk, Result, Ok, Err, option_map}
 use Rattle.book_core.specs.Book.{Contents}
-use Rattle.flag_documents.specs.Document.{Definitions}
+use Rattle.flag_defs.specs.Document.{Definitions}
 use Rattle.flag_text.specs.Shape.{Shape}
 use Rattle.flagops_drive.specs.Asks.{Ask, asks_of}
 use Rattle.flagops_drive.specs.Driven.{Drove, IsDriveOf, refusal_of, workers_refusal}

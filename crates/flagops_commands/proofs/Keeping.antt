@@ -6,8 +6,8 @@ use Rattle.std.specs.Str.{IsUtf8, bytes_eq}
 use Rattle.std.proofs.lemmas.Bool.{ltb-false}
 use Rattle.bucket_core.specs.Rule.{Entries}
 use Rattle.book_core.specs.Book.{Contents}
-use Rattle.flag_documents.specs.Document.{Definitions, max_bytes}
-use Rattle.flag_documents.specs.Flag.{targeting_in}
+use Rattle.flag_defs.specs.Document.{Definitions, max_bytes}
+use Rattle.flag_defs.specs.Flag.{targeting_in}
 use Rattle.flag_text.specs.Reading.{doc_of}
 use Rattle.flag_text.specs.Shape.{Shape}
 use Rattle.flag_text.specs.declared.fault.TextFault.{TextFault}

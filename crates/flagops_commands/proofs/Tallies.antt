@@ -10,9 +10,9 @@ use Rattle.book_core.specs.Book.{Contents, Inputs, inputs_on}
 use Rattle.book_core.specs.Listing.{has_none}
 use Rattle.book_core.specs.Page.{PageName}
 use Rattle.book_core.specs.Site.{page_at}
-use Rattle.flag_documents.specs.Definition.{Definition}
-use Rattle.flag_documents.specs.Document.{Definitions}
-use Rattle.flag_documents.specs.Flag.{targeting_in}
+use Rattle.flag_defs.specs.Definition.{Definition}
+use Rattle.flag_defs.specs.Document.{Definitions}
+use Rattle.flag_defs.specs.Flag.{targeting_in}
 use Rattle.logic_ast.specs.Expression.{Expression}
 use Rattle.logic_ast.specs.Sites.{parts_at}
 use Rattle.logic_ast.specs.declared.fault.LogicFault.{LogicFault}

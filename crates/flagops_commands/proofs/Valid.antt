@@ -14,7 +14,7 @@ use Rattle.bucket_core.proofs.Refined.{total_weight-refinement}
 use Rattle.bucket_core.specs.Rule.{Entries, refinement, total_weight}
 use Rattle.book_core.specs.Book.{Contents, Inputs, inputs_on}
 use Rattle.book_core.specs.Counts.{counts_of}
-use Rattle.flag_documents.specs.Document.{Definitions}
+use Rattle.flag_defs.specs.Document.{Definitions}
 use Rattle.price_core.specs.Limits.{Limits}
 use Rattle.price_core.specs.Request.{Asked, asked_of}
 use Rattle.plan_text.specs.Answer.{Answer, emit, none_exists, planned_view}

@@ -1,6 +1,6 @@
 -- What the command `apply` answers.
 use Rattle.std.specs.Prelude.{◌≡◌, ℕ, false, List, ◌++◌, codes, IfOk, Result, Ok, Err}
-use Rattle.flag_documents.specs.Document.{Definitions, printed}
+use Rattle.flag_defs.specs.Document.{Definitions, printed}
 use Rattle.plan_text.specs.Answer.{Answer, emit, none_exists}
 use Rattle.rollout.specs.Applied.{applied}
 use Rattle.rollout.specs.Change.{IsLocal}

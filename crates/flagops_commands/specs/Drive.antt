@@ -1,7 +1,7 @@
 -- What the command `drive` answers, and the book that it writes.
 use Rattle.std.specs.Prelude.{◌≡◌, ◌⊎◌, ℕ, ◌==◌, Bool, List, true, false, if◌then◌else◌, Option, Some, None, is_some, IfSome, Result, Ok, Err, IsErrAnd, IsOk, IsOkAnd}
 use Rattle.book_core.specs.Book.{Contents}
-use Rattle.flag_documents.specs.Document.{Definitions}
+use Rattle.flag_defs.specs.Document.{Definitions}
 use Rattle.flag_text.specs.Shape.{Shape}
 use Rattle.flagops_drive.specs.Asks.{asks_of}
 use Rattle.flagops_drive.specs.Driven.{Drove, IsDriveOf, refusal_of, workers_refusal}

@@ -2,7 +2,7 @@
 use Rattle.std.specs.Prelude.{◌≡◌, ◌⊎◌, ℕ, Bool, true, false, List, ◌++◌, length, codes, decimal, option_map, Option, Some, None, Result, Ok, Err, Vec}
 use Rattle.std.specs.declared.alloc.Global.{Global}
 use Rattle.bucket_core.specs.Rule.{Entries}
-use Rattle.flag_documents.specs.Document.{Definitions, DocumentMeans}
+use Rattle.flag_defs.specs.Document.{Definitions, DocumentMeans}
 use Rattle.kept_document.specs.Kept.{IsRefused, KeptAt, place_in}
 use Rattle.kept_document.specs.declared.fault.KeepFault.{KeepFault}
 use Rattle.plan_text.specs.Answer.{Answer, emit, none_exists}

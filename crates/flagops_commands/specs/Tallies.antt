@@ -1,7 +1,7 @@
 -- That a tally stands for the book whose inputs it counts.
 use Rattle.std.specs.Prelude.{◌≡◌, ◌≢◌, ◌↔◌, ℕ, Bool, false, List, unwrap_or, Option, Result, Ok, Err}
 use Rattle.book_core.specs.Book.{Contents, inputs_on}
-use Rattle.flag_documents.specs.Document.{Definitions}
+use Rattle.flag_defs.specs.Document.{Definitions}
 use Rattle.page_tally.specs.Foreign.{has_foreign}
 use Rattle.plan_text.specs.Answer.{Answer}
 use Rattle.rollout_checks.specs.Tallied.{tally_problem_of}

@@ -7,9 +7,9 @@ use Rattle.book_core.specs.Book.{inputs_on}
 use Rattle.book_core.specs.Listing.{has_none}
 use Rattle.book_core.specs.Page.{PageName}
 use Rattle.book_core.specs.Site.{page_at}
-use Rattle.flag_documents.specs.Definition.{Definition}
-use Rattle.flag_documents.specs.Document.{Definitions}
-use Rattle.flag_documents.specs.Flag.{targeting_in}
+use Rattle.flag_defs.specs.Definition.{Definition}
+use Rattle.flag_defs.specs.Document.{Definitions}
+use Rattle.flag_defs.specs.Flag.{targeting_in}
 use Rattle.price_core.specs.Request.{Asked, asked_of}
 use Rattle.flagops_files.specs.Question.{Question}
 use Rattle.flagops_files.specs.declared.evidence.Evidence.{Evidence}

@@ -1,6 +1,6 @@
 -- What the command `verify` answers.
 use Rattle.std.specs.Prelude.{◌≡◌, ℕ, Bool, List, ◌++◌, codes, decimal, if◌then◌else◌, OnOk, Option, Some, None, Result, Ok, Err}
-use Rattle.flag_documents.specs.Document.{Definitions}
+use Rattle.flag_defs.specs.Document.{Definitions}
 use Rattle.plan_text.specs.Answer.{Answer, emit, none_exists}
 use Rattle.rollout_checks.specs.Refined.{problem_checked}
 use Rattle.rollout_checks.specs.Tallied.{IsTallyOutcome, IsTallyShown, TallyProblem, tally_problem_of}

@@ -1,7 +1,7 @@
 -- What was driven and what was refused, as what the command comes to.
 use Rattle.std.proofs.Common.{◌≡◌, ◌≢◌, ◌∙◌, ℕ, Bool, List, Option, Some, None, true, map, refl, sym, ap, subst}
 use Rattle.std.specs.Prelude.{IfErr, IfOk, Result, Ok, Err}
-use Rattle.flag_documents.specs.Document.{Definitions}
+use Rattle.flag_defs.specs.Document.{Definitions}
 use Rattle.book_core.specs.Book.{Contents}
 use Rattle.book_core.specs.Union.{Unites}
 use Rattle.book_core.specs.declared.fault.BookFault.{BookFault}

@@ -1,7 +1,7 @@
 -- The refusals of a drive that take no memory.
 use Rattle.std.proofs.Common.{◌≡◌, ◌∙◌, ℕ, Bool, List, Option, Some, None, true, false, is_some, refl, sym, ap, subst}
 use Rattle.std.specs.Prelude.{Result, Err, option_map}
-use Rattle.flag_documents.specs.Document.{Definitions}
+use Rattle.flag_defs.specs.Document.{Definitions}
 use Rattle.book_core.specs.Book.{Contents}
 use Rattle.book_share.specs.DriveFault.{workers_fault}
 use Rattle.book_share.specs.declared.drive_fault.DriveFault.{DriveFault}

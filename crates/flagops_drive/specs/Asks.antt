@@ -3,8 +3,8 @@ use Rattle.std.specs.Prelude.{ℕ, ◌^◌, nat_lt, pos, List, [], ◌∷◌, le
 use Rattle.flag_text.specs.Readers.{as_list, as_text, member_of}
 use Rattle.flag_text.specs.Shape.{Shape, whole, object, Items, no_items, item}
 use Rattle.flag_text.specs.View.{view}
-use Rattle.flag_documents.specs.Kind.{kind_named}
-use Rattle.flag_documents.specs.declared.kind.Kind.{Kind}
+use Rattle.flag_defs.specs.Kind.{kind_named}
+use Rattle.flag_defs.specs.declared.kind.Kind.{Kind}
 use Rattle.book_share.specs.declared.ask.Ask as program
 use Rattle.flagops_drive.specs.declared.fault.DriveRefusal.{DriveRefusal}
 use Rattle.flagops_drive.specs.declared.fault.DriveRefusal.TheVariants.{BadAsks}

@@ -2,7 +2,7 @@
 use Rattle.std.specs.Prelude.{◌≡◌, ◌≢◌, ℕ, Bool, List, map, Option, Some, None, option_map, Result, Ok, Err}
 use Rattle.flag_resolve.specs.Resolved.{Resolved}
 use Rattle.flag_resolve.specs.Views.{resolution_view}
-use Rattle.flag_documents.specs.Document.{Definitions}
+use Rattle.flag_defs.specs.Document.{Definitions}
 use Rattle.book_core.specs.Book.{Contents, input_count}
 use Rattle.book_core.specs.Printing.{book_text}
 use Rattle.book_core.specs.Reading.{book_of}

@@ -4,7 +4,7 @@ use Rattle.flag_text.specs.Fault as texts
 use Rattle.bucket_core.specs.Fault as rules
 use Rattle.book_core.specs.Fault as books
 use Rattle.price_core.specs.Fault as requests
-use Rattle.flag_documents.specs.Fault as documents
+use Rattle.flag_defs.specs.Fault as documents
 use Rattle.rollout_checks.specs.Fault as rollouts
 use Rattle.plan_text.specs.Fault as plan_files
 use Rattle.rollout_checks.specs.VerifyFault as verdicts

@@ -1,7 +1,7 @@
 -- What comes of the files that were loaded.
 use Rattle.std.proofs.Common.{◌≡◌, false, ℕ, Bool, List, Option, None, Some, Result, Ok, Err, ap, ◌∙◌, sym}
 use Rattle.std.specs.Prelude.{IfSome}
-use Rattle.flag_documents.specs.Document.{Definitions}
+use Rattle.flag_defs.specs.Document.{Definitions}
 use Rattle.flag_defs.specs.Flags.{flags_view}
 use Rattle.flagops_files.specs.Documents.{IsDocumentAt}
 use Rattle.flagops_files.specs.Files.{Holding}

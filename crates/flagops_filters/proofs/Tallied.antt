@@ -1,7 +1,7 @@
 -- What `tally` came to, of a site and a stream.
 use Rattle.std.proofs.Common.{◌≡◌, ◌≢◌, ℕ, Bool, List, Option, None, Some, Result, Ok, Err, unwrap_or, ap, ◌∙◌, subst, sym, inl, inr}
 use Rattle.std.specs.Prelude.{IfSome}
-use Rattle.flag_documents.specs.Document.{Definitions}
+use Rattle.flag_defs.specs.Document.{Definitions}
 use Rattle.flagops_files.specs.Report.{Report}
 use Rattle.flagops_files.specs.declared.outcome.Outcome.{Outcome}
 use Rattle.flagops_files.specs.declared.refusal.Refusal.TheVariants.{Plan}

@@ -2,7 +2,7 @@
 use Rattle.std.specs.Prelude.{◌≡◌, ◌≢◌, ◌<◌, ◌⊎◌, ℕ, ◌*◌, ◌==◌, nat_lt, Bool, true, List, length, unwrap_or, if◌then◌else◌, Result, Ok, Err, codes}
 use Rattle.bucket_core.specs.Rule.{Entries, total_weight}
 use Rattle.book_core.specs.Page.{PageName}
-use Rattle.flag_documents.specs.Document.{Definitions}
+use Rattle.flag_defs.specs.Document.{Definitions}
 use Rattle.flagops_files.specs.Documents.{IsDocumentAt}
 use Rattle.flagops_files.specs.Files.{Holding}
 use Rattle.flagops_files.specs.declared.refusal.Refusal.{Refusal}

@@ -1,6 +1,6 @@
 -- What `plan --picture` answers, and the file that it writes.
 use Rattle.std.specs.Prelude.{◌≡◌, ◌⊎◌, ℕ, Bool, true, List, unwrap_or, Option, Some, None, Result, Ok, Err}
-use Rattle.flag_documents.specs.Document.{Definitions}
+use Rattle.flag_defs.specs.Document.{Definitions}
 use Rattle.plan_text.specs.Answer.{Answer}
 use Rattle.plan_text.specs.PlanFile.{answer_of}
 use Rattle.rollout_checks.specs.Refined.{problem_refined}

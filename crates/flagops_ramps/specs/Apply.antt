@@ -1,6 +1,6 @@
 -- What `apply --step` answers.
 use Rattle.std.specs.Prelude.{◌≡◌, ℕ, zero, suc, List, slice_get, Option, Some, None, IfOk, Result, Ok, Err}
-use Rattle.flag_documents.specs.Document.{Definitions}
+use Rattle.flag_defs.specs.Document.{Definitions}
 use Rattle.plan_text.specs.Answer.{Answer}
 use Rattle.flagops_commands.specs.Apply.{IsLocalReport, applied_report}
 use Rattle.flagops_files.specs.Documents.{IsDocumentAt}

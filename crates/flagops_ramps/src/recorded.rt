@@ -4,7 +4,7 @@ ghost use Rattle.std.specs.Result.{result_ok};
 ghost use Rattle.book_core.specs.Book.{inputs_on};
 ghost use Rattle.book_core.specs.Listing.{has_none};
 ghost use Rattle.flag_defs.specs.Flags.{flags_view};
-ghost use Rattle.flag_documents.specs.Flag.{flag_view};
+ghost use Rattle.flag_defs.specs.Flag.{flag_view};
 ghost use Rattle.flagops_commands.specs.Doubts.{recorded_doubt};
 ghost use Rattle.flagops_commands.specs.Unrecorded.{page_asked, page_in};
 ghost use Rattle.flagops_ramps.specs.Doubts.{doubt_in};

@@ -3,9 +3,9 @@ use Rattle.std.proofs.Common.{◌≡◌, ℕ, ◌+◌, List, [], ◌∷◌, ◌+
 use Rattle.std.proofs.lemmas.List.{drop_all}
 use Rattle.flag_text.specs.View.{members_view}
 use Rattle.flag_text.specs.declared.tree.Tree.{Tree}
-use Rattle.flag_documents.specs.declared.breach.Breach.{Breach}
+use Rattle.flag_defs.specs.declared.breach.Breach.{Breach}
 use Rattle.flag_text.specs.Shape.{Members, no_members, member}
-use Rattle.flag_documents.specs.Breach.{AllTell}
+use Rattle.flag_defs.specs.Breach.{AllTell}
 use Rattle.flagops_remarks.specs.Broken.{BrokenLines, IsBrokenLine}
 
 -- the breach that was found at a place, before those after it

@@ -1,9 +1,9 @@
 -- What a person is told of the flags of a document that are broken.
 use Rattle.std.specs.Prelude.{◌≡◌, ◌++◌, ℕ, List, [], ◌∷◌, Option, Some, None, Ok, codes}
-use Rattle.flag_documents.specs.Breach.{AllTell}
-use Rattle.flag_documents.specs.Document.{evaluators_in, flags_in, or_no_members}
-use Rattle.flag_documents.specs.declared.breach.Breach.{Breach}
-use Rattle.flag_documents.specs.declared.breach.Breach.TheVariants as breach
+use Rattle.flag_defs.specs.Breach.{AllTell}
+use Rattle.flag_defs.specs.Document.{evaluators_in, flags_in, or_no_members}
+use Rattle.flag_defs.specs.declared.breach.Breach.{Breach}
+use Rattle.flag_defs.specs.declared.breach.Breach.TheVariants as breach
 use Rattle.flag_text.specs.Reading.{doc_of}
 use Rattle.flag_text.specs.Shape.{Members, Shape, no_members, member}
 use Rattle.flagops_remarks.specs.Named.{step}

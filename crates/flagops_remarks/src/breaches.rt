@@ -1,6 +1,6 @@
 //! What a person is told of the flags of a document that are broken.
 ghost use Rattle.std.specs.Prelude.{◌≡◌, IfOk, length, option_and_then, string_bytes};
-ghost use Rattle.flag_documents.specs.Document.{or_no_members};
+ghost use Rattle.flag_defs.specs.Document.{or_no_members};
 ghost use Rattle.flag_text.specs.Readers.{as_object, member_of};
 ghost use Rattle.flag_text.specs.View.{members_view, view};
 ghost use Rattle.flagops_remarks.specs.Broken.{BrokenLines, IsBrokenLine, TellsBroken, rule_member, rule_name};

@@ -2,7 +2,7 @@
 use Rattle.std.specs.Prelude.{◌≡◌, ◌⊎◌, [], ◌∷◌, ◌++◌, Bool, true, false, decimal, List, ℕ, Result, Ok, Err}
 use Rattle.flag_defs.specs.Flags.{flags_view}
 use Rattle.flag_defs.specs.declared.flags.Flags.{Flags}
-use Rattle.flag_documents.specs.Document.{Definitions}
+use Rattle.flag_defs.specs.Document.{Definitions}
 use Rattle.source_merge.specs.Merge.{merged_of}
 use Rattle.source_merge.specs.Sources.{Sets, SourceList}
 use Rattle.flagops_streams.specs.Documents.{Gives}

@@ -1,6 +1,6 @@
 -- The line that a refusal of a command of streams is written as.
 use Rattle.std.specs.Prelude.{◌≡◌, ℕ, Bool, true, false, List, [], ◌++◌, codes, decimal, nat_eq, Result, Ok, Err}
-use Rattle.flag_documents.specs.Fault as documents
+use Rattle.flag_defs.specs.Fault as documents
 use Rattle.snap_share.specs.Fault as shares
 use Rattle.source_merge.specs.Fault as sources
 use Rattle.source_merge.specs.declared.fault.SourceFault.TheVariants.{Refused}

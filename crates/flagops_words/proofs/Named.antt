@@ -14,7 +14,7 @@ use Rattle.clap.specs.Simple.{App, Shape, built, entered, label_of, names_of, ro
 use Rattle.clap.specs.Takes.{is_given}
 use Rattle.clap.specs.ValueTests.{is_unsigned_in}
 use Rattle.clap.specs.declared.error.kind.ErrorKind.{ErrorKind}
-use Rattle.flag_documents.specs.declared.kind.Kind.{Kind}
+use Rattle.flag_defs.specs.declared.kind.Kind.{Kind}
 use Rattle.clap.specs.Walk.{Row, Rule, Text, answers_to, first_of, nothing_held, rows_after, settled, walk, walk_from}
 use Rattle.flagops_words.specs.Asked.{Asked, bucket, price, resolve, verify, apply, keep, plan, drive, completions}
 use Rattle.flagops_words.specs.Kinds.{kind_spelled}

@@ -1,6 +1,6 @@
 -- A command with its words.
 use Rattle.std.specs.Prelude.{Bool, List, ℕ, Option, option_map}
-use Rattle.flag_documents.specs.declared.kind.Kind.{Kind}
+use Rattle.flag_defs.specs.declared.kind.Kind.{Kind}
 use Rattle.flagops_words.specs.declared.asked.Asked as declared
 use Rattle.flagops_words.specs.declared.shell.Shell.{Shell}
 use Rattle.flagops_words.specs.declared.asked.Asked.TheVariants as code

@@ -10,7 +10,7 @@ use Rattle.clap.specs.declared.builder.value_parser.ValueParser.TheVariants.{Uns
 use Rattle.clap.specs.declared.error.kind.ErrorKind.{ErrorKind}
 use Rattle.clap.specs.declared.error.kind.ErrorKind.TheVariants.{InvalidValue, MissingRequiredArgument, OutOfMemory, ValueValidation}
 use Rattle.clap.specs.Faults.{fault_of}
-use Rattle.flag_documents.specs.declared.kind.Kind.{Kind}
+use Rattle.flag_defs.specs.declared.kind.Kind.{Kind}
 use Rattle.flagops_words.specs.Asked.{Asked, bucket, price, resolve, verify, apply, keep, plan, drive, completions}
 use Rattle.flagops_words.specs.Kinds.{kind_spelled}
 use Rattle.flagops_words.specs.Shell.{shell_named}

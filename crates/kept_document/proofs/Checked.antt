@@ -8,10 +8,10 @@ use Rattle.flag_text.specs.declared.fault.TextFault.TheVariants as text_fault
 use Rattle.bucket_core.specs.Rule.{Entries}
 use Rattle.logic_ast.specs.Expression.{Expression}
 use Rattle.logic_ast.specs.Writing.{written}
-use Rattle.flag_documents.specs.Document.{Definitions, DocumentMeans, printed}
-use Rattle.flag_documents.proofs.Meanings.{one_meaning}
-use Rattle.flag_documents.specs.declared.fault.DefFault.{DefFault}
-use Rattle.flag_documents.specs.declared.fault.DefFault.TheVariants as document_fault
+use Rattle.flag_defs.specs.Document.{Definitions, DocumentMeans, printed}
+use Rattle.flag_defs.proofs.Meanings.{one_meaning}
+use Rattle.flag_defs.specs.declared.fault.DefFault.{DefFault}
+use Rattle.flag_defs.specs.declared.fault.DefFault.TheVariants as document_fault
 use Rattle.text_spans.specs.Path.{Step}
 use Rattle.site_places.specs.Place.{SitePlace, buckets, site_place}
 use Rattle.kept_document.specs.Kept.{IsKept, IsRefused, IsRefusedText, in_tree, of_document, of_reading}

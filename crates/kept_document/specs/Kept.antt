@@ -10,10 +10,10 @@ use Rattle.flag_text.specs.declared.fault.TextFault.{TextFault}
 use Rattle.flag_text.specs.declared.fault.TextFault.TheVariants as text_fault
 use Rattle.logic_ast.specs.Expression.{Expression}
 use Rattle.logic_ast.specs.Writing.{pair, written}
-use Rattle.flag_documents.specs.Document.{Definitions, DocumentMeans, max_bytes}
-use Rattle.flag_documents.specs.Flag.{targeting_in}
-use Rattle.flag_documents.specs.declared.fault.DefFault.{DefFault}
-use Rattle.flag_documents.specs.declared.fault.DefFault.TheVariants as document_fault
+use Rattle.flag_defs.specs.Document.{Definitions, DocumentMeans, max_bytes}
+use Rattle.flag_defs.specs.Flag.{targeting_in}
+use Rattle.flag_defs.specs.declared.fault.DefFault.{DefFault}
+use Rattle.flag_defs.specs.declared.fault.DefFault.TheVariants as document_fault
 use Rattle.text_spans.specs.Path.{Stands, Step, index}
 use Rattle.site_places.specs.Place.{SitePlace, buckets, shared, nowhere, site_place}
 use Rattle.kept_document.specs.declared.fault.KeepFault.{KeepFault}

@@ -1,12 +1,12 @@
 //! What a text means, against what it should.
 ghost use Rattle.std.specs.Prelude.{◌≡◌, ◌<◌, ◌↔◌, true, length, Ok, IfOk, IfErr, IsErrOf};
-ghost use Rattle.flag_documents.specs.Document.{DocumentMeans, max_bytes};
+ghost use Rattle.flag_defs.specs.Document.{DocumentMeans, max_bytes};
 ghost use Rattle.flag_defs.specs.Flags.{flags_view};
 ghost use Rattle.kept_document.specs.Kept.{IsRefusedText, of_document};
 
 use crate::fault::KeepFault;
 use flag_defs::{DefFault, Flags, print_flags, read_flags};
-use flag_documents::MAX_BYTES;
+use limits::TEXT_BYTES;
 use std::alloc::{AllocError, Global};
 
 /// The text itself, where it means these flags.
@@ -18,7 +18,7 @@ pub(crate) fn checked(alloc: Global, text: Vec<u8>, wanted: &Flags) -> Result<Ve
     ensures refused { IfErr result (IsRefusedText text.items (flags_view wanted.now)) }
     ensures long { max_bytes < length text.items → IsErrOf result KeepFault.TooLong }
 {
-    if text.len() > MAX_BYTES {
+    if text.len() > TEXT_BYTES {
         return Err(KeepFault::TooLong);
     }
     match read_flags(alloc, text.as_slice()) {

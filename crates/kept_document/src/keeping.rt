@@ -5,7 +5,7 @@ ghost use Rattle.flag_text.specs.Reading.{doc_of};
 ghost use Rattle.flag_text.specs.View.{view as tree_view};
 ghost use Rattle.logic_ast.specs.Expr.{view};
 ghost use Rattle.logic_ast.specs.Writing.{written};
-ghost use Rattle.flag_documents.specs.Document.{DocumentMeans, max_bytes};
+ghost use Rattle.flag_defs.specs.Document.{DocumentMeans, max_bytes};
 ghost use Rattle.flag_defs.specs.Flags.{flags_view};
 ghost use Rattle.site_places.specs.Place.{site_place};
 ghost use Rattle.kept_document.specs.Kept.{IsRefused, KeptAt, of_reading, of_text, place_in};
@@ -15,8 +15,8 @@ use crate::editing::edited;
 use crate::fault::KeepFault;
 use bucket_core::Rule;
 use flag_defs::Flags;
-use flag_documents::MAX_BYTES;
 use flag_text::{TextFault, Tree, read_doc};
+use limits::TEXT_BYTES;
 use logic_ast::{Expr, write_expr};
 use site_places::{SitePlace, place_of_site};
 use std::alloc::Global;
@@ -83,7 +83,7 @@ fn keep_in(
 fn document_tree(alloc: Global, document: &str) -> Result<Tree, KeepFault>
     ensures { GivesUnless KeepFault.WantOfMemory tree_view result (of_reading (doc_of document.now max_bytes)) }
 {
-    match read_doc(alloc, document.as_bytes(), MAX_BYTES) {
+    match read_doc(alloc, document.as_bytes(), TEXT_BYTES) {
         Ok(tree) => Ok(tree),
         Err(fault) => Err(of_text(fault)),
     }

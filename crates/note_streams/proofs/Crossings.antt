@@ -16,7 +16,7 @@ use Rattle.logic_ast.specs.contracts.node.Bucket as Bucket
 use Rattle.logic_ast.specs.contracts.node.Node as Node
 use Rattle.logic_ast.specs.contracts.operator.Operator as Operator
 use Rattle.logic_ast.specs.contracts.expr.Expr as Expr
-use Rattle.flag_documents.specs.contracts.flag.Flag as Flag
+use Rattle.flag_defs.specs.contracts.flag.Flag as Flag
 use Rattle.flag_defs.specs.contracts.flags.Flags as Flags
 use Rattle.book_core.specs.contracts.page.Page as Page
 use Rattle.record_lines.specs.contracts.scene.Recorder as Recorder

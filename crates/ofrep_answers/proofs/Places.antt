@@ -1,7 +1,7 @@
 -- The method that a place takes.
 use Rattle.std.proofs.Common.{◌≡◌, ℕ, Bool, true, false, not, if◌then◌else◌, List, codes, Some, refl, sym, ap, ◌∙◌}
 use Rattle.std.specs.Str.{bytes_eq}
-use Rattle.flag_documents.specs.Document.{Definitions}
+use Rattle.flag_defs.specs.Document.{Definitions}
 use Rattle.ofrep_answers.specs.Answer.{answer_at, answer_by, answer_of, not_allowed}
 use Rattle.ofrep_answers.specs.Request.{Asked, evaluates}
 use Rattle.ofrep_requests.specs.Request.{method_at, place_of}

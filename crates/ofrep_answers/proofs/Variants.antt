@@ -8,14 +8,14 @@ use Rattle.std.specs.declared.alloc.Global.{Global}
 use Rattle.flag_text.proofs.Bools.{Holds, left, right}
 use Rattle.flag_text.specs.Readers.{find_member}
 use Rattle.flag_text.specs.Shape.{Shape, boolean, whole, text, object, Members, no_members, member, is_whole, levels}
-use Rattle.flag_documents.proofs.Lawful.{lawful_flag}
-use Rattle.flag_documents.specs.Definition.{Definition, broken, good, Rules, all_values, are_of_one_kind, are_variants, member_count}
-use Rattle.flag_documents.specs.Flag.{flag_view, is_broken, is_definition, member_names, variant_of, variants_in}
-use Rattle.flag_documents.specs.Rules.{are_rules}
-use Rattle.flag_documents.specs.declared.flag.Flag.{Flag}
-use Rattle.flag_documents.specs.Kind.{is_of_kind}
-use Rattle.flag_documents.specs.declared.kind.Kind.{Kind}
-use Rattle.flag_documents.specs.declared.kind.Kind.TheVariants as kind
+use Rattle.flag_defs.proofs.Lawful.{lawful_flag}
+use Rattle.flag_defs.specs.Definition.{Definition, broken, good, Rules, all_values, are_of_one_kind, are_variants, member_count}
+use Rattle.flag_defs.specs.Flag.{flag_view, is_broken, is_definition, member_names, variant_of, variants_in}
+use Rattle.flag_defs.specs.Rules.{are_rules}
+use Rattle.flag_defs.specs.declared.flag.Flag.{Flag}
+use Rattle.flag_defs.specs.Kind.{is_of_kind}
+use Rattle.flag_defs.specs.declared.kind.Kind.{Kind}
+use Rattle.flag_defs.specs.declared.kind.Kind.TheVariants as kind
 use Rattle.ofrep_answers.specs.Kind.{kind_in, kind_of, variants_kind}
 
 -- a value of a kind has that kind

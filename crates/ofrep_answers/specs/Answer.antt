@@ -3,7 +3,7 @@ use Rattle.std.specs.Prelude.{ℕ, Bool, List, [], codes, map, Option, Some, Non
 use Rattle.std.specs.List.{list_any}
 use Rattle.std.specs.Str.{bytes_eq}
 use Rattle.entity_tags.specs.Tag.{entity_tag, is_listed, opaque_tag}
-use Rattle.flag_documents.specs.Document.{Definitions}
+use Rattle.flag_defs.specs.Document.{Definitions}
 use Rattle.flag_resolve.specs.Resolved.{Resolved}
 use Rattle.flag_resolve.specs.declared.code.Code.{Code}
 use Rattle.flag_resolve.specs.declared.code.Code.TheVariants.{ParseError, InvalidContext}

@@ -1,10 +1,10 @@
 -- The kind of value that a flag is evaluated for (OpenFeature: typed flag evaluation). A request of the remote evaluation protocol names none, so it is the kind of the flag's own variants: they are all of one.
 use Rattle.std.specs.Prelude.{Option, Some, None}
 use Rattle.flag_text.specs.Shape.{Shape, null, boolean, whole, other, text, list, object, Members, no_members, member}
-use Rattle.flag_documents.specs.Definition.{Definition}
-use Rattle.flag_documents.specs.Flag.{variants_in}
-use Rattle.flag_documents.specs.declared.kind.Kind.{Kind}
-use Rattle.flag_documents.specs.declared.kind.Kind.TheVariants as kind
+use Rattle.flag_defs.specs.Definition.{Definition}
+use Rattle.flag_defs.specs.Flag.{variants_in}
+use Rattle.flag_defs.specs.declared.kind.Kind.{Kind}
+use Rattle.flag_defs.specs.declared.kind.Kind.TheVariants as kind
 
 -- the kind of a variant's value
 abbrev pub kind_of : Shape → Kind

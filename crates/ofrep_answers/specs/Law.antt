@@ -1,8 +1,8 @@
 -- What holds of every evaluation for a request, whatever the flags.
 use Rattle.std.specs.Prelude.{◌≡◌, ◌≢◌, ℕ, true, List, Some}
 use Rattle.std.specs.List.{All}
-use Rattle.flag_documents.specs.Document.{Definitions}
-use Rattle.flag_documents.specs.Flag.{is_definition}
+use Rattle.flag_defs.specs.Document.{Definitions}
+use Rattle.flag_defs.specs.Flag.{is_definition}
 use Rattle.flag_resolve.specs.declared.code.Code.TheVariants.{TypeMismatch}
 use Rattle.flag_text.specs.Shape.{Shape}
 use Rattle.ofrep_answers.specs.Evaluation.{evaluation}

@@ -1,6 +1,6 @@
 //! The kind of value that a flag is evaluated for.
 ghost use Rattle.std.specs.Prelude.{◌≡◌, false, IfOk, IfSome, option_map};
-ghost use Rattle.flag_documents.specs.Flag.{flag_view, is_broken, variant_of, variants_in};
+ghost use Rattle.flag_defs.specs.Flag.{flag_view, is_broken, variant_of, variants_in};
 ghost use Rattle.flag_text.specs.View.{view};
 ghost use Rattle.ofrep_answers.specs.Kind.{flag_kind, kind_in, kind_of, variants_kind};
 

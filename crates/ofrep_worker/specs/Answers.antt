@@ -2,7 +2,7 @@
 use Rattle.std.specs.Prelude.{◌≡◌, ◌<◌, ◌^◌, ◌⊎◌, ℕ, Bool, true, false, List, [], Option, Some, None, option_map, IfSome, Contains}
 use mathlib.Core.List.{IsPrefix}
 use Rattle.flag_defs.specs.declared.flags.Flags.{Flags}
-use Rattle.flag_documents.specs.Document.{Definitions}
+use Rattle.flag_defs.specs.Document.{Definitions}
 use Rattle.http.specs.declared.request.Request.{Request}
 use Rattle.http_server.specs.Response.{IsResponse}
 use Rattle.http_server.specs.declared.response.Response.{Response}

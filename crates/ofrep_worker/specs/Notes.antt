@@ -1,7 +1,7 @@
 -- The notes of what an answer rests on: each hash input that its evaluations reached, on the page of its operation.
 use Rattle.std.specs.Prelude.{ℕ, ◌==◌, ◌||◌, List, [], map, Option, if◌then◌else◌}
 use Rattle.std.specs.List.{flat_map}
-use Rattle.flag_documents.specs.Document.{Definitions}
+use Rattle.flag_defs.specs.Document.{Definitions}
 use Rattle.logic_ast.specs.Expression.{Expression}
 use Rattle.logic_evaluator.specs.Run.{Reach}
 use Rattle.book_share.specs.Asked.{page_of, targeting_of}

@@ -18,11 +18,11 @@ use Rattle.bucket_core.specs.Point.{point_of}
 use Rattle.bucket_core.specs.Rule.{Entries, at, choice, refinement, total_of, total_weight}
 use Rattle.book_core.specs.Book.{Contents, inputs_on}
 use Rattle.flag_defs.specs.Flags.{AreFlags}
-use Rattle.flag_documents.specs.Changes.{rules_with_site, retargeted, with_site}
-use Rattle.flag_documents.specs.Definition.{Definition, Rules, broken, good, are_variants}
-use Rattle.flag_documents.specs.Document.{Definitions}
-use Rattle.flag_documents.specs.Flag.{is_definition, targeting_in, variant_names}
-use Rattle.flag_documents.specs.Rules.{are_rules, are_targetings, is_default, is_targeting}
+use Rattle.flag_defs.specs.Changes.{rules_with_site, retargeted, with_site}
+use Rattle.flag_defs.specs.Definition.{Definition, Rules, broken, good, are_variants}
+use Rattle.flag_defs.specs.Document.{Definitions}
+use Rattle.flag_defs.specs.Flag.{is_definition, targeting_in, variant_names}
+use Rattle.flag_defs.specs.Rules.{are_rules, are_targetings, is_default, is_targeting}
 use Rattle.logic_ast.specs.Expression.{By, Expression}
 use Rattle.logic_ast.specs.Formed.{is_formed, is_well_formed}
 use Rattle.logic_ast.specs.Sites.{Site, entries_of, if_entries, if_site, parts_at, replaced, site_at, with_entries}

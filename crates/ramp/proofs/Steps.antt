@@ -2,7 +2,7 @@
 use Rattle.std.proofs.Common.{◌≡◌, ◌≢◌, ℕ, List, Option, Result, Ok, Err, refl, sym, ap, ◌∙◌, subst}
 use Rattle.book_core.specs.Book.{Contents}
 use Rattle.flag_defs.specs.Flags.{AreFlags}
-use Rattle.flag_documents.specs.Document.{Definitions}
+use Rattle.flag_defs.specs.Document.{Definitions}
 use Rattle.plan_text.specs.Answer.{Answer}
 use Rattle.plan_text.specs.declared.planned.Planned.{Planned}
 use Rattle.rollout.specs.Planned.{IsPlanned}

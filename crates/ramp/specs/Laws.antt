@@ -4,7 +4,7 @@ use Rattle.std.specs.List.{AllByRecursion}
 use Rattle.price_core.specs.Limits.{high_of}
 use Rattle.book_core.specs.Book.{Contents}
 use Rattle.bucket_core.specs.Rule.{Entries, choice, total_weight}
-use Rattle.flag_documents.specs.Document.{Definitions}
+use Rattle.flag_defs.specs.Document.{Definitions}
 use Rattle.plan_text.specs.Answer.{Answer, emit, none_exists}
 use Rattle.price_core.specs.Pricing.{is_forbidden}
 use Rattle.price_core.specs.Request.{asked_of}

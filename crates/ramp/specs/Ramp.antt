@@ -4,7 +4,7 @@ use Rattle.std.specs.declared.alloc.Global.{Global}
 use Rattle.book_core.specs.Book.{Contents}
 use Rattle.bucket_core.specs.Rule.{Entries}
 use Rattle.flag_defs.specs.Flags.{AreFlags}
-use Rattle.flag_documents.specs.Document.{Definitions}
+use Rattle.flag_defs.specs.Document.{Definitions}
 use Rattle.price_core.specs.Request.{asked_of}
 use Rattle.plan_text.specs.Answer.{Answer, emit, none_exists, planned_view}
 use Rattle.plan_text.specs.declared.planned.Planned.{Planned}

@@ -6,13 +6,13 @@ use Rattle.std.specs.Str.{bytes_eq}
 use Rattle.flag_text.specs.Reading.{tree_of}
 use Rattle.flag_text.specs.Shape.{Shape, null, object}
 use Rattle.flag_text.specs.declared.fault.TextFault.{TextFault}
-use Rattle.flag_documents.specs.Definition.{Definition}
-use Rattle.flag_documents.specs.Document.{Definitions}
-use Rattle.flag_documents.specs.Flag.{is_broken, targeting_in}
+use Rattle.flag_defs.specs.Definition.{Definition}
+use Rattle.flag_defs.specs.Document.{Definitions}
+use Rattle.flag_defs.specs.Flag.{is_broken, targeting_in}
 use Rattle.logic_ast.specs.Expression.{Expression}
 use Rattle.logic_evaluator.specs.Run.{Reach}
 use Rattle.flag_resolve.specs.Resolution.{resolved_by}
-use Rattle.flag_documents.specs.declared.kind.Kind.TheVariants as kind
+use Rattle.flag_defs.specs.declared.kind.Kind.TheVariants as kind
 use Rattle.book_core.specs.Page.{PageName}
 use Rattle.note_lines.specs.Note.{most_noted, note_line}
 use Rattle.site_pages.specs.Pages.{ArePages}

@@ -1,7 +1,7 @@
 -- Why nothing is recorded of the flag of a key.
 use Rattle.std.specs.Prelude.{Option, Some, None, if◌then◌else◌}
-use Rattle.flag_documents.specs.Definition.{Definition}
-use Rattle.flag_documents.specs.Flag.{is_broken}
+use Rattle.flag_defs.specs.Definition.{Definition}
+use Rattle.flag_defs.specs.Flag.{is_broken}
 use Rattle.record_lines.specs.declared.recorder.RecordFault.{RecordFault}
 use Rattle.record_lines.specs.declared.recorder.RecordFault.TheVariants.{UnknownFlag, Broken}
 

@@ -18,10 +18,10 @@ use Rattle.std.proofs.lemmas.Slice.Eq.{bytes_eq-Decides}
 use Rattle.bucket_core.specs.Rule.{Entries}
 use Rattle.book_core.proofs.Ordered.{insert_entry-found}
 use Rattle.book_core.proofs.Taken.{insert_entry-above}
-use Rattle.flag_documents.specs.Changes.{with_entry, by_key, with_site}
-use Rattle.flag_documents.specs.Definition.{Definition}
-use Rattle.flag_documents.specs.Document.{Definitions, limited}
-use Rattle.flag_documents.specs.declared.fault.DefFault.{DefFault}
+use Rattle.flag_defs.specs.Changes.{with_entry, by_key, with_site}
+use Rattle.flag_defs.specs.Definition.{Definition}
+use Rattle.flag_defs.specs.Document.{Definitions, limited}
+use Rattle.flag_defs.specs.declared.fault.DefFault.{DefFault}
 use Rattle.rollout.specs.Change.{IsChanged, OthersStay}
 
 -- ---- flags whose keys rise are in the order of their keys

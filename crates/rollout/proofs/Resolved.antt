@@ -13,12 +13,12 @@ use Rattle.logic_ast.specs.declared.fault.LogicFault.{LogicFault}
 use Rattle.logic_evaluator.specs.Laws.{reached_in, with_total}
 use Rattle.logic_evaluator.specs.Scope.{Situation}
 use Rattle.logic_evaluator.proofs.Replacing.{one_site}
-use Rattle.flag_documents.specs.Changes.{rules_with_site, with_site}
-use Rattle.flag_documents.specs.Definition.{Rules, Definition, broken, good, are_variants}
-use Rattle.flag_documents.specs.Document.{Definitions}
-use Rattle.flag_documents.specs.Flag.{targeting_in, is_definition}
+use Rattle.flag_defs.specs.Changes.{rules_with_site, with_site}
+use Rattle.flag_defs.specs.Definition.{Rules, Definition, broken, good, are_variants}
+use Rattle.flag_defs.specs.Document.{Definitions}
+use Rattle.flag_defs.specs.Flag.{targeting_in, is_definition}
 use Rattle.flag_defs.specs.Flags.{AreFlags}
-use Rattle.flag_documents.specs.Rules.{is_default, is_targeting, are_targetings, are_rules}
+use Rattle.flag_defs.specs.Rules.{is_default, is_targeting, are_targetings, are_rules}
 use Rattle.flag_resolve.specs.Alike.{with_reached}
 use Rattle.flag_resolve.specs.Resolution.{Asked, resolution_of}
 use Rattle.flag_resolve.proofs.Alike.{alike, others}

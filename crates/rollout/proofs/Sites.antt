@@ -3,12 +3,12 @@ use Rattle.std.proofs.Common.{◌≡◌, ℕ, Bool, true, false, cond, List, [],
 use Rattle.std.specs.Map.{lookup}
 use Rattle.std.specs.Str.{bytes_eq}
 use Rattle.bucket_core.specs.Rule.{Entries}
-use Rattle.flag_documents.specs.Changes.{by_key, with_site}
-use Rattle.flag_documents.specs.Definition.{Definition, broken, good}
-use Rattle.flag_documents.specs.Document.{Definitions, limited}
-use Rattle.flag_documents.specs.Flag.{is_broken}
+use Rattle.flag_defs.specs.Changes.{by_key, with_site}
+use Rattle.flag_defs.specs.Definition.{Definition, broken, good}
+use Rattle.flag_defs.specs.Document.{Definitions, limited}
+use Rattle.flag_defs.specs.Flag.{is_broken}
 use Rattle.rollout.specs.Applied.{applied, by_document}
-use Rattle.flag_documents.specs.declared.fault.DefFault.{DefFault}
+use Rattle.flag_defs.specs.declared.fault.DefFault.{DefFault}
 use Rattle.logic_ast.specs.declared.fault.LogicFault.{LogicFault}
 use Rattle.rollout_checks.specs.Lawful.{and_then, by_logic, or_refuse, has_names_of}
 use Rattle.rollout_checks.specs.declared.fault.RolloutFault.{RolloutFault}

@@ -6,7 +6,7 @@ use Rattle.std.proofs.lemmas.Bool.{eqb-true}
 use Rattle.std.proofs.lemmas.Option.{slice_get_within}
 use Rattle.bucket_core.specs.Rule.{Entries, total_weight, points, at, refinement}
 use Rattle.bucket_core.proofs.Refined.{total_weight-refinement}
-use Rattle.flag_documents.specs.Document.{Definitions}
+use Rattle.flag_defs.specs.Document.{Definitions}
 use Rattle.book_core.specs.Book.{Contents, Inputs, inputs_on}
 use Rattle.book_core.specs.Counts.{counts_of}
 use Rattle.book_core.specs.Page.{page_eq}

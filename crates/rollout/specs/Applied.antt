@@ -3,9 +3,9 @@ use Rattle.std.specs.Prelude.{ℕ, List, [], ◌∷◌, ◌++◌, if◌then◌el
 use Rattle.std.specs.Map.{lookup}
 use Rattle.std.specs.Str.{bytes_eq}
 use Rattle.bucket_core.specs.Rule.{Entries}
-use Rattle.flag_documents.specs.Changes.{by_key, with_site}
-use Rattle.flag_documents.specs.Document.{Definitions, limited}
-use Rattle.flag_documents.specs.declared.fault.DefFault.{DefFault}
+use Rattle.flag_defs.specs.Changes.{by_key, with_site}
+use Rattle.flag_defs.specs.Document.{Definitions, limited}
+use Rattle.flag_defs.specs.declared.fault.DefFault.{DefFault}
 use Rattle.rollout_checks.specs.Fault.{of_document}
 use Rattle.rollout_checks.specs.Lawful.{and_then, by_logic, or_refuse, has_names_of}
 use Rattle.rollout_checks.specs.declared.fault.RolloutFault.{RolloutFault}

@@ -9,10 +9,10 @@ use Rattle.logic_ast.specs.Sites.{entries_at}
 use Rattle.logic_evaluator.specs.Laws.{reached_in, with_total}
 use Rattle.logic_evaluator.specs.Run.{Reach}
 use Rattle.logic_evaluator.specs.Scope.{Situation}
-use Rattle.flag_documents.specs.Changes.{with_site}
-use Rattle.flag_documents.specs.Definition.{Definition}
-use Rattle.flag_documents.specs.Document.{Definitions}
-use Rattle.flag_documents.specs.Flag.{targeting_in}
+use Rattle.flag_defs.specs.Changes.{with_site}
+use Rattle.flag_defs.specs.Definition.{Definition}
+use Rattle.flag_defs.specs.Document.{Definitions}
+use Rattle.flag_defs.specs.Flag.{targeting_in}
 use Rattle.flag_resolve.specs.Alike.{with_reached}
 use Rattle.flag_resolve.specs.Resolution.{Asked, resolution_of}
 

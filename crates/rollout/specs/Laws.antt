@@ -1,7 +1,7 @@
 -- What the laws say: each planned answer is told as valid, unless memory ran out, and a rule that is put at a site changes no more than
 -- what chooses otherwise.
 use Rattle.std.specs.Prelude.{◌≡◌, ℕ, List, None, Some, Ok}
-use Rattle.flag_documents.specs.Document.{Definitions}
+use Rattle.flag_defs.specs.Document.{Definitions}
 use Rattle.book_core.specs.Book.{Contents}
 use Rattle.bucket_core.specs.Rule.{Entries, IsRuleTotal, total_weight}
 use Rattle.flag_defs.specs.Flags.{AreFlags}

@@ -1,7 +1,7 @@
 -- What is planned of a rollout request on a tally.
 use Rattle.std.specs.Prelude.{◌≡◌, ◌≢◌, ℕ, List, Result, Ok, Err}
 use Rattle.book_core.specs.Book.{Contents, Inputs, inputs_on}
-use Rattle.flag_documents.specs.Document.{Definitions}
+use Rattle.flag_defs.specs.Document.{Definitions}
 use Rattle.plan_text.specs.Answer.{Answer, planned_view}
 use Rattle.plan_text.specs.declared.planned.Planned.{Planned}
 use Rattle.rollout_checks.specs.Lawful.{problem_of}

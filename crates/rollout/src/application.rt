@@ -3,10 +3,10 @@ ghost use Rattle.std.specs.Prelude.{◌≡◌, [], ◌∷◌, ◌++◌, None, So
 ghost use Rattle.std.specs.Map.{lookup};
 ghost use Rattle.std.specs.Str.{bytes_eq};
 ghost use Rattle.flag_text.specs.Outcome.{GivesUnless};
-ghost use Rattle.flag_documents.specs.Changes.{by_key, with_site};
-ghost use Rattle.flag_documents.specs.Definition.{Definition};
-ghost use Rattle.flag_documents.specs.Document.{limited};
-ghost use Rattle.flag_documents.specs.Flag.{entries_view, flag_view};
+ghost use Rattle.flag_defs.specs.Changes.{by_key, with_site};
+ghost use Rattle.flag_defs.specs.Definition.{Definition};
+ghost use Rattle.flag_defs.specs.Document.{limited};
+ghost use Rattle.flag_defs.specs.Flag.{entries_view, flag_view};
 ghost use Rattle.flag_defs.specs.Flags.{flags_view};
 ghost use Rattle.rollout.specs.Applied.{applied};
 ghost use Rattle.rollout.specs.Change.{IsChanged, OthersStay, ResolveAsBefore};

@@ -13,9 +13,9 @@ use Rattle.bucket_core.specs.Rule.{Entries, total_weight, refinement}
 use Rattle.bucket_core.proofs.Refined.{total_weight-refinement}
 use Rattle.logic_ast.specs.Expression.{Expression}
 use Rattle.logic_ast.specs.Sites.{parts_at}
-use Rattle.flag_documents.specs.Definition.{Definition, broken, good, member_count, are_variants}
-use Rattle.flag_documents.specs.Document.{Definitions}
-use Rattle.flag_documents.specs.Flag.{member_names, variant_names, targeting_in, is_definition}
+use Rattle.flag_defs.specs.Definition.{Definition, broken, good, member_count, are_variants}
+use Rattle.flag_defs.specs.Document.{Definitions}
+use Rattle.flag_defs.specs.Flag.{member_names, variant_names, targeting_in, is_definition}
 use Rattle.flag_defs.specs.Flags.{AreFlags}
 use Rattle.book_core.specs.Book.{Contents, Inputs, inputs_on}
 use Rattle.book_core.specs.Site.{page_at}

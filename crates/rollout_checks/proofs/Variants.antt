@@ -13,8 +13,8 @@ use Rattle.flag_text.proofs.Bools.{left, right}
 use Rattle.flag_text.specs.Readers.{find_member}
 use Rattle.flag_text.specs.Shape.{Members, no_members, member}
 use Rattle.bucket_core.specs.Rule.{Entries, refinement}
-use Rattle.flag_documents.specs.Definition.{Definition}
-use Rattle.flag_documents.specs.Flag.{member_names, variant_names, variant_of, variants_in}
+use Rattle.flag_defs.specs.Definition.{Definition}
+use Rattle.flag_defs.specs.Flag.{member_names, variant_names, variant_of, variants_in}
 use Rattle.price_core.specs.Limits.{Limits, limits_of}
 use Rattle.price_core.specs.Request.{limits_on}
 use Rattle.transport_instance.proofs.Placed.{name_ties}

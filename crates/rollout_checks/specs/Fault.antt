@@ -2,8 +2,8 @@
 use Rattle.std.specs.Prelude.{ℕ, List, codes}
 use Rattle.bucket_core.specs.declared.fault.RuleFault.{RuleFault}
 use Rattle.bucket_core.specs.declared.fault.RuleFault.TheVariants as rule
-use Rattle.flag_documents.specs.declared.fault.DefFault.{DefFault}
-use Rattle.flag_documents.specs.declared.fault.DefFault.TheVariants as document
+use Rattle.flag_defs.specs.declared.fault.DefFault.{DefFault}
+use Rattle.flag_defs.specs.declared.fault.DefFault.TheVariants as document
 use Rattle.logic_ast.specs.declared.fault.LogicFault.{LogicFault}
 use Rattle.logic_ast.specs.declared.fault.LogicFault.TheVariants as logic
 use Rattle.price_core.specs.declared.fault.PriceFault.{PriceFault}

@@ -7,9 +7,9 @@ use Rattle.bucket_core.specs.Rule.{Entries, total_weight, refinement, entries_vi
 use Rattle.logic_ast.specs.Expression.{Expression}
 use Rattle.logic_ast.specs.Sites.{parts_at}
 use Rattle.logic_ast.specs.declared.fault.LogicFault.{LogicFault}
-use Rattle.flag_documents.specs.Definition.{Definition}
-use Rattle.flag_documents.specs.Document.{Definitions}
-use Rattle.flag_documents.specs.Flag.{flag_view, variant_of, variant_names, targeting_in}
+use Rattle.flag_defs.specs.Definition.{Definition}
+use Rattle.flag_defs.specs.Document.{Definitions}
+use Rattle.flag_defs.specs.Flag.{flag_view, variant_of, variant_names, targeting_in}
 use Rattle.book_core.specs.Book.{Contents, Inputs, inputs_on, most_inputs}
 use Rattle.book_core.specs.Counts.{counts_of}
 use Rattle.book_core.specs.Page.{PageName}

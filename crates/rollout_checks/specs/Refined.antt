@@ -1,7 +1,7 @@
 -- What a request asks, by the factor of its refinement.
 use Rattle.std.specs.Prelude.{ℕ, List, Option, Some, None, Result}
 use Rattle.book_core.specs.Book.{Contents}
-use Rattle.flag_documents.specs.Document.{Definitions}
+use Rattle.flag_defs.specs.Document.{Definitions}
 use Rattle.plan_text.specs.Answer.{Answer}
 use Rattle.rollout_checks.specs.Lawful.{Problem, problem_of}
 use Rattle.rollout_checks.specs.Verified.{refining_for}

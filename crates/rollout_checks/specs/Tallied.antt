@@ -1,7 +1,7 @@
 -- What a request asks of a tally: how many inputs of the request's page fall on each point, however many they are.
 use Rattle.std.specs.Prelude.{◌≡◌, ◌≢◌, ℕ, ◌*◌, ◌==◌, ◌&&◌, [], List, if◌then◌else◌, Result, Ok, Err}
 use Rattle.bucket_core.specs.Rule.{Entries, total_weight}
-use Rattle.flag_documents.specs.Document.{Definitions}
+use Rattle.flag_defs.specs.Document.{Definitions}
 use Rattle.book_core.specs.Book.{Inputs}
 use Rattle.book_core.specs.Counts.{counts_of}
 use Rattle.book_core.specs.Page.{page_eq}

@@ -2,7 +2,7 @@
 ghost use Rattle.std.specs.Prelude.{◌≡◌, false, IfOk};
 ghost use Rattle.flag_text.specs.Outcome.{GivesUnless};
 ghost use Rattle.bucket_core.specs.Rule.{entries_view};
-ghost use Rattle.flag_documents.specs.Flag.{flag_view, is_broken};
+ghost use Rattle.flag_defs.specs.Flag.{flag_view, is_broken};
 ghost use Rattle.flag_defs.specs.Flags.{flags_view};
 ghost use Rattle.rollout_checks.specs.Lawful.{place_of, place_view, has_names_of, limits_for};
 

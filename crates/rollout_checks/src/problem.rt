@@ -4,7 +4,7 @@ ghost use Rattle.std.specs.Str.{is_utf8};
 ghost use Rattle.flag_text.specs.Outcome.{GivesUnless};
 ghost use Rattle.bucket_core.specs.Rule.{total_weight, refinement, entries_view};
 ghost use Rattle.book_core.specs.Page.{page_eq};
-ghost use Rattle.flag_documents.specs.Flag.{flag_view, is_broken};
+ghost use Rattle.flag_defs.specs.Flag.{flag_view, is_broken};
 ghost use Rattle.flag_defs.specs.Flags.{flags_view};
 ghost use Rattle.price_core.specs.Request.{max_request};
 ghost use Rattle.price_core.specs.declared.fault.PriceFault.TheVariants.{BadRequest};

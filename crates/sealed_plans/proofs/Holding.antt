@@ -5,7 +5,7 @@ use Rattle.std.specs.List.{IsDistinct}
 use Rattle.std.specs.Str.{bytes_eq}
 use Rattle.std.proofs.lemmas.List.Sums.{sum-map}
 use Rattle.bucket_core.specs.Rule.{Entries, refinement, total_weight}
-use Rattle.flag_documents.specs.Document.{Definitions}
+use Rattle.flag_defs.specs.Document.{Definitions}
 use Rattle.book_core.specs.Book.{Contents, IsBook, is_among, inputs_on}
 use Rattle.book_core.specs.Page.{PageName}
 use Rattle.book_share.proofs.Pages.{rising_distinct, rising_page}

@@ -2,7 +2,7 @@
 use Rattle.std.specs.Prelude.{◌≡◌, ℕ, List, [], Bool, Result, Ok}
 use Rattle.std.specs.List.{IsDistinct, list_any}
 use Rattle.std.specs.Str.{bytes_eq}
-use Rattle.flag_documents.specs.Document.{Definitions}
+use Rattle.flag_defs.specs.Document.{Definitions}
 use Rattle.book_core.specs.Book.{Contents, IsBook, is_among}
 use Rattle.book_core.specs.Calls.{stands}
 use Rattle.book_core.specs.Page.{PageName}

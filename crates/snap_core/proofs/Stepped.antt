@@ -1,7 +1,7 @@
 -- What the sources and the hub do is what the machine does, in each state that agrees with them.
 use Rattle.std.proofs.Common.{◌≡◌, ℕ, ◌+◌, ◌-◌, ◌<◌, Bool, true, false, List, [], ◌∷◌, ◌++◌, length, slice_get, nat_lt, if◌then◌else◌, Option, None, Some, option_map, IfOk, Result, Ok, Err, refl, sym, ap, ◌∙◌, subst, arith, length-append}
 use Rattle.std.proofs.lemmas.Bool.{ltb-true}
-use Rattle.flag_documents.specs.Document.{Definitions}
+use Rattle.flag_defs.specs.Document.{Definitions}
 use Rattle.source_merge.specs.Merge.{merged_of}
 use Rattle.source_merge.specs.Sources.{SourceList, Sets, cleared}
 use Rattle.source_merge.specs.declared.fault.SourceFault.{SourceFault}

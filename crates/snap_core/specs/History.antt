@@ -1,6 +1,6 @@
 -- What a subscriber was given over a run: its history of the stream.
 use Rattle.std.specs.Prelude.{◌≡◌, ◌↔◌, ℕ, ◌-◌, ◌<◌, List, [], ◌∷◌, ◌++◌, length, nat_eq, if◌then◌else◌, slice_get, is_some, true, Some, None}
-use Rattle.flag_documents.specs.Document.{Definitions}
+use Rattle.flag_defs.specs.Document.{Definitions}
 use Rattle.snap_core.specs.Event.{Happening, takes, Reply, taken}
 use Rattle.snap_core.specs.Hub.{Numbered, taken_by}
 use Rattle.snap_core.specs.Opening.{opening}

@@ -1,6 +1,6 @@
 -- A flag service as a machine: its states, and what each event answers and leaves.
 use Rattle.std.specs.Prelude.{◌≡◌, ℕ, ◌+◌, ◌-◌, List, [], ◌∷◌, ◌++◌, length, count_by, slice_get, Bool, true, if◌then◌else◌, nat_lt, Option, Some, None, option_map, Result, Ok, Err}
-use Rattle.flag_documents.specs.Document.{Definitions}
+use Rattle.flag_defs.specs.Document.{Definitions}
 use Rattle.book_core.specs.Calls.{Call, is_new, reply_after}
 use Rattle.book_core.specs.Page.{PageName}
 use Rattle.book_core.specs.declared.noted.Noted.{Noted}

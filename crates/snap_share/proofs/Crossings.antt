@@ -14,7 +14,7 @@ use Rattle.logic_ast.specs.contracts.node.Bucket as Bucket
 use Rattle.logic_ast.specs.contracts.node.Node as Node
 use Rattle.logic_ast.specs.contracts.operator.Operator as Operator
 use Rattle.logic_ast.specs.contracts.expr.Expr as Expr
-use Rattle.flag_documents.specs.contracts.flag.Flag as Flag
+use Rattle.flag_defs.specs.contracts.flag.Flag as Flag
 use Rattle.flag_defs.specs.contracts.flags.Flags as Flags
 use Rattle.snap_core.specs.contracts.snapshot.Snapshot as Snapshot
 use Rattle.sync_frames.specs.contracts.framed.FramedSnapshot as Framed

@@ -10,13 +10,13 @@ use Rattle.std.specs.declared.cmp.Ordering.{Ordering}
 use Rattle.std.specs.declared.cmp.Ordering.TheVariants.{Less, Equal, Greater}
 use Rattle.std.proofs.Math.Seq.{drop-cons}
 use Rattle.std.proofs.lemmas.Option.{slice_get_within, get_or_from_slice_get}
-use Rattle.flag_documents.specs.Changes.{with_entry}
-use Rattle.flag_documents.specs.Document.{Definitions}
-use Rattle.flag_documents.specs.Flag.{flag_view}
+use Rattle.flag_defs.specs.Changes.{with_entry}
+use Rattle.flag_defs.specs.Document.{Definitions}
+use Rattle.flag_defs.specs.Flag.{flag_view}
 use Rattle.flag_defs.specs.Flags.{flags_view}
-use Rattle.flag_documents.specs.declared.flag.Flag.{Flag}
+use Rattle.flag_defs.specs.declared.flag.Flag.{Flag}
 use Rattle.flag_defs.specs.declared.flags.Flags.{Flags}
-use Rattle.flag_documents.specs.Lent.{lent_view}
+use Rattle.flag_defs.specs.Lent.{lent_view}
 use Rattle.source_merge.specs.Merge.{all_entries}
 use Rattle.source_merge.specs.Sources.{entries_view}
 

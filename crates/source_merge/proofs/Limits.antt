@@ -2,10 +2,10 @@
 use Rattle.std.proofs.Common.{◌≡◌, ℕ, Bool, true, false, List, [], ◌∷◌, if◌then◌else◌, IfOk, Option, None, Some, option_map, Result, Ok, Err, String, string_bytes, sym, subst}
 use Rattle.std.specs.declared.alloc.Global.{Global}
 use Rattle.flag_text.specs.Outcome.{GivesUnless}
-use Rattle.flag_documents.specs.Changes.{by_key}
-use Rattle.flag_documents.specs.Document.{Definitions, limited}
+use Rattle.flag_defs.specs.Changes.{by_key}
+use Rattle.flag_defs.specs.Document.{Definitions, limited}
 use Rattle.flag_defs.specs.Flags.{flags_view}
-use Rattle.flag_documents.specs.declared.fault.DefFault.TheVariants as def
+use Rattle.flag_defs.specs.declared.fault.DefFault.TheVariants as def
 use Rattle.flag_defs.specs.declared.flags.Flags.{Flags}
 use Rattle.source_merge.specs.Merge.{IsMerge, Rise, HaveRisingKeys, entries_of, all_entries, merge, flags_or_fault, merged_of}
 use Rattle.source_merge.specs.Sources.{SourceList, entries_view}

@@ -13,9 +13,9 @@ use Rattle.std.proofs.lemmas.Cmp.{nat_list_cmp_total}
 use Rattle.std.proofs.lemmas.List.Sums.{fold-append}
 use Rattle.std.proofs.lemmas.Map.Text.{is_eq-slice_cmp}
 use Rattle.std.proofs.lemmas.Slice.Eq.{bytes_eq-Decides}
-use Rattle.flag_documents.specs.Changes.{with_entry, by_key}
-use Rattle.flag_documents.specs.Definition.{Definition}
-use Rattle.flag_documents.specs.Document.{Definitions}
+use Rattle.flag_defs.specs.Changes.{with_entry, by_key}
+use Rattle.flag_defs.specs.Definition.{Definition}
+use Rattle.flag_defs.specs.Document.{Definitions}
 use Rattle.source_merge.specs.Merge.{entries_of, latest, IsMerge, Rise, HaveRisingKeys, all_entries, merge}
 use Rattle.source_merge.specs.Sources.{SourceList}
 

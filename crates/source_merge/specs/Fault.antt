@@ -1,7 +1,7 @@
 -- The number and the name that a refusal of sources is printed with, and what a refused document is to them.
 use Rattle.std.specs.Prelude.{ℕ, List, codes}
-use Rattle.flag_documents.specs.declared.fault.DefFault.{DefFault}
-use Rattle.flag_documents.specs.declared.fault.DefFault.TheVariants as def
+use Rattle.flag_defs.specs.declared.fault.DefFault.{DefFault}
+use Rattle.flag_defs.specs.declared.fault.DefFault.TheVariants as def
 use Rattle.source_merge.specs.declared.fault.SourceFault.{SourceFault}
 use Rattle.source_merge.specs.declared.fault.SourceFault.TheVariants.{WantOfMemory, Known, TooMany, Unknown, Refused, TooLarge}
 

@@ -7,10 +7,10 @@ use Rattle.std.specs.List.Sorted.{IsStrictlySortedBy}
 use Rattle.std.specs.Map.{keys_of, lookup}
 use Rattle.std.specs.Ordering.{nat_cmp}
 use Rattle.std.specs.Str.{bytes_eq}
-use Rattle.flag_documents.specs.Changes.{by_key}
-use Rattle.flag_documents.specs.Definition.{Definition}
-use Rattle.flag_documents.specs.Document.{Definitions, limited}
-use Rattle.flag_documents.specs.declared.fault.DefFault.{DefFault}
+use Rattle.flag_defs.specs.Changes.{by_key}
+use Rattle.flag_defs.specs.Definition.{Definition}
+use Rattle.flag_defs.specs.Document.{Definitions, limited}
+use Rattle.flag_defs.specs.declared.fault.DefFault.{DefFault}
 use Rattle.source_merge.specs.Fault.{of_flags}
 use Rattle.source_merge.specs.Sources.{Source, SourceList}
 use Rattle.source_merge.specs.declared.fault.SourceFault.{SourceFault}

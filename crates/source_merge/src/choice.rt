@@ -1,9 +1,9 @@
 //! Which entry of the sources counts at each key.
 ghost use Rattle.std.specs.Prelude.{◌≡◌, IfOk, OnOk, fold};
-ghost use Rattle.flag_documents.specs.Changes.{by_key, with_entry};
-ghost use Rattle.flag_documents.specs.Flag.{flag_view};
+ghost use Rattle.flag_defs.specs.Changes.{by_key, with_entry};
+ghost use Rattle.flag_defs.specs.Flag.{flag_view};
 ghost use Rattle.flag_defs.specs.Flags.{flags_view};
-ghost use Rattle.flag_documents.specs.Lent.{lent_view};
+ghost use Rattle.flag_defs.specs.Lent.{lent_view};
 ghost use Rattle.source_merge.specs.Merge.{all_entries};
 ghost use Rattle.source_merge.specs.Sources.{entries_view};
 

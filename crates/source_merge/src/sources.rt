@@ -1,9 +1,9 @@
 ghost use Rattle.std.specs.Prelude.{◌≡◌, ◌≤◌, ◌<◌, [], ◌∷◌, ◌++◌, length, None, IfOk, OnOk, OnErr, IsErrOf, true, false, option_map};
 ghost use Rattle.std.specs.Str.{is_utf8};
 ghost use Rattle.flag_text.specs.Outcome.{GivesUnless};
-ghost use Rattle.flag_documents.specs.Document.{limited, max_bytes};
+ghost use Rattle.flag_defs.specs.Document.{limited, max_bytes};
 ghost use Rattle.flag_defs.specs.Flags.{flags_view};
-ghost use Rattle.flag_documents.specs.Lent.{lent_view};
+ghost use Rattle.flag_defs.specs.Lent.{lent_view};
 ghost use Rattle.source_merge.specs.Merge.{IsMerge, Rise, flags_or_fault, merged_of};
 ghost use Rattle.source_merge.specs.Outcome.{Unless, outcome};
 ghost use Rattle.source_merge.specs.Sources.{Sets, added, cleared, entries_view, is_source, most_sources, with_document};

@@ -1,8 +1,8 @@
 -- What a call of a feed answers.
 use Rattle.std.proofs.Common.{◌≡◌, ℕ, ◌+◌, ◌-◌, ◌<◌, ◌≤◌, true, List, [], ◌++◌, length, take, drop, get_or, inl, inr, refl, sym, ap, subst, ◌∙◌, arith, Ok, Err}
 use Rattle.std.proofs.lemmas.Bool.{cases_lt}
-use Rattle.flag_documents.specs.Document.{DocumentMeans}
-use Rattle.flag_documents.specs.declared.fault.DefFault.{DefFault}
+use Rattle.flag_defs.specs.Document.{DocumentMeans}
+use Rattle.flag_defs.specs.declared.fault.DefFault.{DefFault}
 use Rattle.snap_core.specs.Hub.{Numbered}
 use Rattle.snap_core.specs.declared.snapshot.Snapshot.{Snapshot}
 use Rattle.sync_frames.specs.Feed.{Stands, is_failed, snapshots_view, Faults, Refuses}

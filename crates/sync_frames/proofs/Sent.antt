@@ -4,8 +4,8 @@ use Rattle.std.specs.List.{All}
 use Rattle.std.proofs.lemmas.Bool.{eq-eqb}
 use Rattle.std.proofs.lemmas.Bool.Decides.{eqb_tells}
 use Rattle.std.proofs.lemmas.List.Elements.{All-weaker, All-nil, All-cons}
-use Rattle.flag_documents.specs.Document.{Definitions, DocumentMeans}
-use Rattle.flag_documents.proofs.Meanings.{one_meaning}
+use Rattle.flag_defs.specs.Document.{Definitions, DocumentMeans}
+use Rattle.flag_defs.proofs.Meanings.{one_meaning}
 use Rattle.flag_resolve.specs.Resolution.{Asked, resolution_of}
 use Rattle.logic_evaluator.specs.Scope.{Situation}
 use Rattle.snap_core.specs.Hub.{Numbered}

@@ -1,8 +1,8 @@
 -- What the front and the rest of a stream are.
 use Rattle.std.proofs.Common.{◌≡◌, ℕ, ◌+◌, ◌-◌, ◌<◌, ◌≤◌, ◌⊎◌, ⊎_elim, List, [], ◌∷◌, ◌++◌, length, take, drop, refl, sym, ap, ap₂, subst, ◌∙◌, arith, append_assoc, append-nil, length-append, length-drop, le_antisymm, Ok, Err}
 use Rattle.std.proofs.lemmas.List.{take-append-le, drop-append-le}
-use Rattle.flag_documents.specs.Document.{Definitions, DocumentMeans}
-use Rattle.flag_documents.proofs.Meanings.{one_meaning}
+use Rattle.flag_defs.specs.Document.{Definitions, DocumentMeans}
+use Rattle.flag_defs.proofs.Meanings.{one_meaning}
 use Rattle.snap_core.specs.Hub.{Numbered}
 use Rattle.sync_frames.specs.Frames.{frame_of, length_in, number_in, document_in, max_length, IsDocumentOf, Frames, Reads, HoldsFrame, Shows, ShowsLength, ShowsNotRising, ShowsDocument, last_number}
 use Rattle.sync_frames.specs.Header.{IsPart}

@@ -1,6 +1,6 @@
 -- The frame that a snapshot is sent as.
 use Rattle.std.specs.Prelude.{◌≡◌, ℕ, List}
-use Rattle.flag_documents.specs.Document.{printed}
+use Rattle.flag_defs.specs.Document.{printed}
 use Rattle.snap_core.specs.Hub.{Numbered}
 use Rattle.sync_frames.specs.Frames.{IsDocumentOf, frame_of}
 

@@ -1,8 +1,8 @@
 -- Frames of numbered flags, and what a stream of them means.
 use Rattle.std.specs.Prelude.{◌≡◌, ℕ, ◌+◌, ◌-◌, ◌<◌, ◌≤◌, ◌^◌, ◌⊎◌, List, [], ◌∷◌, ◌++◌, length, take, drop, Ok, Err}
 use Rattle.std.specs.Int.{w32, w64, to_be_bytes, from_be_bytes}
-use Rattle.flag_documents.specs.Document.{DocumentMeans}
-use Rattle.flag_documents.specs.declared.fault.DefFault.{DefFault}
+use Rattle.flag_defs.specs.Document.{DocumentMeans}
+use Rattle.flag_defs.specs.declared.fault.DefFault.{DefFault}
 use Rattle.snap_core.specs.Hub.{Numbered}
 use Rattle.sync_frames.specs.declared.fault.FrameFault.{FrameFault}
 use Rattle.sync_frames.specs.declared.fault.FrameFault.TheVariants.{Length, NotRising, Document}

@@ -1,7 +1,7 @@
 -- What a reader of a stream resolves, beside what was framed.
 use Rattle.std.specs.Prelude.{◌≡◌, ℕ, ◌++◌, ◌==◌, List, [], ◌∷◌, if◌then◌else◌, Option, Some, None}
 use Rattle.std.specs.List.{All}
-use Rattle.flag_documents.specs.Document.{Definitions}
+use Rattle.flag_defs.specs.Document.{Definitions}
 use Rattle.logic_evaluator.specs.Scope.{Situation}
 use Rattle.flag_resolve.specs.Resolution.{Asked, resolution_of}
 use Rattle.snap_core.specs.Hub.{Numbered}

@@ -1,6 +1,6 @@
 //! Reading whole frames.
 ghost use Rattle.std.specs.Prelude.{◌≡◌, ◌≢◌, ℕ, ◌++◌, ◌+◌, ◌-◌, ◌<◌, ◌≤◌, IfOk, drop, length, slice_index};
-ghost use Rattle.flag_documents.specs.Document.{DocumentMeans};
+ghost use Rattle.flag_defs.specs.Document.{DocumentMeans};
 ghost use Rattle.flag_defs.specs.Flags.{flags_view};
 ghost use Rattle.snap_core.specs.HubView.{snapshot_view};
 ghost use Rattle.sync_frames.specs.Frames.{HoldsFrame, document_in, length_in};

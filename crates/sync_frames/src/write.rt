@@ -1,6 +1,6 @@
 //! From a snapshot to its frame.
 ghost use Rattle.std.specs.Prelude.{◌≡◌, IfOk};
-ghost use Rattle.flag_documents.specs.Document.{printed};
+ghost use Rattle.flag_defs.specs.Document.{printed};
 ghost use Rattle.flag_defs.specs.Flags.{flags_view};
 ghost use Rattle.snap_core.specs.HubView.{snapshot_view};
 ghost use Rattle.sync_frames.specs.Frames.{IsDocumentOf, frame_of};

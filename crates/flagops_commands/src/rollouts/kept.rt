@@ -1,7 +1,7 @@
 //! A document with the rule of a right answer at the site of its request, and all else as it was.
 ghost use Rattle.std.specs.Prelude.{◌≡◌, [], ◌∷◌, false, is_ok, true, IfErr, IfOk, Ok, option_map};
 ghost use Rattle.flag_defs.specs.Flags.{flags_view};
-ghost use Rattle.flag_documents.specs.Document.{DocumentMeans};
+ghost use Rattle.flag_defs.specs.Document.{DocumentMeans};
 ghost use Rattle.kept_document.specs.Kept.{IsRefused, KeptAt, place_in};
 ghost use Rattle.plan_text.specs.Answer.{planned_view};
 ghost use Rattle.price_core.specs.Request.{asked_of};

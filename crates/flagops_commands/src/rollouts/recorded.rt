@@ -1,7 +1,7 @@
 //! What is doubted of what was recorded for a request: that there is no input, or one that is none of its flag.
 ghost use Rattle.std.specs.Prelude.{◌≡◌, List, ℕ, Some, false, nat_eq, option_map, IfOk, IfSome, string_bytes};
 ghost use Rattle.logic_ast.specs.Expr.{view};
-ghost use Rattle.flag_documents.specs.Flag.{flag_view};
+ghost use Rattle.flag_defs.specs.Flag.{flag_view};
 ghost use Rattle.flag_defs.specs.Flags.{flags_view};
 ghost use Rattle.book_core.specs.Book.{inputs_on};
 ghost use Rattle.book_core.specs.Listing.{has_none};

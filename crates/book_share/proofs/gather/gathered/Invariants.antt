@@ -1,6 +1,6 @@
 use Rattle.std.specs.Prelude.{◌≡◌, ℕ, ◌+◌, ◌<◌, List, IfOk, IfSome, length, map, slice_get}
 use Rattle.std.specs.VecDeque.{deque_items}
-use Rattle.flag_documents.specs.Document.{Definitions}
+use Rattle.flag_defs.specs.Document.{Definitions}
 use Rattle.book_share.specs.Asked.{asks_of}
 use Rattle.book_share.specs.Driven.{AreWorks, IsWork}
 use Rattle.book_share.specs.Gated.{EachPart, EachTurn}

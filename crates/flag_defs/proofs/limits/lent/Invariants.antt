@@ -1,6 +1,6 @@
 use Rattle.std.proofs.Common.{◌≡◌, take}
-use Rattle.flag_documents.specs.Flag.{entries_view}
-use Rattle.flag_documents.specs.Lent.{lent_view}
+use Rattle.flag_defs.specs.Flag.{entries_view}
+use Rattle.flag_defs.specs.Lent.{lent_view}
 use Rattle.flag_defs.proofs.limits.lent.Given as goal
 
 abbrev pub invariant-loop-key : goal.invariant-loop-key

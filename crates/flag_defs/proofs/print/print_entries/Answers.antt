@@ -2,10 +2,10 @@ use Rattle.std.proofs.Common.{codes, ap, ◌∙◌, subst, string_bytes}
 use Rattle.std.proofs.lemmas.Result.{IfOk-weaker}
 use Rattle.flag_text.specs.Printing.{text_of}
 use Rattle.flag_text.specs.Shape.{is_whole, object, no_members, member}
-use Rattle.flag_documents.specs.Flag.{entries_view}
-use Rattle.flag_documents.specs.Law.{ReadsBack}
-use Rattle.flag_documents.proofs.Lawful.{lawful_flags}
-use Rattle.flag_documents.proofs.Printed.{whole_document}
+use Rattle.flag_defs.specs.Flag.{entries_view}
+use Rattle.flag_defs.specs.Law.{ReadsBack}
+use Rattle.flag_defs.proofs.Lawful.{lawful_flags}
+use Rattle.flag_defs.proofs.Printed.{whole_document}
 use Rattle.flag_defs.proofs.print.print_entries.Goals as goal
 
 pub print_tree-requires : goal.print_tree-requires

@@ -1,11 +1,11 @@
 use Rattle.std.proofs.Common.{◌≡◌, ◌≤◌, length, string_bytes, vec_items, sym, ap, ◌∙◌, subst, arith}
 use Rattle.std.proofs.lemmas.List.{length-map}
-use Rattle.flag_documents.specs.Document.{max_flags, printed}
-use Rattle.flag_documents.specs.Flag.{entry_view, entries_view}
+use Rattle.flag_defs.specs.Document.{max_flags, printed}
+use Rattle.flag_defs.specs.Flag.{entry_view, entries_view}
 use Rattle.flag_defs.specs.Flags.{flags_view}
-use Rattle.flag_documents.specs.Law.{ReadsBack, document_written}
-use Rattle.flag_documents.proofs.Law.{printed-back}
-use Rattle.flag_documents.proofs.Lawful.{lawful_flags}
+use Rattle.flag_defs.specs.Law.{ReadsBack, document_written}
+use Rattle.flag_defs.proofs.Law.{printed-back}
+use Rattle.flag_defs.proofs.Lawful.{lawful_flags}
 use Rattle.flag_defs.proofs.print.print_flags.Goals as goal
 
 pub returns-clause-reads_back : goal.returns-clause-reads_back

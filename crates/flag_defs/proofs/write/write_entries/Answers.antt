@@ -2,10 +2,10 @@ use Rattle.std.proofs.Common.{◌≡◌, [], drop, ◌+◌, ap, ap₂, sym, ◌�
 use Rattle.std.proofs.lemmas.List.{drop_all}
 use Rattle.flag_text.specs.Shape.{member}
 use Rattle.logic_ast.proofs.Readings.{dropped}
-use Rattle.flag_documents.specs.Document.{definitions_written}
-use Rattle.flag_documents.specs.Flag.{entries_view}
-use Rattle.flag_documents.specs.Members.{followed_by}
-use Rattle.flag_documents.proofs.Followed.{followed_end, followed_push}
+use Rattle.flag_defs.specs.Document.{definitions_written}
+use Rattle.flag_defs.specs.Flag.{entries_view}
+use Rattle.flag_defs.specs.Members.{followed_by}
+use Rattle.flag_defs.proofs.Followed.{followed_end, followed_push}
 use Rattle.flag_defs.proofs.write.write_entries.Goals as goal
 
 pub returns : goal.returns

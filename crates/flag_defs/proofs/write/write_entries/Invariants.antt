@@ -1,7 +1,7 @@
 use Rattle.std.proofs.Common.{◌≡◌, drop}
-use Rattle.flag_documents.specs.Document.{definitions_written}
-use Rattle.flag_documents.specs.Flag.{entries_view}
-use Rattle.flag_documents.specs.Members.{followed_by}
+use Rattle.flag_defs.specs.Document.{definitions_written}
+use Rattle.flag_defs.specs.Flag.{entries_view}
+use Rattle.flag_defs.specs.Members.{followed_by}
 use Rattle.flag_defs.proofs.write.write_entries.Given as goal
 
 abbrev pub invariant-loop-key : goal.invariant-loop-key

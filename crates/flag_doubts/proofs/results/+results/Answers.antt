@@ -1,6 +1,6 @@
 use Rattle.std.proofs.Common.{◌≡◌, ℕ, ◌+◌, ◌*◌, ◌<◌, ◌||◌, length, drop, ap, sym, ◌∙◌, arith}
 use Rattle.std.specs.List.{list_any}
-use Rattle.flag_documents.specs.Flag.{flag_view}
+use Rattle.flag_defs.specs.Flag.{flag_view}
 use Rattle.logic_ast.specs.View.{node_view, nodes_view}
 use Rattle.logic_ast.proofs.Views.{node_view-fractional}
 use Rattle.flag_doubts.specs.Outcomes.{outcomes, branches}

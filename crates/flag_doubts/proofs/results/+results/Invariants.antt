@@ -1,6 +1,6 @@
 use Rattle.std.proofs.Common.{◌≡◌, ◌*◌, drop}
 use Rattle.std.specs.List.{list_any}
-use Rattle.flag_documents.specs.Flag.{flag_view}
+use Rattle.flag_defs.specs.Flag.{flag_view}
 use Rattle.logic_ast.specs.View.{nodes_view, buckets_view}
 use Rattle.flag_doubts.specs.Outcomes.{all_outcomes, branches, names}
 use Rattle.flag_doubts.specs.Views.{is_sought}

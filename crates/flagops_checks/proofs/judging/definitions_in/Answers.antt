@@ -1,5 +1,5 @@
 use Rattle.std.proofs.Common.{codes, sym}
-use Rattle.flag_documents.proofs.Meant.{tidy_named_object}
+use Rattle.flag_defs.proofs.Meant.{tidy_named_object}
 use Rattle.flag_text.proofs.Halving.{names_rise-tidy}
 use Rattle.flag_text.specs.View.{members_view, view}
 use Rattle.flagops_checks.proofs.judging.definitions_in.Goals as goal

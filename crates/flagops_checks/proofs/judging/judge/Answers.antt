@@ -5,7 +5,7 @@ use Rattle.std.specs.List.{list_any}
 use Rattle.std.specs.List.Sorted.{IsStrictlySortedBy}
 use Rattle.std.specs.Str.{bytes_eq}
 use Rattle.flag_defs.specs.Flags.{flags_view}
-use Rattle.flag_documents.specs.Flag.{flag_view}
+use Rattle.flag_defs.specs.Flag.{flag_view}
 use Rattle.flag_text.specs.Readers.{find_member}
 use Rattle.flagops_checks.specs.Judged.{is_unread, judged_view}
 use Rattle.flagops_checks.proofs.Flagged.{pushed, same}

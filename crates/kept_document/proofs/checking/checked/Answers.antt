@@ -1,5 +1,5 @@
 use Rattle.std.proofs.Common.{List, ℕ, Ok, Err, subst}
-use Rattle.flag_documents.specs.Document.{DocumentMeans}
+use Rattle.flag_defs.specs.Document.{DocumentMeans}
 use Rattle.flag_defs.specs.Flags.{flags_view}
 use Rattle.kept_document.proofs.Checked.{other_flags, refused_document}
 use Rattle.kept_document.proofs.checking.checked.Goals as goal

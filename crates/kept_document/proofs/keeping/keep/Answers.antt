@@ -3,7 +3,7 @@ use Rattle.std.specs.Prelude.{IfErr, option_and_then}
 use Rattle.std.specs.Map.{lookup}
 use Rattle.std.specs.Str.{bytes_eq}
 use Rattle.logic_ast.specs.Expr.{view}
-use Rattle.flag_documents.specs.Flag.{targeting_in}
+use Rattle.flag_defs.specs.Flag.{targeting_in}
 use Rattle.flag_defs.specs.Flags.{flags_view}
 use Rattle.kept_document.specs.Kept.{IsRefused}
 use Rattle.kept_document.proofs.Checked.{place_is, unread}

@@ -1,7 +1,7 @@
 use Rattle.std.proofs.Common.{◌≡◌, rules, subst}
 use Rattle.std.specs.Arc.{arc_value}
 use Rattle.flag_defs.specs.Flags.{flags_view}
-use Rattle.flag_documents.specs.Document.{Definitions}
+use Rattle.flag_defs.specs.Document.{Definitions}
 use Rattle.ofrep_answers.specs.Answer.{Answered, answer_of, answer_view}
 use Rattle.ofrep_worker.specs.Answers.{RecordedIn, kept_in}
 use Rattle.ofrep_worker.specs.Asked.{asked_of}

@@ -1,6 +1,6 @@
 use Rattle.std.proofs.Common.{ap, sym, subst, ◌∙◌}
 use Rattle.bucket_core.specs.Rule.{IsRuleTotal}
-use Rattle.flag_documents.specs.Flag.{flag_view}
+use Rattle.flag_defs.specs.Flag.{flag_view}
 use Rattle.flag_defs.specs.Flags.{flags_view}
 use Rattle.rollout.specs.Applied.{by_document}
 use Rattle.rollout_checks.specs.Lawful.{has_names_of}

@@ -1,5 +1,5 @@
 use Rattle.std.proofs.Common.{ap, ◌∙◌}
-use Rattle.flag_documents.specs.Flag.{entries_view}
+use Rattle.flag_defs.specs.Flag.{entries_view}
 use Rattle.flag_defs.specs.Flags.{flags_view}
 use Rattle.rollout.proofs.Copies.{one_more}
 use Rattle.rollout.proofs.application.copies.Goals as goal

@@ -1,9 +1,9 @@
 use Rattle.std.proofs.Common.{sym, subst}
 use Rattle.flag_text.specs.Outcome.{GivesUnless}
-use Rattle.flag_documents.specs.Changes.{by_key}
-use Rattle.flag_documents.specs.Document.{limited}
+use Rattle.flag_defs.specs.Changes.{by_key}
+use Rattle.flag_defs.specs.Document.{limited}
 use Rattle.flag_defs.specs.Flags.{flags_view}
-use Rattle.flag_documents.specs.declared.fault.DefFault.TheVariants.{WantOfMemory}
+use Rattle.flag_defs.specs.declared.fault.DefFault.TheVariants.{WantOfMemory}
 use Rattle.rollout.proofs.Copies.{with_one}
 use Rattle.rollout.proofs.application.with_flag.Goals as goal
 

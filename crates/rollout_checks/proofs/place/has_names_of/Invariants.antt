@@ -1,6 +1,6 @@
 use Rattle.std.proofs.Common.{◌≡◌, drop}
 use Rattle.bucket_core.specs.Rule.{entries_view}
-use Rattle.flag_documents.specs.Flag.{flag_view}
+use Rattle.flag_defs.specs.Flag.{flag_view}
 use Rattle.rollout_checks.specs.Lawful.{has_names_of}
 use Rattle.rollout_checks.proofs.place.has_names_of.Given as goal
 

@@ -1,7 +1,7 @@
 use Rattle.std.proofs.Common.{◌≡◌, drop, fold}
-use Rattle.flag_documents.specs.Changes.{with_entry}
+use Rattle.flag_defs.specs.Changes.{with_entry}
 use Rattle.flag_defs.specs.Flags.{flags_view}
-use Rattle.flag_documents.specs.Lent.{lent_view}
+use Rattle.flag_defs.specs.Lent.{lent_view}
 use Rattle.source_merge.proofs.choice.choose.Given as goal
 
 abbrev pub invariant-loop-i : goal.invariant-loop-i

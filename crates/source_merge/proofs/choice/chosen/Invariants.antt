@@ -1,6 +1,6 @@
 use Rattle.std.proofs.Common.{◌≡◌, fold}
-use Rattle.flag_documents.specs.Changes.{by_key, with_entry}
-use Rattle.flag_documents.specs.Lent.{lent_view}
+use Rattle.flag_defs.specs.Changes.{by_key, with_entry}
+use Rattle.flag_defs.specs.Lent.{lent_view}
 use Rattle.source_merge.specs.Merge.{all_entries}
 use Rattle.source_merge.specs.Sources.{entries_view}
 use Rattle.source_merge.proofs.Lent.{document_entries}

@@ -1,5 +1,5 @@
 use Rattle.std.proofs.Common.{ℕ, sym, subst, List, Ok, Err}
-use Rattle.flag_documents.specs.Document.{DocumentMeans}
+use Rattle.flag_defs.specs.Document.{DocumentMeans}
 use Rattle.flag_defs.specs.Flags.{flags_view}
 use Rattle.snap_core.specs.HubView.{snapshot_view}
 use Rattle.sync_frames.specs.Frames.{document_in}

@@ -1,6 +1,6 @@
 use Rattle.std.proofs.Common.{ap, arith, subst, take}
 use Rattle.std.specs.Arc.{arc_value}
-use Rattle.flag_documents.specs.Document.{printed}
+use Rattle.flag_defs.specs.Document.{printed}
 use Rattle.flag_defs.specs.Flags.{flags_view}
 use Rattle.snap_core.specs.HubView.{snapshot_view}
 use Rattle.snap_core.specs.declared.snapshot.Snapshot.{Snapshot}

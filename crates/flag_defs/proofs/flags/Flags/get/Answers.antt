@@ -9,8 +9,8 @@ use Rattle.std.proofs.lemmas.Cmp.{nat_list_cmp_total}
 use Rattle.std.proofs.lemmas.Fn.{always_returns_same}
 use Rattle.std.proofs.lemmas.Map.Lookups.{exact_bytes}
 use Rattle.flag_text.proofs.Entries.{lookup_name-cmp, hit, miss}
-use Rattle.flag_documents.specs.Flag.{entry_view, entries_view, flag_view}
-use Rattle.flag_documents.specs.declared.flag.Flag.{Flag}
+use Rattle.flag_defs.specs.Flag.{entry_view, entries_view, flag_view}
+use Rattle.flag_defs.specs.declared.flag.Flag.{Flag}
 use Rattle.flag_defs.proofs.flags.Flags.get.Goals as goal
 
 pub returns-in-Ok : goal.returns-in-Ok

@@ -1,10 +1,10 @@
 use Rattle.std.proofs.Common.{◌≡◌, ◌≤◌, true, sym, subst}
 use Rattle.std.proofs.lemmas.List.{length-map}
 use Rattle.std.proofs.lemmas.List.Elements.{All-from_recursion}
-use Rattle.flag_documents.specs.Document.{max_flags}
-use Rattle.flag_documents.specs.Flag.{entry_view, is_definition}
+use Rattle.flag_defs.specs.Document.{max_flags}
+use Rattle.flag_defs.specs.Flag.{entry_view, is_definition}
 use Rattle.flag_defs.specs.Flags.{flags_view}
-use Rattle.flag_documents.proofs.Lawful.{lawful_flags}
+use Rattle.flag_defs.proofs.Lawful.{lawful_flags}
 use Rattle.flag_defs.proofs.flags.Flags.len.Goals as goal
 
 pub returns-clause-lawful : goal.returns-clause-lawful

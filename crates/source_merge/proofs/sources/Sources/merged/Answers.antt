@@ -1,5 +1,5 @@
 use Rattle.std.proofs.Common.{ap, ◌∙◌}
-use Rattle.flag_documents.specs.Lent.{lent_view}
+use Rattle.flag_defs.specs.Lent.{lent_view}
 use Rattle.source_merge.specs.Sources.{entries_view}
 use Rattle.source_merge.proofs.Limits.{is_merge, made_of, rising_merge}
 use Rattle.source_merge.proofs.sources.Sources.merged.Goals as goal

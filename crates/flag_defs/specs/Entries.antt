@@ -1,0 +1,13 @@
+-- What is read of a document before its flags are limited.
+use Rattle.std.specs.Prelude.{◌≢◌, Result, Ok, Err, String, Vec}
+use Rattle.std.specs.declared.alloc.Global.{Global}
+use Rattle.flag_defs.specs.Document.{Definitions, limited}
+use Rattle.flag_defs.specs.Flag.{entries_view}
+use Rattle.flag_defs.specs.declared.fault.DefFault.{DefFault}
+use Rattle.flag_defs.specs.declared.fault.DefFault.TheVariants.{WantOfMemory}
+use Rattle.flag_defs.specs.declared.flag.Flag.{Flag}
+
+-- what was returned, once it is limited, has this property, unless memory ran out
+abbrev pub HoldsLimited : (Result Definitions DefFault → Type 0) → Result (Vec (String Global × Flag) Global) DefFault → Type 0
+HoldsLimited P (Ok es) = P (limited (entries_view es.items))
+HoldsLimited P (Err e) = e ≢ WantOfMemory → P (Err e)

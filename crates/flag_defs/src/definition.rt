@@ -1,0 +1,113 @@
+//! From a definition to a flag.
+ghost use Rattle.std.specs.Prelude.{◌≡◌, true, Option, Some, option_map, option_copied, string_bytes, IfOk};
+ghost use Rattle.flag_text.specs.Shape.{object, is_tidy, members_are_tidy};
+ghost use Rattle.flag_text.specs.View.{view as tree_view, members_view};
+ghost use Rattle.logic_ast.specs.Expr.{view};
+ghost use Rattle.flag_defs.specs.Definition.{Means, good};
+ghost use Rattle.flag_defs.specs.Flag.{flag_view};
+ghost use Rattle.flag_defs.specs.Foreseen.{Foresees};
+ghost use Rattle.flag_defs.specs.Outline.{outline_view, rules_with};
+ghost use Rattle.flag_defs.specs.Rules.{are_rules};
+ghost use Rattle.flag_defs.specs.Weighing.{IsWeighed};
+
+use crate::flag::Flag;
+use crate::forecast::{Forecast, targeting_forecast};
+use crate::members::copy_members;
+use crate::outline::{Outline, outline_of};
+use crate::rules::Rules;
+use crate::targeting::read_targeting;
+use flag_references::Evaluators;
+use flag_text::{Tree, member_by_halving};
+use logic_ast::Expr;
+use std::alloc::{AllocError, Global};
+
+/// What is known of a definition before the references of its targeting are replaced: `Broken` where it breaks any rule.
+/// Nothing is expanded.
+pub(crate) fn definition_forecast(definition: &Tree, evaluators: &Evaluators<'_>) -> Forecast
+    requires { is_tidy (tree_view definition.now) ≡ true }
+    ensures { Foresees (members_view evaluators.now) (tree_view definition.now) result }
+{
+    match definition.as_object() {
+        Some(members) => members_forecast(members, evaluators),
+        None => Forecast::Broken,
+    }
+}
+
+fn members_forecast(members: &[(String, Tree)], evaluators: &Evaluators<'_>) -> Forecast
+    requires { members_are_tidy (members_view members.now) ≡ true }
+    ensures { Foresees (members_view evaluators.now) (object (members_view members.now)) result }
+{
+    let Some(_outline) = outline_of(members) else {
+        return Forecast::Broken;
+    };
+    targeting_forecast(member_by_halving(members, "targeting"), evaluators)
+}
+
+/// The flag of a definition of which this is foreseen. The condition is that it was weighed with all others of its document.
+pub(crate) fn read_flag(
+    alloc: Global,
+    definition: &Tree,
+    forecast: Forecast,
+    evaluators: &Evaluators<'_>,
+) -> Result<Flag, AllocError>
+    requires tidy { is_tidy (tree_view definition.now) ≡ true }
+    requires foreseen { Foresees (members_view evaluators.now) (tree_view definition.now) forecast }
+    requires weighed { IsWeighed (members_view evaluators.now) (tree_view definition.now) }
+    ensures { IfOk result (λ f. Means (members_view evaluators.now) (tree_view definition.now) (flag_view f)) }
+{
+    match definition.as_object() {
+        Some(members) => read_members(alloc, members, forecast, evaluators),
+        None => Ok(Flag { rules: None }),
+    }
+}
+
+fn read_members(
+    alloc: Global,
+    members: &[(String, Tree)],
+    forecast: Forecast,
+    evaluators: &Evaluators<'_>,
+) -> Result<Flag, AllocError>
+    requires tidy { members_are_tidy (members_view members.now) ≡ true }
+    requires foreseen { Foresees (members_view evaluators.now) (object (members_view members.now)) forecast }
+    requires weighed { IsWeighed (members_view evaluators.now) (object (members_view members.now)) }
+    ensures { IfOk result (λ f. Means (members_view evaluators.now) (object (members_view members.now)) (flag_view f)) }
+{
+    let Some(outline) = outline_of(members) else {
+        return Ok(Flag { rules: None });
+    };
+    if let Forecast::Broken = forecast {
+        return Ok(Flag { rules: None });
+    }
+    let targeting = member_by_halving(members, "targeting");
+    let targeting = read_targeting(alloc, targeting, evaluators)?;
+    good_flag(alloc, outline, targeting)
+}
+
+/// The good flag with this targeting.
+fn good_flag(
+    alloc: Global,
+    outline: Outline<'_>,
+    targeting: Option<Expr>,
+) -> Result<Flag, AllocError>
+    requires { are_rules (rules_with (outline_view outline) (option_map view targeting)) ≡ true }
+    ensures { IfOk result (λ f. flag_view f ≡ good (rules_with (outline_view outline.entry) (option_map view targeting))) }
+{
+    let variants = copy_members(alloc, outline.variants)?;
+    let default_variant = own_name(alloc, outline.default_variant)?;
+    let rules = Rules {
+        enabled: outline.enabled,
+        variants,
+        default_variant,
+        targeting,
+    };
+    Ok(Flag { rules: Some(rules) })
+}
+
+fn own_name(alloc: Global, name: Option<&str>) -> Result<Option<String>, AllocError>
+    ensures { IfOk result (λ n. option_map string_bytes n ≡ option_copied name.entry) }
+{
+    match name {
+        Some(name) => Ok(Some(String::from_str(alloc, name)?)),
+        None => Ok(None),
+    }
+}

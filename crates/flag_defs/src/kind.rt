@@ -1,0 +1,80 @@
+//! The kinds of values.
+ghost use Rattle.std.specs.Prelude.{◌≡◌};
+ghost use Rattle.flag_text.specs.View.{view, members_view};
+ghost use Rattle.flag_defs.specs.Definition.{all_values, are_of_one_kind};
+ghost use Rattle.flag_defs.specs.Kind.{is_of_kind, kind_named, word_of};
+
+use flag_text::Tree;
+
+/// The kind of value that a flag is asked for (OpenFeature: boolean, string, number and structure evaluation).
+#[derive(Clone, Copy, Debug, PartialEq, Eq)]
+pub enum Kind {
+    /// `true` or `false`.
+    Bool,
+    /// A text.
+    Text,
+    /// A whole number.
+    Whole,
+    /// An object.
+    Object,
+}
+
+impl Kind {
+    /// The kind of this word: `bool`, `text`, `whole` or `object`.
+    pub fn named(word: &str) -> Option<Kind>
+        ensures { result ≡ kind_named word.now }
+    {
+        match word {
+            "bool" => Some(Kind::Bool),
+            "text" => Some(Kind::Text),
+            "whole" => Some(Kind::Whole),
+            "object" => Some(Kind::Object),
+            _ => None,
+        }
+    }
+
+    /// The word for the kind.
+    pub fn as_str(&self) -> &'static str
+        ensures { result.now ≡ word_of self.now }
+    {
+        match self {
+            Kind::Bool => "bool",
+            Kind::Text => "text",
+            Kind::Whole => "whole",
+            Kind::Object => "object",
+        }
+    }
+
+    /// Whether the value is of this kind. A null and a list are of none.
+    pub fn is_of(&self, value: &Tree) -> bool
+        ensures { result ≡ is_of_kind self.now (view value.now) }
+    {
+        match self {
+            Kind::Bool => value.as_bool().is_some(),
+            Kind::Text => value.as_text().is_some(),
+            Kind::Whole => value.as_whole().is_some(),
+            Kind::Object => value.as_object().is_some(),
+        }
+    }
+
+    fn is_of_all(self, variants: &[(String, Tree)]) -> bool
+        ensures { result ≡ all_values (is_of_kind self) (members_view variants.now) }
+    {
+        for (_, value) in variants {
+            if !self.is_of(value) {
+                return false;
+            }
+        }
+        true
+    }
+}
+
+/// Whether the values are of one kind.
+pub(crate) fn are_of_one_kind(variants: &[(String, Tree)]) -> bool
+    ensures { result ≡ are_of_one_kind (members_view variants.now) }
+{
+    Kind::Bool.is_of_all(variants)
+        || Kind::Text.is_of_all(variants)
+        || Kind::Whole.is_of_all(variants)
+        || Kind::Object.is_of_all(variants)
+}

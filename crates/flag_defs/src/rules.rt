@@ -1,0 +1,16 @@
+//! The rules of a good flag.
+ghost use Rattle.std.specs.Prelude.{◌≡◌, true, IfOk};
+ghost use Rattle.flag_defs.specs.Rules.{are_rules, rules_of};
+
+use flag_text::Tree;
+use logic_ast::Expr;
+
+/// How a good flag is resolved. They can be printed, and read again from what is printed.
+#[derive(Drop)]
+pub(crate) struct Rules {
+    pub(crate) enabled: bool,
+    pub(crate) variants: Vec<(String, Tree)>,
+    pub(crate) default_variant: Option<String>,
+    pub(crate) targeting: Option<Expr>,
+    pub ghost lawful: { are_rules (rules_of enabled variants.items default_variant targeting) ≡ true },
+}

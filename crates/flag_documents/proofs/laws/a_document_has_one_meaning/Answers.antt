@@ -1,5 +1,0 @@
-use Rattle.flag_documents.proofs.Meanings.{one_meaning}
-use Rattle.flag_documents.proofs.laws.a_document_has_one_meaning.Goals as goal
-
-pub returns : goal.returns
-returns c = one_meaning

@@ -1,7 +1,0 @@
-use Rattle.std.proofs.Common.{◌≡◌, take}
-use Rattle.flag_documents.specs.Flag.{entries_view}
-use Rattle.flag_documents.specs.Lent.{lent_view}
-use Rattle.flag_documents.proofs.lent.copy_lent.Given as goal
-
-abbrev pub invariant-loop-key : goal.invariant-loop-key
-invariant-loop-key l = entries_view l.copies.items ≡ lent_view (take l.key-index l.entries)

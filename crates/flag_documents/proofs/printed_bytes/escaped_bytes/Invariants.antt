@@ -1,6 +1,0 @@
-use Rattle.std.proofs.Common.{◌≡◌, drop}
-use Rattle.flag_documents.specs.PrintedBytes.{escaped_bytes}
-use Rattle.flag_documents.proofs.printed_bytes.escaped_bytes.Given as goal
-
-abbrev pub invariant-loop-i : goal.invariant-loop-i
-invariant-loop-i l = escaped_bytes (drop l.i l.content) ≡ l.bytes
