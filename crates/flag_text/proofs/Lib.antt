@@ -2,6 +2,7 @@ pub mod Bools
 mod Entered
 pub mod Entries
 pub mod Halving
+mod Placed
 pub mod Printed
 pub mod Pushed
 pub mod Readings

@@ -6,4 +6,5 @@ pub mod Printing
 pub mod Readers
 pub mod Reading
 pub mod Shape
+pub mod SortedMembers
 pub mod View

@@ -26,6 +26,7 @@
 
 mod equal;
 mod fault;
+mod members;
 mod named;
 mod number;
 mod outlet;

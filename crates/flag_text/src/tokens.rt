@@ -4,14 +4,15 @@ ghost use Rattle.json.specs.Json.{value, items, members};
 ghost use Rattle.serde_json.specs.Read.{converted};
 ghost use Rattle.flag_text.specs.Grammar.{tree_from, items_from, members_from};
 ghost use Rattle.flag_text.specs.Shape.{no_members};
+ghost use Rattle.flag_text.specs.SortedMembers.{entries_of};
 ghost use Rattle.flag_text.specs.View.{view, items_view, members_view};
 
 use crate::fault::TextFault;
+use crate::members::SortedMembers;
 use crate::number::number_tree;
 use crate::tree::Tree;
 use json::{Reader, Token};
-use std::alloc::{AllocError, Global};
-use std::collections::BTreeMap;
+use std::alloc::Global;
 
 /// Reads a value whose lists and objects nest at most so deep.
 #[cycle(read)]
@@ -42,7 +43,7 @@ pub(crate) fn read(alloc: Global, reader: &mut Reader<'_>, depth: usize) -> Resu
                 return Err(TextFault::NotJson);
             }
             let members = read_members(alloc, reader, depth - 1)?;
-            Ok(Tree::Object(listed(alloc, members)?))
+            Ok(Tree::Object(members.into_list(alloc)?))
         }
     }
 }
@@ -72,30 +73,19 @@ fn read_members(
     alloc: Global,
     reader: &mut Reader<'_>,
     depth: usize,
-) -> Result<BTreeMap<String, Tree>, TextFault>
-    ensures ok { IfOk result (λ m. converted (λ ms. members_from ms no_members) (members (value depth) (length reader.old) reader.old)
-        ≡ Some (members_view m.entries, reader.new)) }
+) -> Result<SortedMembers, TextFault>
+    ensures ok { IfOk result (λ s. converted (λ ms. members_from ms no_members) (members (value depth) (length reader.old) reader.old)
+        ≡ Some (members_view (entries_of s), reader.new)) }
     ensures shorter { OnOk result (length reader.new < length reader.old) }
     ensures err { result ≡ Err TextFault.NotJson
         → converted (λ ms. members_from ms no_members) (members (value depth) (length reader.old) reader.old) ≡ None }
     ensures kind { IfErr result (λ e. e ≢ TextFault.WantOfMemory → e ≡ TextFault.NotJson) }
 {
-    let mut found = BTreeMap::new(alloc);
+    let mut found = SortedMembers::new(alloc)?;
     'members: while let Some(name) = reader.next_key().or(Err(TextFault::NotJson))? {
         let key = String::from_str(alloc, name)?;
         let member = read(alloc, reader, depth)?;
-        drop(found.insert(key, member)?);
+        found.put(alloc, key, member)?;
     }
     Ok(found)
-}
-
-/// The members of a map, by name.
-fn listed(alloc: Global, members: BTreeMap<String, Tree>) -> Result<Vec<(String, Tree)>, AllocError>
-    ensures { IfOk result (λ v. v.items ≡ members.entries) }
-{
-    let mut list = Vec::with_capacity(alloc, members.len())?;
-    for member in members {
-        list.push(member)?;
-    }
-    Ok(list)
 }

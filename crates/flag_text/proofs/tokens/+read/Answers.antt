@@ -7,10 +7,12 @@ use Rattle.json.specs.Reads.{token_of}
 use Rattle.json.proofs.Grammar.{value_is, value-begin_array, value-begin_object, read_key-shorter}
 use Rattle.serde_json.specs.Read.{converted}
 use Rattle.flag_text.specs.Grammar.{put, tree_from, items_from, members_from}
-use Rattle.flag_text.specs.Shape.{null, boolean, text, list, object}
+use Rattle.flag_text.specs.Shape.{null, boolean, text, list, object, names_rise}
+use Rattle.flag_text.specs.SortedMembers.{entries_of}
 use Rattle.flag_text.specs.View.{view, members_view}
 use Rattle.flag_text.specs.declared.tree.Tree.{Text, Bool, Null, Object, the_lemmas}
-use Rattle.flag_text.proofs.Entered.{view-List, view-Object, members_view-insert_entry}
+use Rattle.flag_text.proofs.Entered.{view-List, view-Object}
+use Rattle.flag_text.proofs.Placed.{names_rise-put}
 use Rattle.flag_text.proofs.Turns.{converted-list, converted-object, item_read, item_refused, items_over, member_read, member_refused, key_refused, members_over, items_before, items_before-no_items, one_more_item, none_before}
 use Rattle.flag_text.proofs.tokens.+read.Goals as goal
 
@@ -96,13 +98,13 @@ read-returns-in_ok-read_items-in-BeginArray-clause-ok t c =
     let found = c.in_ok-read_items-in-BeginArray in
     opened ∙ ap (parse_map list) found.ensures.ok ∙ ap (λ d. Some (d, c.read_items.new.reader)) (sym (view-List found.field-0))
 
-pub read-returns-in_ok-listed-in-BeginObject-clause-ok : goal.read-returns-in_ok-listed-in-BeginObject-clause-ok
-read-returns-in_ok-listed-in-BeginObject-clause-ok t c =
+pub read-returns-in_ok-into_list-in-BeginObject-clause-ok : goal.read-returns-in_ok-into_list-in-BeginObject-clause-ok
+read-returns-in_ok-into_list-in-BeginObject-clause-ok t c =
     let first : c.args.reader.now ≡ token_of c.in_ok-token.token ∷ c.next.new.self = grind arith in
     let opened = ap (converted tree_from) (ap (value c.args.depth) (first ∙ ap (λ k. token_of k ∷ c.next.new.self) c.in-BeginObject.is) ∙ value-begin_object c.args.depth c.next.new.self (omega arith)) ∙ converted-object (members (value (c.args.depth - 1)) (length c.next.new.self) c.next.new.self) in
     let found = c.in_ok-members-in-BeginObject in
-    let list = c.in_ok-listed-in-BeginObject in
-    let seen : view (Object list.field-0) ≡ object (members_view found.members.entries) = view-Object list.field-0 ∙ ap (λ ms. object (members_view ms)) list.ensures in
+    let list = c.in_ok-into_list-in-BeginObject in
+    let seen : view (Object list.field-0) ≡ object (members_view (entries_of found.members)) = view-Object list.field-0 ∙ ap (λ ms. object (members_view ms)) list.ensures in
     opened ∙ ap (parse_map object) found.ensures.ok ∙ ap (λ d. Some (d, c.read_members.new.reader)) (sym seen)
 
 pub read_items-items-init : goal.read_items-items-init
@@ -147,14 +149,20 @@ read_items-returns-clause-ok t c =
 pub read_members-members-init : goal.read_members-members-init
 read_members-members-init t c =
     let all = members (value c.args.depth) (length c.args.reader.now) c.args.reader.now in
-    (length c.args.reader.now, omega arith, ap (λ es. converted (λ ms. members_from ms (members_view es)) all) (sym c.new-found.ensures.empty), omega arith)
+    let none = c.in_ok-found.ensures in (
+      length c.args.reader.now,
+      omega arith,
+      ap (λ es. converted (λ ms. members_from ms (members_view es)) all) (sym none),
+      omega arith,
+      ap (λ es. names_rise (members_view es)) none,
+    )
 
 pub read_members-returns-in_err-name-clause-err : goal.read_members-returns-in_err-name-clause-err
 read_members-returns-in_err-name-clause-err t c refused =
     let p = value c.args.depth in
     let l = c.members in
     let n = l.invariant.0 in
-    let old = members_view l.found.entries in
+    let old = members_view (entries_of l.found) in
     l.invariant.2 ∙ key_refused p old n l.reader (no_key c.next_key.result _ _ _ c.in_err-name.ensures c.next_key.ensures.value)
 
 pub read_members-returns-in_err-member-clause-err : goal.read_members-returns-in_err-member-clause-err
@@ -162,7 +170,7 @@ read_members-returns-in_err-member-clause-err t c refused =
     let p = value c.args.depth in
     let l = c.members in
     let n = l.invariant.0 in
-    let old = members_view l.found.entries in
+    let old = members_view (entries_of l.found) in
     let k = c.in-Some.name.now in
     let s = c.next_key.new.self in
     let named : read_key l.reader ≡ Some (Some k, s) = grind arith in
@@ -173,7 +181,7 @@ read_members-members-preserved t c =
     let p = value c.args.depth in
     let l = c.members in
     let n = l.invariant.0 in
-    let old = members_view l.found.entries in
+    let old = members_view (entries_of l.found) in
     let k = c.in-Some.name.now in
     let s = c.next_key.new.self in
     let named : read_key l.reader ≡ Some (Some k, s) = grind arith in
@@ -183,13 +191,13 @@ read_members-members-preserved t c =
     let less = read_key-shorter l.reader (Some k) s named in
     let lesser = done.shorter in
     let copied : string_bytes c.in_ok-key.key ≡ k = search rules in
-    let inserted : members_view c.insert.new.self.entries ≡ put k (view v) old =
-    ap members_view c.in_ok-insert.ensures.entries ∙ members_view-insert_entry l.found.entries c.in_ok-key.key v ∙ ap (λ name. put name (view v) old) copied in (
+    let inserted : members_view (entries_of c.put.new.self) ≡ put k (view v) old = c.in_ok-put.ensures ∙ ap (λ name. put name (view v) old) copied in (
       n - 1,
       omega (arith, l.invariant.1),
       l.invariant.2 ∙ member_read p old n k l.reader s r (view v) (omega (arith, l.invariant.1)) named done.ok
           ∙ ap (λ found. converted (λ ms. members_from ms found) (members p (n - 1) r)) (sym inserted),
       omega (arith, l.invariant.3),
+      ap names_rise inserted ∙ names_rise-put k (view v) old l.invariant.4,
     )
 
 pub read_members-returns-clause-ok : goal.read_members-returns-clause-ok
@@ -197,5 +205,5 @@ read_members-returns-clause-ok t c =
     let p = value c.args.depth in
     let l = c.members in
     let n = l.invariant.0 in
-    let old = members_view l.found.entries in
+    let old = members_view (entries_of l.found) in
     l.invariant.2 ∙ members_over p old n l.reader c.next_key.new.self l.invariant.1 (grind arith)

@@ -1,8 +1,9 @@
-use Rattle.std.proofs.Common.{◌≡◌, ℕ, ◌+◌, ◌*◌, ◌≤◌, length}
+use Rattle.std.proofs.Common.{◌≡◌, ℕ, true, ◌+◌, ◌*◌, ◌≤◌, length}
 use Rattle.json.specs.Json.{items, members, value, parse_map}
 use Rattle.serde_json.specs.Read.{converted}
 use Rattle.flag_text.specs.Grammar.{items_from, members_from}
-use Rattle.flag_text.specs.Shape.{no_members}
+use Rattle.flag_text.specs.Shape.{no_members, names_rise}
+use Rattle.flag_text.specs.SortedMembers.{entries_of}
 use Rattle.flag_text.specs.View.{members_view}
 use Rattle.flag_text.proofs.Turns.{items_before}
 use Rattle.flag_text.proofs.tokens.+read.Given as goal
@@ -28,8 +29,9 @@ decreases-read_items-items l = length l.reader
 abbrev pub invariant-read_members-members : goal.invariant-read_members-members
 invariant-read_members-members l =
     (n : ℕ) × (length l.reader ≤ n)
-    × (converted (λ ms. members_from ms no_members) (members (value l.depth) (length l.initial.reader) l.initial.reader) ≡ converted (λ ms. members_from ms (members_view l.found.entries)) (members (value l.depth) n l.reader))
+    × (converted (λ ms. members_from ms no_members) (members (value l.depth) (length l.initial.reader) l.initial.reader) ≡ converted (λ ms. members_from ms (members_view (entries_of l.found))) (members (value l.depth) n l.reader))
     × (length l.reader ≤ length l.initial.reader)
+    × (names_rise (members_view (entries_of l.found)) ≡ true)
 
 abbrev pub decreases-read_members-members : goal.decreases-read_members-members
 decreases-read_members-members l = length l.reader

@@ -1,7 +1,7 @@
 use Rattle.std.proofs.Common.{sym, ◌∙◌}
 use Rattle.std.proofs.lemmas.List.{map-id}
 use Rattle.std.proofs.lemmas.Map.Iter.{iter_end}
-use Rattle.flag_text.proofs.tokens.listed.Goals as goal
+use Rattle.flag_text.proofs.members.listed.Goals as goal
 
 pub returns : goal.returns
 returns c =

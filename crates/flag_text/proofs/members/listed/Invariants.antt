@@ -1,5 +1,5 @@
 use Rattle.std.proofs.Common.{◌≡◌}
-use Rattle.flag_text.proofs.tokens.listed.Given as goal
+use Rattle.flag_text.proofs.members.listed.Given as goal
 
 abbrev pub invariant-loop-member : goal.invariant-loop-member
 invariant-loop-member l = l.list.items ≡ l.yielded
