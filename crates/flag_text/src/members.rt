@@ -27,11 +27,11 @@ pub(crate) enum SortedMembers {
 }
 
 impl SortedMembers {
-    /// No member, and room for four: most objects of a document have no more.
-    pub(crate) fn new(alloc: Global) -> Result<SortedMembers, AllocError>
-        ensures { IfOk result (λ s. entries_of s ≡ []) }
+    /// No member.
+    pub(crate) fn new(alloc: Global) -> SortedMembers
+        ensures { entries_of result ≡ [] }
     {
-        Ok(SortedMembers::Few(Vec::with_capacity(alloc, 4)?))
+        SortedMembers::Few(Vec::new(alloc))
     }
 
     /// Takes a member in, in place of one of the same name.
