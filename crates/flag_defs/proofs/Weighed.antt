@@ -25,7 +25,7 @@ use Rattle.flag_defs.specs.Targeting.{IsForecast, end_forecast, is_nothing}
 use Rattle.flag_references.specs.declared.measure.Measure.{Measure}
 use Rattle.flag_defs.specs.declared.forecast.Forecast.{Forecast}
 use Rattle.flag_defs.specs.declared.forecast.Forecast.TheVariants.{Broken, Without, With}
-use Rattle.flag_references.proofs.Expanded.{object-form}
+use Rattle.flag_references.proofs.Expansions.{object-form}
 use Rattle.flag_references.proofs.Inlined.{map_some, and_then_some, one_form}
 use Rattle.flag_references.proofs.Least.{bytes-counted, bytes-least}
 use Rattle.flag_references.proofs.Longer.{longer}

@@ -1,4 +1,4 @@
-pub mod Expanded
+pub mod Expansions
 pub mod Faults
 pub mod Heads
 pub mod Inlined

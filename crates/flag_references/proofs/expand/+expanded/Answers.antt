@@ -4,7 +4,7 @@ use Rattle.flag_text.specs.View.{view, items_view, members_view}
 use Rattle.flag_text.proofs.Halving.{name_of}
 use Rattle.flag_references.specs.Inlining.{IsInlined}
 use Rattle.flag_references.specs.Forms.{HasForm, ItemsHaveForms, MembersHaveForms}
-use Rattle.flag_references.proofs.Expanded.{list-end, list-whole, object-end, object-whole, is_scalar, scalar-whole, item-form, member-form, AreInlined-more, MembersAreInlined-more}
+use Rattle.flag_references.proofs.Expansions.{list-end, list-whole, object-end, object-whole, is_scalar, scalar-whole, item-form, member-form, AreInlined-more, MembersAreInlined-more}
 use Rattle.flag_references.proofs.expand.+expanded.Goals as goal
 
 pub expanded-end_of-end-requires : goal.expanded-end_of-end-requires

@@ -6,7 +6,7 @@ use Rattle.flag_text.proofs.Views.{Named}
 use Rattle.flag_references.specs.Inlining.{IsInlined}
 use Rattle.flag_references.specs.Measure.{known, measured}
 use Rattle.flag_references.specs.Table.{IsEndOf, IsWhole, Learned}
-use Rattle.flag_references.proofs.Expanded.{form-measured}
+use Rattle.flag_references.proofs.Expansions.{form-measured}
 use Rattle.flag_references.proofs.Heads.{any_default, end_there, end_within, no_end}
 use Rattle.flag_references.proofs.Objects.{some_member}
 use Rattle.flag_references.proofs.table.Evaluators.end_of.Goals as goal
