@@ -27,11 +27,11 @@ pub(crate) enum SortedMembers {
 }
 
 impl SortedMembers {
-    /// No member.
-    pub(crate) fn new(alloc: Global) -> SortedMembers
-        ensures { entries_of result ≡ [] }
+    /// No member, and room for one: most objects of a document are operations, which have one member.
+    pub(crate) fn new(alloc: Global) -> Result<SortedMembers, AllocError>
+        ensures { IfOk result (λ s. entries_of s ≡ []) }
     {
-        SortedMembers::Few(Vec::new(alloc))
+        Ok(SortedMembers::Few(Vec::with_capacity(alloc, 1)?))
     }
 
     /// Takes a member in, in place of one of the same name.

@@ -81,7 +81,7 @@ fn read_members(
         → converted (λ ms. members_from ms no_members) (members (value depth) (length reader.old) reader.old) ≡ None }
     ensures kind { IfErr result (λ e. e ≢ TextFault.WantOfMemory → e ≡ TextFault.NotJson) }
 {
-    let mut found = SortedMembers::new(alloc);
+    let mut found = SortedMembers::new(alloc)?;
     'members: while let Some(name) = reader.next_key().or(Err(TextFault::NotJson))? {
         let key = String::from_str(alloc, name)?;
         let member = read(alloc, reader, depth)?;

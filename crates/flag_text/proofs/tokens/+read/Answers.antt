@@ -149,7 +149,7 @@ read_items-returns-clause-ok t c =
 pub read_members-members-init : goal.read_members-members-init
 read_members-members-init t c =
     let all = members (value c.args.depth) (length c.args.reader.now) c.args.reader.now in
-    let none = c.new-found.ensures in (
+    let none = c.in_ok-found.ensures in (
       length c.args.reader.now,
       omega arith,
       ap (λ es. converted (λ ms. members_from ms (members_view es)) all) (sym none),
