@@ -3,6 +3,7 @@ pub mod Formed
 pub mod Inner
 pub mod Lowered
 pub mod Measured
+mod Named
 pub mod Numbered
 pub mod Operators
 pub mod Places

@@ -1,6 +1,6 @@
 -- The operators by their JsonLogic names (jsonlogic.com; `starts_with`, `ends_with` and `sem_ver` by flagd's page on
 -- custom operations), and how many arguments each takes.
-use Rattle.std.specs.Prelude.{ℕ, List, [], ◌∷◌, Bool, true, ◌&&◌, ◌==◌, nat_le, codes, Option}
+use Rattle.std.specs.Prelude.{ℕ, List, [], ◌∷◌, Bool, true, ◌&&◌, ◌==◌, nat_le, codes, slice_index, Option}
 use Rattle.std.specs.List.{find}
 use Rattle.std.specs.Str.{bytes_eq}
 use Rattle.logic_ast.specs.declared.operator.Operator.{Operator}
@@ -91,6 +91,10 @@ operators =
     StrictNotEqual ∷ Less ∷ LessOrEqual ∷ Greater ∷ GreaterOrEqual ∷ Add ∷ Subtract ∷ Multiply ∷
     Remainder ∷ Max ∷ Min ∷ Map ∷ Filter ∷ Reduce ∷ AllOf ∷ NoneOf ∷ SomeOf ∷ Merge ∷ In ∷ Cat ∷
     Substr ∷ StartsWith ∷ EndsWith ∷ SemVer ∷ []
+
+-- the operator's name begins with this byte
+abbrev pub begins_with : ℕ → Operator → Bool
+begins_with byte o = slice_index (operator_name o) 0 == byte
 
 -- the operator of this name
 unfoldable pub operator_of : List ℕ → Option Operator

@@ -1,6 +1,8 @@
 //! The operators of an expression: their names and how many arguments they take.
 ghost use Rattle.std.specs.Prelude.{◌≡◌};
-ghost use Rattle.logic_ast.specs.Operator.{operator_name, takes, operators, operator_of, is_fractional};
+ghost use Rattle.std.specs.List.{filter, find};
+ghost use Rattle.std.specs.Str.{bytes_eq};
+ghost use Rattle.logic_ast.specs.Operator.{operator_name, takes, operators, operator_of, is_fractional, begins_with};
 
 /// An operator. The name of each, as JsonLogic or flagd has it, stands beside it; `fractional` is a node of its own.
 #[derive(Clone, Copy, Debug, PartialEq, Eq)]
@@ -77,55 +79,13 @@ pub enum Operator {
     SemVer,
 }
 
-/// Every operator, in the order in which they are declared.
-const OPERATORS: [Operator; 35] = [
-    Operator::Var,
-    Operator::Missing,
-    Operator::MissingSome,
-    Operator::If,
-    Operator::And,
-    Operator::Or,
-    Operator::Not,
-    Operator::Truth,
-    Operator::Equal,
-    Operator::StrictEqual,
-    Operator::NotEqual,
-    Operator::StrictNotEqual,
-    Operator::Less,
-    Operator::LessOrEqual,
-    Operator::Greater,
-    Operator::GreaterOrEqual,
-    Operator::Add,
-    Operator::Subtract,
-    Operator::Multiply,
-    Operator::Remainder,
-    Operator::Max,
-    Operator::Min,
-    Operator::Map,
-    Operator::Filter,
-    Operator::Reduce,
-    Operator::AllOf,
-    Operator::NoneOf,
-    Operator::SomeOf,
-    Operator::Merge,
-    Operator::In,
-    Operator::Cat,
-    Operator::Substr,
-    Operator::StartsWith,
-    Operator::EndsWith,
-    Operator::SemVer,
-];
-
 impl Operator {
-    /// The operator of this name.
-    #[tactic(auto, unfolding(crate::specs::Operator::operator_of))]
+    /// The operator of this name. It compares the name with those alone that begin with the same byte.
     pub fn named(name: &str) -> Option<Operator>
         ensures { result ≡ operator_of name.now }
     {
-        OPERATORS
-            .iter()
-            .copied()
-            .find(|operator| operator.name() == name)
+        let first = *name.as_bytes().first()?;
+        named_among(beginning_with(first), name)
     }
 
     /// The name of the operator in an expression.
@@ -208,6 +168,61 @@ impl Operator {
                 && count <= 3,
             Operator::SemVer => count == 3,
         }
+    }
+}
+
+/// The operator of this name among some.
+fn named_among(operators: &[Operator], name: &str) -> Option<Operator>
+    ensures { result ≡ find (λ o. bytes_eq (operator_name o) name.now) operators.now }
+{
+    operators
+        .iter()
+        .copied()
+        .find(|operator| operator.name() == name)
+}
+
+/// The operators whose names begin with this byte, in the order in which they are declared.
+fn beginning_with(byte: u8) -> &'static [Operator]
+    ensures { result.now ≡ filter (begins_with byte) operators }
+{
+    match byte {
+        b'v' => &[Operator::Var],
+        b'm' => &[
+            Operator::Missing,
+            Operator::MissingSome,
+            Operator::Max,
+            Operator::Min,
+            Operator::Map,
+            Operator::Merge,
+        ],
+        b'i' => &[Operator::If, Operator::In],
+        b'a' => &[Operator::And, Operator::AllOf],
+        b'o' => &[Operator::Or],
+        b'!' => &[
+            Operator::Not,
+            Operator::Truth,
+            Operator::NotEqual,
+            Operator::StrictNotEqual,
+        ],
+        b'=' => &[Operator::Equal, Operator::StrictEqual],
+        b'<' => &[Operator::Less, Operator::LessOrEqual],
+        b'>' => &[Operator::Greater, Operator::GreaterOrEqual],
+        b'+' => &[Operator::Add],
+        b'-' => &[Operator::Subtract],
+        b'*' => &[Operator::Multiply],
+        b'%' => &[Operator::Remainder],
+        b'f' => &[Operator::Filter],
+        b'r' => &[Operator::Reduce],
+        b'n' => &[Operator::NoneOf],
+        b's' => &[
+            Operator::SomeOf,
+            Operator::Substr,
+            Operator::StartsWith,
+            Operator::SemVer,
+        ],
+        b'c' => &[Operator::Cat],
+        b'e' => &[Operator::EndsWith],
+        _ => &[],
     }
 }
 

@@ -109,7 +109,7 @@ fn read_nodes(alloc: Global, items: &[Tree], next: &mut u32) -> Result<Vec<Node>
     ensures value { IfOk result (λ x. nodes_view x.items ≡ expressions_from next.old (items_view items.now)) }
     ensures next { OnOk result (next.new ≡ next.old + sites_in (expressions_from next.old (items_view items.now))) }
 {
-    let mut nodes = Vec::new(alloc);
+    let mut nodes = Vec::with_capacity(alloc, items.len())?;
     for item in items {
         nodes.push(read_node(alloc, item, next)?)?;
     }
@@ -125,7 +125,7 @@ fn read_arguments(alloc: Global, value: &Tree, next: &mut u32) -> Result<Vec<Nod
     match value {
         Tree::List(items) => read_nodes(alloc, items.as_slice(), next),
         _ => {
-            let mut nodes = Vec::new(alloc);
+            let mut nodes = Vec::with_capacity(alloc, 1)?;
             nodes.push(read_node(alloc, value, next)?)?;
             Ok(nodes)
         }
@@ -195,7 +195,7 @@ fn read_buckets(
     ensures value { IfOk result (λ x. buckets_view x.items ≡ buckets_from next.old (items_view items.now)) }
     ensures next { OnOk result (next.new ≡ next.old + sites_in_buckets (buckets_from next.old (items_view items.now))) }
 {
-    let mut buckets = Vec::new(alloc);
+    let mut buckets = Vec::with_capacity(alloc, items.len())?;
     for item in items {
         if let Tree::List(parts) = item {
             buckets.push(read_bucket(alloc, parts.as_slice(), next)?)?;

@@ -233,7 +233,7 @@ read_arguments-returns-in_ok-push-in_default t c =
     let other : is_list_tree tree ≡ false = search (rules, tree_lemmas) in
     let made = arguments_from-other k tree other in
     let node = c.in_ok-read_node-in_default.field-0 in
-    let nodes = c.in_ok-push-in_default.ensures.items ∙ ap (λ (xs : List Node). xs ++ node ∷ []) c.new-nodes.ensures.items in
+    let nodes = c.in_ok-push-in_default.ensures.items ∙ ap (λ (xs : List Node). xs ++ node ∷ []) c.in_ok-nodes-in_default.ensures.items in
     record {
       value = ap nodes_view nodes ∙ (ap (λ (e : Expression). expression e no_expressions) c.in_ok-read_node-in_default.ensures.value ∙ sym made);
       next = omega (arith, ap sites_in made, c.in_ok-read_node-in_default.ensures.next);
