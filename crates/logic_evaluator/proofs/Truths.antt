@@ -1,5 +1,5 @@
 -- Truth of lists.
-use Rattle.std.proofs.Common.{◌≡◌, ℕ, suc, List, [], ◌∷◌, length, eqb, Bool, false, map, Vec, Global, refl, sym, arith, ap, ◌∙◌}
+use Rattle.std.proofs.Common.{◌≡◌, ℕ, suc, List, [], ◌∷◌, length, eqb, Bool, false, map, Vec, Global, refl, sym, arith, ap}
 use Rattle.std.specs.Prelude.{not}
 use Rattle.flag_text.specs.declared.tree.Tree.{Tree, the_lemmas}
 use Rattle.flag_text.specs.declared.tree.Tree.TheVariants as tree

@@ -8,13 +8,12 @@ use Rattle.logic_evaluator.specs.Budget.{paid}
 use Rattle.logic_evaluator.specs.Comparison.{bool_eq}
 use Rattle.logic_evaluator.specs.Evaluation.{meaning, meanings, by_meaning, bucket_meanings, input, pairs, part_of}
 use Rattle.logic_evaluator.specs.Fractional.{decided}
-use Rattle.logic_evaluator.specs.Lists.{items_in}
 use Rattle.logic_evaluator.specs.Operators.{values, operated, applied, mapped, kept, occurs, reduced, over_items}
 use Rattle.logic_evaluator.specs.Run.{Run, ends}
 use Rattle.logic_evaluator.specs.Truth.{is_true}
 use Rattle.logic_evaluator.specs.Views.{progress, value_view, scope_view, default_view, input_view, share_view}
 use Rattle.logic_evaluator.proofs.Branches.{node_view-literal, node_view-list, node_view-operation, as_seen, operated-other, conditional_err, conditional_true, conditional_false, conditional_end, first_of_truth_err, first_of_truth_found, first_of_truth_next, first_of_truth_none}
-use Rattle.logic_evaluator.proofs.Budgets.{bind_ok, bind_err, cost_ok, cost_err, paid-gives, ends_ok, ends_err}
+use Rattle.logic_evaluator.proofs.Budgets.{bind_ok, bind_err, cost_ok, cost_err, paid-gives}
 use Rattle.logic_evaluator.proofs.Exits.{exits, gives_same, ended}
 use Rattle.logic_evaluator.proofs.Items.{pushed, bool_eq-same, bool_eq-other, mapped_ok, mapped_err, kept_true, kept_false, kept_err, occurs_found, occurs_next, occurs_err, reduced_ok, reduced_err, all_of_none, all_of_some, over_items-other, over_short, over_err, over_ok, reduce_short, reduce_err, reduce_start_err, reduce_ok, start_none}
 use Rattle.logic_evaluator.proofs.Sites.{literal_ok, computed_name_err, computed_weight_err, computed_ok}
