@@ -7,7 +7,7 @@ use Rattle.std.proofs.lemmas.List.{drop_all}
 use Rattle.bucket_core.specs.Reading.{weight_of, bucket_with}
 use Rattle.bucket_core.specs.Rule.{Entries, at, total_weight, choice}
 use Rattle.bucket_core.proofs.Points.{total_weight-cons, at-nil, at-here, at-past}
-use Rattle.flag_text.specs.Shape.{Shape, null, text}
+use Rattle.flag_text.specs.Shape.{Shape, null, boolean, whole, other, text, list, object}
 use Rattle.bucket_core.specs.Point.{point_of}
 use Rattle.logic_evaluator.specs.declared.fault.EvalFault.{EvalFault}
 use Rattle.logic_evaluator.specs.declared.fault.EvalFault.TheVariants.{BadBuckets}
@@ -57,6 +57,17 @@ totals_end sum xs i h k =
     let t : nat_lt sum (2 ^ 31) ≡ true = grind arith in
     rw (drop_all i xs h) (rw (z, t) refl)
 
+-- the name of a bucket is a text
+pub is_named : (w : Option ℕ) (t : Shape) (e : List ℕ × ℕ) → Some e ≡ bucket_with w t → t ≡ text e.0
+is_named w null e h = absurd (cc h)
+is_named w (boolean b) e h = absurd (cc h)
+is_named w (whole n) e h = absurd (cc h)
+is_named w other e h = absurd (cc h)
+is_named None (text s) e h = absurd (cc h)
+is_named (Some n) (text s) e h = let same : e ≡ (s, n) = cc in ap (λ k. text k.0) (sym same)
+is_named w (list ts) e h = absurd (cc h)
+is_named w (object ms) e h = absurd (cc h)
+
 -- the rest of the entries, and the place of the point among theirs
 pub record Rest (xs : List Share) (i point left : ℕ) (r : Entries) : Type 0 where
   pub rest : Entries
@@ -102,6 +113,13 @@ chosen_gives : (q : Progress) (o : Option (List ℕ)) → paid q (chosen o) ≡ 
 chosen_gives q None = paid-gives q null
 chosen_gives q (Some name) = paid-gives q (text name)
 
+-- the same shape of two names, or null for none
+pub or_null : {A B : Type 0} (f : A → Shape) (g : B → Shape) (a : Option A) (b : Option B) → option_map f a ≡ option_map g b → option_map_or f a null ≡ option_map_or g b null
+or_null f g None None e = refl
+or_null f g None (Some y) e = absurd (cc e)
+or_null f g (Some x) None e = absurd (cc e)
+or_null f g (Some x) (Some y) e = cc
+
 -- what a site decides, by the total of its buckets and its input
 module _ (site : ℕ) (input : Option (Result (List ℕ) EvalFault)) (ps : List (Shape × Shape)) (p : Progress) where
   pub decided_bad : None ≡ option_map total_weight (buckets_of ps) → paid p (decided site input ps) ≡ Err BadBuckets
@@ -140,21 +158,21 @@ module _ (site : ℕ) (input : Option (Result (List ℕ) EvalFault)) (ps : List 
       go (Some r) e (Some (Ok s)) k = absurd (cc k)
       go (Some r) e (Some (Err d)) k = absurd (cc k)
 
-  -- the value of the name that is chosen, if there is one
-  pub decided_ok : (t : ℕ) (s : List ℕ) (name : Option (List ℕ)) → Some t ≡ option_map total_weight (buckets_of ps) → t ≢ 0 → input_result input ≡ Ok (Some s)
-      → ((r : Entries) → entries_of ps ≡ Some r → name ≡ at r (point_of t s))
-      → paid p (decided site input ps) ≡ Ok (option_map_or text name null, (p.0, p.1 ++ record { site = site; input = s; total = t } ∷ []))
-  decided_ok t s name h n g named = go (buckets_of ps) refl h input g
+  -- the name that is chosen, if there is one
+  pub decided_ok : (t : ℕ) (s : List ℕ) (v : Shape) → Some t ≡ option_map total_weight (buckets_of ps) → t ≢ 0 → input_result input ≡ Ok (Some s)
+      → ((r : Entries) → entries_of ps ≡ Some r → v ≡ option_map_or text (at r (point_of t s)) null)
+      → paid p (decided site input ps) ≡ Ok (v, (p.0, p.1 ++ record { site = site; input = s; total = t } ∷ []))
+  decided_ok t s v h n g named = go (buckets_of ps) refl h input g
     where
       at_site : (r : Entries) → t ≡ total_weight r → entries_of ps ≡ Some r
-          → paid p (reached site r s) ≡ Ok (option_map_or text name null, (p.0, p.1 ++ record { site = site; input = s; total = t } ∷ []))
+          → paid p (reached site r s) ≡ Ok (v, (p.0, p.1 ++ record { site = site; input = s; total = t } ∷ []))
       at_site r z es =
-          let same : choice r s ≡ name = ap (λ w. at r (point_of w s)) (sym z) ∙ sym (named r es) in
+          let same : option_map_or text (choice r s) null ≡ v = ap (λ w. option_map_or text (at r (point_of w s)) null) (sym z) ∙ sym (named r es) in
           paid-reach p (record { site = site; input = s; total = total_weight r }) (chosen (choice r s))
           ∙ (chosen_gives _ (choice r s) ∙ rw (same, z) refl)
 
       go : (o : Option Entries) → buckets_of ps ≡ o → Some t ≡ option_map total_weight o → (i : Option (Result (List ℕ) EvalFault)) → input_result i ≡ Ok (Some s)
-          → paid p (by_buckets site i o) ≡ Ok (option_map_or text name null, (p.0, p.1 ++ record { site = site; input = s; total = t } ∷ []))
+          → paid p (by_buckets site i o) ≡ Ok (v, (p.0, p.1 ++ record { site = site; input = s; total = t } ∷ []))
       go None b e i k = absurd (cc e)
       go (Some r) b e None k = absurd (cc k)
       go (Some r) b e (Some (Err d)) k = absurd (cc k)

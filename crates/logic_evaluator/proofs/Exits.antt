@@ -4,6 +4,9 @@ use Rattle.std.specs.Result.{IsErrAnd}
 use Rattle.flag_text.specs.Outcome.{GivesUnless}
 use Rattle.logic_evaluator.specs.declared.fault.EvalFault.{EvalFault}
 use Rattle.logic_evaluator.specs.declared.fault.EvalFault.TheVariants.{WantOfMemory}
+use Rattle.logic_evaluator.specs.Budget.{Progress, paid}
+use Rattle.logic_evaluator.specs.Run.{ends}
+use Rattle.logic_evaluator.proofs.Budgets.{ends_ok, ends_err}
 
 pub exits : {X Y : Type 0} (seen : X → Y) (r : Result X EvalFault) (e : EvalFault) (wanted : Result Y EvalFault)
     → IsErrAnd r (λ y. y ≡ e) → (e ≢ WantOfMemory → wanted ≡ Err e) → GivesUnless WantOfMemory seen r wanted
@@ -21,3 +24,9 @@ pub gives_same : {X Y : Type 0} (seen : X → Y) (r : Result X EvalFault) (v w :
     → w ≡ v → GivesUnless WantOfMemory seen r v → GivesUnless WantOfMemory seen r w
 gives_same seen (Ok x) v w e h = e ∙ h
 gives_same seen (Err d) v w e h = λ n. e ∙ h n
+
+-- what ends a run is what is given
+pub ended : {X A : Type 0} (p : Progress) (seen : X → A) (r : Result X EvalFault) (w : Result A EvalFault)
+    → GivesUnless WantOfMemory seen r w → GivesUnless WantOfMemory (λ x. (seen x, p)) r (paid p (ends w))
+ended p seen (Ok x) w h = ends_ok p w (seen x) h
+ended p seen (Err d) w h = λ n. ends_err p w d (h n)

@@ -3,14 +3,13 @@ use Rattle.std.proofs.Common.{◌≡◌, ◌≢◌, ℕ, ◌+◌, ◌<◌, ◌�
 use Rattle.std.proofs.lemmas.List.{map-append, get_or_default, drop_all}
 use Rattle.std.specs.Bool.{beq}
 use Rattle.std.specs.Prelude.{not}
-use Rattle.flag_text.specs.declared.tree.Tree.{Tree}
 use Rattle.flag_text.specs.Shape.{Shape, null, boolean}
-use Rattle.flag_text.specs.View.{view}
 use Rattle.logic_ast.specs.declared.node.Node.{Node}
 use Rattle.logic_ast.specs.declared.operator.Operator.{Operator}
 use Rattle.logic_ast.specs.declared.operator.Operator.TheVariants as op
 use Rattle.logic_ast.specs.View.{node_view, nodes_view}
 use Rattle.logic_evaluator.specs.declared.fault.EvalFault.{EvalFault}
+use Rattle.logic_evaluator.specs.declared.value.Value.{Value}
 use Rattle.logic_evaluator.specs.Budget.{Progress, paid}
 use Rattle.logic_evaluator.specs.Comparison.{bool_eq}
 use Rattle.logic_evaluator.specs.Evaluation.{meaning, meanings}
@@ -18,6 +17,7 @@ use Rattle.logic_evaluator.specs.Lists.{items_in}
 use Rattle.logic_evaluator.specs.Operators.{Meaning, mapped, kept, occurs, reduced, reduce_scope, all_of, over, over_items, over_from_start, start}
 use Rattle.logic_evaluator.specs.Run.{gives, ◌>>=◌}
 use Rattle.logic_evaluator.specs.Truth.{is_true}
+use Rattle.logic_evaluator.specs.Views.{value_view}
 use Rattle.logic_evaluator.proofs.Budgets.{bind_ok, bind_err, paid-bind, paid-gives}
 use Rattle.logic_evaluator.proofs.Sizes.{drop_at}
 use Rattle.logic_evaluator.proofs.Values.{prepended, prepended-if, prepended-none, before_rest}
@@ -39,43 +39,43 @@ bool_eq-other true false e = refl
 bool_eq-other false true e = refl
 bool_eq-other false false e = e
 
-module _ (m : Meaning) (xs : List Tree) (i : ℕ) (x : Tree) (within : i < length xs) (is : x ≡ get_or xs i x) where
-  pub mapped_ok : (p q : Progress) (v : Shape) → paid p (m (view x)) ≡ Ok (v, q) → paid p (mapped m (map view (drop i xs))) ≡ prepended (v ∷ []) (paid q (mapped m (map view (drop (i + 1) xs))))
+module _ (m : Meaning) (xs : List Value) (i : ℕ) (x : Value) (within : i < length xs) (is : x ≡ get_or xs i x) where
+  pub mapped_ok : (p q : Progress) (v : Shape) → paid p (m (value_view x)) ≡ Ok (v, q) → paid p (mapped m (map value_view (drop i xs))) ≡ prepended (v ∷ []) (paid q (mapped m (map value_view (drop (i + 1) xs))))
   mapped_ok p q v e = rw (drop_at xs i x within is) (before_rest p _ _ v q e)
 
-  pub mapped_err : (p : Progress) (e : EvalFault) → paid p (m (view x)) ≡ Err e → paid p (mapped m (map view (drop i xs))) ≡ Err e
+  pub mapped_err : (p : Progress) (e : EvalFault) → paid p (m (value_view x)) ≡ Err e → paid p (mapped m (map value_view (drop i xs))) ≡ Err e
   mapped_err p e f = rw (drop_at xs i x within is) (bind_err p _ _ e f)
 
-  pub kept_true : (p q : Progress) (v : Shape) → paid p (m (view x)) ≡ Ok (v, q) → is_true v ≡ true → paid p (kept m (map view (drop i xs))) ≡ prepended (view x ∷ []) (paid q (kept m (map view (drop (i + 1) xs))))
-  kept_true p q v e t = rw (drop_at xs i x within is) (bind_ok p _ _ v q e ∙ rw t (paid-bind q _ _ ∙ prepended-if (view x ∷ []) _))
+  pub kept_true : (p q : Progress) (v : Shape) → paid p (m (value_view x)) ≡ Ok (v, q) → is_true v ≡ true → paid p (kept m (map value_view (drop i xs))) ≡ prepended (value_view x ∷ []) (paid q (kept m (map value_view (drop (i + 1) xs))))
+  kept_true p q v e t = rw (drop_at xs i x within is) (bind_ok p _ _ v q e ∙ rw t (paid-bind q _ _ ∙ prepended-if (value_view x ∷ []) _))
 
-  pub kept_false : (p q : Progress) (v : Shape) → paid p (m (view x)) ≡ Ok (v, q) → is_true v ≡ false → paid p (kept m (map view (drop i xs))) ≡ paid q (kept m (map view (drop (i + 1) xs)))
+  pub kept_false : (p q : Progress) (v : Shape) → paid p (m (value_view x)) ≡ Ok (v, q) → is_true v ≡ false → paid p (kept m (map value_view (drop i xs))) ≡ paid q (kept m (map value_view (drop (i + 1) xs)))
   kept_false p q v e t = rw (drop_at xs i x within is) (bind_ok p _ _ v q e ∙ rw t (paid-bind q _ _ ∙ (prepended-if [] _ ∙ prepended-none _)))
 
-  pub kept_err : (p : Progress) (e : EvalFault) → paid p (m (view x)) ≡ Err e → paid p (kept m (map view (drop i xs))) ≡ Err e
+  pub kept_err : (p : Progress) (e : EvalFault) → paid p (m (value_view x)) ≡ Err e → paid p (kept m (map value_view (drop i xs))) ≡ Err e
   kept_err p e f = rw (drop_at xs i x within is) (bind_err p _ _ e f)
 
-  pub occurs_found : (w : Bool) (p q : Progress) (v : Shape) → paid p (m (view x)) ≡ Ok (v, q) → bool_eq w (is_true v) ≡ true → paid p (occurs w m (map view (drop i xs))) ≡ Ok (true, q)
+  pub occurs_found : (w : Bool) (p q : Progress) (v : Shape) → paid p (m (value_view x)) ≡ Ok (v, q) → bool_eq w (is_true v) ≡ true → paid p (occurs w m (map value_view (drop i xs))) ≡ Ok (true, q)
   occurs_found w p q v e t = rw (drop_at xs i x within is) (bind_ok p _ _ v q e ∙ rw t (paid-gives q true))
 
-  pub occurs_next : (w : Bool) (p q : Progress) (v : Shape) → paid p (m (view x)) ≡ Ok (v, q) → bool_eq w (is_true v) ≡ false → paid p (occurs w m (map view (drop i xs))) ≡ paid q (occurs w m (map view (drop (i + 1) xs)))
+  pub occurs_next : (w : Bool) (p q : Progress) (v : Shape) → paid p (m (value_view x)) ≡ Ok (v, q) → bool_eq w (is_true v) ≡ false → paid p (occurs w m (map value_view (drop i xs))) ≡ paid q (occurs w m (map value_view (drop (i + 1) xs)))
   occurs_next w p q v e t = rw (drop_at xs i x within is) (bind_ok p _ _ v q e ∙ rw t refl)
 
-  pub occurs_err : (w : Bool) (p : Progress) (e : EvalFault) → paid p (m (view x)) ≡ Err e → paid p (occurs w m (map view (drop i xs))) ≡ Err e
+  pub occurs_err : (w : Bool) (p : Progress) (e : EvalFault) → paid p (m (value_view x)) ≡ Err e → paid p (occurs w m (map value_view (drop i xs))) ≡ Err e
   occurs_err w p e f = rw (drop_at xs i x within is) (bind_err p _ _ e f)
 
-  pub reduced_ok : (so_far : Shape) (p q : Progress) (v : Shape) → paid p (m (reduce_scope so_far (view x))) ≡ Ok (v, q) → paid p (reduced m so_far (map view (drop i xs))) ≡ paid q (reduced m v (map view (drop (i + 1) xs)))
+  pub reduced_ok : (so_far : Shape) (p q : Progress) (v : Shape) → paid p (m (reduce_scope so_far (value_view x))) ≡ Ok (v, q) → paid p (reduced m so_far (map value_view (drop i xs))) ≡ paid q (reduced m v (map value_view (drop (i + 1) xs)))
   reduced_ok so_far p q v e = rw (drop_at xs i x within is) (bind_ok p _ _ v q e)
 
-  pub reduced_err : (so_far : Shape) (p : Progress) (e : EvalFault) → paid p (m (reduce_scope so_far (view x))) ≡ Err e → paid p (reduced m so_far (map view (drop i xs))) ≡ Err e
+  pub reduced_err : (so_far : Shape) (p : Progress) (e : EvalFault) → paid p (m (reduce_scope so_far (value_view x))) ≡ Err e → paid p (reduced m so_far (map value_view (drop i xs))) ≡ Err e
   reduced_err so_far p e f = rw (drop_at xs i x within is) (bind_err p _ _ e f)
 
 -- `all` of no items, and of some
-pub all_of_none : (m : Meaning) (xs : List Tree) → length xs ≡ 0 → all_of m (map view xs) ≡ gives (boolean false)
+pub all_of_none : (m : Meaning) (xs : List Value) → length xs ≡ 0 → all_of m (map value_view xs) ≡ gives (boolean false)
 all_of_none m [] h = refl
 all_of_none m (x ∷ xs) h = absurd (omega arith)
 
-pub all_of_some : (m : Meaning) (xs : List Tree) → length xs ≢ 0 → all_of m (map view xs) ≡ (occurs false m (map view xs) >>= λ b. gives (boolean (not b)))
+pub all_of_some : (m : Meaning) (xs : List Value) → length xs ≢ 0 → all_of m (map value_view xs) ≡ (occurs false m (map value_view xs) >>= λ b. gives (boolean (not b)))
 all_of_some m [] h = absurd (h refl)
 all_of_some m (x ∷ xs) h = refl
 

@@ -5,6 +5,7 @@ pub mod Exits
 pub mod Sizes
 pub mod Values
 pub mod Scopes
+pub mod Surfaces
 pub mod Branches
 pub mod Items
 pub mod Sites

@@ -1,9 +1,9 @@
 -- Paying for the items and members of a value one after the other.
-use Rattle.std.proofs.Common.{◌≡◌, ℕ, suc, ◌+◌, ◌<◌, List, ◌∷◌, length, get_or, drop, drop-cons, add-one, Ok, Err, String, Global, Vec, rules, sym, ap}
+use Rattle.std.proofs.Common.{◌≡◌, ℕ, suc, ◌+◌, ◌<◌, List, ◌∷◌, length, get_or, drop, drop-cons, add-one, map, Ok, Err, String, Global, Vec, rules, sym, ap}
 use Rattle.flag_text.specs.declared.tree.Tree.{Tree, the_lemmas}
 use Rattle.flag_text.specs.declared.tree.Tree.TheVariants as tree
-use Rattle.flag_text.specs.Shape.{object}
-use Rattle.flag_text.specs.View.{view, items_view, members_view}
+use Rattle.flag_text.specs.Shape.{Shape, object}
+use Rattle.flag_text.specs.View.{view, items_of, members_view}
 use Rattle.logic_evaluator.specs.declared.fault.EvalFault.{EvalFault}
 use Rattle.logic_evaluator.specs.Budget.{Progress, paid}
 use Rattle.logic_evaluator.specs.Run.{spends}
@@ -17,13 +17,13 @@ view_object v = search (rules, the_lemmas)
 pub drop_at : {X : Type 0} (xs : List X) (i : ℕ) (x : X) → i < length xs → x ≡ get_or xs i x → drop i xs ≡ x ∷ drop (i + 1) xs
 drop_at xs i x h is = rw (add-one, drop-cons xs i x) (ap (λ y. y ∷ drop (suc i) xs) (sym is))
 
-pub items_ok : (xs : List Tree) (i : ℕ) (x : Tree) (p q : Progress) (u : Unit {0}) → i < length xs → x ≡ get_or xs i x → paid p (spends (size (view x))) ≡ Ok (u, q)
-    → paid p (spends (items_size (items_view (drop i xs)))) ≡ paid q (spends (items_size (items_view (drop (i + 1) xs))))
-items_ok xs i x p q u h is e = rw (drop_at xs i x h is) (spends_ok p _ _ u q e)
+pub items_ok : {A : Type 0} (f : A → Shape) (xs : List A) (i : ℕ) (x : A) (p q : Progress) (u : Unit {0}) → i < length xs → x ≡ get_or xs i x → paid p (spends (size (f x))) ≡ Ok (u, q)
+    → paid p (spends (items_size (items_of (map f (drop i xs))))) ≡ paid q (spends (items_size (items_of (map f (drop (i + 1) xs)))))
+items_ok f xs i x p q u h is e = rw (drop_at xs i x h is) (spends_ok p _ _ u q e)
 
-pub items_err : (xs : List Tree) (i : ℕ) (x : Tree) (p : Progress) (e : EvalFault) → i < length xs → x ≡ get_or xs i x → paid p (spends (size (view x))) ≡ Err e
-    → paid p (spends (items_size (items_view (drop i xs)))) ≡ Err e
-items_err xs i x p e h is f = rw (drop_at xs i x h is) (spends_err p _ _ e f)
+pub items_err : {A : Type 0} (f : A → Shape) (xs : List A) (i : ℕ) (x : A) (p : Progress) (e : EvalFault) → i < length xs → x ≡ get_or xs i x → paid p (spends (size (f x))) ≡ Err e
+    → paid p (spends (items_size (items_of (map f (drop i xs))))) ≡ Err e
+items_err f xs i x p e h is g = rw (drop_at xs i x h is) (spends_err p _ _ e g)
 
 pub members_ok : (xs : List (String Global × Tree)) (i : ℕ) (x : String Global × Tree) (p q : Progress) (u : Unit {0}) → i < length xs → x ≡ get_or xs i x → paid p (spends (size (view x.1))) ≡ Ok (u, q)
     → paid p (spends (members_size (members_view (drop i xs)))) ≡ paid q (spends (members_size (members_view (drop (i + 1) xs))))

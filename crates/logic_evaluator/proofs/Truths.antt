@@ -1,10 +1,10 @@
 -- Truth of lists.
-use Rattle.std.proofs.Common.{◌≡◌, ℕ, suc, List, [], ◌∷◌, length, eqb, Bool, false, Vec, Global, refl, sym, arith, ap, ◌∙◌}
+use Rattle.std.proofs.Common.{◌≡◌, ℕ, suc, List, [], ◌∷◌, length, eqb, Bool, false, map, Vec, Global, refl, sym, arith, ap}
 use Rattle.std.specs.Prelude.{not}
 use Rattle.flag_text.specs.declared.tree.Tree.{Tree, the_lemmas}
 use Rattle.flag_text.specs.declared.tree.Tree.TheVariants as tree
-use Rattle.flag_text.specs.Shape.{list, null, boolean}
-use Rattle.flag_text.specs.View.{view, items_view}
+use Rattle.flag_text.specs.Shape.{Shape, list, null, boolean}
+use Rattle.flag_text.specs.View.{view, items_of, items_view}
 use Rattle.logic_evaluator.specs.Truth.{is_true}
 
 pub view_list : (v : Vec Tree Global) → view (tree.List v) ≡ list (items_view v.items)
@@ -19,9 +19,6 @@ view_bool b = simp the_lemmas refl
 suc_not_zero : (n : ℕ) → eqb (suc n) 0 ≡ false
 suc_not_zero n = grind arith
 
-pub is_true_list : (ts : List Tree) → is_true (list (items_view ts)) ≡ not (eqb (length ts) 0)
-is_true_list [] = refl
-is_true_list (t ∷ ts) = sym (ap not (suc_not_zero (length ts)))
-
-pub is_true_items : (v : Vec Tree Global) → is_true (view (tree.List v)) ≡ not (eqb (length v.items) 0)
-is_true_items v = ap is_true (view_list v) ∙ is_true_list v.items
+pub is_true_list : {A : Type 0} (f : A → Shape) (xs : List A) → is_true (list (items_of (map f xs))) ≡ not (eqb (length xs) 0)
+is_true_list f [] = refl
+is_true_list f (x ∷ xs) = sym (ap not (suc_not_zero (length xs)))

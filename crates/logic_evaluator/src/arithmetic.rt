@@ -1,14 +1,13 @@
 //! Whole-number arithmetic on values, from the left: `+`, `*`, `-`, `%`, `max` and `min`.
 ghost use Rattle.std.specs.Prelude.{◌≡◌, ◌+ℤ◌, ◌-ℤ◌, ◌*ℤ◌, neg_ℤ, map, option_and_then};
 ghost use Rattle.std.specs.Int.{int_max, int_min};
-ghost use Rattle.flag_text.specs.View.{view};
 ghost use Rattle.logic_evaluator.specs.Arithmetic.{step, folded, folded_from_first, sum, product, maximum, minimum, difference, remainder, remainder_of};
 ghost use Rattle.logic_evaluator.specs.Number.{in_range};
-ghost use Rattle.logic_evaluator.specs.Views.{value_view};
+ghost use Rattle.logic_evaluator.specs.Views.{seen_view, value_view};
 
 use crate::number::{in_range, number_of};
+use crate::seen::Seen;
 use crate::value::Value;
-use flag_text::Tree;
 
 /// `+`, of no values 0.
 pub(crate) fn sum(values: &[Value]) -> Option<i64>
@@ -16,7 +15,7 @@ pub(crate) fn sum(values: &[Value]) -> Option<i64>
 {
     let mut total = Some(0);
     for value in values {
-        total = added(total, number_of(value.tree()));
+        total = added(total, number_of(value.seen()));
     }
     total
 }
@@ -27,7 +26,7 @@ pub(crate) fn product(values: &[Value]) -> Option<i64>
 {
     let mut total = Some(1);
     for value in values {
-        total = multiplied(total, number_of(value.tree()));
+        total = multiplied(total, number_of(value.seen()));
     }
     total
 }
@@ -38,7 +37,7 @@ pub(crate) fn maximum(values: &[Value]) -> Option<i64>
 {
     match values {
         [] => None,
-        [first, rest @ ..] => largest(number_of(first.tree()), rest),
+        [first, rest @ ..] => largest(number_of(first.seen()), rest),
     }
 }
 
@@ -48,7 +47,7 @@ pub(crate) fn minimum(values: &[Value]) -> Option<i64>
 {
     match values {
         [] => None,
-        [first, rest @ ..] => least(number_of(first.tree()), rest),
+        [first, rest @ ..] => least(number_of(first.seen()), rest),
     }
 }
 
@@ -58,14 +57,14 @@ pub(crate) fn difference(values: &[Value]) -> Option<i64>
 {
     match values {
         [] => None,
-        [one] => negated(number_of(one.tree())),
-        [first, second, ..] => subtracted(number_of(first.tree()), number_of(second.tree())),
+        [one] => negated(number_of(one.seen())),
+        [first, second, ..] => subtracted(number_of(first.seen()), number_of(second.seen())),
     }
 }
 
 /// `%`: the remainder, which has the sign of the dividend; none by 0.
-pub(crate) fn remainder(dividend: &Tree, divisor: &Tree) -> Option<i64>
-    ensures { result ≡ remainder (view dividend.now) (view divisor.now) }
+pub(crate) fn remainder(dividend: Seen, divisor: Seen) -> Option<i64>
+    ensures { result ≡ remainder (seen_view dividend.entry) (seen_view divisor.entry) }
 {
     match (number_of(dividend), number_of(divisor)) {
         (Some(m), Some(n)) => remainder_of(m, n),
@@ -78,7 +77,7 @@ fn largest(first: Option<i64>, values: &[Value]) -> Option<i64>
 {
     let mut most = first;
     for value in values {
-        most = larger(most, number_of(value.tree()));
+        most = larger(most, number_of(value.seen()));
     }
     most
 }
@@ -88,7 +87,7 @@ fn least(first: Option<i64>, values: &[Value]) -> Option<i64>
 {
     let mut least = first;
     for value in values {
-        least = smaller(least, number_of(value.tree()));
+        least = smaller(least, number_of(value.seen()));
     }
     least
 }

@@ -1,5 +1,5 @@
 //! Which name a site gives its input.
-ghost use Rattle.std.specs.Prelude.{◌≡◌, ◌<◌, ◌^◌, ◌++◌, map, option_map, option_copied, IfOk, IfSome, Some, string_bytes};
+ghost use Rattle.std.specs.Prelude.{◌≡◌, ◌<◌, ◌^◌, ◌++◌, map, option_map, IfOk, IfSome, Some, string_bytes};
 ghost use Rattle.std.specs.Arc.{arc_value};
 ghost use Rattle.std.specs.Option.{option_map_or};
 ghost use Rattle.std.specs.Str.{bytes_eq};
@@ -7,56 +7,57 @@ ghost use Rattle.bucket_core.specs.Reading.{weight_of, bucket_with};
 ghost use Rattle.bucket_core.specs.Rule.{Entries, at, total_weight};
 ghost use Rattle.flag_text.specs.Outcome.{GivesUnless};
 ghost use Rattle.flag_text.specs.Shape.{null, text};
-ghost use Rattle.flag_text.specs.View.{view};
 ghost use Rattle.logic_evaluator.specs.declared.fault.EvalFault.TheVariants.{WantOfMemory};
 ghost use Rattle.logic_evaluator.specs.Budget.{Follows};
 ghost use Rattle.logic_evaluator.specs.Fractional.{entries_of, buckets_of, input_result, decided};
 ghost use Rattle.logic_evaluator.specs.Text.{made};
-ghost use Rattle.logic_evaluator.specs.Views.{progress, default_view, input_view, share_view};
+ghost use Rattle.logic_evaluator.specs.Views.{progress, seen_view, value_view, default_view, input_view, share_view};
 
 use crate::fault::EvalFault;
 use crate::fractional::{Input, Share};
 use crate::meter::{Meter, Reached};
 use crate::scope::Subject;
+use crate::seen::Seen;
 use crate::text::MOST_BYTES;
-use bucket_core::{point, weight_of};
-use flag_text::Tree;
+use crate::value::{Value, copy};
+use bucket_core::point;
 use std::alloc::{AllocError, Global};
 use std::sync::Arc;
 
 const MAX_TOTAL: u64 = bucket_core::MAX_TOTAL as u64;
 
 /// What the site gives: the name at the input's point, or null.
-pub(crate) fn decide(
+pub(crate) fn decide<'a>(
     meter: &mut Meter,
     site: u32,
     input: Input,
-    shares: &[Share],
+    shares: &[Share<'a>],
     subject: Subject,
-) -> Result<Tree, EvalFault>
-    ensures exact { Follows view (progress meter.old) (progress meter.new) result (decided site (input_view (default_view subject.entry) input.entry) (map share_view shares.now)) }
+) -> Result<Value<'a>, EvalFault>
+    ensures exact { Follows value_view (progress meter.old) (progress meter.new) result (decided site (input_view (default_view subject.entry) input.entry) (map share_view shares.now)) }
 {
     let Some(total) = total_of(shares) else {
         return Err(EvalFault::BadBuckets);
     };
     if total == 0 {
-        return Ok(Tree::Null);
+        return Ok(Value::Null);
     }
     let Some(input) = input_text(meter.alloc, &mut meter.default, &input, subject)? else {
-        return Ok(Tree::Null);
+        return Ok(Value::Null);
     };
-    let name = name_at(shares, point(total, input.as_str()));
-    let chosen = chosen(meter.alloc, name)?;
+    let chosen = chosen(meter.alloc, share_at(shares, point(total, input.as_str())))?;
     meter.reached.push(Reached { site, input, total })?;
     Ok(chosen)
 }
 
-fn chosen(alloc: Global, name: Option<&str>) -> Result<Tree, AllocError>
-    ensures { IfOk result (λ t. view t ≡ option_map_or text (option_copied name.entry) null) }
+// The name of the share, or null.
+fn chosen<'a>(alloc: Global, share: Option<&Share<'a>>) -> Result<Value<'a>, AllocError>
+    ensures { IfOk result (λ v. value_view v ≡ option_map_or (λ s. (share_view s.now).0) share.entry null) }
 {
-    match name {
-        Some(name) => Ok(Tree::Text(String::from_str(alloc, name)?)),
-        None => Ok(Tree::Null),
+    match share {
+        Some(Share::Literal(name, _)) => Ok(Value::Name(name)),
+        Some(Share::Computed(name, _)) => copy(alloc, name),
+        None => Ok(Value::Null),
     }
 }
 
@@ -70,8 +71,8 @@ fn input_text(
     ensures exact { GivesUnless WantOfMemory (option_map (λ t. string_bytes (arc_value t))) result (input_result (input_view (default_view subject.entry) input.now)) }
 {
     match input {
-        Input::Given(value) => match value.tree() {
-            Tree::Text(text) => Ok(Some(Arc::new(alloc, text.clone()?)?)),
+        Input::Given(value) => match value.seen() {
+            Seen::Text(text) => Ok(Some(Arc::new(alloc, String::from_str(alloc, text)?)?)),
             _ => Ok(None),
         },
         Input::Default => match subject.key {
@@ -137,15 +138,15 @@ fn total_of(shares: &[Share]) -> Option<u32>
     Some(total as u32)
 }
 
-// The name at a point of the entries.
-fn name_at<'a, 'b>(shares: &'a [Share<'b>], point: u32) -> Option<&'a str>
-    ensures { (r : Entries) → entries_of (map share_view shares.now) ≡ Some r → option_copied result ≡ at r point }
+// The share at a point of the entries.
+fn share_at<'s, 'a>(shares: &'s [Share<'a>], point: u32) -> Option<&'s Share<'a>>
+    ensures { (r : Entries) → entries_of (map share_view shares.now) ≡ Some r → option_map (λ s. (share_view s.now).0) result ≡ option_map text (at r point) }
 {
     let mut left = point as u64;
     for share in shares {
-        let (name, weight) = entry_of(share)?;
+        let (_, weight) = entry_of(share)?;
         if left < weight {
-            return Some(name);
+            return Some(share);
         }
         left -= weight;
     }
@@ -153,7 +154,7 @@ fn name_at<'a, 'b>(shares: &'a [Share<'b>], point: u32) -> Option<&'a str>
 }
 
 // A name that is a text, and a weight.
-fn entry_of<'a, 'b>(share: &'a Share<'b>) -> Option<(&'a str, u64)>
+fn entry_of<'s, 'a>(share: &'s Share<'a>) -> Option<(&'s str, u64)>
     ensures value { option_map (λ e. (e.0.now, e.1)) result ≡ bucket_with (weight_of (share_view share.now).1) (share_view share.now).0 }
     ensures small { IfSome result (λ e. e.1 < 2 ^ 31) }
 {
@@ -165,9 +166,20 @@ fn entry_of<'a, 'b>(share: &'a Share<'b>) -> Option<(&'a str, u64)>
                 None
             }
         }
-        Share::Computed(name, weight) => match (name.tree(), weight_of(weight.tree())) {
-            (Tree::Text(name), Some(weight)) => Some((name.as_str(), weight)),
+        Share::Computed(name, weight) => match (name.seen(), weight_of(weight.seen())) {
+            (Seen::Text(name), Some(weight)) => Some((name, weight)),
             _ => None,
         },
+    }
+}
+
+// A whole number from 0 to 2^31-1.
+fn weight_of(value: Seen) -> Option<u64>
+    ensures value { result ≡ weight_of (seen_view value.entry) }
+    ensures small { IfSome result (λ n. n < 2 ^ 31) }
+{
+    match value {
+        Seen::Whole(weight) if 0 <= weight && weight <= MAX_TOTAL as i64 => Some(weight as u64),
+        _ => None,
     }
 }

@@ -1,53 +1,53 @@
 //! Equality and order of values.
 ghost use Rattle.std.specs.Prelude.{◌≡◌, ℤ, ◌<◌, ◌+◌};
-ghost use Rattle.flag_text.specs.View.{view};
 ghost use Rattle.logic_evaluator.specs.Comparison.{is_same, is_equal, order_number, is_less, is_at_most};
+ghost use Rattle.logic_evaluator.specs.Views.{seen_view};
 
 use crate::number::{decimal_value, number_of};
-use flag_text::Tree;
+use crate::seen::Seen;
 
 /// `===`: equal values of the same kind, lists and objects never.
-pub(crate) fn is_same(a: &Tree, b: &Tree) -> bool
-    ensures { result ≡ is_same (view a.now) (view b.now) }
+pub(crate) fn is_same(a: Seen, b: Seen) -> bool
+    ensures { result ≡ is_same (seen_view a.entry) (seen_view b.entry) }
 {
     match (a, b) {
-        (Tree::Null, Tree::Null) => true,
-        (Tree::Bool(a), Tree::Bool(b)) => a == b,
-        (Tree::Whole(a), Tree::Whole(b)) => a == b,
-        (Tree::Text(a), Tree::Text(b)) => a.as_str() == b.as_str(),
+        (Seen::Null, Seen::Null) => true,
+        (Seen::Bool(a), Seen::Bool(b)) => a == b,
+        (Seen::Whole(a), Seen::Whole(b)) => a == b,
+        (Seen::Text(a), Seen::Text(b)) => a == b,
         _ => false,
     }
 }
 
 /// `==`: the same, and a text with the number that it spells, a boolean with 0 or 1.
-pub(crate) fn is_equal(a: &Tree, b: &Tree) -> bool
-    ensures { result ≡ is_equal (view a.now) (view b.now) }
+pub(crate) fn is_equal(a: Seen, b: Seen) -> bool
+    ensures { result ≡ is_equal (seen_view a.entry) (seen_view b.entry) }
 {
     match (a, b) {
-        (Tree::Whole(a), Tree::Text(b)) => decimal_value(b.as_str()) == Some(*a),
-        (Tree::Text(a), Tree::Whole(b)) => decimal_value(a.as_str()) == Some(*b),
-        (Tree::Bool(a), Tree::Whole(b)) => *a as i64 == *b,
-        (Tree::Whole(a), Tree::Bool(b)) => *a == *b as i64,
+        (Seen::Whole(a), Seen::Text(b)) => decimal_value(b) == Some(a),
+        (Seen::Text(a), Seen::Whole(b)) => decimal_value(a) == Some(b),
+        (Seen::Bool(a), Seen::Whole(b)) => a as i64 == b,
+        (Seen::Whole(a), Seen::Bool(b)) => a == b as i64,
         _ => is_same(a, b),
     }
 }
 
 // The number that an order goes by: a boolean counts as 0 or 1.
-fn order_number(value: &Tree) -> Option<i64>
-    ensures { result ≡ order_number (view value.now) }
+fn order_number(value: Seen) -> Option<i64>
+    ensures { result ≡ order_number (seen_view value.entry) }
 {
     match value {
-        Tree::Bool(b) => Some(*b as i64),
+        Seen::Bool(b) => Some(b as i64),
         _ => number_of(value),
     }
 }
 
 /// `<`: two texts by their bytes, all else by number.
-pub(crate) fn is_less(a: &Tree, b: &Tree) -> bool
-    ensures { result ≡ is_less (view a.now) (view b.now) }
+pub(crate) fn is_less(a: Seen, b: Seen) -> bool
+    ensures { result ≡ is_less (seen_view a.entry) (seen_view b.entry) }
 {
-    if let (Tree::Text(a), Tree::Text(b)) = (a, b) {
-        return a.as_str() < b.as_str();
+    if let (Seen::Text(a), Seen::Text(b)) = (a, b) {
+        return a < b;
     }
     match (order_number(a), order_number(b)) {
         (Some(a), Some(b)) => a < b,
@@ -56,11 +56,11 @@ pub(crate) fn is_less(a: &Tree, b: &Tree) -> bool
 }
 
 /// `<=`: two texts by their bytes, all else by number.
-pub(crate) fn is_at_most(a: &Tree, b: &Tree) -> bool
-    ensures { result ≡ is_at_most (view a.now) (view b.now) }
+pub(crate) fn is_at_most(a: Seen, b: Seen) -> bool
+    ensures { result ≡ is_at_most (seen_view a.entry) (seen_view b.entry) }
 {
-    if let (Tree::Text(a), Tree::Text(b)) = (a, b) {
-        return a.as_str() <= b.as_str();
+    if let (Seen::Text(a), Seen::Text(b)) = (a, b) {
+        return a <= b;
     }
     match (order_number(a), order_number(b)) {
         (Some(a), Some(b)) => a <= b,

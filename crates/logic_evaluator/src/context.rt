@@ -54,7 +54,7 @@ impl<'a> Context<'a> {
     }
 
     /// The scope of the whole expression.
-    pub fn scope<'s>(&'s self, made: &'s Tree) -> Scope<'s>
+    pub fn scope<'s>(&'s self, made: &'s Tree) -> Scope<'s, 's>
         requires { view made.now ≡ flagd (situation self.now) }
         ensures { scope_view result ≡ root_scope (situation self.now) }
     {

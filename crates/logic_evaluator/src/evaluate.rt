@@ -1,6 +1,5 @@
 //! Evaluation, expression by expression.
 ghost use Rattle.std.specs.Prelude.{◌≡◌, map, drop};
-ghost use Rattle.flag_text.specs.View.{view};
 ghost use Rattle.logic_ast.specs.View.{node_view};
 ghost use Rattle.logic_evaluator.specs.Evaluated.{Evaluates, by_meaning_of, bucket_meanings_of, meaning_of, meanings_of};
 ghost use Rattle.logic_evaluator.specs.Evaluation.{input, pairs, part_of};
@@ -14,9 +13,8 @@ use crate::fractional::{Input, Share};
 use crate::meter::{Meter, pay_for};
 use crate::scope::{Scope, Subject};
 use crate::truth::is_true;
-use crate::value::{Value, items_of, trees_of};
+use crate::value::{Value, copy, items_of, listed};
 use crate::variable::variable;
-use flag_text::Tree;
 use logic_ast::{Bucket, Node, Operator};
 use smallvec::SmallVec;
 
@@ -24,10 +22,10 @@ use smallvec::SmallVec;
 ///
 /// It is `logic_eval`'s `eval` that starts it, at the root of an expression, in the root scope and with the whole budget.
 #[cycle(evaluate)]
-pub fn evaluate_node<'a>(
+pub fn evaluate_node<'s, 'a>(
     meter: &mut Meter,
     node: &'a Node,
-    scope: Scope<'a>,
+    scope: Scope<'s, 'a>,
     subject: Subject<'a>,
 ) -> Result<Value<'a>, EvalFault>
     ensures exact { Evaluates value_view meter.old meter.new result (meaning_of subject.entry node.now (scope_view scope.entry)) }
@@ -40,7 +38,7 @@ pub fn evaluate_node<'a>(
         Node::List(items) => {
             meter.pay(1)?;
             let values = evaluate_all(meter, items, scope, subject)?;
-            Ok(Value::Made(Tree::List(trees_of(meter.alloc, values)?)))
+            Ok(Value::Items(listed(meter.alloc, values)?))
         }
         Node::Operation(operator, arguments) => {
             meter.pay(1)?;
@@ -50,18 +48,17 @@ pub fn evaluate_node<'a>(
             meter.pay(1)?;
             let input = input(meter, by, scope, subject)?;
             let shares = shares(meter, buckets, scope, subject)?;
-            let made = decide(meter, *site, input, shares.as_slice(), subject)?;
-            Ok(Value::Made(made))
+            decide(meter, *site, input, shares.as_slice(), subject)
         }
     }
 }
 
 // The values of all, from the left.
 #[cycle(evaluate)]
-fn evaluate_all<'a>(
+fn evaluate_all<'s, 'a>(
     meter: &mut Meter,
     nodes: &'a Vec<Node>,
-    scope: Scope<'a>,
+    scope: Scope<'s, 'a>,
     subject: Subject<'a>,
 ) -> Result<SmallVec<Value<'a>, 3>, EvalFault>
     ensures exact { Evaluates (λ vs. map value_view vs.items) meter.old meter.new result (values (meanings_of subject.entry nodes.now.items) (scope_view scope.entry)) }
@@ -76,11 +73,11 @@ fn evaluate_all<'a>(
 
 // An operator on its arguments.
 #[cycle(evaluate)]
-fn operate<'a>(
+fn operate<'s, 'a>(
     meter: &mut Meter,
     arguments: &'a Vec<Node>,
     operator: Operator,
-    scope: Scope<'a>,
+    scope: Scope<'s, 'a>,
     subject: Subject<'a>,
 ) -> Result<Value<'a>, EvalFault>
     ensures exact { Evaluates value_view meter.old meter.new result (operated operator (meanings_of subject.entry arguments.now.items) (scope_view scope.entry)) }
@@ -101,17 +98,17 @@ fn operate<'a>(
         }
         _ => {
             let values = evaluate_all(meter, arguments, scope, subject)?;
-            Ok(Value::Made(apply(meter.alloc, operator, scope, values.as_slice())?))
+            apply(meter.alloc, operator, scope, values.as_slice())
         }
     }
 }
 
 // `if`: pairs of a test and a result, and a last result.
 #[cycle(evaluate)]
-fn conditional<'a>(
+fn conditional<'s, 'a>(
     meter: &mut Meter,
     nodes: &'a Vec<Node>,
-    scope: Scope<'a>,
+    scope: Scope<'s, 'a>,
     subject: Subject<'a>,
 ) -> Result<Value<'a>, EvalFault>
     ensures exact { Evaluates value_view meter.old meter.new result (conditional (meanings_of subject.entry nodes.now.items) (scope_view scope.entry)) }
@@ -119,34 +116,34 @@ fn conditional<'a>(
     let pairs = nodes.len() / 2;
     for pair in 0..pairs {
         let value = evaluate_node(meter, &nodes[2 * pair], scope, subject)?;
-        if is_true(value.tree()) {
+        if is_true(value.seen()) {
             return evaluate_node(meter, &nodes[2 * pair + 1], scope, subject);
         }
     }
     if nodes.len() % 2 == 1 {
         return evaluate_node(meter, &nodes[2 * pairs], scope, subject);
     }
-    Ok(Value::Made(Tree::Null))
+    Ok(Value::Null)
 }
 
 // `and` looks for a value that counts as false, `or` for one that counts as true: the first, else the last.
 #[cycle(evaluate)]
-fn first_of_truth<'a>(
+fn first_of_truth<'s, 'a>(
     meter: &mut Meter,
     nodes: &'a Vec<Node>,
     wanted: bool,
-    scope: Scope<'a>,
+    scope: Scope<'s, 'a>,
     subject: Subject<'a>,
 ) -> Result<Value<'a>, EvalFault>
     ensures exact { Evaluates value_view meter.old meter.new result (first_of_truth wanted (meanings_of subject.entry nodes.now.items) (scope_view scope.entry)) }
 {
     if nodes.is_empty() {
-        return Ok(Value::Made(Tree::Null));
+        return Ok(Value::Null);
     }
     let last = nodes.len() - 1;
     for place in 0..last {
         let value = evaluate_node(meter, &nodes[place], scope, subject)?;
-        if is_true(value.tree()) == wanted {
+        if is_true(value.seen()) == wanted {
             return Ok(value);
         }
     }
@@ -155,106 +152,100 @@ fn first_of_truth<'a>(
 
 // An operator that runs its second argument over the items of the first.
 #[cycle(evaluate)]
-fn over<'a>(
+fn over<'s, 'a>(
     meter: &mut Meter,
     arguments: &'a Vec<Node>,
     operator: Operator,
-    scope: Scope<'a>,
+    scope: Scope<'s, 'a>,
     subject: Subject<'a>,
 ) -> Result<Value<'a>, EvalFault>
     ensures exact { Evaluates value_view meter.old meter.new result (over operator (meanings_of subject.entry arguments.now.items) (scope_view scope.entry)) }
 {
     if arguments.len() < 2 {
-        return Ok(Value::Made(Tree::Null));
+        return Ok(Value::Null);
     }
     let list = evaluate_node(meter, &arguments[0], scope, subject)?;
-    let made = over_items(
-        meter,
-        &arguments[1],
-        operator,
-        items_of(list.tree()),
-        subject,
-    )?;
-    Ok(Value::Made(made))
+    let items = items_of(meter.alloc, list)?;
+    over_items(meter, &arguments[1], operator, items.as_slice(), subject)
 }
 
 #[cycle(evaluate)]
-fn over_items<'a>(
+fn over_items<'s, 'a>(
     meter: &mut Meter,
     body: &'a Node,
     operator: Operator,
-    items: &'a [Tree],
+    items: &'s [Value<'a>],
     subject: Subject<'a>,
-) -> Result<Tree, EvalFault>
-    ensures exact { Evaluates view meter.old meter.new result (over_items operator (meaning_of subject.entry body.now) (map view items.now)) }
+) -> Result<Value<'a>, EvalFault>
+    ensures exact { Evaluates value_view meter.old meter.new result (over_items operator (meaning_of subject.entry body.now) (map value_view items.now)) }
 {
     match operator {
-        Operator::Map => Ok(Tree::List(mapped(meter, body, items, subject)?)),
-        Operator::Filter => Ok(Tree::List(kept(meter, body, items, subject)?)),
+        Operator::Map => Ok(Value::Items(mapped(meter, body, items, subject)?)),
+        Operator::Filter => Ok(Value::Items(kept(meter, body, items, subject)?)),
         Operator::AllOf => {
             if items.is_empty() {
-                return Ok(Tree::Bool(false));
+                return Ok(Value::Bool(false));
             }
-            Ok(Tree::Bool(!occurs(meter, body, false, items, subject)?))
+            Ok(Value::Bool(!occurs(meter, body, false, items, subject)?))
         }
-        Operator::SomeOf => Ok(Tree::Bool(occurs(meter, body, true, items, subject)?)),
-        Operator::NoneOf => Ok(Tree::Bool(!occurs(meter, body, true, items, subject)?)),
-        _ => Ok(Tree::Null),
+        Operator::SomeOf => Ok(Value::Bool(occurs(meter, body, true, items, subject)?)),
+        Operator::NoneOf => Ok(Value::Bool(!occurs(meter, body, true, items, subject)?)),
+        _ => Ok(Value::Null),
     }
 }
 
 // `map`: the body's value at each item.
 #[cycle(evaluate)]
-fn mapped<'a>(
+fn mapped<'s, 'a>(
     meter: &mut Meter,
     body: &'a Node,
-    items: &'a [Tree],
+    items: &'s [Value<'a>],
     subject: Subject<'a>,
-) -> Result<Vec<Tree>, EvalFault>
-    ensures exact { Evaluates (λ v. map view v.items) meter.old meter.new result (mapped (meaning_of subject.entry body.now) (map view items.now)) }
+) -> Result<Vec<Value<'a>>, EvalFault>
+    ensures exact { Evaluates (λ v. map value_view v.items) meter.old meter.new result (mapped (meaning_of subject.entry body.now) (map value_view items.now)) }
 {
-    let mut trees = Vec::new(meter.alloc);
+    let mut values = Vec::new(meter.alloc);
     for item in items {
         let value = evaluate_node(meter, body, Scope::Item(item), subject)?;
-        trees.push(value.into_tree(meter.alloc)?)?;
+        values.push(value)?;
     }
-    Ok(trees)
+    Ok(values)
 }
 
 // `filter`: the items at which the body counts as true.
 #[cycle(evaluate)]
-fn kept<'a>(
+fn kept<'s, 'a>(
     meter: &mut Meter,
     body: &'a Node,
-    items: &'a [Tree],
+    items: &'s [Value<'a>],
     subject: Subject<'a>,
-) -> Result<Vec<Tree>, EvalFault>
-    ensures exact { Evaluates (λ v. map view v.items) meter.old meter.new result (kept (meaning_of subject.entry body.now) (map view items.now)) }
+) -> Result<Vec<Value<'a>>, EvalFault>
+    ensures exact { Evaluates (λ v. map value_view v.items) meter.old meter.new result (kept (meaning_of subject.entry body.now) (map value_view items.now)) }
 {
-    let mut trees = Vec::new(meter.alloc);
+    let mut values = Vec::new(meter.alloc);
     for item in items {
         let value = evaluate_node(meter, body, Scope::Item(item), subject)?;
-        if is_true(value.tree()) {
-            trees.push(item.copy(meter.alloc)?)?;
+        if is_true(value.seen()) {
+            values.push(copy(meter.alloc, item)?)?;
         }
     }
-    Ok(trees)
+    Ok(values)
 }
 
 // Whether the body counts as true (false) at some item: it stops at the first.
 #[cycle(evaluate)]
-fn occurs<'a>(
+fn occurs<'s, 'a>(
     meter: &mut Meter,
     body: &'a Node,
     wanted: bool,
-    items: &'a [Tree],
+    items: &'s [Value<'a>],
     subject: Subject<'a>,
 ) -> Result<bool, EvalFault>
-    ensures exact { Evaluates (λ b. b) meter.old meter.new result (occurs wanted (meaning_of subject.entry body.now) (map view items.now)) }
+    ensures exact { Evaluates (λ b. b) meter.old meter.new result (occurs wanted (meaning_of subject.entry body.now) (map value_view items.now)) }
 {
     for item in items {
         let value = evaluate_node(meter, body, Scope::Item(item), subject)?;
-        if is_true(value.tree()) == wanted {
+        if is_true(value.seen()) == wanted {
             return Ok(true);
         }
     }
@@ -263,54 +254,52 @@ fn occurs<'a>(
 
 // `reduce`: the list, then the start value, then the body from item to item.
 #[cycle(evaluate)]
-fn reduce<'a>(
+fn reduce<'s, 'a>(
     meter: &mut Meter,
     arguments: &'a Vec<Node>,
-    scope: Scope<'a>,
+    scope: Scope<'s, 'a>,
     subject: Subject<'a>,
 ) -> Result<Value<'a>, EvalFault>
     ensures exact { Evaluates value_view meter.old meter.new result (over_from_start (meanings_of subject.entry arguments.now.items) (scope_view scope.entry)) }
 {
     if arguments.len() < 2 {
-        return Ok(Value::Made(Tree::Null));
+        return Ok(Value::Null);
     }
     let list = evaluate_node(meter, &arguments[0], scope, subject)?;
     let start = start(meter, arguments, scope, subject)?;
-    let made = reduced(meter, &arguments[1], start, items_of(list.tree()), subject)?;
-    Ok(Value::Made(made))
+    let items = items_of(meter.alloc, list)?;
+    reduced(meter, &arguments[1], start, items.as_slice(), subject)
 }
 
 // The start value of `reduce`, null where it is absent.
 #[cycle(evaluate)]
-fn start<'a>(
+fn start<'s, 'a>(
     meter: &mut Meter,
     arguments: &'a Vec<Node>,
-    scope: Scope<'a>,
+    scope: Scope<'s, 'a>,
     subject: Subject<'a>,
-) -> Result<Tree, EvalFault>
-    ensures exact { Evaluates view meter.old meter.new result (start (meanings_of subject.entry (drop 2 arguments.now.items)) (scope_view scope.entry)) }
+) -> Result<Value<'a>, EvalFault>
+    ensures exact { Evaluates value_view meter.old meter.new result (start (meanings_of subject.entry (drop 2 arguments.now.items)) (scope_view scope.entry)) }
 {
     if arguments.len() < 3 {
-        return Ok(Tree::Null);
+        return Ok(Value::Null);
     }
-    let value = evaluate_node(meter, &arguments[2], scope, subject)?;
-    Ok(value.into_tree(meter.alloc)?)
+    evaluate_node(meter, &arguments[2], scope, subject)
 }
 
 #[cycle(evaluate)]
-fn reduced<'a>(
+fn reduced<'s, 'a>(
     meter: &mut Meter,
     body: &'a Node,
-    start: Tree,
-    items: &'a [Tree],
+    start: Value<'a>,
+    items: &'s [Value<'a>],
     subject: Subject<'a>,
-) -> Result<Tree, EvalFault>
-    ensures exact { Evaluates view meter.old meter.new result (reduced (meaning_of subject.entry body.now) (view start) (map view items.now)) }
+) -> Result<Value<'a>, EvalFault>
+    ensures exact { Evaluates value_view meter.old meter.new result (reduced (meaning_of subject.entry body.now) (value_view start.entry) (map value_view items.now)) }
 {
     let mut so_far = start;
     for item in items {
-        let value = evaluate_node(meter, body, Scope::Fold(&so_far, item), subject)?;
-        let next = value.into_tree(meter.alloc)?;
+        let next = evaluate_node(meter, body, Scope::Fold(&so_far, item), subject)?;
         so_far = next;
     }
     Ok(so_far)
@@ -318,10 +307,10 @@ fn reduced<'a>(
 
 // The input of a site: the value of its bucketing expression, where there is one.
 #[cycle(evaluate)]
-fn input<'a>(
+fn input<'s, 'a>(
     meter: &mut Meter,
     by: &'a Option<Box<Node>>,
-    scope: Scope<'a>,
+    scope: Scope<'s, 'a>,
     subject: Subject<'a>,
 ) -> Result<Input<'a>, EvalFault>
     ensures exact { Evaluates (input_view (default_view subject.entry)) meter.old meter.new result (input (default_view subject.entry) (by_meaning_of subject.entry by.now) (scope_view scope.entry)) }
@@ -334,10 +323,10 @@ fn input<'a>(
 
 // The names and weights, from the left.
 #[cycle(evaluate)]
-fn shares<'a>(
+fn shares<'s, 'a>(
     meter: &mut Meter,
     buckets: &'a Vec<Bucket<Node>>,
-    scope: Scope<'a>,
+    scope: Scope<'s, 'a>,
     subject: Subject<'a>,
 ) -> Result<Vec<Share<'a>>, EvalFault>
     ensures exact { Evaluates (λ ss. map share_view ss.items) meter.old meter.new result (pairs (bucket_meanings_of subject.entry buckets.now.items) (scope_view scope.entry)) }
@@ -360,10 +349,10 @@ fn shares<'a>(
 
 // A name or a weight: a literal is taken as it stands, for no units.
 #[cycle(evaluate)]
-fn part<'a>(
+fn part<'s, 'a>(
     meter: &mut Meter,
     node: &'a Node,
-    scope: Scope<'a>,
+    scope: Scope<'s, 'a>,
     subject: Subject<'a>,
 ) -> Result<Value<'a>, EvalFault>
     ensures exact { Evaluates value_view meter.old meter.new result (part_of (node_view node.now) (meaning_of subject.entry node.now) (scope_view scope.entry)) }

@@ -5,21 +5,54 @@ ghost use Rattle.flag_text.specs.View.{view, members_view};
 ghost use Rattle.logic_evaluator.specs.Number.{below};
 ghost use Rattle.logic_evaluator.specs.Operators.{reduce_scope};
 ghost use Rattle.logic_evaluator.specs.Scope.{step, follow, index_of, find_text, find, is_dot, with_flagd};
-ghost use Rattle.logic_evaluator.specs.Views.{scope_view, found_view, names_after};
+ghost use Rattle.logic_evaluator.specs.Views.{seen_view, value_view, scope_view, place_view, found_view, names_after};
 ghost use Rattle.std.specs.List.{slice_split};
 
 use crate::number::digits_value;
 use crate::scope::{Root, Scope};
+use crate::seen::{Seen, seen_tree};
+use crate::value::{Value, copy};
 use flag_text::{Tree, member_by_halving};
 use std::alloc::{AllocError, Global};
 
+/// Where a value stands that a path comes to.
+#[derive(Clone, Copy)]
+pub(crate) enum Place<'s, 'a> {
+    /// In the expression or the context.
+    Lent(&'a Tree),
+    /// In a value that was made.
+    Held(&'s Value<'a>),
+}
+
 /// What a path finds.
 #[derive(Clone, Copy)]
-pub(crate) enum Found<'a> {
+pub(crate) enum Found<'s, 'a> {
     /// The whole scope.
     Whole,
     /// A part of it.
-    Part(&'a Tree),
+    Part(Place<'s, 'a>),
+}
+
+impl<'s, 'a> Place<'s, 'a> {
+    /// What is seen of the value there.
+    pub(crate) fn seen(self) -> Seen<'s, 'a>
+        ensures { seen_view result ≡ place_view self.entry }
+    {
+        match self {
+            Place::Lent(tree) => seen_tree(tree),
+            Place::Held(value) => value.seen(),
+        }
+    }
+
+    /// The value there: what is lent stays lent.
+    pub(crate) fn value(self, alloc: Global) -> Result<Value<'a>, AllocError>
+        ensures { IfOk result (λ v. value_view v ≡ place_view self.entry) }
+    {
+        match self {
+            Place::Lent(tree) => Ok(Value::Lent(tree)),
+            Place::Held(value) => copy(alloc, value),
+        }
+    }
 }
 
 // A number without leading zeros, where it is below the largest `usize`.
@@ -54,6 +87,40 @@ fn step<'a>(tree: &'a Tree, name: &str) -> Option<&'a Tree>
     }
 }
 
+// The value at an index.
+fn value_at<'s, 'a>(values: &'s [Value<'a>], name: &str) -> Option<&'s Value<'a>>
+    ensures { option_map (λ v. value_view v.now) result ≡ option_and_then (slice_get (map value_view values.now)) (index_of name.now) }
+{
+    let length = values.len();
+    match index_of(name) {
+        Some(index) if index < length => Some(&values[index]),
+        _ => None,
+    }
+}
+
+// One step from a value: into what is lent, or into a value that was made.
+fn step_in_value<'s, 'a>(value: &'s Value<'a>, name: &str) -> Option<Place<'s, 'a>>
+    ensures { option_map place_view result ≡ step (value_view value.now) name.now }
+{
+    match value {
+        Value::Lent(tree) => Some(Place::Lent(step(tree, name)?)),
+        Value::Items(values) => Some(Place::Held(value_at(values.as_slice(), name)?)),
+        Value::Context(root) => Some(Place::Lent(at_root(*root, name)?)),
+        Value::Fold(so_far, current) => Some(Place::Held(in_fold(so_far, current, name)?)),
+        _ => None,
+    }
+}
+
+// One step from a place.
+fn step_from<'s, 'a>(place: Place<'s, 'a>, name: &str) -> Option<Place<'s, 'a>>
+    ensures { option_map place_view result ≡ step (place_view place.entry) name.now }
+{
+    match place {
+        Place::Lent(tree) => Some(Place::Lent(step(tree, name)?)),
+        Place::Held(value) => step_in_value(value, name),
+    }
+}
+
 // The first name of a path, and what follows its dot.
 fn first_name(path: &str) -> (&str, Option<&str>)
     ensures names { slice_split is_dot path.now ≡ result.0.now ∷ names_after result.1 }
@@ -66,23 +133,23 @@ fn first_name(path: &str) -> (&str, Option<&str>)
 }
 
 // The steps of a path one after the other.
-fn follow<'a>(tree: &'a Tree, path: &str) -> Option<&'a Tree>
-    ensures { option_map (λ t. view t.now) result ≡ follow (view tree.now) (slice_split is_dot path.now) }
+fn follow<'s, 'a>(place: Place<'s, 'a>, path: &str) -> Option<Place<'s, 'a>>
+    ensures { option_map place_view result ≡ follow (place_view place.entry) (slice_split is_dot path.now) }
 {
     match first_name(path) {
-        (name, None) => step(tree, name),
-        (name, Some(rest)) => follow(step(tree, name)?, rest),
+        (name, None) => step_from(place, name),
+        (name, Some(rest)) => follow(step_from(place, name)?, rest),
     }
 }
 
 // The first step of a path, from the scope.
-fn enter<'a>(scope: Scope<'a>, name: &str) -> Option<&'a Tree>
-    ensures { option_map (λ t. view t.now) result ≡ step (scope_view scope.entry) name.now }
+fn enter<'s, 'a>(scope: Scope<'s, 'a>, name: &str) -> Option<Place<'s, 'a>>
+    ensures { option_map place_view result ≡ step (scope_view scope.entry) name.now }
 {
     match scope {
-        Scope::Root(root) => at_root(root, name),
-        Scope::Item(tree) => step(tree, name),
-        Scope::Fold(so_far, current) => in_fold(so_far, current, name),
+        Scope::Root(root) => Some(Place::Lent(at_root(root, name)?)),
+        Scope::Item(value) => step_in_value(value, name),
+        Scope::Fold(so_far, current) => Some(Place::Held(in_fold(so_far, current, name)?)),
     }
 }
 
@@ -98,8 +165,12 @@ fn at_root<'a>(root: Root<'a>, name: &str) -> Option<&'a Tree>
 }
 
 // The value so far or the item of a `reduce`.
-fn in_fold<'a>(so_far: &'a Tree, current: &'a Tree, name: &str) -> Option<&'a Tree>
-    ensures { option_map (λ t. view t.now) result ≡ step (reduce_scope (view so_far.now) (view current.now)) name.now }
+fn in_fold<'s, 'a>(
+    so_far: &'s Value<'a>,
+    current: &'s Value<'a>,
+    name: &str,
+) -> Option<&'s Value<'a>>
+    ensures { option_map (λ v. value_view v.now) result ≡ step (reduce_scope (value_view so_far.now) (value_view current.now)) name.now }
 {
     if name == "accumulator" {
         Some(so_far)
@@ -111,7 +182,7 @@ fn in_fold<'a>(so_far: &'a Tree, current: &'a Tree, name: &str) -> Option<&'a Tr
 }
 
 // What a text finds: the whole scope where it is empty, else its steps.
-fn find_text<'a>(scope: Scope<'a>, path: &str) -> Option<Found<'a>>
+fn find_text<'s, 'a>(scope: Scope<'s, 'a>, path: &str) -> Option<Found<'s, 'a>>
     ensures { option_map (found_view (scope_view scope.entry)) result ≡ find_text (scope_view scope.entry) path.now }
 {
     if path.is_empty() {
@@ -124,17 +195,17 @@ fn find_text<'a>(scope: Scope<'a>, path: &str) -> Option<Found<'a>>
 }
 
 /// What a path finds: null is the whole scope, a whole number its decimal text.
-pub(crate) fn find<'a>(
+pub(crate) fn find<'s, 'a>(
     alloc: Global,
-    scope: Scope<'a>,
-    path: &Tree,
-) -> Result<Option<Found<'a>>, AllocError>
-    ensures { IfOk result (λ f. option_map (found_view (scope_view scope.entry)) f ≡ find (scope_view scope.entry) (view path.now)) }
+    scope: Scope<'s, 'a>,
+    path: Seen,
+) -> Result<Option<Found<'s, 'a>>, AllocError>
+    ensures { IfOk result (λ f. option_map (found_view (scope_view scope.entry)) f ≡ find (scope_view scope.entry) (seen_view path.entry)) }
 {
     match path {
-        Tree::Null => Ok(Some(Found::Whole)),
-        Tree::Text(text) => Ok(find_text(scope, text.as_str())),
-        Tree::Whole(n) => {
+        Seen::Null => Ok(Some(Found::Whole)),
+        Seen::Text(text) => Ok(find_text(scope, text)),
+        Seen::Whole(n) => {
             let text = format!(in alloc; "{n}")?;
             Ok(find_text(scope, text.as_str()))
         }

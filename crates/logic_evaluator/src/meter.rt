@@ -1,15 +1,17 @@
 //! The units that an evaluation may still cost, and what it has reached.
-ghost use Rattle.std.specs.Prelude.{◌≡◌, codes, if◌then◌else◌, string_bytes};
+ghost use Rattle.std.specs.Prelude.{◌≡◌, codes, if◌then◌else◌, map, string_bytes};
 ghost use Rattle.std.specs.Str.{bytes_eq};
 ghost use Rattle.flag_text.specs.Shape.{object};
-ghost use Rattle.flag_text.specs.View.{view, items_view, members_view};
+ghost use Rattle.flag_text.specs.View.{view, items_of, items_view, members_view};
 ghost use Rattle.logic_evaluator.specs.Budget.{Follows};
 ghost use Rattle.logic_evaluator.specs.Run.{spends};
 ghost use Rattle.logic_evaluator.specs.Scope.{size, items_size, members_size, others_size, with_flagd};
-ghost use Rattle.logic_evaluator.specs.Views.{progress, scope_view};
+ghost use Rattle.logic_evaluator.specs.Views.{progress, value_view, place_view, scope_view};
 
 use crate::fault::EvalFault;
+use crate::find::Place;
 use crate::scope::{Root, Scope};
+use crate::value::Value;
 use flag_text::Tree;
 use std::alloc::Global;
 use std::sync::Arc;
@@ -90,17 +92,60 @@ fn pay_for_members(meter: &mut Meter, members: &Vec<(String, Tree)>) -> Result<(
     Ok(())
 }
 
+/// Takes the size of a value from what is left, wherever it stands.
+#[cycle(pay_for_value)]
+pub(crate) fn pay_for_value(meter: &mut Meter, value: &Value) -> Result<(), EvalFault>
+    ensures exact { Follows (λ u. u) (progress meter.old) (progress meter.new) result (spends (size (value_view value.now))) }
+{
+    match value {
+        Value::Lent(tree) => pay_for(meter, tree),
+        Value::Name(name) => meter.pay(1 + name.len() as u64 / 64),
+        Value::Text(text) => meter.pay(1 + text.len() as u64 / 64),
+        Value::Items(items) => {
+            meter.pay(1)?;
+            pay_for_values(meter, items)
+        }
+        Value::Context(root) => pay_for_root(meter, *root),
+        Value::Fold(so_far, current) => {
+            meter.pay(1)?;
+            pay_for_value(meter, so_far)?;
+            pay_for_value(meter, current)
+        }
+        Value::Null | Value::Bool(_) | Value::Whole(_) => meter.pay(1),
+    }
+}
+
+#[cycle(pay_for_value)]
+fn pay_for_values(meter: &mut Meter, values: &Vec<Value>) -> Result<(), EvalFault>
+    ensures exact { Follows (λ u. u) (progress meter.old) (progress meter.new) result (spends (items_size (items_of (map value_view values.now.items)))) }
+{
+    for value in values {
+        pay_for_value(meter, value)?;
+    }
+    Ok(())
+}
+
+/// Takes the size of the value at a place from what is left.
+pub(crate) fn pay_for_place(meter: &mut Meter, place: Place) -> Result<(), EvalFault>
+    ensures exact { Follows (λ u. u) (progress meter.old) (progress meter.new) result (spends (size (place_view place.entry))) }
+{
+    match place {
+        Place::Lent(tree) => pay_for(meter, tree),
+        Place::Held(value) => pay_for_value(meter, value),
+    }
+}
+
 /// Takes the size of a scope, as a value, from what is left.
 pub(crate) fn pay_for_scope(meter: &mut Meter, scope: Scope) -> Result<(), EvalFault>
     ensures exact { Follows (λ u. u) (progress meter.old) (progress meter.new) result (spends (size (scope_view scope.entry))) }
 {
     match scope {
         Scope::Root(root) => pay_for_root(meter, root),
-        Scope::Item(tree) => pay_for(meter, tree),
+        Scope::Item(value) => pay_for_value(meter, value),
         Scope::Fold(so_far, current) => {
             meter.pay(1)?;
-            pay_for(meter, so_far)?;
-            pay_for(meter, current)
+            pay_for_value(meter, so_far)?;
+            pay_for_value(meter, current)
         }
     }
 }

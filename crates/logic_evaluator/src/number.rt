@@ -1,9 +1,10 @@
 //! The number of a value, where it has one.
 ghost use Rattle.std.specs.Prelude.{◌≡◌, ◌<◌, ◌+◌, ◌*◌, option_and_then, IfSome};
-ghost use Rattle.flag_text.specs.View.{view};
 ghost use Rattle.logic_evaluator.specs.Number.{in_range, digits_value, decimal_value, number_of, below};
+ghost use Rattle.logic_evaluator.specs.Views.{seen_view};
 
-use flag_text::{MAX_WHOLE, Tree, is_in_range};
+use crate::seen::Seen;
+use flag_text::{MAX_WHOLE, is_in_range};
 
 /// The number, where it is from -(2^53-1) to 2^53-1.
 pub(crate) fn in_range(n: i64) -> Option<i64>
@@ -58,12 +59,12 @@ pub(crate) fn decimal_value(text: &str) -> Option<i64>
 }
 
 /// Of a whole number that number, of a text the number that it spells in decimal.
-pub(crate) fn number_of(value: &Tree) -> Option<i64>
-    ensures { result ≡ number_of (view value.now) }
+pub(crate) fn number_of(value: Seen) -> Option<i64>
+    ensures { result ≡ number_of (seen_view value.entry) }
 {
     match value {
-        Tree::Whole(n) => Some(*n),
-        Tree::Text(text) => decimal_value(text.as_str()),
+        Seen::Whole(n) => Some(n),
+        Seen::Text(text) => decimal_value(text),
         _ => None,
     }
 }

@@ -3,17 +3,18 @@ ghost use Rattle.std.specs.Prelude.{◌≡◌, true};
 ghost use Rattle.flag_text.specs.Shape.{names_rise};
 ghost use Rattle.flag_text.specs.View.{members_view};
 
+use crate::value::Value;
 use flag_text::Tree;
 
 /// Where a path is looked up.
 #[derive(Clone, Copy)]
-pub enum Scope<'a> {
+pub enum Scope<'s, 'a> {
     /// The scope of the whole expression.
     Root(Root<'a>),
     /// An item of a list.
-    Item(&'a Tree),
+    Item(&'s Value<'a>),
     /// The value so far and the item of a `reduce`.
-    Fold(&'a Tree, &'a Tree),
+    Fold(&'s Value<'a>, &'s Value<'a>),
 }
 
 /// The context's members, whose names rise, and what stands in place of a member `$flagd`.

@@ -3,15 +3,14 @@ ghost use Rattle.std.specs.Prelude.{◌≡◌, ℤ, ◌++◌, chars, IfOk, OnOk,
 ghost use Rattle.std.specs.List.{starts_with, ends_with};
 ghost use Rattle.flag_text.specs.Outcome.{GivesUnless};
 ghost use Rattle.flag_text.specs.Shape.{text};
-ghost use Rattle.flag_text.specs.View.{view};
 ghost use Rattle.logic_evaluator.specs.declared.fault.EvalFault.TheVariants.{WantOfMemory};
 ghost use Rattle.logic_evaluator.specs.Text.{piece, part, part_result, part_to_end, part_of_length, made, start_of, end_of, characters_between, both_texts, occurs_in};
-ghost use Rattle.logic_evaluator.specs.Views.{value_view};
+ghost use Rattle.logic_evaluator.specs.Views.{seen_view, value_view};
 
 use crate::fault::EvalFault;
 use crate::number::number_of;
+use crate::seen::Seen;
 use crate::value::Value;
-use flag_text::Tree;
 use std::alloc::{AllocError, Global};
 
 /// The most bytes of a text that is made.
@@ -33,40 +32,40 @@ fn pieces(alloc: Global, values: &[Value]) -> Result<String, AllocError>
 {
     let mut text = String::new(alloc);
     for value in values {
-        push_piece(&mut text, value.tree())?;
+        push_piece(&mut text, value.seen())?;
     }
     Ok(text)
 }
 
 /// Adds what the value adds to a text: null, lists and objects add nothing.
-fn push_piece(text: &mut String, value: &Tree) -> Result<(), AllocError>
-    ensures { OnOk result (string_bytes text.new ≡ string_bytes text.old ++ piece (view value.now)) }
+fn push_piece(text: &mut String, value: Seen) -> Result<(), AllocError>
+    ensures { OnOk result (string_bytes text.new ≡ string_bytes text.old ++ piece (seen_view value.entry)) }
 {
     match value {
-        Tree::Bool(true) => text.push_str("true"),
-        Tree::Bool(false) => text.push_str("false"),
-        Tree::Whole(n) => write!(text, "{n}"),
-        Tree::Text(content) => text.push_str(content.as_str()),
+        Seen::Bool(true) => text.push_str("true"),
+        Seen::Bool(false) => text.push_str("false"),
+        Seen::Whole(n) => write!(text, "{n}"),
+        Seen::Text(content) => text.push_str(content),
         _ => Ok(()),
     }
 }
 
 /// Whether the second text is the beginning of the first, by bytes; false unless both are texts.
-pub(crate) fn starts_with(value: &Tree, front: &Tree) -> bool
-    ensures { result ≡ both_texts (starts_with nat_eq) (view value.now) (view front.now) }
+pub(crate) fn starts_with(value: Seen, front: Seen) -> bool
+    ensures { result ≡ both_texts (starts_with nat_eq) (seen_view value.entry) (seen_view front.entry) }
 {
     match (value, front) {
-        (Tree::Text(value), Tree::Text(front)) => value.as_bytes().starts_with(front.as_bytes()),
+        (Seen::Text(value), Seen::Text(front)) => value.as_bytes().starts_with(front.as_bytes()),
         _ => false,
     }
 }
 
 /// Whether the second text is the end of the first, by bytes; false unless both are texts.
-pub(crate) fn ends_with(value: &Tree, back: &Tree) -> bool
-    ensures { result ≡ both_texts (ends_with nat_eq) (view value.now) (view back.now) }
+pub(crate) fn ends_with(value: Seen, back: Seen) -> bool
+    ensures { result ≡ both_texts (ends_with nat_eq) (seen_view value.entry) (seen_view back.entry) }
 {
     match (value, back) {
-        (Tree::Text(value), Tree::Text(back)) => value.as_bytes().ends_with(back.as_bytes()),
+        (Seen::Text(value), Seen::Text(back)) => value.as_bytes().ends_with(back.as_bytes()),
         _ => false,
     }
 }
@@ -118,22 +117,22 @@ pub(crate) fn part(alloc: Global, values: &[Value]) -> Result<String, EvalFault>
     match values {
         [] => Err(EvalFault::Arithmetic),
         [_] => Err(EvalFault::Arithmetic),
-        [value, start] => part_to_end(alloc, value.tree(), number_of(start.tree())),
+        [value, start] => part_to_end(alloc, value.seen(), number_of(start.seen())),
         [value, start, count, ..] => {
-            let start = number_of(start.tree());
-            part_of_length(alloc, value.tree(), start, number_of(count.tree()))
+            let start = number_of(start.seen());
+            part_of_length(alloc, value.seen(), start, number_of(count.seen()))
         }
     }
 }
 
-fn part_to_end(alloc: Global, value: &Tree, start: Option<i64>) -> Result<String, EvalFault>
-    ensures exact { GivesUnless WantOfMemory (λ s. text (string_bytes s)) result (part_result (option_map (part_to_end (chars (piece (view value.now)))) start)) }
+fn part_to_end(alloc: Global, value: Seen, start: Option<i64>) -> Result<String, EvalFault>
+    ensures exact { GivesUnless WantOfMemory (λ s. text (string_bytes s)) result (part_result (option_map (part_to_end (chars (piece (seen_view value.entry)))) start)) }
 {
     let Some(start) = start else {
         return Err(EvalFault::Arithmetic);
     };
     match value {
-        Tree::Text(text) => Ok(text_to_end(alloc, text.as_str(), start)?),
+        Seen::Text(text) => Ok(text_to_end(alloc, text, start)?),
         _ => {
             let content = content_of(alloc, value)?;
             Ok(text_to_end(alloc, content.as_str(), start)?)
@@ -150,18 +149,18 @@ fn text_to_end(alloc: Global, text: &str, start: i64) -> Result<String, AllocErr
 
 fn part_of_length(
     alloc: Global,
-    value: &Tree,
+    value: Seen,
     start: Option<i64>,
     count: Option<i64>,
 ) -> Result<String, EvalFault>
     ensures exact { GivesUnless WantOfMemory (λ s. text (string_bytes s)) result
-        (part_result (option_and_then (λ from. option_map (part_of_length (chars (piece (view value.now))) from) count) start)) }
+        (part_result (option_and_then (λ from. option_map (part_of_length (chars (piece (seen_view value.entry))) from) count) start)) }
 {
     let (Some(start), Some(count)) = (start, count) else {
         return Err(EvalFault::Arithmetic);
     };
     match value {
-        Tree::Text(text) => Ok(text_of_length(alloc, text.as_str(), start, count)?),
+        Seen::Text(text) => Ok(text_of_length(alloc, text, start, count)?),
         _ => {
             let content = content_of(alloc, value)?;
             Ok(text_of_length(alloc, content.as_str(), start, count)?)
@@ -178,8 +177,8 @@ fn text_of_length(alloc: Global, text: &str, start: i64, count: i64) -> Result<S
 }
 
 /// The `cat` text of one value.
-fn content_of(alloc: Global, value: &Tree) -> Result<String, AllocError>
-    ensures { IfOk result (λ s. string_bytes s ≡ piece (view value.now)) }
+fn content_of(alloc: Global, value: Seen) -> Result<String, AllocError>
+    ensures { IfOk result (λ s. string_bytes s ≡ piece (seen_view value.entry)) }
 {
     let mut content = String::new(alloc);
     push_piece(&mut content, value)?;
@@ -187,11 +186,11 @@ fn content_of(alloc: Global, value: &Tree) -> Result<String, AllocError>
 }
 
 /// Whether the first text occurs in the second; false unless both are texts.
-pub(crate) fn occurs_in(part: &Tree, value: &Tree) -> bool
-    ensures { result ≡ both_texts occurs_in (view part.now) (view value.now) }
+pub(crate) fn occurs_in(part: Seen, value: Seen) -> bool
+    ensures { result ≡ both_texts occurs_in (seen_view part.entry) (seen_view value.entry) }
 {
     match (part, value) {
-        (Tree::Text(part), Tree::Text(value)) => is_within(part.as_str(), value.as_str()),
+        (Seen::Text(part), Seen::Text(value)) => is_within(part, value),
         _ => false,
     }
 }

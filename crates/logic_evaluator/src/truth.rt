@@ -1,20 +1,21 @@
 //! Which values count as true.
 ghost use Rattle.std.specs.Prelude.{◌≡◌};
-ghost use Rattle.flag_text.specs.View.{view};
 ghost use Rattle.logic_evaluator.specs.Truth.{is_true};
+ghost use Rattle.logic_evaluator.specs.Views.{seen_view};
 
-use flag_text::Tree;
+use crate::seen::Seen;
 
 /// Whether the value counts as true: all but `false`, null, 0, the empty text and the empty list do.
-pub(crate) fn is_true(value: &Tree) -> bool
-    ensures { result ≡ is_true (view value.now) }
+pub(crate) fn is_true(value: Seen) -> bool
+    ensures { result ≡ is_true (seen_view value.entry) }
 {
     match value {
-        Tree::Null => false,
-        Tree::Bool(b) => *b,
-        Tree::Whole(n) => *n != 0,
-        Tree::Text(text) => !text.is_empty(),
-        Tree::List(items) => !items.is_empty(),
-        Tree::Other | Tree::Object(_) => true,
+        Seen::Null => false,
+        Seen::Bool(b) => b,
+        Seen::Whole(n) => n != 0,
+        Seen::Text(text) => !text.is_empty(),
+        Seen::Trees(items) => !items.is_empty(),
+        Seen::Values(items) => !items.is_empty(),
+        Seen::Other | Seen::Object(_) | Seen::Context(_) | Seen::Fold(..) => true,
     }
 }

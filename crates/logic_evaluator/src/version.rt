@@ -3,25 +3,25 @@ ghost use Rattle.std.specs.Prelude.{◌≡◌, ◌≢◌, ℕ, List, ◌∷◌, 
 ghost use Rattle.std.specs.Char.{is_ascii_digit};
 ghost use Rattle.std.specs.List.{list_all};
 ghost use Rattle.semver.specs.Identifiers.{parts_of};
-ghost use Rattle.flag_text.specs.View.{view};
 ghost use Rattle.logic_evaluator.specs.Version.{without_v, completed, is_dot, version_of, matches, both_read, version_matches};
+ghost use Rattle.logic_evaluator.specs.Views.{seen_view};
 
-use flag_text::Tree;
+use crate::seen::Seen;
 use semver::{Error, Version};
 use std::alloc::{AllocError, Global};
 
 /// Whether the first version stands to the second as the operator says; false unless all are texts and readable.
 pub(crate) fn version_matches(
     alloc: Global,
-    version: &Tree,
-    operator: &Tree,
-    other: &Tree,
+    version: Seen,
+    operator: Seen,
+    other: Seen,
 ) -> Result<bool, AllocError>
-    ensures { IfOk result (λ b. b ≡ version_matches (view version.now) (view operator.now) (view other.now)) }
+    ensures { IfOk result (λ b. b ≡ version_matches (seen_view version.entry) (seen_view operator.entry) (seen_view other.entry)) }
 {
     match (version, operator, other) {
-        (Tree::Text(version), Tree::Text(operator), Tree::Text(other)) => {
-            texts_match(alloc, version.as_str(), operator.as_str(), other.as_str())
+        (Seen::Text(version), Seen::Text(operator), Seen::Text(other)) => {
+            texts_match(alloc, version, operator, other)
         }
         _ => Ok(false),
     }

@@ -1,24 +1,23 @@
 use Rattle.std.proofs.Common.{◌≡◌, ℕ, ◌+◌, ◌*◌, ◌<◌, ◌≤◌, List, [], length, drop, map, Some, Ok, pos, ap, ◌∙◌, sym, refl, arith, rules, true, false}
 use Rattle.std.proofs.lemmas.List.{drop_all}
 use Rattle.flag_text.specs.Shape.{Shape, list, text, whole}
-use Rattle.flag_text.specs.View.{view, items_of}
+use Rattle.flag_text.specs.View.{items_of}
 use Rattle.logic_ast.specs.View.{node_view, nodes_view, boxed_view, buckets_view}
 use Rattle.logic_ast.proofs.Views.{node_view-fractional}
 use Rattle.logic_evaluator.specs.Budget.{paid}
 use Rattle.logic_evaluator.specs.Comparison.{bool_eq}
 use Rattle.logic_evaluator.specs.Evaluation.{meaning, meanings, by_meaning, bucket_meanings, input, pairs, part_of}
 use Rattle.logic_evaluator.specs.Fractional.{decided}
-use Rattle.logic_evaluator.specs.Lists.{items_in}
 use Rattle.logic_evaluator.specs.Operators.{values, operated, applied, mapped, kept, occurs, reduced, over_items}
 use Rattle.logic_evaluator.specs.Run.{Run, ends}
 use Rattle.logic_evaluator.specs.Truth.{is_true}
 use Rattle.logic_evaluator.specs.Views.{progress, value_view, scope_view, default_view, input_view, share_view}
 use Rattle.logic_evaluator.proofs.Branches.{node_view-literal, node_view-list, node_view-operation, as_seen, operated-other, conditional_err, conditional_true, conditional_false, conditional_end, first_of_truth_err, first_of_truth_found, first_of_truth_next, first_of_truth_none}
-use Rattle.logic_evaluator.proofs.Budgets.{bind_ok, bind_err, cost_ok, cost_err, paid-gives, ends_ok, ends_err}
-use Rattle.logic_evaluator.proofs.Exits.{exits, gives_same}
+use Rattle.logic_evaluator.proofs.Budgets.{bind_ok, bind_err, cost_ok, cost_err, paid-gives}
+use Rattle.logic_evaluator.proofs.Exits.{exits, gives_same, ended}
 use Rattle.logic_evaluator.proofs.Items.{pushed, bool_eq-same, bool_eq-other, mapped_ok, mapped_err, kept_true, kept_false, kept_err, occurs_found, occurs_next, occurs_err, reduced_ok, reduced_err, all_of_none, all_of_some, over_items-other, over_short, over_err, over_ok, reduce_short, reduce_err, reduce_start_err, reduce_ok, start_none}
 use Rattle.logic_evaluator.proofs.Sites.{literal_ok, computed_name_err, computed_weight_err, computed_ok}
-use Rattle.logic_evaluator.proofs.Truths.{view_list, view_null, view_bool}
+use Rattle.logic_evaluator.proofs.Surfaces.{value_items, value_null, value_bool, value_lent}
 use Rattle.logic_evaluator.proofs.Values.{values_ok, values_err, prepended, prepended-err, prepended-none, prepended_all, one_more}
 use Rattle.logic_evaluator.proofs.evaluate.+evaluate.Goals as goal
 use Rattle.logic_evaluator.proofs.evaluate.+evaluate.Goals.{kept-then-is_true+in_ok-copy+in_ok-push, kept-else-is_true, shares-in-Literal+in_ok-push-in-Literal, shares-in-Computed+in_ok-name-in-Computed+in_ok-weight-in-Computed+in_ok-push-in-Computed}
@@ -35,7 +34,7 @@ pub conditional-returns-then-is_true : goal.conditional-returns-then-is_true
 conditional-returns-then-is_true t c = let xs = c.args.nodes.now.items in
     let i : ℕ = 2 * c.loop-pair.pair in
     let h : i + 1 < length xs = omega arith in
-    let t : is_true (value_view c.in_ok-value.value) ≡ true = sym (ap is_true c.tree.ensures) ∙ (sym c.is_true.ensures ∙ c.if-is_true.true) in record {
+    let t : is_true (value_view c.in_ok-value.value) ≡ true = sym (ap is_true c.seen.ensures) ∙ (sym c.is_true.ensures ∙ c.if-is_true.true) in record {
       exact = gives_same _ _ _ _ (c.loop-pair.invariant ∙ conditional_true (default_view c.args.subject) (scope_view c.args.scope) xs i c.index.result.now c.index-then-is_true.result.now (progress c.loop-pair.meter) (progress c.evaluate_node.new.meter) _ h c.index.ensures c.index-then-is_true.ensures c.in_ok-value.ensures.exact t) c.evaluate_node-then-is_true.ensures.exact;
     }
 
@@ -43,13 +42,13 @@ pub conditional-loop-pair-preserved : goal.conditional-loop-pair-preserved
 conditional-loop-pair-preserved t c = let xs = c.args.nodes.now.items in
     let i : ℕ = 2 * c.loop-pair.pair in
     let h : i + 1 < length xs = omega arith in
-    let t : is_true (value_view c.in_ok-value.value) ≡ false = sym (ap is_true c.tree.ensures) ∙ (sym c.is_true.ensures ∙ c.if-is_true.false) in
+    let t : is_true (value_view c.in_ok-value.value) ≡ false = sym (ap is_true c.seen.ensures) ∙ (sym c.is_true.ensures ∙ c.if-is_true.false) in
     let next : 2 * (c.loop-pair.pair + 1) ≡ i + 2 = omega arith in
     c.loop-pair.invariant ∙ (conditional_false (default_view c.args.subject) (scope_view c.args.scope) xs i c.index.result.now (progress c.loop-pair.meter) (progress c.evaluate_node.new.meter) _ h c.index.ensures c.in_ok-value.ensures.exact t ∙ rw next refl)
 
 pub conditional-returns : goal.conditional-returns
 conditional-returns t c = record {
-  exact = c.loop-pair.invariant ∙ (ap (paid (progress c.loop-pair.meter)) (conditional_end (default_view c.args.subject) (scope_view c.args.scope) c.args.nodes.now.items (2 * c.loop-pair.pair) (omega arith)) ∙ (paid-gives _ _ ∙ ap (λ s. Ok (s, progress c.loop-pair.meter)) (sym view_null)));
+  exact = c.loop-pair.invariant ∙ (ap (paid (progress c.loop-pair.meter)) (conditional_end (default_view c.args.subject) (scope_view c.args.scope) c.args.nodes.now.items (2 * c.loop-pair.pair) (omega arith)) ∙ (paid-gives _ _ ∙ ap (λ s. Ok (s, progress c.loop-pair.meter)) (sym value_null)));
 }
 
 pub evaluate_node-returns-in_err-pay_for-in-Literal : goal.evaluate_node-returns-in_err-pay_for-in-Literal
@@ -60,7 +59,7 @@ evaluate_node-returns-in_err-pay_for-in-Literal t c = record {
 
 pub evaluate_node-returns-in_ok-pay_for-in-Literal : goal.evaluate_node-returns-in_ok-pay_for-in-Literal
 evaluate_node-returns-in_ok-pay_for-in-Literal t c = record {
-  exact = as_seen _ _ _ _ _ (ap node_view c.in-Literal.is ∙ node_view-literal _) ∙ (cost_ok _ _ _ _ _ c.in_ok-pay_for-in-Literal.ensures.exact ∙ paid-gives _ _);
+  exact = as_seen _ _ _ _ _ (ap node_view c.in-Literal.is ∙ node_view-literal _) ∙ (cost_ok _ _ _ _ _ c.in_ok-pay_for-in-Literal.ensures.exact ∙ (paid-gives _ _ ∙ ap (λ s. Ok (s, progress c.pay_for.new.meter)) (sym (value_lent _))));
 }
 
 pub evaluate_node-returns-in_err-pay-in-List : goal.evaluate_node-returns-in_err-pay-in-List
@@ -75,9 +74,9 @@ evaluate_node-returns-in_err-values-in-List t c = record {
       (λ n. as_seen _ _ _ _ _ (ap node_view c.in-List.is ∙ node_view-list _) ∙ (cost_ok _ _ _ _ _ c.in_ok-pay-in-List.ensures.exact ∙ bind_err _ _ _ _ (c.in_err-values-in-List.ensures.exact n)));
 }
 
-pub evaluate_node-returns-in_ok-trees_of-in-List : goal.evaluate_node-returns-in_ok-trees_of-in-List
-evaluate_node-returns-in_ok-trees_of-in-List t c = record {
-  exact = as_seen _ _ _ _ _ (ap node_view c.in-List.is ∙ node_view-list _) ∙ (cost_ok _ _ _ _ _ c.in_ok-pay-in-List.ensures.exact ∙ (bind_ok _ _ _ _ _ c.in_ok-values-in-List.ensures.exact ∙ (paid-gives _ _ ∙ ap (λ s. Ok (s, progress c.evaluate_all.new.meter)) (ap (λ ts. list (items_of ts)) (sym c.in_ok-trees_of-in-List.ensures) ∙ sym (view_list c.in_ok-trees_of-in-List.field-0)))));
+pub evaluate_node-returns-in_ok-listed-in-List : goal.evaluate_node-returns-in_ok-listed-in-List
+evaluate_node-returns-in_ok-listed-in-List t c = record {
+  exact = as_seen _ _ _ _ _ (ap node_view c.in-List.is ∙ node_view-list _) ∙ (cost_ok _ _ _ _ _ c.in_ok-pay-in-List.ensures.exact ∙ (bind_ok _ _ _ _ _ c.in_ok-values-in-List.ensures.exact ∙ (paid-gives _ _ ∙ ap (λ s. Ok (s, progress c.evaluate_all.new.meter)) (ap (λ ts. list (items_of ts)) (sym c.in_ok-listed-in-List.ensures) ∙ sym (value_items c.in_ok-listed-in-List.field-0)))));
 }
 
 pub evaluate_node-returns-in_err-pay-in-Operation : goal.evaluate_node-returns-in_err-pay-in-Operation
@@ -109,15 +108,9 @@ evaluate_node-returns-in_err-shares-in-Fractional t c = record {
       (λ n. as_seen _ _ _ _ _ (ap node_view c.in-Fractional.is ∙ node_view-fractional _ _ _) ∙ (cost_ok _ _ _ _ _ c.in_ok-pay-in-Fractional.ensures.exact ∙ (bind_ok _ _ _ _ _ c.in_ok-input-in-Fractional.ensures.exact ∙ bind_err _ _ _ _ (c.in_err-shares-in-Fractional.ensures.exact n))));
 }
 
-pub evaluate_node-returns-in_err-made-in-Fractional : goal.evaluate_node-returns-in_err-made-in-Fractional
-evaluate_node-returns-in_err-made-in-Fractional t c = record {
-  exact = exits _ _ _ _ c.from_residual-in_err-made-in-Fractional.ensures.1
-      (λ n. as_seen _ _ _ _ _ (ap node_view c.in-Fractional.is ∙ node_view-fractional _ _ _) ∙ (cost_ok _ _ _ _ _ c.in_ok-pay-in-Fractional.ensures.exact ∙ (bind_ok _ _ _ _ _ c.in_ok-input-in-Fractional.ensures.exact ∙ (bind_ok _ _ _ _ _ c.in_ok-shares-in-Fractional.ensures.exact ∙ (ap (λ ss. paid (progress c.shares.new.meter) (decided c.in-Fractional.site (input_view (default_view c.args.subject) c.in_ok-input-in-Fractional.input) (map share_view ss))) (sym c.as_slice.ensures.value) ∙ c.in_err-made-in-Fractional.ensures.exact n)))));
-}
-
-pub evaluate_node-returns-in_ok-made-in-Fractional : goal.evaluate_node-returns-in_ok-made-in-Fractional
-evaluate_node-returns-in_ok-made-in-Fractional t c = record {
-  exact = as_seen _ _ _ _ _ (ap node_view c.in-Fractional.is ∙ node_view-fractional _ _ _) ∙ (cost_ok _ _ _ _ _ c.in_ok-pay-in-Fractional.ensures.exact ∙ (bind_ok _ _ _ _ _ c.in_ok-input-in-Fractional.ensures.exact ∙ (bind_ok _ _ _ _ _ c.in_ok-shares-in-Fractional.ensures.exact ∙ (ap (λ ss. paid (progress c.shares.new.meter) (decided c.in-Fractional.site (input_view (default_view c.args.subject) c.in_ok-input-in-Fractional.input) (map share_view ss))) (sym c.as_slice.ensures.value) ∙ c.in_ok-made-in-Fractional.ensures.exact))));
+pub evaluate_node-returns-in_ok-shares-in-Fractional : goal.evaluate_node-returns-in_ok-shares-in-Fractional
+evaluate_node-returns-in_ok-shares-in-Fractional t c = record {
+  exact = gives_same _ _ _ _ (as_seen _ _ _ _ _ (ap node_view c.in-Fractional.is ∙ node_view-fractional _ _ _) ∙ (cost_ok _ _ _ _ _ c.in_ok-pay-in-Fractional.ensures.exact ∙ (bind_ok _ _ _ _ _ c.in_ok-input-in-Fractional.ensures.exact ∙ (bind_ok _ _ _ _ _ c.in_ok-shares-in-Fractional.ensures.exact ∙ ap (λ ss. paid (progress c.shares.new.meter) (decided c.in-Fractional.site (input_view (default_view c.args.subject) c.in_ok-input-in-Fractional.input) (map share_view ss))) (sym c.as_slice.ensures.value))))) c.decide.ensures.exact;
 }
 
 pub evaluate_all-loop-node-init : goal.evaluate_all-loop-node-init
@@ -166,20 +159,14 @@ operate-returns-in_err-values-in_default t c = record {
       (λ n. ap (λ r. paid (progress c.args.meter.now) (r (scope_view c.args.scope))) (operated-other c.args.operator (meanings (default_view c.args.subject) (nodes_view c.args.arguments.now.items)) c.in_default.not-Var c.in_default.not-If c.in_default.not-And c.in_default.not-Or c.in_default.not-Map c.in_default.not-Filter c.in_default.not-AllOf c.in_default.not-SomeOf c.in_default.not-NoneOf c.in_default.not-Reduce) ∙ bind_err _ _ _ _ (c.in_err-values-in_default.ensures.exact n));
 }
 
-pub operate-returns-in_err-apply-in_default : goal.operate-returns-in_err-apply-in_default
-operate-returns-in_err-apply-in_default t c = record {
-  exact = exits _ _ _ _ c.from_residual-in_err-apply-in_default.ensures.1
-      (λ n. ap (λ r. paid (progress c.args.meter.now) (r (scope_view c.args.scope))) (operated-other c.args.operator (meanings (default_view c.args.subject) (nodes_view c.args.arguments.now.items)) c.in_default.not-Var c.in_default.not-If c.in_default.not-And c.in_default.not-Or c.in_default.not-Map c.in_default.not-Filter c.in_default.not-AllOf c.in_default.not-SomeOf c.in_default.not-NoneOf c.in_default.not-Reduce) ∙ (bind_ok _ _ _ _ _ c.in_ok-values-in_default.ensures.exact ∙ (ap (λ vs. paid (progress c.evaluate_all-in_default.new.meter) (let r : Run Shape = ends (applied c.args.operator (scope_view c.args.scope) (map value_view vs)) in r)) (sym c.as_slice.ensures) ∙ ends_err _ _ _ (c.in_err-apply-in_default.ensures.exact n))));
-}
-
-pub operate-returns-in_ok-apply-in_default : goal.operate-returns-in_ok-apply-in_default
-operate-returns-in_ok-apply-in_default t c = record {
-  exact = ap (λ r. paid (progress c.args.meter.now) (r (scope_view c.args.scope))) (operated-other c.args.operator (meanings (default_view c.args.subject) (nodes_view c.args.arguments.now.items)) c.in_default.not-Var c.in_default.not-If c.in_default.not-And c.in_default.not-Or c.in_default.not-Map c.in_default.not-Filter c.in_default.not-AllOf c.in_default.not-SomeOf c.in_default.not-NoneOf c.in_default.not-Reduce) ∙ (bind_ok _ _ _ _ _ c.in_ok-values-in_default.ensures.exact ∙ (ap (λ vs. paid (progress c.evaluate_all-in_default.new.meter) (let r : Run Shape = ends (applied c.args.operator (scope_view c.args.scope) (map value_view vs)) in r)) (sym c.as_slice.ensures) ∙ ends_ok _ _ _ c.in_ok-apply-in_default.ensures.exact));
+pub operate-returns-in_ok-values-in_default : goal.operate-returns-in_ok-values-in_default
+operate-returns-in_ok-values-in_default t c = record {
+  exact = gives_same _ _ _ _ (ap (λ r. paid (progress c.args.meter.now) (r (scope_view c.args.scope))) (operated-other c.args.operator (meanings (default_view c.args.subject) (nodes_view c.args.arguments.now.items)) c.in_default.not-Var c.in_default.not-If c.in_default.not-And c.in_default.not-Or c.in_default.not-Map c.in_default.not-Filter c.in_default.not-AllOf c.in_default.not-SomeOf c.in_default.not-NoneOf c.in_default.not-Reduce) ∙ (bind_ok _ _ _ _ _ c.in_ok-values-in_default.ensures.exact ∙ ap (λ vs. paid (progress c.evaluate_all-in_default.new.meter) (let r : Run Shape = ends (applied c.args.operator (scope_view c.args.scope) (map value_view vs)) in r)) (sym c.as_slice.ensures))) (ended _ _ _ _ c.apply.ensures.exact);
 }
 
 pub first_of_truth-returns-then-is_empty : goal.first_of_truth-returns-then-is_empty
 first_of_truth-returns-then-is_empty t c = record {
-  exact = ap (paid (progress c.args.meter.now)) (first_of_truth_none c.args.wanted (default_view c.args.subject) (scope_view c.args.scope) c.args.nodes.now.items (search rules)) ∙ (paid-gives _ _ ∙ ap (λ s. Ok (s, progress c.args.meter.now)) (sym view_null));
+  exact = ap (paid (progress c.args.meter.now)) (first_of_truth_none c.args.wanted (default_view c.args.subject) (scope_view c.args.scope) c.args.nodes.now.items (search rules)) ∙ (paid-gives _ _ ∙ ap (λ s. Ok (s, progress c.args.meter.now)) (sym value_null));
 }
 
 pub first_of_truth-returns-in_err-value : goal.first_of_truth-returns-in_err-value
@@ -194,7 +181,7 @@ pub first_of_truth-returns-then-is_true-wanted : goal.first_of_truth-returns-the
 first_of_truth-returns-then-is_true-wanted t c = let xs = c.args.nodes.now.items in
     let i : ℕ = c.loop-place.place in
     let h : i + 1 < length xs = omega arith in
-    let t : bool_eq c.args.wanted (is_true (value_view c.in_ok-value.value)) ≡ true = ap (bool_eq c.args.wanted) (sym (ap is_true c.tree.ensures) ∙ sym c.is_true.ensures) ∙ bool_eq-same c.args.wanted c.is_true.result c.if-is_true-wanted.true in record {
+    let t : bool_eq c.args.wanted (is_true (value_view c.in_ok-value.value)) ≡ true = ap (bool_eq c.args.wanted) (sym (ap is_true c.seen.ensures) ∙ sym c.is_true.ensures) ∙ bool_eq-same c.args.wanted c.is_true.result c.if-is_true-wanted.true in record {
       exact = c.loop-place.invariant ∙ first_of_truth_found c.args.wanted (default_view c.args.subject) (scope_view c.args.scope) xs i c.index.result.now (progress c.loop-place.meter) (progress c.evaluate_node.new.meter) _ h c.index.ensures c.in_ok-value.ensures.exact t;
     }
 
@@ -202,7 +189,7 @@ pub first_of_truth-loop-place-preserved : goal.first_of_truth-loop-place-preserv
 first_of_truth-loop-place-preserved t c = let xs = c.args.nodes.now.items in
     let i : ℕ = c.loop-place.place in
     let h : i + 1 < length xs = omega arith in
-    let t : bool_eq c.args.wanted (is_true (value_view c.in_ok-value.value)) ≡ false = ap (bool_eq c.args.wanted) (sym (ap is_true c.tree.ensures) ∙ sym c.is_true.ensures) ∙ bool_eq-other c.args.wanted c.is_true.result c.if-is_true-wanted.false in
+    let t : bool_eq c.args.wanted (is_true (value_view c.in_ok-value.value)) ≡ false = ap (bool_eq c.args.wanted) (sym (ap is_true c.seen.ensures) ∙ sym c.is_true.ensures) ∙ bool_eq-other c.args.wanted c.is_true.result c.if-is_true-wanted.false in
     c.loop-place.invariant ∙ first_of_truth_next c.args.wanted (default_view c.args.subject) (scope_view c.args.scope) xs i c.index.result.now (progress c.loop-place.meter) (progress c.evaluate_node.new.meter) _ h c.index.ensures c.in_ok-value.ensures.exact t
 
 pub mapped-returns-in_err-value : goal.mapped-returns-in_err-value
@@ -210,41 +197,41 @@ mapped-returns-in_err-value t c = let xs = c.args.items.now in
     let i : ℕ = c.loop-item.item-index in
     let h : i < length xs = omega arith in record {
       exact = exits _ _ _ _ c.from_residual.ensures.1
-          (λ n. c.loop-item.invariant ∙ (ap (prepended (map view c.loop-item.trees.items)) (mapped_err (meaning (default_view c.args.subject) (node_view c.args.body.now)) xs i c.item-item.result h c.item-item.is (progress c.loop-item.meter) _ (c.in_err-value.ensures.exact n)) ∙ prepended-err _ _));
+          (λ n. c.loop-item.invariant ∙ (ap (prepended (map value_view c.loop-item.values.items)) (mapped_err (meaning (default_view c.args.subject) (node_view c.args.body.now)) xs i c.item-item.result h c.item-item.is (progress c.loop-item.meter) _ (c.in_err-value.ensures.exact n)) ∙ prepended-err _ _));
     }
 
 pub mapped-returns : goal.mapped-returns
 mapped-returns t c = let xs = c.args.items.now in
     let end : drop c.loop-item.item-index xs ≡ [] = drop_all c.loop-item.item-index xs (omega arith) in record {
-      exact = c.loop-item.invariant ∙ (ap (λ ts. prepended (map view c.loop-item.trees.items) (paid (progress c.loop-item.meter) (mapped (meaning (default_view c.args.subject) (node_view c.args.body.now)) (map view ts)))) end ∙ prepended_all _ _);
+      exact = c.loop-item.invariant ∙ (ap (λ ts. prepended (map value_view c.loop-item.values.items) (paid (progress c.loop-item.meter) (mapped (meaning (default_view c.args.subject) (node_view c.args.body.now)) (map value_view ts)))) end ∙ prepended_all _ _);
     }
 
 pub mapped-loop-item-init : goal.mapped-loop-item-init
-mapped-loop-item-init t c = sym (ap (λ ts. prepended (map view ts) (paid (progress c.args.meter.now) (mapped (meaning (default_view c.args.subject) (node_view c.args.body.now)) (map view c.args.items.now)))) c.new-trees.ensures.items ∙ prepended-none _)
+mapped-loop-item-init t c = sym (ap (λ ts. prepended (map value_view ts) (paid (progress c.args.meter.now) (mapped (meaning (default_view c.args.subject) (node_view c.args.body.now)) (map value_view c.args.items.now)))) c.new-values.ensures.items ∙ prepended-none _)
 
 pub kept-returns-in_err-value : goal.kept-returns-in_err-value
 kept-returns-in_err-value t c = let xs = c.args.items.now in
     let i : ℕ = c.loop-item.item-index in
     let h : i < length xs = omega arith in record {
       exact = exits _ _ _ _ c.from_residual.ensures.1
-          (λ n. c.loop-item.invariant ∙ (ap (prepended (map view c.loop-item.trees.items)) (kept_err (meaning (default_view c.args.subject) (node_view c.args.body.now)) xs i c.item-item.result h c.item-item.is (progress c.loop-item.meter) _ (c.in_err-value.ensures.exact n)) ∙ prepended-err _ _));
+          (λ n. c.loop-item.invariant ∙ (ap (prepended (map value_view c.loop-item.values.items)) (kept_err (meaning (default_view c.args.subject) (node_view c.args.body.now)) xs i c.item-item.result h c.item-item.is (progress c.loop-item.meter) _ (c.in_err-value.ensures.exact n)) ∙ prepended-err _ _));
     }
 
 pub kept-returns : goal.kept-returns
 kept-returns t c = let xs = c.args.items.now in
     let end : drop c.loop-item.item-index xs ≡ [] = drop_all c.loop-item.item-index xs (omega arith) in record {
-      exact = c.loop-item.invariant ∙ (ap (λ ts. prepended (map view c.loop-item.trees.items) (paid (progress c.loop-item.meter) (kept (meaning (default_view c.args.subject) (node_view c.args.body.now)) (map view ts)))) end ∙ prepended_all _ _);
+      exact = c.loop-item.invariant ∙ (ap (λ ts. prepended (map value_view c.loop-item.values.items) (paid (progress c.loop-item.meter) (kept (meaning (default_view c.args.subject) (node_view c.args.body.now)) (map value_view ts)))) end ∙ prepended_all _ _);
     }
 
 pub kept-loop-item-init : goal.kept-loop-item-init
-kept-loop-item-init t c = sym (ap (λ ts. prepended (map view ts) (paid (progress c.args.meter.now) (kept (meaning (default_view c.args.subject) (node_view c.args.body.now)) (map view c.args.items.now)))) c.new-trees.ensures.items ∙ prepended-none _)
+kept-loop-item-init t c = sym (ap (λ ts. prepended (map value_view ts) (paid (progress c.args.meter.now) (kept (meaning (default_view c.args.subject) (node_view c.args.body.now)) (map value_view c.args.items.now)))) c.new-values.ensures.items ∙ prepended-none _)
 
 pub mapped-loop-item-preserved : goal.mapped-loop-item-preserved
 mapped-loop-item-preserved t c = let xs = c.args.items.now in
     let i : ℕ = c.loop-item.item-index in
     let h : i < length xs = omega arith in
-    c.loop-item.invariant ∙ one_more (map view c.loop-item.trees.items) (map view c.push.new.self.items) (value_view c.in_ok-value.value) _ _
-    (pushed view c.loop-item.trees.items c.push.new.self.items c.in_ok-into_tree.field-0 _ c.in_ok-push.ensures.items c.in_ok-into_tree.ensures)
+    c.loop-item.invariant ∙ one_more (map value_view c.loop-item.values.items) (map value_view c.push.new.self.items) (value_view c.in_ok-value.value) _ _
+    (pushed value_view c.loop-item.values.items c.push.new.self.items c.in_ok-value.value _ c.in_ok-push.ensures.items refl)
     (mapped_ok (meaning (default_view c.args.subject) (node_view c.args.body.now)) xs i c.item-item.result h c.item-item.is (progress c.loop-item.meter) (progress c.evaluate_node.new.meter) _ c.in_ok-value.ensures.exact)
 
 pub kept-loop-item-preserved : goal.kept-loop-item-preserved
@@ -253,13 +240,13 @@ kept-loop-item-preserved t c = let xs = c.args.items.now in
     let h : i < length xs = omega arith in
     elim c.if-is_true.branch [
       | kept-then-is_true+in_ok-copy+in_ok-push w ↦
-          let t : is_true (value_view c.in_ok-value.value) ≡ true = sym (ap is_true c.tree.ensures) ∙ (sym c.is_true.ensures ∙ w.if-is_true.true) in
-          c.loop-item.invariant ∙ (one_more (map view c.loop-item.trees.items) (map view w.push.new.self.items) (view c.item-item.result) _ _
-          (pushed view c.loop-item.trees.items w.push.new.self.items w.in_ok-copy.field-0 _ w.in_ok-push.ensures.items w.in_ok-copy.ensures)
-          (kept_true (meaning (default_view c.args.subject) (node_view c.args.body.now)) xs i c.item-item.result h c.item-item.is (progress c.loop-item.meter) (progress c.evaluate_node.new.meter) _ c.in_ok-value.ensures.exact t) ∙ rw w.trees-is refl)
+          let t : is_true (value_view c.in_ok-value.value) ≡ true = sym (ap is_true c.seen.ensures) ∙ (sym c.is_true.ensures ∙ w.if-is_true.true) in
+          c.loop-item.invariant ∙ (one_more (map value_view c.loop-item.values.items) (map value_view w.push.new.self.items) (value_view c.item-item.result) _ _
+          (pushed value_view c.loop-item.values.items w.push.new.self.items w.in_ok-copy.field-0 _ w.in_ok-push.ensures.items w.in_ok-copy.ensures)
+          (kept_true (meaning (default_view c.args.subject) (node_view c.args.body.now)) xs i c.item-item.result h c.item-item.is (progress c.loop-item.meter) (progress c.evaluate_node.new.meter) _ c.in_ok-value.ensures.exact t) ∙ rw w.values-is refl)
       | kept-else-is_true w ↦
-          let t : is_true (value_view c.in_ok-value.value) ≡ false = sym (ap is_true c.tree.ensures) ∙ (sym c.is_true.ensures ∙ w.if-is_true.false) in
-          c.loop-item.invariant ∙ (ap (prepended (map view c.loop-item.trees.items)) (kept_false (meaning (default_view c.args.subject) (node_view c.args.body.now)) xs i c.item-item.result h c.item-item.is (progress c.loop-item.meter) (progress c.evaluate_node.new.meter) _ c.in_ok-value.ensures.exact t) ∙ rw w.trees-is refl)
+          let t : is_true (value_view c.in_ok-value.value) ≡ false = sym (ap is_true c.seen.ensures) ∙ (sym c.is_true.ensures ∙ w.if-is_true.false) in
+          c.loop-item.invariant ∙ (ap (prepended (map value_view c.loop-item.values.items)) (kept_false (meaning (default_view c.args.subject) (node_view c.args.body.now)) xs i c.item-item.result h c.item-item.is (progress c.loop-item.meter) (progress c.evaluate_node.new.meter) _ c.in_ok-value.ensures.exact t) ∙ rw w.values-is refl)
     ]
 
 pub occurs-returns-in_err-value : goal.occurs-returns-in_err-value
@@ -274,7 +261,7 @@ pub occurs-returns-then-is_true-wanted : goal.occurs-returns-then-is_true-wanted
 occurs-returns-then-is_true-wanted t c = let xs = c.args.items.now in
     let i : ℕ = c.loop-item.item-index in
     let h : i < length xs = omega arith in
-    let t : bool_eq c.args.wanted (is_true (value_view c.in_ok-value.value)) ≡ true = ap (bool_eq c.args.wanted) (sym (ap is_true c.tree.ensures) ∙ sym c.is_true.ensures) ∙ bool_eq-same c.args.wanted c.is_true.result c.if-is_true-wanted.true in record {
+    let t : bool_eq c.args.wanted (is_true (value_view c.in_ok-value.value)) ≡ true = ap (bool_eq c.args.wanted) (sym (ap is_true c.seen.ensures) ∙ sym c.is_true.ensures) ∙ bool_eq-same c.args.wanted c.is_true.result c.if-is_true-wanted.true in record {
       exact = c.loop-item.invariant ∙ occurs_found (meaning (default_view c.args.subject) (node_view c.args.body.now)) xs i c.item-item.result h c.item-item.is c.args.wanted (progress c.loop-item.meter) (progress c.evaluate_node.new.meter) _ c.in_ok-value.ensures.exact t;
     }
 
@@ -282,38 +269,38 @@ pub occurs-loop-item-preserved : goal.occurs-loop-item-preserved
 occurs-loop-item-preserved t c = let xs = c.args.items.now in
     let i : ℕ = c.loop-item.item-index in
     let h : i < length xs = omega arith in
-    let t : bool_eq c.args.wanted (is_true (value_view c.in_ok-value.value)) ≡ false = ap (bool_eq c.args.wanted) (sym (ap is_true c.tree.ensures) ∙ sym c.is_true.ensures) ∙ bool_eq-other c.args.wanted c.is_true.result c.if-is_true-wanted.false in
+    let t : bool_eq c.args.wanted (is_true (value_view c.in_ok-value.value)) ≡ false = ap (bool_eq c.args.wanted) (sym (ap is_true c.seen.ensures) ∙ sym c.is_true.ensures) ∙ bool_eq-other c.args.wanted c.is_true.result c.if-is_true-wanted.false in
     c.loop-item.invariant ∙ occurs_next (meaning (default_view c.args.subject) (node_view c.args.body.now)) xs i c.item-item.result h c.item-item.is c.args.wanted (progress c.loop-item.meter) (progress c.evaluate_node.new.meter) _ c.in_ok-value.ensures.exact t
 
 pub occurs-returns : goal.occurs-returns
 occurs-returns t c = let xs = c.args.items.now in
     let end : drop c.loop-item.item-index xs ≡ [] = drop_all c.loop-item.item-index xs (omega arith) in record {
-      exact = c.loop-item.invariant ∙ (ap (λ ts. paid (progress c.loop-item.meter) (occurs c.args.wanted (meaning (default_view c.args.subject) (node_view c.args.body.now)) (map view ts))) end ∙ paid-gives _ _);
+      exact = c.loop-item.invariant ∙ (ap (λ ts. paid (progress c.loop-item.meter) (occurs c.args.wanted (meaning (default_view c.args.subject) (node_view c.args.body.now)) (map value_view ts))) end ∙ paid-gives _ _);
     }
 
-pub reduced-returns-in_err-value : goal.reduced-returns-in_err-value
-reduced-returns-in_err-value t c = let xs = c.args.items.now in
+pub reduced-returns-in_err-next : goal.reduced-returns-in_err-next
+reduced-returns-in_err-next t c = let xs = c.args.items.now in
     let i : ℕ = c.loop-item.item-index in
     let h : i < length xs = omega arith in record {
       exact = exits _ _ _ _ c.from_residual.ensures.1
-          (λ n. c.loop-item.invariant ∙ reduced_err (meaning (default_view c.args.subject) (node_view c.args.body.now)) xs i c.item-item.result h c.item-item.is (view c.loop-item.so_far) (progress c.loop-item.meter) _ (c.in_err-value.ensures.exact n));
+          (λ n. c.loop-item.invariant ∙ reduced_err (meaning (default_view c.args.subject) (node_view c.args.body.now)) xs i c.item-item.result h c.item-item.is (value_view c.loop-item.so_far) (progress c.loop-item.meter) _ (c.in_err-next.ensures.exact n));
     }
 
 pub reduced-loop-item-preserved : goal.reduced-loop-item-preserved
 reduced-loop-item-preserved t c = let xs = c.args.items.now in
     let i : ℕ = c.loop-item.item-index in
     let h : i < length xs = omega arith in
-    c.loop-item.invariant ∙ (reduced_ok (meaning (default_view c.args.subject) (node_view c.args.body.now)) xs i c.item-item.result h c.item-item.is (view c.loop-item.so_far) (progress c.loop-item.meter) (progress c.evaluate_node.new.meter) _ c.in_ok-value.ensures.exact ∙ rw c.in_ok-next.ensures refl)
+    c.loop-item.invariant ∙ (reduced_ok (meaning (default_view c.args.subject) (node_view c.args.body.now)) xs i c.item-item.result h c.item-item.is (value_view c.loop-item.so_far) (progress c.loop-item.meter) (progress c.evaluate_node.new.meter) _ c.in_ok-next.ensures.exact)
 
 pub reduced-returns : goal.reduced-returns
 reduced-returns t c = let xs = c.args.items.now in
     let end : drop c.loop-item.item-index xs ≡ [] = drop_all c.loop-item.item-index xs (omega arith) in record {
-      exact = c.loop-item.invariant ∙ (ap (λ ts. paid (progress c.loop-item.meter) (reduced (meaning (default_view c.args.subject) (node_view c.args.body.now)) (view c.loop-item.so_far) (map view ts))) end ∙ paid-gives _ _);
+      exact = c.loop-item.invariant ∙ (ap (λ ts. paid (progress c.loop-item.meter) (reduced (meaning (default_view c.args.subject) (node_view c.args.body.now)) (value_view c.loop-item.so_far) (map value_view ts))) end ∙ paid-gives _ _);
     }
 
 pub over-returns-then-len-lt2 : goal.over-returns-then-len-lt2
 over-returns-then-len-lt2 t c = record {
-  exact = ap (paid (progress c.args.meter.now)) (over_short (default_view c.args.subject) (scope_view c.args.scope) c.args.arguments.now.items c.args.operator (omega arith)) ∙ (paid-gives _ _ ∙ ap (λ s. Ok (s, progress c.args.meter.now)) (sym view_null));
+  exact = ap (paid (progress c.args.meter.now)) (over_short (default_view c.args.subject) (scope_view c.args.scope) c.args.arguments.now.items c.args.operator (omega arith)) ∙ (paid-gives _ _ ∙ ap (λ s. Ok (s, progress c.args.meter.now)) (sym value_null));
 }
 
 pub over-returns-in_err-list : goal.over-returns-in_err-list
@@ -322,85 +309,79 @@ over-returns-in_err-list t c = let two : 2 ≤ length c.args.arguments.now.items
       (λ n. over_err (default_view c.args.subject) (scope_view c.args.scope) c.args.arguments.now.items c.args.operator c.index.result.now (progress c.args.meter.now) _ two c.index.ensures (c.in_err-list.ensures.exact n));
 }
 
-pub over-returns-in_err-made : goal.over-returns-in_err-made
-over-returns-in_err-made t c = let two : 2 ≤ length c.args.arguments.now.items = omega arith in record {
-  exact = exits _ _ _ _ c.from_residual-in_err-made.ensures.1
-      (λ n. over_ok (default_view c.args.subject) (scope_view c.args.scope) c.args.arguments.now.items c.args.operator c.index.result.now c.index-2.result.now (progress c.args.meter.now) (progress c.evaluate_node.new.meter) _ two c.index.ensures c.index-2.ensures c.in_ok-list.ensures.exact ∙ (ap (λ ts. paid (progress c.evaluate_node.new.meter) (over_items c.args.operator (meaning (default_view c.args.subject) (node_view c.index-2.result.now)) ts)) (sym (c.items_of.ensures ∙ ap items_in c.tree.ensures)) ∙ c.in_err-made.ensures.exact n));
-}
-
 pub over-returns : goal.over-returns
 over-returns t c = let two : 2 ≤ length c.args.arguments.now.items = omega arith in record {
-  exact = over_ok (default_view c.args.subject) (scope_view c.args.scope) c.args.arguments.now.items c.args.operator c.index.result.now c.index-2.result.now (progress c.args.meter.now) (progress c.evaluate_node.new.meter) _ two c.index.ensures c.index-2.ensures c.in_ok-list.ensures.exact ∙ (ap (λ ts. paid (progress c.evaluate_node.new.meter) (over_items c.args.operator (meaning (default_view c.args.subject) (node_view c.index-2.result.now)) ts)) (sym (c.items_of.ensures ∙ ap items_in c.tree.ensures)) ∙ c.in_ok-made.ensures.exact);
+  exact = gives_same _ _ _ _ (over_ok (default_view c.args.subject) (scope_view c.args.scope) c.args.arguments.now.items c.args.operator c.index.result.now c.index-2.result.now (progress c.args.meter.now) (progress c.evaluate_node.new.meter) _ two c.index.ensures c.index-2.ensures c.in_ok-list.ensures.exact ∙ ap (λ ts. paid (progress c.evaluate_node.new.meter) (over_items c.args.operator (meaning (default_view c.args.subject) (node_view c.index-2.result.now)) ts)) (sym (ap (map value_view) c.as_slice.ensures.value ∙ c.in_ok-items.ensures))) c.over_items.ensures.exact;
 }
 
 pub over_items-returns-in_err-mapped-in-Map : goal.over_items-returns-in_err-mapped-in-Map
 over_items-returns-in_err-mapped-in-Map t c = record {
   exact = exits _ _ _ _ c.from_residual.ensures.1
-      (λ n. ap (λ o. paid (progress c.args.meter.now) (over_items o (meaning (default_view c.args.subject) (node_view c.args.body.now)) (map view c.args.items.now))) c.in-Map.is ∙ bind_err _ _ _ _ (c.in_err-mapped-in-Map.ensures.exact n));
+      (λ n. ap (λ o. paid (progress c.args.meter.now) (over_items o (meaning (default_view c.args.subject) (node_view c.args.body.now)) (map value_view c.args.items.now))) c.in-Map.is ∙ bind_err _ _ _ _ (c.in_err-mapped-in-Map.ensures.exact n));
 }
 
 pub over_items-returns-in_err-kept-in-Filter : goal.over_items-returns-in_err-kept-in-Filter
 over_items-returns-in_err-kept-in-Filter t c = record {
   exact = exits _ _ _ _ c.from_residual-in_err-kept-in-Filter.ensures.1
-      (λ n. ap (λ o. paid (progress c.args.meter.now) (over_items o (meaning (default_view c.args.subject) (node_view c.args.body.now)) (map view c.args.items.now))) c.in-Filter.is ∙ bind_err _ _ _ _ (c.in_err-kept-in-Filter.ensures.exact n));
+      (λ n. ap (λ o. paid (progress c.args.meter.now) (over_items o (meaning (default_view c.args.subject) (node_view c.args.body.now)) (map value_view c.args.items.now))) c.in-Filter.is ∙ bind_err _ _ _ _ (c.in_err-kept-in-Filter.ensures.exact n));
 }
 
 pub over_items-returns-in_ok-mapped-in-Map : goal.over_items-returns-in_ok-mapped-in-Map
 over_items-returns-in_ok-mapped-in-Map t c = record {
-  exact = ap (λ o. paid (progress c.args.meter.now) (over_items o (meaning (default_view c.args.subject) (node_view c.args.body.now)) (map view c.args.items.now))) c.in-Map.is ∙ (bind_ok _ _ _ _ _ c.in_ok-mapped-in-Map.ensures.exact ∙ (paid-gives _ _ ∙ ap (λ s. Ok (s, progress c.mapped.new.meter)) (sym (view_list c.in_ok-mapped-in-Map.field-0))));
+  exact = ap (λ o. paid (progress c.args.meter.now) (over_items o (meaning (default_view c.args.subject) (node_view c.args.body.now)) (map value_view c.args.items.now))) c.in-Map.is ∙ (bind_ok _ _ _ _ _ c.in_ok-mapped-in-Map.ensures.exact ∙ (paid-gives _ _ ∙ ap (λ s. Ok (s, progress c.mapped.new.meter)) (sym (value_items c.in_ok-mapped-in-Map.field-0))));
 }
 
 pub over_items-returns-in_ok-kept-in-Filter : goal.over_items-returns-in_ok-kept-in-Filter
 over_items-returns-in_ok-kept-in-Filter t c = record {
-  exact = ap (λ o. paid (progress c.args.meter.now) (over_items o (meaning (default_view c.args.subject) (node_view c.args.body.now)) (map view c.args.items.now))) c.in-Filter.is ∙ (bind_ok _ _ _ _ _ c.in_ok-kept-in-Filter.ensures.exact ∙ (paid-gives _ _ ∙ ap (λ s. Ok (s, progress c.kept.new.meter)) (sym (view_list c.in_ok-kept-in-Filter.field-0))));
+  exact = ap (λ o. paid (progress c.args.meter.now) (over_items o (meaning (default_view c.args.subject) (node_view c.args.body.now)) (map value_view c.args.items.now))) c.in-Filter.is ∙ (bind_ok _ _ _ _ _ c.in_ok-kept-in-Filter.ensures.exact ∙ (paid-gives _ _ ∙ ap (λ s. Ok (s, progress c.kept.new.meter)) (sym (value_items c.in_ok-kept-in-Filter.field-0))));
 }
 
 pub over_items-returns-in_err-occurs-in-SomeOf : goal.over_items-returns-in_err-occurs-in-SomeOf
 over_items-returns-in_err-occurs-in-SomeOf t c = record {
   exact = exits _ _ _ _ c.from_residual-in_err-occurs-in-SomeOf.ensures.1
-      (λ n. ap (λ o. paid (progress c.args.meter.now) (over_items o (meaning (default_view c.args.subject) (node_view c.args.body.now)) (map view c.args.items.now))) c.in-SomeOf.is ∙ bind_err _ _ _ _ (c.in_err-occurs-in-SomeOf.ensures.exact n));
+      (λ n. ap (λ o. paid (progress c.args.meter.now) (over_items o (meaning (default_view c.args.subject) (node_view c.args.body.now)) (map value_view c.args.items.now))) c.in-SomeOf.is ∙ bind_err _ _ _ _ (c.in_err-occurs-in-SomeOf.ensures.exact n));
 }
 
 pub over_items-returns-in_ok-occurs-in-SomeOf : goal.over_items-returns-in_ok-occurs-in-SomeOf
 over_items-returns-in_ok-occurs-in-SomeOf t c = record {
-  exact = ap (λ o. paid (progress c.args.meter.now) (over_items o (meaning (default_view c.args.subject) (node_view c.args.body.now)) (map view c.args.items.now))) c.in-SomeOf.is ∙ (bind_ok _ _ _ _ _ c.in_ok-occurs-in-SomeOf.ensures.exact ∙ (paid-gives _ _ ∙ ap (λ s. Ok (s, progress c.occurs-in-SomeOf.new.meter)) (sym (view_bool _))));
+  exact = ap (λ o. paid (progress c.args.meter.now) (over_items o (meaning (default_view c.args.subject) (node_view c.args.body.now)) (map value_view c.args.items.now))) c.in-SomeOf.is ∙ (bind_ok _ _ _ _ _ c.in_ok-occurs-in-SomeOf.ensures.exact ∙ (paid-gives _ _ ∙ ap (λ s. Ok (s, progress c.occurs-in-SomeOf.new.meter)) (sym (value_bool _))));
 }
 
 pub over_items-returns-in_err-occurs-in-NoneOf : goal.over_items-returns-in_err-occurs-in-NoneOf
 over_items-returns-in_err-occurs-in-NoneOf t c = record {
   exact = exits _ _ _ _ c.from_residual-in_err-occurs-in-NoneOf.ensures.1
-      (λ n. ap (λ o. paid (progress c.args.meter.now) (over_items o (meaning (default_view c.args.subject) (node_view c.args.body.now)) (map view c.args.items.now))) c.in-NoneOf.is ∙ bind_err _ _ _ _ (c.in_err-occurs-in-NoneOf.ensures.exact n));
+      (λ n. ap (λ o. paid (progress c.args.meter.now) (over_items o (meaning (default_view c.args.subject) (node_view c.args.body.now)) (map value_view c.args.items.now))) c.in-NoneOf.is ∙ bind_err _ _ _ _ (c.in_err-occurs-in-NoneOf.ensures.exact n));
 }
 
 pub over_items-returns-in_ok-occurs-in-NoneOf : goal.over_items-returns-in_ok-occurs-in-NoneOf
 over_items-returns-in_ok-occurs-in-NoneOf t c = record {
-  exact = ap (λ o. paid (progress c.args.meter.now) (over_items o (meaning (default_view c.args.subject) (node_view c.args.body.now)) (map view c.args.items.now))) c.in-NoneOf.is ∙ (bind_ok _ _ _ _ _ c.in_ok-occurs-in-NoneOf.ensures.exact ∙ (paid-gives _ _ ∙ ap (λ s. Ok (s, progress c.occurs-in-NoneOf.new.meter)) (sym (view_bool _))));
+  exact = ap (λ o. paid (progress c.args.meter.now) (over_items o (meaning (default_view c.args.subject) (node_view c.args.body.now)) (map value_view c.args.items.now))) c.in-NoneOf.is ∙ (bind_ok _ _ _ _ _ c.in_ok-occurs-in-NoneOf.ensures.exact ∙ (paid-gives _ _ ∙ ap (λ s. Ok (s, progress c.occurs-in-NoneOf.new.meter)) (sym (value_bool _))));
 }
 
 pub over_items-returns-then-is_empty : goal.over_items-returns-then-is_empty
 over_items-returns-then-is_empty t c = record {
-  exact = ap (λ o. paid (progress c.args.meter.now) (over_items o (meaning (default_view c.args.subject) (node_view c.args.body.now)) (map view c.args.items.now))) c.in-AllOf.is ∙ (ap (paid (progress c.args.meter.now)) (all_of_none (meaning (default_view c.args.subject) (node_view c.args.body.now)) c.args.items.now (search rules)) ∙ (paid-gives _ _ ∙ ap (λ s. Ok (s, progress c.args.meter.now)) (sym (view_bool false))));
+  exact = ap (λ o. paid (progress c.args.meter.now) (over_items o (meaning (default_view c.args.subject) (node_view c.args.body.now)) (map value_view c.args.items.now))) c.in-AllOf.is ∙ (ap (paid (progress c.args.meter.now)) (all_of_none (meaning (default_view c.args.subject) (node_view c.args.body.now)) c.args.items.now (search rules)) ∙ (paid-gives _ _ ∙ ap (λ s. Ok (s, progress c.args.meter.now)) (sym (value_bool false))));
 }
 
 pub over_items-returns-in_err-occurs-in-AllOf : goal.over_items-returns-in_err-occurs-in-AllOf
 over_items-returns-in_err-occurs-in-AllOf t c = record {
   exact = exits _ _ _ _ c.from_residual-in_err-occurs-in-AllOf.ensures.1
-      (λ n. ap (λ o. paid (progress c.args.meter.now) (over_items o (meaning (default_view c.args.subject) (node_view c.args.body.now)) (map view c.args.items.now))) c.in-AllOf.is ∙ (ap (paid (progress c.args.meter.now)) (all_of_some (meaning (default_view c.args.subject) (node_view c.args.body.now)) c.args.items.now (search rules)) ∙ bind_err _ _ _ _ (c.in_err-occurs-in-AllOf.ensures.exact n)));
+      (λ n. ap (λ o. paid (progress c.args.meter.now) (over_items o (meaning (default_view c.args.subject) (node_view c.args.body.now)) (map value_view c.args.items.now))) c.in-AllOf.is ∙ (ap (paid (progress c.args.meter.now)) (all_of_some (meaning (default_view c.args.subject) (node_view c.args.body.now)) c.args.items.now (search rules)) ∙ bind_err _ _ _ _ (c.in_err-occurs-in-AllOf.ensures.exact n)));
 }
 
 pub over_items-returns-in_ok-occurs-in-AllOf : goal.over_items-returns-in_ok-occurs-in-AllOf
 over_items-returns-in_ok-occurs-in-AllOf t c = record {
-  exact = ap (λ o. paid (progress c.args.meter.now) (over_items o (meaning (default_view c.args.subject) (node_view c.args.body.now)) (map view c.args.items.now))) c.in-AllOf.is ∙ (ap (paid (progress c.args.meter.now)) (all_of_some (meaning (default_view c.args.subject) (node_view c.args.body.now)) c.args.items.now (search rules)) ∙ (bind_ok _ _ _ _ _ c.in_ok-occurs-in-AllOf.ensures.exact ∙ (paid-gives _ _ ∙ ap (λ s. Ok (s, progress c.occurs.new.meter)) (sym (view_bool _)))));
+  exact = ap (λ o. paid (progress c.args.meter.now) (over_items o (meaning (default_view c.args.subject) (node_view c.args.body.now)) (map value_view c.args.items.now))) c.in-AllOf.is ∙ (ap (paid (progress c.args.meter.now)) (all_of_some (meaning (default_view c.args.subject) (node_view c.args.body.now)) c.args.items.now (search rules)) ∙ (bind_ok _ _ _ _ _ c.in_ok-occurs-in-AllOf.ensures.exact ∙ (paid-gives _ _ ∙ ap (λ s. Ok (s, progress c.occurs.new.meter)) (sym (value_bool _)))));
 }
 
 pub over_items-returns-in_default : goal.over_items-returns-in_default
 over_items-returns-in_default t c = record {
-  exact = ap (paid (progress c.args.meter.now)) (over_items-other c.args.operator (meaning (default_view c.args.subject) (node_view c.args.body.now)) (map view c.args.items.now) c.in_default.not-Map c.in_default.not-Filter c.in_default.not-AllOf c.in_default.not-SomeOf c.in_default.not-NoneOf) ∙ (paid-gives _ _ ∙ ap (λ s. Ok (s, progress c.args.meter.now)) (sym view_null));
+  exact = ap (paid (progress c.args.meter.now)) (over_items-other c.args.operator (meaning (default_view c.args.subject) (node_view c.args.body.now)) (map value_view c.args.items.now) c.in_default.not-Map c.in_default.not-Filter c.in_default.not-AllOf c.in_default.not-SomeOf c.in_default.not-NoneOf) ∙ (paid-gives _ _ ∙ ap (λ s. Ok (s, progress c.args.meter.now)) (sym value_null));
 }
 
 pub reduce-returns-then-len-lt2 : goal.reduce-returns-then-len-lt2
 reduce-returns-then-len-lt2 t c = record {
-  exact = ap (paid (progress c.args.meter.now)) (reduce_short (default_view c.args.subject) (scope_view c.args.scope) c.args.arguments.now.items (omega arith)) ∙ (paid-gives _ _ ∙ ap (λ s. Ok (s, progress c.args.meter.now)) (sym view_null));
+  exact = ap (paid (progress c.args.meter.now)) (reduce_short (default_view c.args.subject) (scope_view c.args.scope) c.args.arguments.now.items (omega arith)) ∙ (paid-gives _ _ ∙ ap (λ s. Ok (s, progress c.args.meter.now)) (sym value_null));
 }
 
 pub reduce-returns-in_err-list : goal.reduce-returns-in_err-list
@@ -415,20 +396,14 @@ reduce-returns-in_err-start t c = let two : 2 ≤ length c.args.arguments.now.it
       (λ n. reduce_start_err (default_view c.args.subject) (scope_view c.args.scope) c.args.arguments.now.items c.index.result.now (progress c.args.meter.now) (progress c.evaluate_node.new.meter) _ _ two c.index.ensures c.in_ok-list.ensures.exact (c.in_err-start.ensures.exact n));
 }
 
-pub reduce-returns-in_err-made : goal.reduce-returns-in_err-made
-reduce-returns-in_err-made t c = let two : 2 ≤ length c.args.arguments.now.items = omega arith in record {
-  exact = exits _ _ _ _ c.from_residual-in_err-made.ensures.1
-      (λ n. reduce_ok (default_view c.args.subject) (scope_view c.args.scope) c.args.arguments.now.items c.index.result.now c.index-2.result.now (progress c.args.meter.now) (progress c.evaluate_node.new.meter) (progress c.start.new.meter) _ _ two c.index.ensures c.index-2.ensures c.in_ok-list.ensures.exact c.in_ok-start.ensures.exact ∙ (ap (λ ts. paid (progress c.start.new.meter) (reduced (meaning (default_view c.args.subject) (node_view c.index-2.result.now)) (view c.in_ok-start.start) ts)) (sym (c.items_of.ensures ∙ ap items_in c.tree.ensures)) ∙ c.in_err-made.ensures.exact n));
-}
-
 pub reduce-returns : goal.reduce-returns
 reduce-returns t c = let two : 2 ≤ length c.args.arguments.now.items = omega arith in record {
-  exact = reduce_ok (default_view c.args.subject) (scope_view c.args.scope) c.args.arguments.now.items c.index.result.now c.index-2.result.now (progress c.args.meter.now) (progress c.evaluate_node.new.meter) (progress c.start.new.meter) _ _ two c.index.ensures c.index-2.ensures c.in_ok-list.ensures.exact c.in_ok-start.ensures.exact ∙ (ap (λ ts. paid (progress c.start.new.meter) (reduced (meaning (default_view c.args.subject) (node_view c.index-2.result.now)) (view c.in_ok-start.start) ts)) (sym (c.items_of.ensures ∙ ap items_in c.tree.ensures)) ∙ c.in_ok-made.ensures.exact);
+  exact = gives_same _ _ _ _ (reduce_ok (default_view c.args.subject) (scope_view c.args.scope) c.args.arguments.now.items c.index.result.now c.index-2.result.now (progress c.args.meter.now) (progress c.evaluate_node.new.meter) (progress c.start.new.meter) _ _ two c.index.ensures c.index-2.ensures c.in_ok-list.ensures.exact c.in_ok-start.ensures.exact ∙ ap (λ ts. paid (progress c.start.new.meter) (reduced (meaning (default_view c.args.subject) (node_view c.index-2.result.now)) (value_view c.in_ok-start.start) ts)) (sym (ap (map value_view) c.as_slice.ensures.value ∙ c.in_ok-items.ensures))) c.reduced.ensures.exact;
 }
 
 pub start-returns-then-len-lt3 : goal.start-returns-then-len-lt3
 start-returns-then-len-lt3 t c = record {
-  exact = ap (paid (progress c.args.meter.now)) (start_none (default_view c.args.subject) (scope_view c.args.scope) c.args.arguments.now.items (omega arith)) ∙ (paid-gives _ _ ∙ ap (λ s. Ok (s, progress c.args.meter.now)) (sym view_null));
+  exact = ap (paid (progress c.args.meter.now)) (start_none (default_view c.args.subject) (scope_view c.args.scope) c.args.arguments.now.items (omega arith)) ∙ (paid-gives _ _ ∙ ap (λ s. Ok (s, progress c.args.meter.now)) (sym value_null));
 }
 
 pub input-returns-in-None : goal.input-returns-in-None
@@ -449,7 +424,7 @@ input-returns-in_ok-evaluate_node-in-Some t c = record {
 
 pub part-returns-in-Literal : goal.part-returns-in-Literal
 part-returns-in-Literal t c = record {
-  exact = ap (λ e. paid (progress c.args.meter.now) (part_of e (meaning (default_view c.args.subject) e) (scope_view c.args.scope))) (ap node_view c.in-Literal.is ∙ node_view-literal _) ∙ paid-gives _ _;
+  exact = ap (λ e. paid (progress c.args.meter.now) (part_of e (meaning (default_view c.args.subject) e) (scope_view c.args.scope))) (ap node_view c.in-Literal.is ∙ node_view-literal _) ∙ (paid-gives _ _ ∙ ap (λ s. Ok (s, progress c.args.meter.now)) (sym (value_lent _)));
 }
 
 pub shares-returns-in_err-name-in-Computed : goal.shares-returns-in_err-name-in-Computed

@@ -1,5 +1,4 @@
 use Rattle.std.proofs.Common.{◌≡◌, ◌*◌, drop, map}
-use Rattle.flag_text.specs.View.{view}
 use Rattle.logic_ast.specs.View.{node_view, nodes_view, buckets_view}
 use Rattle.logic_evaluator.specs.Budget.{paid}
 use Rattle.logic_evaluator.specs.Evaluation.{meaning, meanings, bucket_meanings, pairs}
@@ -25,23 +24,23 @@ invariant-first_of_truth-loop-place l =
 
 abbrev pub invariant-mapped-loop-item : goal.invariant-mapped-loop-item
 invariant-mapped-loop-item l =
-    paid (progress l.fn.meter) (mapped (meaning (default_view l.subject) (node_view l.body)) (map view l.items))
-    ≡ prepended (map view l.trees.items) (paid (progress l.meter) (mapped (meaning (default_view l.subject) (node_view l.body)) (map view (drop l.item-index l.items))))
+    paid (progress l.fn.meter) (mapped (meaning (default_view l.subject) (node_view l.body)) (map value_view l.items))
+    ≡ prepended (map value_view l.values.items) (paid (progress l.meter) (mapped (meaning (default_view l.subject) (node_view l.body)) (map value_view (drop l.item-index l.items))))
 
 abbrev pub invariant-kept-loop-item : goal.invariant-kept-loop-item
 invariant-kept-loop-item l =
-    paid (progress l.fn.meter) (kept (meaning (default_view l.subject) (node_view l.body)) (map view l.items))
-    ≡ prepended (map view l.trees.items) (paid (progress l.meter) (kept (meaning (default_view l.subject) (node_view l.body)) (map view (drop l.item-index l.items))))
+    paid (progress l.fn.meter) (kept (meaning (default_view l.subject) (node_view l.body)) (map value_view l.items))
+    ≡ prepended (map value_view l.values.items) (paid (progress l.meter) (kept (meaning (default_view l.subject) (node_view l.body)) (map value_view (drop l.item-index l.items))))
 
 abbrev pub invariant-occurs-loop-item : goal.invariant-occurs-loop-item
 invariant-occurs-loop-item l =
-    paid (progress l.fn.meter) (occurs l.wanted (meaning (default_view l.subject) (node_view l.body)) (map view l.items))
-    ≡ paid (progress l.meter) (occurs l.wanted (meaning (default_view l.subject) (node_view l.body)) (map view (drop l.item-index l.items)))
+    paid (progress l.fn.meter) (occurs l.wanted (meaning (default_view l.subject) (node_view l.body)) (map value_view l.items))
+    ≡ paid (progress l.meter) (occurs l.wanted (meaning (default_view l.subject) (node_view l.body)) (map value_view (drop l.item-index l.items)))
 
 abbrev pub invariant-reduced-loop-item : goal.invariant-reduced-loop-item
 invariant-reduced-loop-item l =
-    paid (progress l.fn.meter) (reduced (meaning (default_view l.subject) (node_view l.body)) (view l.fn.start) (map view l.items))
-    ≡ paid (progress l.meter) (reduced (meaning (default_view l.subject) (node_view l.body)) (view l.so_far) (map view (drop l.item-index l.items)))
+    paid (progress l.fn.meter) (reduced (meaning (default_view l.subject) (node_view l.body)) (value_view l.fn.start) (map value_view l.items))
+    ≡ paid (progress l.meter) (reduced (meaning (default_view l.subject) (node_view l.body)) (value_view l.so_far) (map value_view (drop l.item-index l.items)))
 
 abbrev pub invariant-shares-loop-bucket : goal.invariant-shares-loop-bucket
 invariant-shares-loop-bucket l =

@@ -1,10 +1,16 @@
-use Rattle.std.proofs.Common.{sym, ◌∙◌}
+use Rattle.std.proofs.Common.{map, ap, sym, ◌∙◌}
+use Rattle.std.specs.List.{list_any}
 use Rattle.flag_text.specs.View.{view}
-use Rattle.logic_evaluator.proofs.Parts.{is_in-listed, is_in-alone}
+use Rattle.logic_evaluator.specs.Comparison.{is_same}
+use Rattle.logic_evaluator.specs.Lists.{is_in}
+use Rattle.logic_evaluator.specs.Views.{seen_view, value_view}
+use Rattle.logic_evaluator.proofs.Values.{shapes_of_items}
 use Rattle.logic_evaluator.proofs.lists.is_in.Goals as goal
 
-pub returns-in-Some : goal.returns-in-Some
-returns-in-Some c = c.is_among.ensures ∙ sym (is_in-listed (view c.args.value.now) (view c.args.whole.now) c.in-Some.items.now c.in-Some.ensures)
+pub returns-in-Trees : goal.returns-in-Trees
+returns-in-Trees c = c.is_among_trees.ensures
+    ∙ sym (ap (λ w. is_in (seen_view c.args.value) (seen_view w)) c.in-Trees.is ∙ ap (list_any (is_same (seen_view c.args.value))) (shapes_of_items (map view c.in-Trees.trees.now)))
 
-pub returns-in-None : goal.returns-in-None
-returns-in-None c = c.occurs_in.ensures ∙ sym (is_in-alone (view c.args.value.now) (view c.args.whole.now) c.in-None.ensures)
+pub returns-in-Values : goal.returns-in-Values
+returns-in-Values c = c.is_among.ensures
+    ∙ sym (ap (λ w. is_in (seen_view c.args.value) (seen_view w)) c.in-Values.is ∙ ap (list_any (is_same (seen_view c.args.value))) (shapes_of_items (map value_view c.in-Values.items.now)))

@@ -42,12 +42,12 @@ pay_for_items-returns-in_err-pay_for t c =
     let xs = c.deref-item-items.result.now in record {
       exact = exits _ _ _ _ c.from_residual.ensures.1
           (λ n. ap (λ ts. paid (progress c.args.meter.now) (spends (items_size (items_view ts)))) (sym c.deref-item-items.ensures.value)
-          ∙ (c.loop-item.invariant ∙ items_err xs c.loop-item.item-index c.item-item.result _ _ (omega arith) c.item-item.is (c.in_err-pay_for.ensures.exact n)));
+          ∙ (c.loop-item.invariant ∙ items_err view xs c.loop-item.item-index c.item-item.result _ _ (omega arith) c.item-item.is (c.in_err-pay_for.ensures.exact n)));
     }
 
 pub pay_for_items-loop-item-preserved : goal.pay_for_items-loop-item-preserved
 pay_for_items-loop-item-preserved t c =
-    c.loop-item.invariant ∙ items_ok c.deref-item-items.result.now c.loop-item.item-index c.item-item.result _ _ _ (omega arith) c.item-item.is c.in_ok-pay_for.ensures.exact
+    c.loop-item.invariant ∙ items_ok view c.deref-item-items.result.now c.loop-item.item-index c.item-item.result _ _ _ (omega arith) c.item-item.is c.in_ok-pay_for.ensures.exact
 
 pub pay_for_items-returns : goal.pay_for_items-returns
 pay_for_items-returns t c =

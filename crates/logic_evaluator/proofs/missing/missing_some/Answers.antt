@@ -1,37 +1,31 @@
-use Rattle.std.proofs.Common.{◌≡◌, pos, List, Some, Ok, true, false, ap, sym, ◌∙◌, rules, map}
+use Rattle.std.proofs.Common.{Some, map, ap, sym, ◌∙◌, rules}
 use Rattle.std.proofs.lemmas.Int.{to_z-of_z}
 use mir.Syntax.{w64}
 use mir.Val.{SFits}
-use Rattle.std.specs.Prelude.{int_lt}
-use Rattle.flag_text.specs.Shape.{Shape, list}
-use Rattle.flag_text.specs.View.{view, items_of}
+use Rattle.flag_text.specs.View.{view}
 use Rattle.logic_evaluator.specs.Lists.{items_in}
-use Rattle.logic_evaluator.specs.Scope.{missing_unless, found_count}
-use Rattle.logic_evaluator.specs.Views.{scope_view}
-use Rattle.logic_evaluator.proofs.Names.{fewer, enough}
-use Rattle.logic_evaluator.proofs.Truths.{view_list}
+use Rattle.logic_evaluator.specs.Scope.{missing_unless}
+use Rattle.logic_evaluator.specs.Views.{scope_view, seen_view, value_view}
+use Rattle.logic_evaluator.proofs.Exits.{gives_same}
+use Rattle.logic_evaluator.proofs.Values.{shapes_of_items}
 use Rattle.logic_evaluator.proofs.missing.missing_some.Goals as goal
 
-pub returns-in_ok-missing_items : goal.returns-in_ok-missing_items
-returns-in_ok-missing_items c =
+pub returns-in-Trees : goal.returns-in-Trees
+returns-in-Trees c =
     let s = scope_view c.args.scope in
-    let ts : List Shape = map view c.items_of-names.result.now in
-    let fits : SFits w64 c.in-Some.least = search rules in
-    let told = simp to_z-of_z at c.is_fewer.ensures in
-    let t : int_lt (pos (found_count s ts)) c.in-Some.least ≡ true = ap (λ k. int_lt (pos k) c.in-Some.least) (sym c.in_ok-found.ensures) ∙ (sym told ∙ c.if-is_fewer.true) in record {
-      exact = ap (λ o. missing_unless s o (items_in (view c.args.names.now))) (sym c.in-Some.ensures)
-          ∙ (ap (missing_unless s (Some c.in-Some.least)) (sym c.items_of-names.ensures)
-          ∙ (fewer s c.in-Some.least ts t ∙ ap Ok (ap (λ us. list (items_of us)) (sym c.in_ok-missing_items.ensures) ∙ sym (view_list c.in_ok-missing_items.field-0))));
+    let fits : SFits w64 c.in-Some.least = search rules in record {
+      exact = gives_same _ _ _ _
+          (ap (λ o. missing_unless s o (items_in (seen_view c.args.names))) (sym c.in-Some.ensures)
+          ∙ ap (missing_unless s (Some c.in-Some.least)) (ap (λ w. items_in (seen_view w)) c.in-Trees.is ∙ shapes_of_items (map view c.in-Trees.names.now)))
+          (simp to_z-of_z at c.missing_some_trees.ensures.exact);
     }
 
-pub returns-else-is_fewer : goal.returns-else-is_fewer
-returns-else-is_fewer c =
+pub returns-in-Values : goal.returns-in-Values
+returns-in-Values c =
     let s = scope_view c.args.scope in
-    let ts : List Shape = map view c.items_of-names.result.now in
-    let fits : SFits w64 c.in-Some.least = search rules in
-    let told = simp to_z-of_z at c.is_fewer.ensures in
-    let t : int_lt (pos (found_count s ts)) c.in-Some.least ≡ false = ap (λ k. int_lt (pos k) c.in-Some.least) (sym c.in_ok-found.ensures) ∙ (sym told ∙ c.if-is_fewer.false) in record {
-      exact = ap (λ o. missing_unless s o (items_in (view c.args.names.now))) (sym c.in-Some.ensures)
-          ∙ (ap (missing_unless s (Some c.in-Some.least)) (sym c.items_of-names.ensures)
-          ∙ (enough s c.in-Some.least ts t ∙ ap Ok (ap (λ us. list (items_of (map view us))) (sym c.new.ensures.items) ∙ sym (view_list c.new.result))));
+    let fits : SFits w64 c.in-Some.least = search rules in record {
+      exact = gives_same _ _ _ _
+          (ap (λ o. missing_unless s o (items_in (seen_view c.args.names))) (sym c.in-Some.ensures)
+          ∙ ap (missing_unless s (Some c.in-Some.least)) (ap (λ w. items_in (seen_view w)) c.in-Values.is ∙ shapes_of_items (map value_view c.in-Values.names.now)))
+          (simp to_z-of_z at c.missing_some_values.ensures.exact);
     }

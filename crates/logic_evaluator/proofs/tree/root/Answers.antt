@@ -8,7 +8,7 @@ use Rattle.flag_text.specs.View.{view, members_view}
 use Rattle.logic_evaluator.specs.Views.{before}
 use Rattle.logic_evaluator.proofs.Paths.{before_none, with_less, with_equal, with_greater, with_end, tail_all}
 use Rattle.logic_evaluator.proofs.Sizes.{view_object}
-use Rattle.logic_evaluator.proofs.variable.root.Goals as goal
+use Rattle.logic_evaluator.proofs.tree.root.Goals as goal
 
 pub returns-in-Equal : goal.returns-in-Equal
 returns-in-Equal c =

@@ -2,7 +2,7 @@ use Rattle.std.proofs.Common.{◌≡◌, ◌≤◌, ◌+◌, drop, map}
 use Rattle.flag_text.specs.View.{view}
 use Rattle.logic_evaluator.specs.Scope.{found_count}
 use Rattle.logic_evaluator.specs.Views.{scope_view}
-use Rattle.logic_evaluator.proofs.missing.found_count.Given as goal
+use Rattle.logic_evaluator.proofs.missing.count_in_trees.Given as goal
 
 abbrev pub invariant-loop-name : goal.invariant-loop-name
 invariant-loop-name l = record {

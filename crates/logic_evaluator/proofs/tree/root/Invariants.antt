@@ -3,7 +3,7 @@ use Rattle.std.specs.Prelude.{codes}
 use Rattle.flag_text.specs.View.{view, members_view}
 use Rattle.logic_evaluator.specs.Scope.{with_member}
 use Rattle.logic_evaluator.specs.Views.{before}
-use Rattle.logic_evaluator.proofs.variable.root.Given as goal
+use Rattle.logic_evaluator.proofs.tree.root.Given as goal
 
 abbrev pub invariant-loop-i : goal.invariant-loop-i
 invariant-loop-i l =

@@ -4,7 +4,7 @@ use Rattle.flag_text.specs.View.{members_view}
 use Rattle.logic_evaluator.specs.Views.{before}
 use Rattle.logic_evaluator.proofs.Paths.{before_none}
 use Rattle.logic_evaluator.proofs.Sizes.{drop_at}
-use Rattle.logic_evaluator.proofs.variable.push_copies.Goals as goal
+use Rattle.logic_evaluator.proofs.tree.push_copies.Goals as goal
 
 pub loop-key-preserved : goal.loop-key-preserved
 loop-key-preserved c =
