@@ -7,7 +7,7 @@ use Rattle.residual_arcs.specs.declared.problem.FlowProblem.{FlowProblem}
 use Rattle.residual_flow.specs.Flow.{IsFlow, placed_at, total_at}
 use Rattle.residual_flow.specs.declared.flow.Flow.{Flow}
 use Rattle.residual_flow.proofs.Sums.{sum_adds, sum_at_most, sum_one, sum_same}
-use Rattle.search_effort.specs.Spent.{Settles, Spent}
+use Rattle.shortest_path.specs.Spent.{Settles, Spent}
 use Rattle.flow_passes.specs.Effort.{Searches, points_of}
 use Rattle.flow_passes.specs.Meeting.{missing}
 use Rattle.flow_passes.specs.Placing.{excess}

@@ -2,7 +2,7 @@
 use Rattle.std.specs.Prelude.{ℕ, ◌+◌, ◌*◌, ◌≤◌, length}
 use Rattle.residual_arcs.specs.Problem.{group_at, names_of, sum_to}
 use Rattle.residual_arcs.specs.declared.problem.FlowProblem.{FlowProblem}
-use Rattle.search_effort.specs.Spent.{Spent}
+use Rattle.shortest_path.specs.Spent.{Spent}
 
 -- the names and the limits
 abbrev pub nodes_of : FlowProblem → ℕ

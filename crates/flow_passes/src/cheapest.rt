@@ -11,7 +11,7 @@ use crate::meeting::meet_low;
 use crate::passes::place_within_high;
 use residual_arcs::FlowProblem;
 use residual_flow::Flow;
-use search_effort::Effort;
+use shortest_path::Effort;
 use shortest_path::Search;
 use std::alloc::{AllocError, Global};
 use std::sync::ledger::Ledger;

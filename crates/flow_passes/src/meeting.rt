@@ -4,12 +4,12 @@ ghost use Rattle.flow_passes.specs.Effort.{Searches, nodes_of};
 ghost use Rattle.flow_passes.specs.Meeting.{IsBelow, IsMeeting, IsStuckBelow, IsStuckIfBelow, IsWayBelow, MeetsLow, WantsBelow, missing};
 ghost use Rattle.residual_arcs.specs.Problem.{IsFlowProblem, names_of};
 ghost use Rattle.residual_flow.specs.Flow.{IsFlow, total_at};
-ghost use Rattle.search_effort.specs.Spent.{Settles};
+ghost use Rattle.shortest_path.specs.Spent.{Settles};
 
 use augmenting_paths::augment;
 use residual_arcs::FlowProblem;
 use residual_flow::Flow;
-use search_effort::Effort;
+use shortest_path::Effort;
 use shortest_path::Search;
 use std::alloc::{AllocError, Global};
 use std::sync::ledger::Ledger;

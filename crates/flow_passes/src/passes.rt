@@ -8,7 +8,7 @@ ghost use Rattle.residual_flow.specs.Flow.{IsFlow};
 use crate::placing::empty_to_high;
 use residual_arcs::FlowProblem;
 use residual_flow::Flow;
-use search_effort::Effort;
+use shortest_path::Effort;
 use shortest_path::Search;
 use std::alloc::{AllocError, Global};
 use std::sync::ledger::Ledger;

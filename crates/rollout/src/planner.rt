@@ -29,7 +29,7 @@ use flag_defs::Flags;
 use page_tally::Recorded;
 use plan_text::Planned;
 use rollout_checks::{Problem, Refining, RolloutFault, problem_of};
-use search_effort::Effort;
+use shortest_path::Effort;
 use std::alloc::{AllocError, Global};
 use std::marker::Brand;
 use std::sync::ledger::{Blank, Ledger};

@@ -1,10 +1,19 @@
 -- The count of a search is that of the nodes with a rank, and of the one that it found.
-use Rattle.std.proofs.Common.{◌≡◌, ℕ, ◌+◌, cond, nat_le, nat_lt, count_by, List, [], ◌∷◌, length, Some, None, refl, arith}
+use Rattle.std.proofs.Common.{◌≡◌, ℕ, ◌+◌, cond, nat_le, nat_lt, count_by, List, [], ◌∷◌, length, Some, None, refl, arith, ◌≤◌, ◌∙◌}
 use Rattle.std.proofs.lemmas.Bool.Decides.{nat_tests}
 use Rattle.std.proofs.lemmas.List.Sums.{sum_by-cons}
-use Rattle.search_effort.specs.Spent.{Spent, Settled}
+use Rattle.shortest_path.specs.Spent.{Spent, Settled, Settles}
 use Rattle.shortest_path.specs.Found.{settled_nodes}
 use Rattle.shortest_path.proofs.Rounds.{unsettled}
+
+pub settled_none : (spent : Spent) → Settled 0 spent spent
+settled_none spent = record { augmentations = refl; settlings = omega arith }
+
+pub settled_one : (count : ℕ) (first old new : Spent) → Settled count first old → new.augmentations ≡ old.augmentations → new.settlings ≡ old.settlings + 1 → Settled (count + 1) first new
+settled_one count first old new before same more = record { augmentations = same ∙ before.augmentations; settlings = omega (arith, more, before.settlings) }
+
+pub settled_within : (n m : ℕ) (old new : Spent) → n ≤ m → Settled n old new → Settles m old new
+settled_within n m old new le h = record { augmentations = h.augmentations; settlings = omega (arith, le, h.settlings) }
 
 one_of_both : (nodes r : ℕ) → ◌≡◌ {A = ℕ} (cond (nat_lt r nodes) 1 0 + cond (nat_le nodes r) 1 0) 1
 one_of_both nodes r = grind (arith, nat_tests)

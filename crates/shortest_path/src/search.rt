@@ -1,11 +1,11 @@
 ghost use Rattle.std.specs.Prelude.{IfOk, MatchBool, MatchOption, ◌≡◌, ◌≤◌, ◌<◌, ◌+◌, ◌*◌, ℕ, ℤ, pos, Some, None, ◌≤ℤ◌, ◌+ℤ◌, ◌-ℤ◌, length, slice_index, slice_index_or, slice_get, true, ◌≢◌};
-ghost use Rattle.shortest_path.specs.Network.{IsShort, IsReduced, IsWithin, arc_at, max_cost, max_nodes};
 ghost use Rattle.shortest_path.specs.Found.{HasSize, Finds, settled_nodes, potential_of, parent_of, rank_of};
+ghost use Rattle.shortest_path.specs.Network.{IsShort, IsReduced, IsWithin, arc_at, max_cost, max_nodes};
 ghost use Rattle.shortest_path.specs.Searched.{RelaxesTo, AreSearched, IsNearestOf, HaveNone, Lowers, length_in, potential_in};
-ghost use Rattle.search_effort.specs.Spent.{Settled, Settles};
+ghost use Rattle.shortest_path.specs.Spent.{Settled, Settles};
 
 use crate::arc::Arc;
-use search_effort::Effort;
+use crate::effort::Effort;
 use std::alloc::{AllocError, Global};
 use std::sync::ledger::Ledger;
 

@@ -5,7 +5,7 @@ use Rattle.std.proofs.lemmas.List.{get_or_default}
 use Rattle.flow_passes.specs.Effort.{Searches, nodes_of, points_of}
 use Rattle.residual_arcs.specs.Problem.{group_at, names_of, sum_to}
 use Rattle.residual_arcs.specs.declared.problem.FlowProblem.{FlowProblem}
-use Rattle.search_effort.specs.Spent.{Spent}
+use Rattle.shortest_path.specs.Spent.{Spent}
 use Rattle.transport_instance.specs.Groups.{GroupKey}
 use Rattle.transport_instance.specs.Instance.{TransportProblem, IsProblem}
 use Rattle.transport_instance.specs.Rows.{whole_amount}

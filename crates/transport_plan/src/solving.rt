@@ -21,7 +21,7 @@ use flow_cuts::{names_above, names_below};
 use flow_passes::{Outcome, Passed, cheapest_flow};
 use residual_arcs::FlowProblem;
 use residual_flow::Flow;
-use search_effort::Effort;
+use shortest_path::Effort;
 use shortest_path::Search;
 use std::alloc::{AllocError, Global};
 use std::marker::Brand;

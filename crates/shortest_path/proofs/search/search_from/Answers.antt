@@ -5,7 +5,7 @@ use Rattle.std.specs.Int.{w64}
 use Rattle.shortest_path.specs.Network.{IsShort, arc_at, max_cost, max_nodes}
 use Rattle.shortest_path.specs.Searched.{IsSearched, IsNearest, HasNone, Lowers}
 use Rattle.shortest_path.specs.declared.arc.Arc.{Arc}
-use Rattle.search_effort.specs.Spent.{Settled}
+use Rattle.shortest_path.specs.Spent.{Settled}
 use Rattle.shortest_path.specs.Found.{settled_nodes}
 use Rattle.shortest_path.proofs.Rounds.{short_after}
 use Rattle.shortest_path.proofs.Finding.{begun, stuck, found}

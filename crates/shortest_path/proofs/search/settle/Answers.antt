@@ -7,7 +7,7 @@ use Rattle.std.proofs.lemmas.Bool.{false≢true}
 use Rattle.shortest_path.specs.Network.{IsShort}
 use Rattle.shortest_path.specs.Searched.{IsNearest}
 use Rattle.shortest_path.proofs.Rounds.{all_left, short_lengths, small, next, widened, row_of, row_length, row_at, row_short}
-use Rattle.search_effort.proofs.Counting.{settled_none, settled_one, settled_within}
+use Rattle.shortest_path.proofs.Counted.{settled_none, settled_one, settled_within}
 use Rattle.shortest_path.proofs.Counted.{settled_all, settled_found}
 use Rattle.shortest_path.proofs.search.settle.Goals as goal
 

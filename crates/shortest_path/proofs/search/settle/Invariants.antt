@@ -1,5 +1,5 @@
 use Rattle.std.proofs.Common.{length}
-use Rattle.search_effort.specs.Spent.{Settled}
+use Rattle.shortest_path.specs.Spent.{Settled}
 use Rattle.shortest_path.proofs.Rounds.{IsRound, unsettled}
 use Rattle.shortest_path.proofs.search.settle.Given as goal
 

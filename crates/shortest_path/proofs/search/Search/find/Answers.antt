@@ -3,7 +3,7 @@ use Rattle.std.proofs.Common.{◌≡◌, ℕ, ℤ, pos, Bool, Option, List, leng
 use Rattle.std.specs.Vec.{with_items}
 use Rattle.std.proofs.lemmas.List.{with_items_is}
 use Rattle.shortest_path.specs.Network.{arc_at}
-use Rattle.search_effort.specs.Spent.{Settled}
+use Rattle.shortest_path.specs.Spent.{Settled}
 use Rattle.shortest_path.specs.Found.{HasFound, IsStuck, settled_nodes}
 use Rattle.shortest_path.specs.declared.arc.Arc.{Arc}
 use Rattle.shortest_path.proofs.search.Search.find.Goals as goal

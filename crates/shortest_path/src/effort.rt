@@ -14,7 +14,7 @@ pub struct Effort<L: Ledger> {
 
 impl<L: Ledger> Model for Effort<L> {
     ghost use Rattle.std.specs.Prelude.{◌<◌};
-    ghost use Rattle.search_effort.specs.Spent.{Spent};
+    ghost use Rattle.shortest_path.specs.Spent.{Spent};
 
     ghost Value = { Spent };
 
