@@ -3,12 +3,12 @@ use Rattle.std.proofs.Common.{◌≡◌, ℕ, suc, ◌+◌, ◌*◌, ◌<◌, �
 use Rattle.std.proofs.Math.Nat.{mul_assoc, mul_comm, mul-le-mul_left, mul-le-mul_right}
 use Rattle.std.proofs.lemmas.Int.{ints}
 use Rattle.std.specs.Int.{w64}
-use Rattle.residual_arcs.specs.Offered.{IsPrice}
-use Rattle.residual_arcs.specs.Problem.{AreGroups, ArePrices, group_at, inputs_of, max_inputs, price_at, sum_to}
-use Rattle.residual_arcs.specs.declared.problem.Group.{Group}
-use Rattle.residual_arcs.proofs.Cells.{cell_in}
-use Rattle.residual_flow.specs.Flow.{cell_at}
-use Rattle.residual_flow.proofs.Sums.{sum_at_most, sum_has, sum_prefix}
+use Rattle.min_cost_flow.specs.Offered.{IsPrice}
+use Rattle.min_cost_flow.specs.Problem.{AreGroups, ArePrices, group_at, inputs_of, max_inputs, price_at, sum_to}
+use Rattle.min_cost_flow.specs.declared.problem.Group.{Group}
+use Rattle.min_cost_flow.proofs.Cells.{cell_in}
+use Rattle.min_cost_flow.specs.Flow.{cell_at}
+use Rattle.min_cost_flow.proofs.Sums.{sum_at_most, sum_has, sum_prefix}
 use Rattle.flow_answers.specs.Costs.{all_cost, row_cost, unit_of}
 use Rattle.flow_answers.proofs.Costs.{sum_scaled}
 

@@ -8,13 +8,13 @@ use Rattle.flag_text.proofs.Bools.{both}
 use Rattle.flag_text.specs.Shape.{is_in_range}
 use Rattle.flow_certificates.specs.Slackness.{certificate_of}
 use Rattle.flow_certificates.proofs.Optimal.{proved}
-use Rattle.flow_passes.specs.Cheapest.{IsCheapest}
+use Rattle.min_cost_flow.specs.Cheapest.{IsCheapest}
 use Rattle.plan_text.specs.PlanFile.{has_whole_numbers}
-use Rattle.residual_arcs.specs.Problem.{IsFlowProblem, group_at, names_of, price_at}
-use Rattle.residual_arcs.specs.declared.problem.FlowProblem.{FlowProblem}
-use Rattle.residual_arcs.specs.declared.problem.Group.{Group}
-use Rattle.residual_flow.specs.Flow.{IsFlow, groups_of, total_at}
-use Rattle.residual_flow.specs.declared.flow.Flow.{Flow}
+use Rattle.min_cost_flow.specs.Problem.{IsFlowProblem, group_at, names_of, price_at}
+use Rattle.min_cost_flow.specs.declared.problem.FlowProblem.{FlowProblem}
+use Rattle.min_cost_flow.specs.declared.problem.Group.{Group}
+use Rattle.min_cost_flow.specs.Flow.{IsFlow, groups_of, total_at}
+use Rattle.min_cost_flow.specs.declared.flow.Flow.{Flow}
 use Rattle.shortest_path.specs.Found.{potential_of}
 use Rattle.shortest_path.specs.declared.search.Search.{Search}
 use Rattle.transport_instance.specs.Assignment.{IsProved}

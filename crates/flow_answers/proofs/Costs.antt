@@ -8,10 +8,10 @@ use Rattle.std.proofs.lemmas.Map.Entries.{length-keys_of}
 use Rattle.std.specs.Map.{keys_of}
 use Rattle.std.specs.Prelude.{if◌then◌else◌, Bool}
 use Rattle.price_core.specs.Pricing.{Pricing, is_forbidden, price_of}
-use Rattle.residual_arcs.specs.Problem.{names_of, group_at, is_there, price_at, sum_to}
-use Rattle.residual_arcs.specs.declared.problem.FlowProblem.{FlowProblem}
-use Rattle.residual_flow.specs.Flow.{IsFlowAt, cell_at, groups_of}
-use Rattle.residual_flow.proofs.Sums.{sum_same}
+use Rattle.min_cost_flow.specs.Problem.{names_of, group_at, is_there, price_at, sum_to}
+use Rattle.min_cost_flow.specs.declared.problem.FlowProblem.{FlowProblem}
+use Rattle.min_cost_flow.specs.Flow.{IsFlowAt, cell_at, groups_of}
+use Rattle.min_cost_flow.proofs.Sums.{sum_same}
 use Rattle.shortest_path.specs.declared.arc.Arc as arcs
 use Rattle.transport_instance.specs.Assignment.{Arc, arc_flows, flow_cost, flows_of, row_flows, spends_all}
 use Rattle.transport_instance.specs.Groups.{GroupKey}

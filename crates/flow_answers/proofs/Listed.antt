@@ -11,7 +11,7 @@ use Rattle.transport_instance.specs.Groups.{GroupKey}
 use Rattle.transport_instance.proofs.Arcs.{spends}
 use Rattle.flow_certificates.specs.Slackness.{AreBalanced, AreOptimalRows, charge, columns, plus}
 use Rattle.flow_certificates.proofs.Slackness.{length-columns}
-use Rattle.residual_arcs.specs.Problem.{sum_to}
+use Rattle.min_cost_flow.specs.Problem.{sum_to}
 
 pub sum_front : (n : ℕ) (f : ℕ → ℕ) → sum_to (suc n) f ≡ f 0 + sum_to n (λ i. f (suc i))
 sum_front zero f = omega arith

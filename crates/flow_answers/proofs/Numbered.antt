@@ -8,10 +8,10 @@ use Rattle.std.specs.Prelude.{if◌then◌else◌, Bool}
 use Rattle.price_core.specs.Pricing.{is_forbidden, price_of}
 use Rattle.flow_certificates.specs.Slackness.{IsOptimal, charge, columns}
 use Rattle.flow_certificates.proofs.Slackness.{length-columns}
-use Rattle.flow_laws.specs.Optimal as numbers
-use Rattle.residual_arcs.specs.Problem.{cost_at, group_at, is_there, may_take, names_of, or_free, price_at, sum_to}
-use Rattle.residual_arcs.specs.declared.problem.FlowProblem.{FlowProblem}
-use Rattle.residual_flow.specs.Flow.{IsFlowAt, cell_at, flows_at, groups_of}
+use Rattle.min_cost_flow.specs.Optimal as numbers
+use Rattle.min_cost_flow.specs.Problem.{cost_at, group_at, is_there, may_take, names_of, or_free, price_at, sum_to}
+use Rattle.min_cost_flow.specs.declared.problem.FlowProblem.{FlowProblem}
+use Rattle.min_cost_flow.specs.Flow.{IsFlowAt, cell_at, flows_at, groups_of}
 use Rattle.shortest_path.specs.declared.arc.Arc.{Arc}
 use Rattle.transport_instance.specs.Assignment.{spends_all}
 use Rattle.transport_instance.specs.Instance.{TransportProblem}

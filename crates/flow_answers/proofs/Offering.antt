@@ -8,8 +8,8 @@ use Rattle.std.specs.Map.{keys_of}
 use Rattle.std.specs.Prelude.{if◌then◌else◌, Bool}
 use Rattle.price_core.specs.Pricing.{Pricing, is_forbidden, price_of}
 use Rattle.flow_certificates.specs.Slackness.{AreLeastOffers, IsLeastOffer, charge}
-use Rattle.residual_arcs.specs.Problem.{group_at, names_of, price_at}
-use Rattle.residual_arcs.specs.declared.problem.FlowProblem.{FlowProblem}
+use Rattle.min_cost_flow.specs.Problem.{group_at, names_of, price_at}
+use Rattle.min_cost_flow.specs.declared.problem.FlowProblem.{FlowProblem}
 use Rattle.transport_instance.specs.Groups.{GroupKey}
 use Rattle.transport_instance.specs.Instance.{TransportProblem}
 use Rattle.transport_network.specs.Network.{switch_price}

@@ -4,9 +4,9 @@ use Rattle.std.proofs.lemmas.Bool.{cases_eq}
 use Rattle.std.proofs.lemmas.List.{get_or_append_left}
 use Rattle.std.proofs.Math.Seq.{get_or-append_seam}
 use Rattle.flow_certificates.specs.Offers.{HasSlack, IsTight, MayTake}
-use Rattle.residual_arcs.specs.Problem.{AreGroups, ArePrices, group_at}
-use Rattle.residual_arcs.specs.declared.problem.Group.{Group}
-use Rattle.residual_arcs.proofs.Parts.{part_at, part_length, part_of}
+use Rattle.min_cost_flow.specs.Problem.{AreGroups, ArePrices, group_at}
+use Rattle.min_cost_flow.specs.declared.problem.Group.{Group}
+use Rattle.min_cost_flow.proofs.Cells.{part_at, part_length, part_of}
 use Rattle.flow_answers.specs.Prices.{IsLeastAt}
 
 -- what holds of each number so far holds with one more

@@ -1,8 +1,8 @@
 -- What a flow costs the inputs, by number.
 use Rattle.std.specs.Prelude.{ℕ, ◌*◌, ℤ, pos, negsuc, List, Option, Some, None}
-use Rattle.residual_arcs.specs.Problem.{group_at, price_at, sum_to}
-use Rattle.residual_arcs.specs.declared.problem.Group.{Group}
-use Rattle.residual_flow.specs.Flow.{cell_at}
+use Rattle.min_cost_flow.specs.Problem.{group_at, price_at, sum_to}
+use Rattle.min_cost_flow.specs.declared.problem.Group.{Group}
+use Rattle.min_cost_flow.specs.Flow.{cell_at}
 
 -- what a switch costs the inputs of a point, and 0 where it is forbidden
 abbrev pub unit_of : ℕ → Option ℤ → ℕ

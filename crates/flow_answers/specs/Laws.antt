@@ -4,11 +4,11 @@ use Rattle.std.specs.Map.{keys_of}
 use Rattle.flow_answers.specs.Costs.{all_cost}
 use Rattle.flow_answers.specs.Prices.{IsLeastAt}
 use Rattle.flow_certificates.specs.Slackness.{AreLeastOffers, IsOptimal, certificate_of}
-use Rattle.flow_laws.specs.Optimal as numbers
+use Rattle.min_cost_flow.specs.Optimal as numbers
 use Rattle.price_core.specs.Limits.{AreLimits}
-use Rattle.residual_arcs.specs.Problem.{names_of}
-use Rattle.residual_arcs.specs.declared.problem.FlowProblem.{FlowProblem}
-use Rattle.residual_flow.specs.Flow.{IsFlowAt, flows_at, groups_of}
+use Rattle.min_cost_flow.specs.Problem.{names_of}
+use Rattle.min_cost_flow.specs.declared.problem.FlowProblem.{FlowProblem}
+use Rattle.min_cost_flow.specs.Flow.{IsFlowAt, flows_at, groups_of}
 use Rattle.shortest_path.specs.declared.arc.Arc.{Arc}
 use Rattle.transport_instance.specs.Assignment.{IsProved}
 use Rattle.transport_instance.specs.Instance.{TransportProblem}

@@ -1,7 +1,7 @@
 -- The dual prices of names and groups, by number.
 use Rattle.std.specs.Prelude.{◌≡◌, ℕ, ◌-◌, ◌<◌, ◌^◌, ℤ, pos, negsuc, ◌+ℤ◌, ◌*ℤ◌, ◌≤ℤ◌, List, Option, Some, slice_index_or}
-use Rattle.residual_arcs.specs.Problem.{group_at, price_at}
-use Rattle.residual_arcs.specs.declared.problem.Group.{Group}
+use Rattle.min_cost_flow.specs.Problem.{group_at, price_at}
+use Rattle.min_cost_flow.specs.declared.problem.Group.{Group}
 
 -- a potential, not above 0, so near it that a plan file can hold the difference of two
 pub record IsNear (z : ℤ) : Type 0 where

@@ -1,11 +1,11 @@
 //! What a flow costs the inputs.
 ghost use Rattle.std.specs.Prelude.{◌≡◌, ◌<◌, ◌≤◌, ◌*◌, ℕ, ℤ, Some, length};
 ghost use Rattle.flow_answers.specs.Costs.{all_cost, row_cost, unit_of};
-ghost use Rattle.residual_arcs.specs.Offered.{IsPrice};
-ghost use Rattle.residual_arcs.specs.Problem.{AreGroups, ArePrices, group_at, inputs_of, max_count, sum_to};
-ghost use Rattle.residual_flow.specs.Flow.{cell_at};
+ghost use Rattle.min_cost_flow.specs.Offered.{IsPrice};
+ghost use Rattle.min_cost_flow.specs.Problem.{AreGroups, ArePrices, group_at, inputs_of, max_count, sum_to};
+ghost use Rattle.min_cost_flow.specs.Flow.{cell_at};
 
-use residual_arcs::Group;
+use min_cost_flow::Group;
 
 /// What the inputs pay, where the numbers stand by group and then by name.
 pub fn cost_of(groups: &[Group], prices: &[Option<i64>], placed: &[u32], names: usize) -> u64

@@ -3,7 +3,7 @@
 //!
 //! ```rust
 //! use flow_answers::certificate;
-//! use flow_passes::{Outcome, cheapest_flow};
+//! use min_cost_flow::{Outcome, cheapest_flow};
 //!
 //! /// The certificate of the least cost, nothing where no flow is within the limits.
 //! fn certified<L: Ledger>(

@@ -2,10 +2,10 @@
 ghost use Rattle.std.specs.Prelude.{◌≡◌, ◌<◌, ◌+◌, ℕ, ℤ, pos, ◌-ℤ◌, IfOk, length, slice_index_or};
 ghost use Rattle.flow_answers.specs.Prices.{IsLeastAt, IsNear};
 ghost use Rattle.flow_certificates.specs.Offers.{IsDualSize};
-ghost use Rattle.residual_arcs.specs.Problem.{AreGroups, ArePrices};
+ghost use Rattle.min_cost_flow.specs.Problem.{AreGroups, ArePrices};
 
 use flow_certificates::group_price;
-use residual_arcs::Group;
+use min_cost_flow::Group;
 use std::alloc::{AllocError, Global};
 
 /// The price of each name: its potential over that of the limits, which stand after the names.

@@ -9,12 +9,12 @@ use Rattle.std.specs.Map.{keys_of}
 use Rattle.bucket_core.specs.Rule.{Entries}
 use Rattle.flow_certificates.specs.Cuts.{IsStuck}
 use Rattle.flow_certificates.proofs.Cuts.{stuck_is_over}
-use Rattle.flow_passes.specs.Placing.{IsStuckAbove}
+use Rattle.min_cost_flow.specs.Placing.{IsStuckAbove}
 use Rattle.price_core.specs.Limits.{AreLimits}
-use Rattle.residual_arcs.specs.Problem.{group_at, names_of}
-use Rattle.residual_arcs.specs.declared.problem.FlowProblem.{FlowProblem}
-use Rattle.residual_flow.specs.Flow.{IsFlow}
-use Rattle.residual_flow.specs.declared.flow.Flow.{Flow}
+use Rattle.min_cost_flow.specs.Problem.{group_at, names_of}
+use Rattle.min_cost_flow.specs.declared.problem.FlowProblem.{FlowProblem}
+use Rattle.min_cost_flow.specs.Flow.{IsFlow}
+use Rattle.min_cost_flow.specs.declared.flow.Flow.{Flow}
 use Rattle.shortest_path.specs.Found.{rank_of}
 use Rattle.shortest_path.specs.declared.search.Search.{Search}
 use Rattle.transport_instance.specs.Assignment.{Arc, flows_of, inflow}

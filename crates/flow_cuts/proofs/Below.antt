@@ -10,12 +10,12 @@ use Rattle.std.specs.Prelude.{nat_le}
 use Rattle.bucket_core.specs.Rule.{Entries}
 use Rattle.flow_certificates.specs.Cuts.{IsUnmet}
 use Rattle.flow_certificates.proofs.Cuts.{unmet_is_under}
-use Rattle.flow_passes.specs.Meeting.{IsStuckBelow}
+use Rattle.min_cost_flow.specs.Meeting.{IsStuckBelow}
 use Rattle.price_core.specs.Limits.{AreLimits}
 use Rattle.price_core.specs.Pricing.{is_forbidden}
-use Rattle.residual_arcs.specs.Problem.{IsFlowProblem, group_at, is_there, names_of}
-use Rattle.residual_arcs.specs.declared.problem.FlowProblem.{FlowProblem}
-use Rattle.residual_flow.specs.declared.flow.Flow.{Flow}
+use Rattle.min_cost_flow.specs.Problem.{IsFlowProblem, group_at, is_there, names_of}
+use Rattle.min_cost_flow.specs.declared.problem.FlowProblem.{FlowProblem}
+use Rattle.min_cost_flow.specs.declared.flow.Flow.{Flow}
 use Rattle.shortest_path.specs.Found.{rank_of}
 use Rattle.shortest_path.specs.declared.search.Search.{Search}
 use Rattle.transport_instance.proofs.Arcs.{no_points, not_barred}

@@ -2,8 +2,8 @@
 use Rattle.std.proofs.Common.{◌≡◌, ℕ, ◌+◌, ◌*◌, ◌<◌, ⊎_elim, ℤ, List, length, get_or, set, Bool, true, false, Option, sym, ap, ◌∙◌, subst, arith}
 use Rattle.std.proofs.lemmas.Bool.{cases_eq}
 use Rattle.std.proofs.lemmas.List.{get_or-set_same, get_or-set_other, length-set}
-use Rattle.residual_arcs.specs.Problem.{group_at, is_there, price_at}
-use Rattle.residual_arcs.specs.declared.problem.Group.{Group}
+use Rattle.min_cost_flow.specs.Problem.{group_at, is_there, price_at}
+use Rattle.min_cost_flow.specs.declared.problem.Group.{Group}
 
 pub record Holding (k : ℕ) (groups : List Group) (prices : List (Option ℤ)) (placed ranks : List ℕ) (marks : List Bool) (i : ℕ) : Type 0 where
   pub size : length marks ≡ k

@@ -19,7 +19,7 @@ use Rattle.price_core.specs.Limits.{limits_view}
 use Rattle.price_core.specs.declared.totals.Limit.{Limit}
 use Rattle.flow_cuts.specs.Chosen.{chosen}
 use Rattle.flow_cuts.proofs.Choosing.{chosen_more}
-use Rattle.residual_arcs.specs.Problem.{sum_to}
+use Rattle.min_cost_flow.specs.Problem.{sum_to}
 
 abbrev pub no_row : GroupKey × ℕ
 no_row = (([], 0), 0)

@@ -6,10 +6,10 @@ use Rattle.std.specs.Map.{keys_of}
 use Rattle.std.specs.Prelude.{if◌then◌else◌}
 use Rattle.price_core.specs.Limits.{AreLimits}
 use Rattle.price_core.specs.Pricing.{is_forbidden, price_of}
-use Rattle.residual_arcs.specs.Problem.{group_at, is_there, may_take, names_of, price_at, sum_to}
-use Rattle.residual_arcs.specs.declared.problem.FlowProblem.{FlowProblem}
-use Rattle.residual_flow.specs.Flow.{IsFlow, cell_at, groups_of, total_at}
-use Rattle.residual_flow.specs.declared.flow.Flow.{Flow}
+use Rattle.min_cost_flow.specs.Problem.{group_at, is_there, may_take, names_of, price_at, sum_to}
+use Rattle.min_cost_flow.specs.declared.problem.FlowProblem.{FlowProblem}
+use Rattle.min_cost_flow.specs.Flow.{IsFlow, cell_at, groups_of, total_at}
+use Rattle.min_cost_flow.specs.declared.flow.Flow.{Flow}
 use Rattle.transport_instance.specs.Assignment.{flows_of, inflow, spends_all}
 use Rattle.transport_instance.specs.Deficient.{may_become}
 use Rattle.transport_instance.specs.Instance.{TransportProblem}

@@ -1,9 +1,9 @@
 -- Which names are marked, by number.
 use Rattle.std.specs.Prelude.{◌≡◌, ℕ, ◌+◌, ◌<◌, true, false, Bool, List, length, nat_lt, slice_index_or}
-use Rattle.residual_arcs.specs.Problem.{group_at, is_there, names_of, price_at}
-use Rattle.residual_arcs.specs.declared.problem.FlowProblem.{FlowProblem}
-use Rattle.residual_flow.specs.Flow.{groups_of, placed_at}
-use Rattle.residual_flow.specs.declared.flow.Flow.{Flow}
+use Rattle.min_cost_flow.specs.Problem.{group_at, is_there, names_of, price_at}
+use Rattle.min_cost_flow.specs.declared.problem.FlowProblem.{FlowProblem}
+use Rattle.min_cost_flow.specs.Flow.{groups_of, placed_at}
+use Rattle.min_cost_flow.specs.declared.flow.Flow.{Flow}
 use Rattle.shortest_path.specs.Found.{rank_of}
 use Rattle.shortest_path.specs.declared.search.Search.{Search}
 

@@ -2,7 +2,7 @@
 //!
 //! ```rust
 //! use flow_cuts::{names_above, names_below};
-//! use flow_passes::{Outcome, Passed};
+//! use min_cost_flow::{Outcome, Passed};
 //!
 //! fn names(
 //!     alloc: Global, instance: &Instance<'_>, problem: &FlowProblem, passed: &Passed,

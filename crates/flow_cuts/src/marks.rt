@@ -4,15 +4,15 @@ ghost use Rattle.std.specs.Map.{keys_of};
 ghost use Rattle.bucket_core.specs.Rule.{names_view};
 ghost use Rattle.flow_cuts.specs.Chosen.{chosen};
 ghost use Rattle.flow_cuts.specs.Marked.{AreHeld, AreUnsettled, StandsInside, StandsOutside};
-ghost use Rattle.flow_passes.specs.Placing.{IsStuckAbove};
+ghost use Rattle.min_cost_flow.specs.Placing.{IsStuckAbove};
 ghost use Rattle.price_core.specs.Limits.{limits_view};
-ghost use Rattle.residual_arcs.specs.Problem.{IsFlowProblem, names_of};
-ghost use Rattle.residual_flow.specs.Flow.{IsFlow, groups_of};
+ghost use Rattle.min_cost_flow.specs.Problem.{IsFlowProblem, names_of};
+ghost use Rattle.min_cost_flow.specs.Flow.{IsFlow, groups_of};
 ghost use Rattle.shortest_path.specs.Found.{HasSize};
 
 use price_core::Limit;
-use residual_arcs::FlowProblem;
-use residual_flow::Flow;
+use min_cost_flow::FlowProblem;
+use min_cost_flow::Flow;
 use shortest_path::Search;
 use std::alloc::{AllocError, Global};
 

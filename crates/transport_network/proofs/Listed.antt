@@ -11,7 +11,7 @@ use Rattle.price_core.specs.declared.totals.Limit.{Limit}
 use Rattle.transport_instance.specs.Groups.{GroupKey, row_view, rows_view}
 use Rattle.transport_instance.proofs.Keys.{get-map}
 use Rattle.transport_network.specs.Network.{IsGroup, AreGroups}
-use Rattle.residual_arcs.specs.declared.problem.Group.{Group}
+use Rattle.min_cost_flow.specs.declared.problem.Group.{Group}
 
 end_of : {X : Type 0} (xs : List X) (x y : X) (i : ℕ) → slice_get (xs ++ x ∷ []) i ≡ Some y → i ≡ length xs → x ≡ y
 end_of [] x y zero is at = cc

@@ -19,8 +19,8 @@ use Rattle.std.proofs.lemmas.Map.Keys.{Less-from_sorted}
 use Rattle.std.proofs.lemmas.Option.{slice_get-get_or, slice_get_within, get_or_from_slice_get}
 use Rattle.std.proofs.lemmas.Slice.Eq.{bytes_eq-Decides}
 use Rattle.price_core.specs.Pricing.{Pricing}
-use Rattle.residual_arcs.specs.Problem.{IsFlowProblem, sum_to, group_at, inputs_of, names_of, no_group, price_at}
-use Rattle.residual_arcs.specs.declared.problem.FlowProblem.{FlowProblem}
+use Rattle.min_cost_flow.specs.Problem.{IsFlowProblem, sum_to, group_at, inputs_of, names_of, no_group, price_at}
+use Rattle.min_cost_flow.specs.declared.problem.FlowProblem.{FlowProblem}
 use Rattle.transport_instance.specs.Groups.{GroupKey, group_cmp}
 use Rattle.transport_instance.specs.Instance.{TransportProblem, IsProblem}
 use Rattle.transport_instance.specs.Rows.{whole_amount}

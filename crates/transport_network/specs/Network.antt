@@ -3,7 +3,7 @@ use Rattle.std.specs.Prelude.{◌≡◌, ℕ, ℤ, pos, List, length, map, Optio
 use Rattle.std.specs.List.{slice_get}
 use Rattle.price_core.specs.Pricing.{Pricing, price_of, is_forbidden}
 use Rattle.transport_instance.specs.Groups.{GroupKey}
-use Rattle.residual_arcs.specs.declared.problem.Group.{Group}
+use Rattle.min_cost_flow.specs.declared.problem.Group.{Group}
 
 -- what a switch costs an input, and none where it is forbidden
 abbrev pub switch_price : Pricing → List ℕ → List ℕ → Option ℤ

@@ -1,9 +1,9 @@
 -- A planning problem whose groups and names are numbered by their places.
 use Rattle.std.specs.Prelude.{◌≡◌, ℕ, ℤ, ◌<◌, List, [], length, Option, Some, slice_index, slice_index_or}
 use Rattle.std.specs.Map.{keys_of}
-use Rattle.residual_arcs.specs.Offered.{IsPrice}
-use Rattle.residual_arcs.specs.Problem.{group_at, names_of, price_at}
-use Rattle.residual_arcs.specs.declared.problem.FlowProblem.{FlowProblem}
+use Rattle.min_cost_flow.specs.Offered.{IsPrice}
+use Rattle.min_cost_flow.specs.Problem.{group_at, names_of, price_at}
+use Rattle.min_cost_flow.specs.declared.problem.FlowProblem.{FlowProblem}
 use Rattle.transport_instance.specs.Groups.{GroupKey}
 use Rattle.transport_instance.specs.Instance.{TransportProblem}
 use Rattle.transport_network.specs.Network.{switch_price}

@@ -1,7 +1,7 @@
 //! A planning problem in numbers: names and groups by their places, and the price of each switch as a table.
 //!
 //! ```rust
-//! use residual_arcs::FlowProblem;
+//! use min_cost_flow::FlowProblem;
 //! use transport_instance::Instance;
 //! use transport_network::flow_problem;
 //!

@@ -8,10 +8,10 @@ ghost use Rattle.price_core.specs.Limits.{limits_view};
 ghost use Rattle.transport_instance.specs.Groups.{rows_view};
 ghost use Rattle.transport_network.specs.Network.{AreGroups, price_row, switch_price};
 ghost use Rattle.transport_network.specs.Numbered.{IsNumbered, IsPriced};
-ghost use Rattle.residual_arcs.specs.Problem.{IsFlowProblem};
+ghost use Rattle.min_cost_flow.specs.Problem.{IsFlowProblem};
 
 use price_core::{Limit, Prices};
-use residual_arcs::{FlowProblem, Group};
+use min_cost_flow::{FlowProblem, Group};
 use std::alloc::{AllocError, Global};
 use transport_instance::Instance;
 

@@ -2,9 +2,9 @@
 use Rattle.std.proofs.Common.{◌≡◌, ℕ, suc, ◌+◌, ◌*◌, ◌<◌, ◌≤◌, List, [], ◌∷◌, length, ap, ◌∙◌, arith}
 use Rattle.std.proofs.Math.Nat.{mul-le-mul, mul-le-mul_left}
 use Rattle.std.proofs.lemmas.List.{get_or_default}
-use Rattle.flow_passes.specs.Effort.{Searches, nodes_of, points_of}
-use Rattle.residual_arcs.specs.Problem.{group_at, names_of, sum_to}
-use Rattle.residual_arcs.specs.declared.problem.FlowProblem.{FlowProblem}
+use Rattle.min_cost_flow.specs.Effort.{Searches, nodes_of, points_of}
+use Rattle.min_cost_flow.specs.Problem.{group_at, names_of, sum_to}
+use Rattle.min_cost_flow.specs.declared.problem.FlowProblem.{FlowProblem}
 use Rattle.shortest_path.specs.Spent.{Spent}
 use Rattle.transport_instance.specs.Groups.{GroupKey}
 use Rattle.transport_instance.specs.Instance.{TransportProblem, IsProblem}

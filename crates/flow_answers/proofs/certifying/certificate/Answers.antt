@@ -4,7 +4,7 @@ use Rattle.std.specs.List.{zip}
 use Rattle.std.specs.Map.{keys_of}
 use Rattle.plan_text.specs.PlanFile.{has_whole_numbers}
 use Rattle.price_core.specs.Limits.{Limits}
-use Rattle.residual_arcs.specs.Problem.{names_of}
+use Rattle.min_cost_flow.specs.Problem.{names_of}
 use Rattle.transport_instance.specs.Assignment.{IsProved}
 use Rattle.transport_instance.specs.Certificate.{DualPrices, alpha_view, beta_view}
 use Rattle.transport_instance.specs.Groups.{GroupKey}

@@ -1,8 +1,8 @@
 -- Each turn adds what one name's points pay.
 use Rattle.std.proofs.Common.{◌≡◌, ℕ, ◌+◌, ◌*◌, sym, ap, ◌∙◌, arith}
-use Rattle.residual_arcs.specs.Problem.{group_at, price_at}
-use Rattle.residual_arcs.proofs.Cells.{cell_in}
-use Rattle.residual_flow.specs.Flow.{cell_at}
+use Rattle.min_cost_flow.specs.Problem.{group_at, price_at}
+use Rattle.min_cost_flow.proofs.Cells.{cell_in}
+use Rattle.min_cost_flow.specs.Flow.{cell_at}
 use Rattle.flow_answers.specs.Costs.{row_cost, unit_of}
 use Rattle.flow_answers.proofs.Bounded.{inputs_few, row_more, row_small}
 use Rattle.flow_answers.proofs.cost.cost_of_row.Goals as goal

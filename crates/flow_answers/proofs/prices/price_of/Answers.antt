@@ -2,9 +2,9 @@
 use Rattle.std.proofs.Common.{◌≡◌, ℕ, ◌+◌, ◌*◌, ◌<◌, pos, None, length, to_z, of_z, sym, ◌∙◌, subst, arith}
 use Rattle.std.proofs.lemmas.Int.{to_z-of_z}
 use Rattle.std.specs.Int.{w64}
-use Rattle.residual_arcs.specs.Problem.{group_at}
-use Rattle.residual_arcs.proofs.Cells.{cell_in}
-use Rattle.residual_arcs.proofs.Parts.{part_at, part_length}
+use Rattle.min_cost_flow.specs.Problem.{group_at}
+use Rattle.min_cost_flow.proofs.Cells.{cell_in}
+use Rattle.min_cost_flow.proofs.Cells.{part_at, part_length}
 use Rattle.flow_answers.specs.Prices.{IsLeastAt}
 use Rattle.flow_answers.proofs.Priced.{least_at}
 use Rattle.flow_answers.proofs.prices.price_of.Goals as goal

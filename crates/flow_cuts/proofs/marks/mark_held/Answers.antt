@@ -1,8 +1,8 @@
 -- A group that stands inside marks its old name.
 use Rattle.std.proofs.Common.{◌≡◌, true, set, ap, ◌∙◌, rules}
 use Rattle.std.proofs.lemmas.List.{get_or_default}
-use Rattle.residual_arcs.specs.Problem.{group_at, names_of, no_group}
-use Rattle.residual_arcs.specs.declared.problem.Group.{Group}
+use Rattle.min_cost_flow.specs.Problem.{group_at, names_of, no_group}
+use Rattle.min_cost_flow.specs.declared.problem.Group.{Group}
 use Rattle.flow_cuts.proofs.Holding.{holds_no, holds_yes}
 use Rattle.flow_cuts.proofs.marks.mark_held.Goals as goal
 use Rattle.flow_cuts.proofs.marks.mark_held.Goals.{then-stands_inside, else-stands_inside}

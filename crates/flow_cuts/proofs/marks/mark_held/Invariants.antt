@@ -1,4 +1,4 @@
-use Rattle.residual_arcs.specs.Problem.{names_of}
+use Rattle.min_cost_flow.specs.Problem.{names_of}
 use Rattle.flow_cuts.proofs.Holding.{Holding}
 use Rattle.flow_cuts.proofs.marks.mark_held.Given as goal
 

@@ -1,5 +1,5 @@
 use Rattle.std.proofs.Common.{◌≡◌, ◌<◌, ℕ, false, get_or, nat_lt}
-use Rattle.residual_arcs.specs.Problem.{names_of}
+use Rattle.min_cost_flow.specs.Problem.{names_of}
 use Rattle.shortest_path.specs.Found.{rank_of}
 use Rattle.flow_cuts.proofs.marks.mark_unsettled.Given as goal
 

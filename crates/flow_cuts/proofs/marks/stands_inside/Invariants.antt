@@ -1,6 +1,6 @@
 use Rattle.std.proofs.Common.{ℕ, ◌<◌, ◌+◌}
-use Rattle.residual_arcs.specs.Problem.{names_of}
-use Rattle.residual_flow.specs.Flow.{placed_at}
+use Rattle.min_cost_flow.specs.Problem.{names_of}
+use Rattle.min_cost_flow.specs.Flow.{placed_at}
 use Rattle.shortest_path.specs.Found.{rank_of}
 use Rattle.flow_cuts.proofs.marks.stands_inside.Given as goal
 

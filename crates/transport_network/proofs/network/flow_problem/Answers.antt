@@ -4,7 +4,7 @@ use Rattle.std.specs.List.{All, Contains, flat_map}
 use Rattle.std.specs.Map.{keys_of}
 use Rattle.price_core.specs.Limits.{Limits, limits_view}
 use Rattle.price_core.specs.Pricing.{Pricing}
-use Rattle.residual_arcs.specs.declared.problem.FlowProblem.{FlowProblem}
+use Rattle.min_cost_flow.specs.declared.problem.FlowProblem.{FlowProblem}
 use Rattle.transport_instance.specs.Groups.{GroupKey}
 use Rattle.transport_network.specs.Network.{AreGroups, price_row}
 use Rattle.transport_network.proofs.Numbering.{numbered, lawful}

@@ -4,7 +4,7 @@ use Rattle.std.specs.Map.{keys_of}
 use Rattle.price_core.specs.Limits.{limits_view}
 use Rattle.transport_instance.specs.Groups.{GroupKey, row_view, rows_view}
 use Rattle.transport_network.specs.Network.{AreGroups, IsGroup}
-use Rattle.residual_arcs.specs.declared.problem.Group.{Group}
+use Rattle.min_cost_flow.specs.declared.problem.Group.{Group}
 use Rattle.transport_network.proofs.Listed.{group_more, rows-more, row-listed}
 use Rattle.transport_network.proofs.network.groups.Goals as goal
 
