@@ -9,8 +9,8 @@ use Rattle.shortest_path.specs.Spent.{Spent}
 use Rattle.transport_instance.specs.Groups.{GroupKey}
 use Rattle.transport_instance.specs.Instance.{TransportProblem, IsProblem}
 use Rattle.transport_instance.specs.Rows.{whole_amount}
-use Rattle.transport_network.specs.Numbered.{IsNumbered}
-use Rattle.transport_network.proofs.Numbering.{sum_to-list}
+use Rattle.transport_plan.specs.Numbered.{IsNumbered}
+use Rattle.transport_plan.proofs.Numbering.{sum_to-list}
 
 abbrev no_row : GroupKey × ℕ
 no_row = (([], 0), 0)
