@@ -11,6 +11,7 @@ use Rattle.min_cost_flow.proofs.Entering.{there_is}
 use Rattle.min_cost_flow.specs.Flow.{IsFlowAt, groups_of}
 use Rattle.shortest_path.specs.Network.{IsWithin, arc_at, max_cost}
 use Rattle.shortest_path.specs.declared.arc.Arc.{Arc}
+use Rattle.min_cost_flow.proofs.OptimalLaws.{none_there}
 
 -- what a name costs a point
 charge_small : (c : ℕ) (o : Option ℤ) (z : ℤ) → c ≤ max_count → o ≡ Some z → IsPrice z → (pos 0 ≤ℤ (pos c *ℤ or_free o)) × ((pos c *ℤ or_free o) ≤ℤ pos max_cost)
@@ -20,9 +21,6 @@ charge_small c o (pos n) few is price =
     let value : (pos c *ℤ or_free o) ≡ pos (c * n) = ap (λ x. pos c *ℤ or_free x) is in
     (omega (arith, ints, value), omega (arith, ints, value, small))
 charge_small c o (negsuc n) few is price = absurd (omega (arith, ints, price.low))
-
-none_there : (a : Arc) → None ≡ Some a → ⊥
-none_there a clash = cc
 
 module _ (p : FlowProblem) (ok : IsFlowProblem p) (numbers sums : List ℕ) (cells : List (Option Arc)) (flow : IsFlowAt p numbers sums cells) where
   charge_in : (g w : ℕ) → g < groups_of p → w < names_of p → may_take p.groups.items p.prices.items (names_of p) g w ≡ true

@@ -8,9 +8,7 @@ use Rattle.min_cost_flow.specs.Residual.{AreWays, HaveFirst, HaveLast, IsLower, 
 use Rattle.min_cost_flow.proofs.Entering.{there_is}
 use Rattle.min_cost_flow.proofs.Products.{between}
 use Rattle.shortest_path.specs.declared.arc.Arc.{Arc}
-
-none_there : (a : Arc) → None ≡ Some a → ⊥
-none_there a clash = cc
+use Rattle.min_cost_flow.proofs.OptimalLaws.{none_there}
 
 -- no arc is a way
 pub no_ways : (groups names : ℕ) (may : ℕ → ℕ → Bool) (charge : ℕ → ℕ → ℤ) (here : ℕ → ℕ) (v : ℕ) (arc : ℕ → Option Arc) → ((w : ℕ) → arc w ≡ None) → AreWays groups names may charge here v arc

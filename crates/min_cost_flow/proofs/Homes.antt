@@ -8,7 +8,7 @@ use Rattle.min_cost_flow.specs.Problem.{group_at, sum_to}
 use Rattle.min_cost_flow.specs.declared.problem.Group.{Group}
 use Rattle.min_cost_flow.proofs.Cells.{cell_in}
 use Rattle.min_cost_flow.specs.Flow.{cell_at}
-use Rattle.min_cost_flow.specs.Staying.{at_home}
+use Rattle.min_cost_flow.specs.Initial.{at_home}
 use Rattle.min_cost_flow.proofs.Sums.{sum_at_most, sum_prefix}
 
 here_test : (v x points : ℕ) → v ≡ x → ◌≡◌ {A = ℕ} (cond (v == x) points 0) points

@@ -7,6 +7,7 @@ pub mod CheapestArcs
 pub mod Entering
 pub mod Filled
 pub mod Homes
+pub mod InitialFlow
 pub mod JoinedSpans
 pub mod MovedAlong
 pub mod MovedPoints
@@ -21,7 +22,6 @@ pub mod RowParts
 pub mod SpanEnds
 pub mod Spans
 pub mod Spending
-pub mod Stayed
 pub mod Sums
 pub mod Tracing
 pub mod VariantTurns

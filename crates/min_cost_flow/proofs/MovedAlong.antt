@@ -6,7 +6,7 @@ use Rattle.std.specs.List.{All, AllPairs}
 use Rattle.min_cost_flow.specs.Optimal.{AreLeast}
 use Rattle.min_cost_flow.proofs.OptimalLaws.{least_after}
 use Rattle.min_cost_flow.specs.declared.problem.FlowProblem.{FlowProblem}
-use Rattle.min_cost_flow.specs.Flow.{IsFlow, IsShifted, flows_of, placed_at, total_at}
+use Rattle.min_cost_flow.specs.Flow.{IsFlow, IsPushed, flows_of, placed_at, total_at}
 use Rattle.min_cost_flow.specs.declared.flow.Flow.{Flow}
 use Rattle.min_cost_flow.specs.Paths.{IsStep, Leads, IsEven}
 use Rattle.min_cost_flow.specs.declared.augmenting.Step.{Step}
@@ -48,14 +48,14 @@ pub record Reaches (old new : Flow) (points first last : ℕ) (steps : List Step
 pub record Moves (p : FlowProblem) (old new : Flow) (points : ℕ) (steps : List Step) (i : ℕ) : Type 0 where
   pub flow : IsFlow p new
   pub wide : (j : ℕ) (d : Step) → i ≤ j → j < length steps → points ≤ placed_at p new (get_or steps j d).group (get_or steps j d).from
-  pub least : (price : ℕ → ℤ) → All (IsEven p price) steps → AreLeast (flows_of p old) price → AreLeast (flows_of p new) price
+  pub least : (potential : ℕ → ℤ) → All (IsEven p potential) steps → AreLeast (flows_of p old) potential → AreLeast (flows_of p new) potential
   pub reaches : (first last : ℕ) → Leads first last steps → Reaches old new points first last (drop i steps)
 
 pub moves_none : (p : FlowProblem) (flow : Flow) (points : ℕ) (steps : List Step) → IsFlow p flow → All (λ (s : Step). points ≤ placed_at p flow s.group s.from) steps → Moves p flow flow points steps 0
 moves_none p flow points steps is wide = record {
   flow = is;
   wide = λ j d low high. wide j d high;
-  least = λ price even least. least;
+  least = λ potential even least. least;
   reaches = λ first last leads. record { to = last; leads = leads; totals = λ v. refl };
 }
 
@@ -68,7 +68,7 @@ moves_all p old new points steps i first last moves done leads v =
 
 module _ (p : FlowProblem) (old flow new : Flow) (points : ℕ) (steps : List Step) (i : ℕ) (s : Step) (some : 0 < points)
     (each : All (IsStep p old) steps) (apart : AllPairs (λ s t. s.from ≢ t.from) steps) (below : i < length steps) (here : (d : Step) → s ≡ get_or steps i d) (rest_is : drop i steps ≡ s ∷ drop (i + 1) steps)
-    (moves : Moves p old flow points steps i) (now : IsFlow p new) (shifted : IsShifted p flow new s.group s.from s.to points) where
+    (moves : Moves p old flow points steps i) (now : IsFlow p new) (pushed : IsPushed p flow new s.group s.from s.to points) where
   step : IsStep p old s
   step = subst (IsStep p old) (sym (here s)) (each i s below)
 
@@ -81,10 +81,10 @@ module _ (p : FlowProblem) (old flow new : Flow) (points : ℕ) (steps : List St
       (λ (g_is : t.group ≡ s.group).
       ⊎_elim
       (λ (to_is : t.from ≡ s.to).
-      omega (arith, shifted.shifts.entered, ap (λ g. placed_at p new g t.from) g_is, ap (placed_at p new s.group) to_is))
-      (λ (not_to : t.from ≡ s.to → ⊥). omega (arith, wide, shifted.shifts.others t.group t.from (each j d high).from (λ g v. not_from v) (λ g v. not_to v)))
+      omega (arith, pushed.pushes.entered, ap (λ g. placed_at p new g t.from) g_is, ap (placed_at p new s.group) to_is))
+      (λ (not_to : t.from ≡ s.to → ⊥). omega (arith, wide, pushed.pushes.others t.group t.from (each j d high).from (λ g v. not_from v) (λ g v. not_to v)))
       (cases_eq t.from s.to))
-      (λ (not_g : t.group ≡ s.group → ⊥). omega (arith, wide, shifted.shifts.others t.group t.from (each j d high).from (λ g v. not_g g) (λ g v. not_g g)))
+      (λ (not_g : t.group ≡ s.group → ⊥). omega (arith, wide, pushed.pushes.others t.group t.from (each j d high).from (λ g v. not_g g) (λ g v. not_g g)))
       (cases_eq t.group s.group)
 
   still_reaches : (first last : ℕ) → Leads first last steps → Reaches old new points first last (drop (i + 1) steps)
@@ -100,13 +100,13 @@ module _ (p : FlowProblem) (old flow new : Flow) (points : ℕ) (steps : List St
             let moved : at_name v r.to points ≡ at_name v s.to points = ap (λ w. at_name v w points) (sym to_is) in
             ⊎_elim
             (λ (from_is : v ≡ s.from).
-            omega (arith, before, moved, same_name v s.from points from_is, other_name v s.to points (λ h. step.apart (sym from_is ∙ h)), shifted.left, ap (total_at new) from_is, ap (total_at flow) from_is))
+            omega (arith, before, moved, same_name v s.from points from_is, other_name v s.to points (λ h. step.apart (sym from_is ∙ h)), pushed.left, ap (total_at new) from_is, ap (total_at flow) from_is))
             (λ (not_from : v ≡ s.from → ⊥).
             ⊎_elim
             (λ (is : v ≡ s.to).
-            omega (arith, before, moved, other_name v s.from points not_from, same_name v s.to points is, shifted.entered, ap (total_at new) is, ap (total_at flow) is))
+            omega (arith, before, moved, other_name v s.from points not_from, same_name v s.to points is, pushed.entered, ap (total_at new) is, ap (total_at flow) is))
             (λ (not_to : v ≡ s.to → ⊥).
-            omega (arith, before, moved, other_name v s.from points not_from, other_name v s.to points not_to, shifted.others v not_from not_to))
+            omega (arith, before, moved, other_name v s.from points not_from, other_name v s.to points not_to, pushed.others v not_from not_to))
             (cases_eq v s.to))
             (cases_eq v s.from);
       }
@@ -115,7 +115,7 @@ module _ (p : FlowProblem) (old flow new : Flow) (points : ℕ) (steps : List St
   moves_more = record {
     flow = now;
     wide = still_wide;
-    least = λ price even least.
-        least_after (flows_of p flow) (flows_of p new) price s.group s.from s.to points (moves.least price even least) shifted.shifts step.group step.from step.to step.apart some (subst (IsEven p price) (sym (here s)) (even i s below));
+    least = λ potential even least.
+        least_after (flows_of p flow) (flows_of p new) potential s.group s.from s.to points (moves.least potential even least) pushed.pushes step.group step.from step.to step.apart some (subst (IsEven p potential) (sym (here s)) (even i s below));
     reaches = still_reaches;
   }

@@ -4,7 +4,7 @@ use Rattle.std.proofs.lemmas.Bool.{cases_eq}
 use Rattle.std.proofs.lemmas.Nat.{same_from_place}
 use Rattle.min_cost_flow.specs.Problem.{IsFlowProblem, sum_to, group_at, may_take, names_of}
 use Rattle.min_cost_flow.specs.declared.problem.FlowProblem.{FlowProblem}
-use Rattle.min_cost_flow.specs.Flow.{IsFlowAt, IsShiftedAt, cell_at, groups_of}
+use Rattle.min_cost_flow.specs.Flow.{IsFlowAt, IsPushedAt, cell_at, groups_of}
 use Rattle.min_cost_flow.proofs.Sums.{sum_same, sum_at_most, sum_has, sum_has_two, sum_adds, sum_one, sum_two}
 use Rattle.shortest_path.specs.declared.arc.Arc.{Arc}
 
@@ -39,9 +39,9 @@ module _ (p : FlowProblem) (ok : IsFlowProblem p) (numbers sums : List ℕ) (cel
           (λ is. let s = same_from_place g v group from (names_of p) v_in from_in is in not_from s.0 s.1)
           (λ is. let s = same_from_place g v group to (names_of p) v_in to_in is in not_to s.0 s.1)
 
-      pub shifted : IsShiftedAt p numbers sums numbers' sums' group from to points
-      shifted = record {
-        shifts = record {
+      pub pushed : IsPushedAt p numbers sums numbers' sums' group from to points
+      pushed = record {
+        pushes = record {
           groups = refl;
           names = refl;
           allowed = λ g v. refl;

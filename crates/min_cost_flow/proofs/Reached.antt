@@ -13,7 +13,7 @@ use Rattle.min_cost_flow.specs.declared.problem.FlowProblem.{FlowProblem}
 use Rattle.min_cost_flow.specs.Flow.{IsFlow, flows_of, total_at}
 use Rattle.min_cost_flow.specs.declared.flow.Flow.{Flow}
 use Rattle.min_cost_flow.proofs.Sums.{sum_one}
-use Rattle.shortest_path.specs.Found.{HasFound, HasSize, IsStuck, parent_of, potential_of, rank_of}
+use Rattle.shortest_path.specs.Found.{HasFound, HasSize, IsStuck, predecessor_of, potential_of, rank_of}
 use Rattle.shortest_path.specs.Network.{arc_at, max_cost}
 use Rattle.shortest_path.specs.declared.arc.Arc.{Arc}
 use Rattle.shortest_path.specs.declared.search.Search.{Search}
@@ -36,9 +36,9 @@ pub wanted_name : (p : FlowProblem) (f : Flow) (wanted : List Bool) → WantsBel
 wanted_name p f wanted wants v v_in under = slice_get-get_or wanted v false (omega (arith, v_in, wants.size)) ∙ ap Some (wants.each v v_in ∙ less_true (total_at f v) (get_or p.low.items v 0) under)
 
 -- the bounds of a potential after a search whose node is not below 0
-near_below : (n : ℕ) (arc : ℕ → ℕ → Option Arc) (wanted : List Bool) (source : ℕ) (pot pot' : ℕ → ℤ) (parent rank : ℕ → ℕ) (node : ℕ) → n ≤ 65 → HasFound n arc wanted source pot pot' parent rank node
+near_below : (n : ℕ) (arc : ℕ → ℕ → Option Arc) (wanted : List Bool) (source : ℕ) (pot pot' : ℕ → ℤ) (predecessor rank : ℕ → ℕ) (node : ℕ) → n ≤ 65 → HasFound n arc wanted source pot pot' predecessor rank node
     → pos 0 ≤ℤ pot node → (v : ℕ) → v < n → neg_ℤ (pos reach) ≤ℤ pot v → pot v ≤ℤ pos 0 → (neg_ℤ (pos reach) ≤ℤ pot' v) × (pot' v ≤ℤ pos 0)
-near_below n arc wanted source pot pot' parent rank node few found node_low v v_in low high =
+near_below n arc wanted source pot pot' predecessor rank node few found node_low v v_in low high =
     let most : n * max_cost ≤ 65 * max_cost = mul-le-mul_right max_cost few in
     ⊎_elim
     (λ (settled : rank v < n). (omega (arith, ints, node_low, most, found.low v v_in settled), omega (arith, ints, found.fallen v v_in settled, high)))
@@ -46,13 +46,13 @@ near_below n arc wanted source pot pot' parent rank node few found node_low v v_
     (cases_lt (rank v) n)
 
 pub way_below : (p : FlowProblem) (ok : IsFlowProblem p) (f : Flow) (s s' : Search) (wanted : List Bool) (node : ℕ) → IsMeeting p f s → WantsBelow p f wanted → HasSize (names_of p + 1) s'
-    → HasFound (names_of p + 1) (arc_at f.arcs.items (names_of p + 1)) wanted (names_of p) (potential_of s) (potential_of s') (parent_of s') (rank_of s') node → IsWayBelow p f s' node
+    → HasFound (names_of p + 1) (arc_at f.arcs.items (names_of p + 1)) wanted (names_of p) (potential_of s) (potential_of s') (predecessor_of s') (rank_of s') node → IsWayBelow p f s' node
 way_below p ok f s s' wanted node meeting wants size found =
     let n : ℕ = names_of p + 1 in
     let few : n ≤ 65 = omega (arith, ok.names) in
     let here = wants_name p f wanted wants node found.within found.is_wanted in
     let near : (v : ℕ) → v < n → (neg_ℤ (pos reach) ≤ℤ potential_of s' v) × (potential_of s' v ≤ℤ pos 0) =
-    λ v v_in. near_below n (arc_at f.arcs.items n) wanted (names_of p) (potential_of s) (potential_of s') (parent_of s') (rank_of s') node few found (meeting.below node here.0 here.1) v v_in (meeting.low v v_in) (meeting.high v v_in) in
+    λ v v_in. near_below n (arc_at f.arcs.items n) wanted (names_of p) (potential_of s) (potential_of s') (predecessor_of s') (rank_of s') node few found (meeting.below node here.0 here.1) v v_in (meeting.low v v_in) (meeting.high v v_in) in
     let unsettled : (v : ℕ) → v < names_of p → total_at f v < get_or p.low.items v 0 → n ≤ rank_of s' v =
     λ v v_in under.
     ⊎_elim (λ (settled : rank_of s' v < n). absurd (found.unwanted v (omega (arith, v_in)) settled (wanted_name p f wanted wants v v_in under))) (λ (not : n ≤ rank_of s' v). not) (cases_lt (rank_of s' v) n) in
@@ -98,7 +98,7 @@ stuck_below p f s s' wanted meeting wants size stuck below within under =
 
 -- what a search over the flow's arcs tells
 pub found_below : (p : FlowProblem) (ok : IsFlowProblem p) (f : Flow) (s s' : Search) (wanted : List Bool) (r : Option ℕ) (arcs : List (Option Arc)) (n k : ℕ) → IsMeeting p f s → WantsBelow p f wanted → arcs ≡ f.arcs.items → n ≡ names_of p + 1 → k ≡ names_of p → HasSize n s'
-    → MatchOption r (IsStuck n (arc_at arcs n) wanted k (potential_of s) (potential_of s') (rank_of s')) (HasFound n (arc_at arcs n) wanted k (potential_of s) (potential_of s') (parent_of s') (rank_of s'))
+    → MatchOption r (IsStuck n (arc_at arcs n) wanted k (potential_of s) (potential_of s') (rank_of s')) (HasFound n (arc_at arcs n) wanted k (potential_of s) (potential_of s') (predecessor_of s') (rank_of s'))
     → MatchOption r ((v : ℕ) → v < names_of p → total_at f v < get_or p.low.items v 0 → IsStuckBelow p f s') (λ last. IsWayBelow p f s' last)
 found_below p ok f s s' wanted None arcs n k meeting wants arcs_are n_is k_is size known =
     stuck_below p f s s' wanted meeting wants (subst (λ m. HasSize m s') n_is size)
@@ -107,9 +107,9 @@ found_below p ok f s s' wanted None arcs n k meeting wants arcs_are n_is k_is si
     (subst (λ m. IsStuck m (arc_at arcs m) wanted k (potential_of s) (potential_of s') (rank_of s')) n_is known)))
 found_below p ok f s s' wanted (Some node) arcs n k meeting wants arcs_are n_is k_is size known =
     way_below p ok f s s' wanted node meeting wants (subst (λ m. HasSize m s') n_is size)
-    (subst (λ x. HasFound (names_of p + 1) (arc_at f.arcs.items (names_of p + 1)) wanted x (potential_of s) (potential_of s') (parent_of s') (rank_of s') node) k_is
-    (subst (λ (xs : List (Option Arc)). HasFound (names_of p + 1) (arc_at xs (names_of p + 1)) wanted k (potential_of s) (potential_of s') (parent_of s') (rank_of s') node) arcs_are
-    (subst (λ m. HasFound m (arc_at arcs m) wanted k (potential_of s) (potential_of s') (parent_of s') (rank_of s') node) n_is known)))
+    (subst (λ x. HasFound (names_of p + 1) (arc_at f.arcs.items (names_of p + 1)) wanted x (potential_of s) (potential_of s') (predecessor_of s') (rank_of s') node) k_is
+    (subst (λ (xs : List (Option Arc)). HasFound (names_of p + 1) (arc_at xs (names_of p + 1)) wanted k (potential_of s) (potential_of s') (predecessor_of s') (rank_of s') node) arcs_are
+    (subst (λ m. HasFound m (arc_at arcs m) wanted k (potential_of s) (potential_of s') (predecessor_of s') (rank_of s') node) n_is known)))
 
 module _ (p : FlowProblem) (ok : IsFlowProblem p) (old new : Flow) (s : Search) (last : ℕ) (way : IsWayBelow p old s last) (flow : IsFlow p new) (least : AreLeast (flows_of p new) (potential_of s))
     (aug : IsAugmented p old new (potential_of s) (rank_of s) p.low.items (names_of p) last) where

@@ -1,4 +1,4 @@
--- The arcs from a name, renewed as a part of all arcs.
+-- The arcs from a name, rebuilt as a part of all arcs.
 use Rattle.std.proofs.Common.{◌≡◌, ℕ, ◌+◌, ◌-◌, ◌*◌, ◌<◌, ℤ, List, length, take, drop, get_or, Option, None, sym, ◌∙◌, subst}
 use Rattle.min_cost_flow.specs.Problem.{cost_at, may_take}
 use Rattle.min_cost_flow.specs.Residual.{IsRow, IsWidened}
@@ -28,9 +28,9 @@ module _ (k name : ℕ) (arcs row : List (Option Arc)) (name_in : name < k) (siz
       (λ w w_in. sym (part_is k name arcs name_in size w w_in)) (λ w w_in. row_is k name arcs name_in size row as_many w w_in)
       (subst (λ m. IsWidened m (may_take gs ps m) (cost_at gs ps m) group name (λ w. get_or (part_of k name arcs) w None) (λ w. get_or row w None)) (part_size k name arcs name_in size) wide)
 
-  pub part_renewed : (placed : List ℕ) → IsRow (length gs) (length (part_of k name arcs)) (may_take gs ps (length (part_of k name arcs))) (cost_at gs ps (length (part_of k name arcs))) (λ g. get_or placed (g * length (part_of k name arcs) + name) 0) name (λ w. get_or row w None)
+  pub part_rebuilt : (placed : List ℕ) → IsRow (length gs) (length (part_of k name arcs)) (may_take gs ps (length (part_of k name arcs))) (cost_at gs ps (length (part_of k name arcs))) (λ g. get_or placed (g * length (part_of k name arcs) + name) 0) name (λ w. get_or row w None)
       → IsRow (length gs) k (may_take gs ps k) (cost_at gs ps k) (λ g. get_or placed (g * k + name) 0) name (arc_at (put_row k name arcs row) (k + 1) name)
-  part_renewed placed are =
+  part_rebuilt placed are =
       row_stays (length gs) k (may_take gs ps k) (cost_at gs ps k) name (λ g. get_or placed (g * k + name) 0) (λ g. get_or placed (g * k + name) 0) (λ w. get_or row w None) (arc_at (put_row k name arcs row) (k + 1) name)
       (subst (λ m. IsRow (length gs) m (may_take gs ps m) (cost_at gs ps m) (λ g. get_or placed (g * m + name) 0) name (λ w. get_or row w None)) (part_size k name arcs name_in size) are)
       (λ g some. some) (λ g some. some) (λ w w_in. row_is k name arcs name_in size row as_many w w_in)

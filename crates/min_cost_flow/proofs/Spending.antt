@@ -47,7 +47,7 @@ module _ (n : ℕ) where
 
 -- ---- points above the high limits
 
-module _ (p : FlowProblem) (old new : Flow) (price : ℕ → ℤ) (rank : ℕ → ℕ) (source last : ℕ) (aug : IsAugmented p old new price rank p.high.items source last) where
+module _ (p : FlowProblem) (old new : Flow) (potential : ℕ → ℤ) (rank : ℕ → ℕ) (source last : ℕ) (aug : IsAugmented p old new potential rank p.high.items source last) where
   same_excess : (v : ℕ) → v < names_of p → (v ≡ aug.first → ⊥) → (total_at new v - get_or p.high.items v 0) ≡ (total_at old v - get_or p.high.items v 0)
   same_excess v v_in not_first =
       ⊎_elim

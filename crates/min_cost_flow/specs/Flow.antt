@@ -1,7 +1,7 @@
 -- Flows of a problem's points to names, with the arcs of their residual network (Ahuja, Magnanti, Orlin, Network Flows, section
 -- 9.2). The numbers of a flow stand by group and then by name; the limits are the node after the names.
 use Rattle.std.specs.Prelude.{◌≡◌, ◌≢◌, ℕ, ◌<◌, ◌+◌, ◌*◌, true, List, length, Option, slice_index}
-use Rattle.min_cost_flow.specs.Optimal.{Flows, AreResidual, Shifts}
+use Rattle.min_cost_flow.specs.Optimal.{Flows, AreResidual, Pushes}
 use Rattle.min_cost_flow.specs.Problem.{sum_to, group_at, may_take, cost_at, names_of}
 use Rattle.min_cost_flow.specs.Spans.{AreSpans}
 use Rattle.min_cost_flow.specs.declared.problem.FlowProblem.{FlowProblem}
@@ -41,8 +41,8 @@ pub record IsFlowAt (p : FlowProblem) (numbers sums : List ℕ) (cells : List (O
   pub residual : AreResidual (flows_at p numbers sums) (arc_at cells (names_of p + 1))
 
 -- so many points of a group moved from one name to another, and the totals with them
-pub record IsShiftedAt (p : FlowProblem) (numbers sums numbers' sums' : List ℕ) (group from to points : ℕ) : Type 0 where
-  pub shifts : Shifts (flows_at p numbers sums) (flows_at p numbers' sums') group from to points
+pub record IsPushedAt (p : FlowProblem) (numbers sums numbers' sums' : List ℕ) (group from to points : ℕ) : Type 0 where
+  pub pushes : Pushes (flows_at p numbers sums) (flows_at p numbers' sums') group from to points
   pub left : slice_index sums' from + points ≡ slice_index sums from
   pub entered : slice_index sums' to ≡ slice_index sums to + points
   pub others : (v : ℕ) → v ≢ from → v ≢ to → slice_index sums' v ≡ slice_index sums v
@@ -62,5 +62,5 @@ pub record IsFlow (p : FlowProblem) (f : Flow) : Type 0 where
   pub tables : IsFlowAt p f.placed.items f.totals.items f.arcs.items
   pub spans : AreSpans p.groups.items (names_of p) f.placed.items f.spans.items
 
-abbrev pub IsShifted : FlowProblem → Flow → Flow → ℕ → ℕ → ℕ → ℕ → Type 0
-IsShifted p old new group from to points = IsShiftedAt p old.placed.items old.totals.items new.placed.items new.totals.items group from to points
+abbrev pub IsPushed : FlowProblem → Flow → Flow → ℕ → ℕ → ℕ → ℕ → Type 0
+IsPushed p old new group from to points = IsPushedAt p old.placed.items old.totals.items new.placed.items new.totals.items group from to points

@@ -1,6 +1,7 @@
 pub mod Cheapest
 pub mod Effort
 pub mod Flow
+pub mod Initial
 pub mod Meeting
 pub mod Offered
 pub mod Optimal
@@ -9,4 +10,3 @@ pub mod Placing
 pub mod Problem
 pub mod Residual
 pub mod Spans
-pub mod Staying

@@ -7,7 +7,7 @@ use Rattle.min_cost_flow.specs.Problem.{names_of, sum_to}
 use Rattle.min_cost_flow.specs.declared.problem.FlowProblem.{FlowProblem}
 use Rattle.min_cost_flow.specs.Flow.{IsFlow, flows_of, total_at}
 use Rattle.min_cost_flow.specs.declared.flow.Flow.{Flow}
-use Rattle.shortest_path.specs.Found.{HasSize, parent_of, potential_of, rank_of}
+use Rattle.shortest_path.specs.Found.{HasSize, predecessor_of, potential_of, rank_of}
 use Rattle.shortest_path.specs.Network.{arc_at}
 use Rattle.shortest_path.specs.declared.search.Search.{Search}
 use Rattle.min_cost_flow.specs.Placing.{IsClosed, reach}
@@ -45,7 +45,7 @@ pub record IsWayBelow (p : FlowProblem) (f : Flow) (s : Search) (last : ℕ) : T
   pub meeting : IsMeeting p f s
   pub within : last < names_of p
   pub under : total_at f last < slice_index p.low.items last
-  pub traced : AreTraced (names_of p) (arc_at f.arcs.items (names_of p + 1)) (potential_of s) (parent_of s) (rank_of s) (names_of p) last
+  pub traced : AreTraced (names_of p) (arc_at f.arcs.items (names_of p + 1)) (potential_of s) (predecessor_of s) (rank_of s) (names_of p) last
 
 -- the names that the last search did not settle have no points to spare, one of them is below its low limit, and no point of
 -- another name may enter one

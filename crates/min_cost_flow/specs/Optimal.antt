@@ -1,4 +1,4 @@
--- When a flow of points from groups to names costs the least for its totals, as prices of the names show, and the residual
+-- When a flow of points from groups to names costs the least for its totals, as potentials of the names show, and the residual
 -- arcs along which points may move (Ahuja, Magnanti, Orlin, Network Flows, sections 9.2 and 9.3).
 use Rattle.std.specs.Prelude.{◌≡◌, ◌≢◌, ℕ, ◌+◌, ◌<◌, ℤ, pos, ◌+ℤ◌, ◌≤ℤ◌, Bool, true, Option, Some, None}
 use Rattle.shortest_path.specs.declared.arc.Arc.{Arc}
@@ -15,16 +15,16 @@ pub record Flows : Type 0 where
   pub flow : ℕ → ℕ → ℕ
   pub total : ℕ → ℕ
 
--- each point is at a name of the least cost less price
+-- each point is at a name of the least cost less potential
 abbrev pub AreLeast : Flows → (ℕ → ℤ) → Type 0
-AreLeast f price = (g v w : ℕ) → g < f.groups → v < f.names → w < f.names → 0 < f.flow g v → f.allowed g w ≡ true → (f.cost g v +ℤ price w) ≤ℤ (f.cost g w +ℤ price v)
+AreLeast f potential = (g v w : ℕ) → g < f.groups → v < f.names → w < f.names → 0 < f.flow g v → f.allowed g w ≡ true → (f.cost g v +ℤ potential w) ≤ℤ (f.cost g w +ℤ potential v)
 
--- Each point is at a name of the least cost less price, a name with room is not priced under the limits, and one with points to
--- spare not over them. The limits have the price of the number after the names.
-pub record IsOptimal (f : Flows) (price : ℕ → ℤ) : Type 0 where
-  pub least : AreLeast f price
-  pub room : (v : ℕ) → v < f.names → f.total v < f.high v → price f.names ≤ℤ price v
-  pub spare : (v : ℕ) → v < f.names → f.low v < f.total v → price v ≤ℤ price f.names
+-- Each point is at a name of the least cost less potential, a name with room has no potential under that of the limits, and one with points to
+-- spare not over them. The limits have the potential of the number after the names.
+pub record IsOptimal (f : Flows) (potential : ℕ → ℤ) : Type 0 where
+  pub least : AreLeast f potential
+  pub room : (v : ℕ) → v < f.names → f.total v < f.high v → potential f.names ≤ℤ potential v
+  pub spare : (v : ℕ) → v < f.names → f.low v < f.total v → potential v ≤ℤ potential f.names
 
 -- The arcs between names are those along which a point may move, each the cheapest; those to and from the limits, which have the
 -- number after the names, show which names have room, and which points to spare.
@@ -41,7 +41,7 @@ pub record AreResidual (f : Flows) (arc : ℕ → ℕ → Option Arc) : Type 0 w
   pub none : arc f.names f.names ≡ None
 
 -- so many points of a group move from one name to another
-pub record Shifts (old new : Flows) (group from to points : ℕ) : Type 0 where
+pub record Pushes (old new : Flows) (group from to points : ℕ) : Type 0 where
   pub groups : new.groups ≡ old.groups
   pub names : new.names ≡ old.names
   pub allowed : (g v : ℕ) → new.allowed g v ≡ old.allowed g v
@@ -50,9 +50,9 @@ pub record Shifts (old new : Flows) (group from to points : ℕ) : Type 0 where
   pub entered : new.flow group to ≡ old.flow group to + points
   pub others : (g v : ℕ) → v < old.names → (g ≡ group → v ≡ from → ⊥) → (g ≡ group → v ≡ to → ⊥) → new.flow g v ≡ old.flow g v
 
--- Where points move between names of equal cost less price, points are still at names of the least.
-abbrev pub ShiftsKeepLeast : Type 0
-ShiftsKeepLeast =
-    (old new : Flows) (price : ℕ → ℤ) (group from to points : ℕ) → AreLeast old price → Shifts old new group from to points
+-- Where points move between names of equal cost less potential, points are still at names of the least.
+abbrev pub PushesKeepLeast : Type 0
+PushesKeepLeast =
+    (old new : Flows) (potential : ℕ → ℤ) (group from to points : ℕ) → AreLeast old potential → Pushes old new group from to points
     → group < old.groups → from < old.names → to < old.names → from ≢ to → 0 < points
-    → (old.cost group from +ℤ price to) ≡ (old.cost group to +ℤ price from) → AreLeast new price
+    → (old.cost group from +ℤ potential to) ≡ (old.cost group to +ℤ potential from) → AreLeast new potential

@@ -1,4 +1,4 @@
--- Paths of a residual network, along which points may move at no cost by prices of the names (Ahuja, Magnanti, Orlin, Network
+-- Paths of a residual network, along which points may move at no cost by potentials of the names (Ahuja, Magnanti, Orlin, Network
 -- Flows, section 9.7).
 use Rattle.std.specs.Prelude.{◌≡◌, ◌≢◌, ℕ, ◌+◌, ◌-◌, ◌<◌, ◌≤◌, ◌⊎◌, ℤ, ◌+ℤ◌, true, List, [], ◌∷◌, Option, Some, min, slice_index}
 use Rattle.std.specs.List.{All, AllPairs, Any}
@@ -26,22 +26,22 @@ abbrev pub Leads : ℕ → ℕ → List Step → Type 0
 Leads first last [] = first ≡ last
 Leads first last (s ∷ steps) = (s.to ≡ last) × Leads first s.from steps
 
--- what a point costs less the price of its name is the same at both names
+-- what a point costs less the potential of its name is the same at both names
 abbrev pub IsEven : FlowProblem → (ℕ → ℤ) → Step → Type 0
-IsEven p price s =
-    (cost_at p.groups.items p.prices.items (names_of p) s.group s.from +ℤ price s.to) ≡ (cost_at p.groups.items p.prices.items (names_of p) s.group s.to +ℤ price s.from)
+IsEven p potential s =
+    (cost_at p.groups.items p.prices.items (names_of p) s.group s.from +ℤ potential s.to) ≡ (cost_at p.groups.items p.prices.items (names_of p) s.group s.to +ℤ potential s.from)
 
 -- steps that may be taken one after the other, each away from another name
-pub record IsPath (p : FlowProblem) (f : Flow) (price : ℕ → ℤ) (first last : ℕ) (steps : List Step) : Type 0 where
+pub record IsPath (p : FlowProblem) (f : Flow) (potential : ℕ → ℤ) (first last : ℕ) (steps : List Step) : Type 0 where
   pub begins : first < names_of p
   pub leads : Leads first last steps
   pub each : All (IsStep p f) steps
-  pub even : All (IsEven p price) steps
+  pub even : All (IsEven p potential) steps
   pub apart : AllPairs (λ s t. s.from ≢ t.from) steps
 
 -- each node that was settled, and the last one, is the source or comes after another one on a path of reduced costs 0
 abbrev pub AreTraced : ℕ → (ℕ → ℕ → Option Arc) → (ℕ → ℤ) → (ℕ → ℕ) → (ℕ → ℕ) → ℕ → ℕ → Type 0
-AreTraced names arc price parent rank source last = (v : ℕ) → v < names + 1 → (rank v < names + 1) ⊎ (v ≡ last) → (v ≡ source) ⊎ IsTight (names + 1) arc price parent rank v
+AreTraced names arc potential predecessor rank source last = (v : ℕ) → v < names + 1 → (rank v < names + 1) ⊎ (v ≡ last) → (v ≡ source) ⊎ IsTight (names + 1) arc potential predecessor rank v
 
 -- a path may begin at the name: it is the source, or an arc leads there from the limits, which were settled
 abbrev pub MayBegin : FlowProblem → Flow → (ℕ → ℕ) → ℕ → ℕ → Type 0
@@ -49,9 +49,9 @@ MayBegin p f rank source v =
     (v ≡ source) ⊎ ((rank (names_of p) < names_of p + 1) × ((a : Arc) × (arc_at f.arcs.items (names_of p + 1) (names_of p) v ≡ Some a)))
 
 -- the path begins at the source, or next to the limits, where these were settled, with an arc of reduced cost 0 from there
-pub record IsTraced (p : FlowProblem) (f : Flow) (price : ℕ → ℤ) (rank : ℕ → ℕ) (source last : ℕ) (path : Path) : Type 0 where
-  pub steps : IsPath p f price path.first last path.steps.items
-  pub start : (path.first ≡ source) ⊎ ((a : Arc) × (arc_at f.arcs.items (names_of p + 1) (names_of p) path.first ≡ Some a) × (price path.first ≡ (price (names_of p) +ℤ a.cost)))
+pub record IsTraced (p : FlowProblem) (f : Flow) (potential : ℕ → ℤ) (rank : ℕ → ℕ) (source last : ℕ) (path : Path) : Type 0 where
+  pub steps : IsPath p f potential path.first last path.steps.items
+  pub start : (path.first ≡ source) ⊎ ((a : Arc) × (arc_at f.arcs.items (names_of p + 1) (names_of p) path.first ≡ Some a) × (potential path.first ≡ (potential (names_of p) +ℤ a.cost)))
   pub settled : (path.first ≡ source) ⊎ (rank (names_of p) < names_of p + 1)
 
 -- So many points are the bottleneck of the steps and of the most that may move: each of these takes them, and one of them no more.
@@ -62,14 +62,14 @@ pub record IsBottleneck (p : FlowProblem) (f : Flow) (steps : List Step) (most p
 
 -- Points moved along a path from its first name to the last, as many as its bottleneck takes: a name that is over its limit is not
 -- under it now, and one that is under its own not over it.
-pub record IsAugmented (p : FlowProblem) (old new : Flow) (price : ℕ → ℤ) (rank : ℕ → ℕ) (limits : List ℕ) (source last : ℕ) : Type 0 where
+pub record IsAugmented (p : FlowProblem) (old new : Flow) (potential : ℕ → ℤ) (rank : ℕ → ℕ) (limits : List ℕ) (source last : ℕ) : Type 0 where
   pub first : ℕ
   pub points : ℕ
   pub steps : List Step
-  pub path : IsPath p old price first last steps
+  pub path : IsPath p old potential first last steps
   pub bottleneck : IsBottleneck p old steps (min (total_at old first - slice_index limits first) (slice_index limits last - total_at old last)) points
   pub begins : first < names_of p
-  pub start : (first ≡ source) ⊎ ((a : Arc) × (arc_at old.arcs.items (names_of p + 1) (names_of p) first ≡ Some a) × (price first ≡ (price (names_of p) +ℤ a.cost)))
+  pub start : (first ≡ source) ⊎ ((a : Arc) × (arc_at old.arcs.items (names_of p + 1) (names_of p) first ≡ Some a) × (potential first ≡ (potential (names_of p) +ℤ a.cost)))
   pub settled : (first ≡ source) ⊎ (rank (names_of p) < names_of p + 1)
   pub apart : first ≢ last
   pub some : 0 < points

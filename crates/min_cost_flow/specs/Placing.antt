@@ -7,7 +7,7 @@ use Rattle.min_cost_flow.specs.Problem.{may_take_in, names_of, sum_to}
 use Rattle.min_cost_flow.specs.declared.problem.FlowProblem.{FlowProblem}
 use Rattle.min_cost_flow.specs.Flow.{IsFlow, flows_of, groups_of, placed_at, total_at}
 use Rattle.min_cost_flow.specs.declared.flow.Flow.{Flow}
-use Rattle.shortest_path.specs.Found.{HasSize, parent_of, potential_of, rank_of}
+use Rattle.shortest_path.specs.Found.{HasSize, predecessor_of, potential_of, rank_of}
 use Rattle.shortest_path.specs.Network.{arc_at, max_cost}
 use Rattle.shortest_path.specs.declared.search.Search.{Search}
 
@@ -53,7 +53,7 @@ pub record IsWay (p : FlowProblem) (f : Flow) (s : Search) (from last : ℕ) : T
   pub room : total_at f last < slice_index p.high.items last
   pub level : potential_of s last ≡ potential_of s (names_of p)
   pub unsettled : rank_of s (names_of p) < names_of p + 1 → ⊥
-  pub traced : AreTraced (names_of p) (arc_at f.arcs.items (names_of p + 1)) (potential_of s) (parent_of s) (rank_of s) from last
+  pub traced : AreTraced (names_of p) (arc_at f.arcs.items (names_of p + 1)) (potential_of s) (predecessor_of s) (rank_of s) from last
 
 -- no point at a settled name may take one that is not settled
 abbrev pub IsClosed : FlowProblem → Flow → Search → Type 0

@@ -5,7 +5,7 @@ ghost use Rattle.min_cost_flow.specs.Flow.{IsFlow, flows_of, total_at, placed_at
 ghost use Rattle.min_cost_flow.specs.Optimal.{AreLeast};
 ghost use Rattle.min_cost_flow.specs.Paths.{AreTraced, IsAugmented, MayBegin, IsTraced, IsBottleneck, IsEven, IsStep, Leads};
 ghost use Rattle.min_cost_flow.specs.Problem.{IsFlowProblem, names_of};
-ghost use Rattle.shortest_path.specs.Found.{HasSize, parent_of, potential_of, rank_of};
+ghost use Rattle.shortest_path.specs.Found.{HasSize, predecessor_of, potential_of, rank_of};
 ghost use Rattle.shortest_path.specs.Network.{arc_at};
 
 use crate::flow::Flow;
@@ -45,7 +45,7 @@ pub(crate) fn augment(
     requires size { HasSize (names_of problem.now + 1) search.now }
     requires limits { length limits.now ≡ names_of problem.now }
     requires last { last < names_of problem.now }
-    requires traced { AreTraced (names_of problem.now) (arc_at flow.old.arcs.items (names_of problem.now + 1)) (potential_of search.now) (parent_of search.now) (rank_of search.now) source last }
+    requires traced { AreTraced (names_of problem.now) (arc_at flow.old.arcs.items (names_of problem.now + 1)) (potential_of search.now) (predecessor_of search.now) (rank_of search.now) source last }
     requires above { (v : ℕ) → v < names_of problem.now → MayBegin problem.now flow.old (rank_of search.now) source v → slice_index limits.now v < total_at flow.old v }
     requires below { total_at flow.old last < slice_index limits.now last }
     ensures flow { OnOk result (IsFlow problem.now flow.new) }
@@ -56,7 +56,7 @@ pub(crate) fn augment(
     let most = room_between(flow.totals.as_slice(), limits, path.first, last);
     let steps = path.steps.as_slice();
     let points = narrowest(problem, flow, steps, most);
-    shift_along(problem, flow, steps, points);
+    push_along(problem, flow, steps, points);
     Ok(())
 }
 
@@ -86,13 +86,13 @@ pub(crate) fn trace(
     requires flow { IsFlow problem.now flow.now }
     requires size { HasSize (names_of problem.now + 1) search.now }
     requires last { last < names_of problem.now }
-    requires traced { AreTraced (names_of problem.now) (arc_at flow.now.arcs.items (names_of problem.now + 1)) (potential_of search.now) (parent_of search.now) (rank_of search.now) source last }
+    requires traced { AreTraced (names_of problem.now) (arc_at flow.now.arcs.items (names_of problem.now + 1)) (potential_of search.now) (predecessor_of search.now) (rank_of search.now) source last }
     ensures { IfOk result (IsTraced problem.now flow.now (potential_of search.now) (rank_of search.now) source last) }
 {
     let names = problem.high.len();
     let mut steps = Vec::new(alloc);
     let mut to = last;
-    while let Some(from) = name_before(search.parents.as_slice(), names, source, to) {
+    while let Some(from) = name_before(search.predecessors.as_slice(), names, source, to) {
         let group = group_between(flow.arcs.as_slice(), names, from, to);
         steps.push(Step { group, from, to })?;
         to = from;
@@ -101,16 +101,16 @@ pub(crate) fn trace(
 }
 
 /// The name before this one on the path to it; none before the first.
-fn name_before(parents: &[usize], names: usize, source: usize, name: usize) -> Option<usize>
-    requires { name < length parents.now }
+fn name_before(predecessors: &[usize], names: usize, source: usize, name: usize) -> Option<usize>
+    requires { name < length predecessors.now }
     ensures { MatchOption result
-        ((name ≡ source) ⊎ (slice_index parents.now name ≡ names))
-        (λ before. (before ≡ slice_index parents.now name) × (name ≢ source) × (before ≢ names)) }
+        ((name ≡ source) ⊎ (slice_index predecessors.now name ≡ names))
+        (λ before. (before ≡ slice_index predecessors.now name) × (name ≢ source) × (before ≢ names)) }
 {
-    if name == source || parents[name] == names {
+    if name == source || predecessors[name] == names {
         None
     } else {
-        Some(parents[name])
+        Some(predecessors[name])
     }
 }
 
@@ -154,7 +154,7 @@ fn placed(cells: &[u32], names: usize, group: usize, name: usize) -> u32
 }
 
 /// Moves so many points along each step of a path.
-pub(crate) fn shift_along(problem: &FlowProblem, flow: &mut Flow, steps: &[Step], points: u32)
+pub(crate) fn push_along(problem: &FlowProblem, flow: &mut Flow, steps: &[Step], points: u32)
     requires problem { IsFlowProblem problem.now }
     requires flow { IsFlow problem.now flow.old }
     requires steps { All (IsStep problem.now flow.old) steps.now }
@@ -162,11 +162,11 @@ pub(crate) fn shift_along(problem: &FlowProblem, flow: &mut Flow, steps: &[Step]
     requires some { 0 < points }
     requires wide { All (λ s. points ≤ placed_at problem.now flow.old s.group s.from) steps.now }
     ensures flow { IsFlow problem.now flow.new }
-    ensures least { (price : ℕ → ℤ) → All (IsEven problem.now price) steps.now → AreLeast (flows_of problem.now flow.old) price → AreLeast (flows_of problem.now flow.new) price }
+    ensures least { (potential : ℕ → ℤ) → All (IsEven problem.now potential) steps.now → AreLeast (flows_of problem.now flow.old) potential → AreLeast (flows_of problem.now flow.new) potential }
     ensures totals { (first last : ℕ) → Leads first last steps.now → (v : ℕ)
         → total_at flow.new v + (if v == first then points else 0) ≡ total_at flow.old v + (if v == last then points else 0) }
 {
     for step in steps {
-        flow.shift(problem, step.group, step.from, step.to, points);
+        flow.push(problem, step.group, step.from, step.to, points);
     }
 }

@@ -50,7 +50,7 @@ pub fn cheapest_flow<L: Ledger>(
     ensures augmentations { effort.new.augmentations ≤ effort.old.augmentations + 2 * points_of problem.now }
     ensures searches { Searches (nodes_of problem.now) 1 effort.old effort.new }
 {
-    let mut flow = Flow::staying(alloc, problem)?;
+    let mut flow = Flow::initial(alloc, problem)?;
     let mut search = Search::new(alloc, problem.high.len() + 1)?;
     let outcome = pass(alloc, problem, &mut flow, &mut search, effort)?;
     Ok(Passed {

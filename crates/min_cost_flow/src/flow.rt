@@ -1,14 +1,14 @@
 //! A flow, and its points as they move.
 ghost use Rattle.std.specs.Prelude.{◌≡◌, ◌≢◌, ◌<◌, ◌≤◌, IfOk, true, pos, ◌+◌, ◌^◌, ℕ, length, slice_index};
-ghost use Rattle.min_cost_flow.specs.Flow.{IsFlow, IsShifted, flows_of, groups_of, placed_at, IsFlowAt, IsShiftedAt, cell_at};
+ghost use Rattle.min_cost_flow.specs.Flow.{IsFlow, IsPushed, flows_of, groups_of, placed_at, IsFlowAt, IsPushedAt, cell_at};
 ghost use Rattle.min_cost_flow.specs.Optimal.{IsOptimal};
 ghost use Rattle.min_cost_flow.specs.Problem.{IsFlowProblem, may_take, names_of};
 ghost use Rattle.min_cost_flow.specs.Spans.{AreSpans};
 
+use crate::initial::begin;
 use crate::problem::FlowProblem;
-use crate::residual::{arrive, leave, renew_limits};
+use crate::residual::{arrive, leave, rebuild_limits};
 use crate::span::{Span, widen};
-use crate::staying::begin;
 use shortest_path::Arc;
 use std::alloc::{AllocError, Global};
 
@@ -29,7 +29,7 @@ pub struct Flow {
 
 impl Flow {
     /// Each point keeps its variant, which costs nothing.
-    pub fn staying(alloc: Global, problem: &FlowProblem) -> Result<Flow, AllocError>
+    pub fn initial(alloc: Global, problem: &FlowProblem) -> Result<Flow, AllocError>
         requires problem { IsFlowProblem problem.now }
         ensures flow { IfOk result (IsFlow problem.now) }
         ensures optimal { IfOk result (λ f. IsOptimal (flows_of problem.now f) (λ _. pos 0)) }
@@ -54,14 +54,7 @@ impl Flow {
 
     /// Moves so many points of a group from one name to another, and brings the arcs up to date. It takes `O(k)` steps at k names
     /// where the group has points left at the name, and where it has none `O(k^2)` and as many as spans get narrower.
-    pub fn shift(
-        &mut self,
-        problem: &FlowProblem,
-        group: usize,
-        from: usize,
-        to: usize,
-        points: u32,
-    )
+    pub fn push(&mut self, problem: &FlowProblem, group: usize, from: usize, to: usize, points: u32)
         requires problem { IsFlowProblem problem.now }
         requires flow { IsFlow problem.now self.old }
         requires group { group < groups_of problem.now }
@@ -72,9 +65,9 @@ impl Flow {
         requires some { 0 < points }
         requires points { points ≤ placed_at problem.now self.old group from }
         ensures flow { IsFlow problem.now self.new }
-        ensures shifted { IsShifted problem.now self.old self.new group from to points }
+        ensures pushed { IsPushed problem.now self.old self.new group from to points }
     {
-        shift_points(
+        push_points(
             &mut self.placed,
             &mut self.totals,
             &mut self.arcs,
@@ -89,7 +82,7 @@ impl Flow {
 }
 
 /// Moves so many points of a group from one name to another, and brings the arcs up to date.
-pub(crate) fn shift_points(
+pub(crate) fn push_points(
     placed: &mut [u32],
     totals: &mut [u32],
     arcs: &mut [Option<Arc>],
@@ -112,7 +105,7 @@ pub(crate) fn shift_points(
     requires points { points ≤ cell_at placed.old (names_of problem.now) group from }
     ensures flow { IsFlowAt problem.now placed.new totals.new arcs.new }
     ensures spans { AreSpans problem.now.groups.items (names_of problem.now) placed.new spans.new }
-    ensures shifted { IsShiftedAt problem.now placed.old totals.old placed.new totals.new group from to points }
+    ensures pushed { IsPushedAt problem.now placed.old totals.old placed.new totals.new group from to points }
 {
     let names = problem.high.len();
     let left = group * names + from;
@@ -123,8 +116,8 @@ pub(crate) fn shift_points(
     widen(spans, &problem.groups, names, group, to);
     leave(arcs, spans, problem, placed, group, from);
     arrive(arcs, problem, group, to, before);
-    renew_limits(arcs, problem, totals, from);
-    renew_limits(arcs, problem, totals, to);
+    rebuild_limits(arcs, problem, totals, from);
+    rebuild_limits(arcs, problem, totals, to);
 }
 
 /// So many points move from one cell to another.

@@ -21,13 +21,13 @@
 //! The modules, each over those before it, with what is proved:
 //!
 //! - `problem`: [`FlowProblem`], the problem in numbers. Names are 0 to k-1, and the limits are the node after them.
-//! - `optimal`: two laws, which compute nothing. [`optimality`]: a flow is optimal for its totals by prices of the names just where
-//!   no residual arc has a negative reduced cost by them. [`shifting`]: points that move along arcs of reduced cost 0 stay at
-//!   names of the least cost less price.
+//! - `optimal`: two laws, which compute nothing. [`optimality`]: a flow is optimal for its totals by potentials just where
+//!   no residual arc has a negative reduced cost by them. [`pushing`]: points that move along arcs of reduced cost 0 stay at
+//!   names of the least cost less potential.
 //! - `span`, `residual`: the arcs from a name are the cheapest ways of the points that are there (`IsRow`). Of the groups of an
 //!   old variant the first or the last one with points at the name has the cheapest; these are found in a [`Span`] of the groups.
-//! - `staying`, `flow`: a [`Flow`] begins as the one in which each point keeps its variant, which is optimal by prices of 0. It
-//!   stays a flow with its residual arcs (`IsFlow`) as points are shifted, so also midway along a path.
+//! - `initial`, `flow`: a [`Flow`] begins as the one in which each point keeps its variant, which is optimal by potentials of 0. It
+//!   stays a flow with its residual arcs (`IsFlow`) as points are pushed, so also midway along a path.
 //! - `augmenting`: points move along the path that a search found, as many as its bottleneck, and stay at names of the least cost
 //!   less potential.
 //! - `placing`, `meeting`, `cheapest`: the two passes, at whose end [`cheapest_flow`] has an optimal flow within all limits
@@ -38,16 +38,16 @@
 mod augmenting;
 mod cheapest;
 mod flow;
+mod initial;
 mod meeting;
 mod optimal;
 mod placing;
 mod problem;
 mod residual;
 mod span;
-mod staying;
 
 pub use cheapest::{Outcome, Passed, cheapest_flow};
 pub use flow::Flow;
-pub use optimal::{optimality, shifting};
+pub use optimal::{optimality, pushing};
 pub use problem::{FlowProblem, Group};
 pub use span::Span;

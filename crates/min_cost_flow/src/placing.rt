@@ -118,7 +118,7 @@ fn find_room<L: Ledger>(
     ensures effort { Settles (nodes_of problem.now) effort.old effort.new }
 {
     match search.find(flow.arcs.as_slice(), wanted, from, effort) {
-        Some(limits) => Some(search.parents[limits]),
+        Some(limits) => Some(search.predecessors[limits]),
         None => None,
     }
 }

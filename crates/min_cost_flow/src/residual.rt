@@ -14,7 +14,7 @@ use shortest_path::Arc;
 /// The arcs from a name by the points that are there, by rows of the groups. A way costs `count * (price(to) - price(name))`, so
 /// of the groups of an old variant the first or the last with points there has the cheapest. These two are looked for in the span
 /// of the variant, which is narrowed to them: `O(k^2)` at k names, and as many steps as spans get narrower.
-pub(crate) fn renew(
+pub(crate) fn rebuild(
     row: &mut [Option<Arc>],
     spans: &mut [Span],
     groups: &[Group],
@@ -162,7 +162,7 @@ fn is_cheaper(cost: i64, known: Option<Arc>) -> bool
 }
 
 /// The arcs from a name to the others, by the points that are there.
-pub(crate) fn renew_from(
+pub(crate) fn rebuild_from(
     arcs: &mut [Option<Arc>],
     spans: &mut [Span],
     problem: &FlowProblem,
@@ -181,7 +181,7 @@ pub(crate) fn renew_from(
 {
     let names = problem.high.len();
     let first = name * (names + 1);
-    renew(
+    rebuild(
         &mut arcs[first..first + names],
         spans,
         &problem.groups,
@@ -235,7 +235,7 @@ pub(crate) fn leave(
 {
     let names = problem.high.len();
     if placed[group * names + name] == 0 {
-        renew_from(arcs, spans, problem, placed, name);
+        rebuild_from(arcs, spans, problem, placed, name);
     }
 }
 
@@ -261,7 +261,7 @@ pub(crate) fn arrive(
 }
 
 /// The arcs from a name to the limits, where it has room, and from the limits, where it has points to spare.
-pub(crate) fn renew_limits(
+pub(crate) fn rebuild_limits(
     arcs: &mut [Option<Arc>],
     problem: &FlowProblem,
     totals: &[u32],

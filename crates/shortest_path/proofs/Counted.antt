@@ -18,14 +18,14 @@ settled_within n m old new le h = record { augmentations = h.augmentations; sett
 one_of_both : (nodes r : ℕ) → ◌≡◌ {A = ℕ} (cond (nat_lt r nodes) 1 0 + cond (nat_le nodes r) 1 0) 1
 one_of_both nodes r = grind (arith, nat_tests)
 
-ranked : (nodes : ℕ) (ranks : List ℕ) → count_by (λ r. nat_lt r nodes) ranks + unsettled nodes ranks ≡ length ranks
+ranked : (nodes : ℕ) (settle_order : List ℕ) → count_by (λ r. nat_lt r nodes) settle_order + unsettled nodes settle_order ≡ length settle_order
 ranked nodes [] = refl
-ranked nodes (r ∷ ranks) =
-    omega (arith, sum_by-cons (λ (x : ℕ). cond (nat_lt x nodes) 1 0) r ranks, sum_by-cons (λ (x : ℕ). cond (nat_le nodes x) 1 0) r ranks, one_of_both nodes r, ranked nodes ranks)
+ranked nodes (r ∷ settle_order) =
+    omega (arith, sum_by-cons (λ (x : ℕ). cond (nat_lt x nodes) 1 0) r settle_order, sum_by-cons (λ (x : ℕ). cond (nat_le nodes x) 1 0) r settle_order, one_of_both nodes r, ranked nodes settle_order)
 
-module _ (X : Type 0) (nodes count : ℕ) (ranks : List ℕ) (many : length ranks ≡ nodes) (left : count + unsettled nodes ranks ≡ nodes) (old new : Spent) where
-  pub settled_all : Settled count old new → Settled (settled_nodes {X = X} nodes ranks None) old new
-  settled_all h = record { augmentations = h.augmentations; settlings = omega (arith, h.settlings, ranked nodes ranks, many, left) }
+module _ (X : Type 0) (nodes count : ℕ) (settle_order : List ℕ) (many : length settle_order ≡ nodes) (left : count + unsettled nodes settle_order ≡ nodes) (old new : Spent) where
+  pub settled_all : Settled count old new → Settled (settled_nodes {X = X} nodes settle_order None) old new
+  settled_all h = record { augmentations = h.augmentations; settlings = omega (arith, h.settlings, ranked nodes settle_order, many, left) }
 
-  pub settled_found : (found : X) → Settled (count + 1) old new → Settled (settled_nodes nodes ranks (Some found)) old new
-  settled_found found h = record { augmentations = h.augmentations; settlings = omega (arith, h.settlings, ranked nodes ranks, many, left) }
+  pub settled_found : (found : X) → Settled (count + 1) old new → Settled (settled_nodes nodes settle_order (Some found)) old new
+  settled_found found h = record { augmentations = h.augmentations; settlings = omega (arith, h.settlings, ranked nodes settle_order, many, left) }

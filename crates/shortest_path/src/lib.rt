@@ -9,7 +9,7 @@
 //!     let arcs = [None, Some(Arc { cost: 3, group: 0 }), None, None];
 //!     let mut search = Search::new(alloc, 2)?;
 //!     let found = search.find(arcs.as_slice(), [false, true].as_slice(), 0, effort);
-//!     Ok(found)    // node 1, whose parent is node 0; the potential of node 0 is then -3
+//!     Ok(found)    // node 1, whose predecessor is node 0; the potential of node 0 is then -3
 //! }
 //! ```
 //!

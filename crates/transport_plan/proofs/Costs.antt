@@ -50,12 +50,12 @@ all_paid pricing (g ∷ gs) d names numbers spent =
     let first = sum_same k (λ v. get_or (take k numbers) v 0 * (g.0.1 * price_of pricing g.0.0 (get_or names v []))) (λ v. get_or numbers (0 * k + v) 0 * (g.0.1 * price_of pricing g.0.0 (get_or names v [])))
     (λ v v_in. ap (λ x. x * (g.0.1 * price_of pricing g.0.0 (get_or names v []))) (get_or-take k numbers v 0 v_in ∙ ap (λ i. get_or numbers i 0) (front k v))) in
     let rest = all_paid pricing gs d names (drop k numbers) parts.rest in
-    let shift = sum_same (length gs) (λ h. sum_to k (λ v. get_or (drop k numbers) (h * k + v) 0 * ((get_or gs h d).0.1 * price_of pricing (get_or gs h d).0.0 (get_or names v []))))
+    let push = sum_same (length gs) (λ h. sum_to k (λ v. get_or (drop k numbers) (h * k + v) 0 * ((get_or gs h d).0.1 * price_of pricing (get_or gs h d).0.0 (get_or names v []))))
     (λ h. sum_to k (λ v. get_or numbers (suc h * k + v) 0 * ((get_or gs h d).0.1 * price_of pricing (get_or gs h d).0.0 (get_or names v []))))
     (λ h h_in. sum_same k (λ v. get_or (drop k numbers) (h * k + v) 0 * ((get_or gs h d).0.1 * price_of pricing (get_or gs h d).0.0 (get_or names v [])))
     (λ v. get_or numbers (suc h * k + v) 0 * ((get_or gs h d).0.1 * price_of pricing (get_or gs h d).0.0 (get_or names v [])))
     (λ v v_in. ap (λ x. x * ((get_or gs h d).0.1 * price_of pricing (get_or gs h d).0.0 (get_or names v []))) (later k h v numbers 0))) in
-    omega (arith, step, here, first, rest, shift, sum_front (length gs) (λ h. sum_to k (λ v. get_or numbers (h * k + v) 0 * ((get_or (g ∷ gs) h d).0.1 * price_of pricing (get_or (g ∷ gs) h d).0.0 (get_or names v [])))))
+    omega (arith, step, here, first, rest, push, sum_front (length gs) (λ h. sum_to k (λ v. get_or numbers (h * k + v) 0 * ((get_or (g ∷ gs) h d).0.1 * price_of pricing (get_or (g ∷ gs) h d).0.0 (get_or names v [])))))
   where
     front : (k v : ℕ) → v ≡ 0 * k + v
     front k v = omega arith

@@ -12,9 +12,9 @@ use Rattle.min_cost_flow.specs.Problem.{group_at, names_of, price_at}
 use Rattle.min_cost_flow.specs.declared.problem.FlowProblem.{FlowProblem}
 use Rattle.transport_instance.specs.Groups.{GroupKey}
 use Rattle.transport_instance.specs.Instance.{TransportProblem}
-use Rattle.transport_plan.specs.Network.{switch_price}
 use Rattle.transport_plan.specs.Numbered.{IsNumbered, name_at, row_at}
 use Rattle.transport_plan.specs.Prices.{IsLeastAt}
+use Rattle.transport_plan.proofs.Numbering.{switch_at}
 
 offers_all : (pricing : Pricing) (gs : List (GroupKey × ℕ)) (d : GroupKey × ℕ) (names : List (List ℕ)) (beta alpha : List ℤ) → length alpha ≡ length gs
     → ((g : ℕ) → g < length gs → IsLeastOffer pricing (get_or gs g d).0 names beta (get_or alpha g (pos 0))) → AreLeastOffers pricing gs names beta alpha
@@ -37,9 +37,6 @@ module _ (p : TransportProblem) (q : FlowProblem) (alpha beta : List ℤ) (are :
   wide : length (keys_of p.limits) ≡ length p.limits
   wide = length-keys_of p.limits
 
-  switch : (g w : ℕ) → g < length p.groups → w < length p.limits → price_at q.prices.items (names_of q) (group_at q.groups.items g).variant w ≡ switch_price p.pricing (row_at p g).0.0 (name_at p w)
-  switch g w g_in w_in = are.prices (group_at q.groups.items g).variant w (are.variant_in g g_in) w_in ∙ ap (λ n. switch_price p.pricing n (name_at p w)) (are.variant g g_in)
-
   charged : (g w : ℕ) → g < length p.groups → (pos (group_at q.groups.items g).count *ℤ pos (price_of p.pricing (row_at p g).0.0 (name_at p w))) ≡ charge p.pricing (row_at p g).0 (keys_of p.limits) w
   charged g w g_in = ap (λ c. pos (c * price_of p.pricing (row_at p g).0.0 (name_at p w))) (are.count g g_in)
 
@@ -50,14 +47,14 @@ module _ (p : TransportProblem) (q : FlowProblem) (alpha beta : List ℤ) (are :
         slack = λ w w_in allowed.
             let w_name : w < length p.limits = omega (arith, w_in, wide) in
             let price = price_of p.pricing from (name_at p w) in
-            let is : price_at q.prices.items (names_of q) (group_at q.groups.items g).variant w ≡ Some (pos price) = switch g w g_in w_name ∙ open_switch (is_forbidden p.pricing from (name_at p w)) price allowed in
+            let is : price_at q.prices.items (names_of q) (group_at q.groups.items g).variant w ≡ Some (pos price) = switch_at p q are g w g_in w_name ∙ open_switch (is_forbidden p.pricing from (name_at p w)) price allowed in
             omega (arith, ints, least.slack w (pos price) (omega (arith, w_name, are.names)) is, charged g w g_in);
         tight =
             let t = least.tight in
             let w = t.0 in
             let w_name : w < length p.limits = omega (arith, t.2, are.names) in
             let price = price_of p.pricing from (name_at p w) in
-            let shown = switch_open (is_forbidden p.pricing from (name_at p w)) price t.1 (sym (switch g w g_in w_name) ∙ t.3) in
+            let shown = switch_open (is_forbidden p.pricing from (name_at p w)) price t.1 (sym (switch_at p q are g w g_in w_name) ∙ t.3) in
             (w, omega (arith, w_name, wide), shown.0, t.4 ∙ (ap (λ z. pos (group_at q.groups.items g).count *ℤ z) shown.1 ∙ charged g w g_in));
       }
 

@@ -4,7 +4,8 @@ use Rattle.std.proofs.Math.Nat.{mul-le-mul}
 use Rattle.std.proofs.lemmas.Bool.{cases_eq}
 use Rattle.std.proofs.lemmas.Int.{ints}
 use Rattle.std.proofs.lemmas.Option.{same_Some}
-use Rattle.transport_plan.specs.Offers.{MayTake, HasSlack, IsTight, IsPrice, IsDualSize}
+use Rattle.min_cost_flow.specs.Offered.{IsPrice}
+use Rattle.transport_plan.specs.Offers.{MayTake, HasSlack, IsTight, IsDualSize}
 
 -- no name below `v` offers less, and one offers just this, unless none was looked at
 pub record IsLeastBelow (prices : List (Option ℤ)) (names : List ℤ) (count : ℕ) (least : ℤ) (v : ℕ) : Type 0 where
@@ -14,11 +15,11 @@ pub record IsLeastBelow (prices : List (Option ℤ)) (names : List ℤ) (count :
 -- what a change costs is small
 pub product-small : (count : ℕ) (c : ℤ) → count < 2 ^ 32 → IsPrice c → ((pos count *ℤ c) ≤ℤ pos (2 ^ 32 * 1000000)) × (pos 0 ≤ℤ (pos count *ℤ c))
 product-small count (pos b) few price =
-    let top : b ≤ 1000000 = omega (arith, ints, price.1) in
+    let top : b ≤ 1000000 = omega (arith, ints, price.high) in
     let many : count ≤ 2 ^ 32 = omega (arith, few) in
     let small : count * b ≤ 2 ^ 32 * 1000000 = mul-le-mul many top in
     (omega (arith, ints, small), omega (arith, ints))
-product-small count (negsuc b) few price = absurd (omega (arith, ints, price.0))
+product-small count (negsuc b) few price = absurd (omega (arith, ints, price.low))
 
 module _ (prices : List (Option ℤ)) (names : List ℤ) (count : ℕ) (least : ℤ) (v : ℕ) (before : IsLeastBelow prices names count least v) where
   -- a name that may not be taken offers nothing

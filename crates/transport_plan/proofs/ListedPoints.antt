@@ -19,10 +19,9 @@ use Rattle.price_core.specs.Limits.{limits_view}
 use Rattle.price_core.specs.declared.totals.Limit.{Limit}
 use Rattle.transport_plan.specs.Chosen.{chosen}
 use Rattle.transport_plan.proofs.Choosing.{chosen_more}
+use Rattle.transport_plan.proofs.ListedFlow.{sum_front}
+use Rattle.transport_plan.proofs.Numbering.{no_row}
 use Rattle.min_cost_flow.specs.Problem.{sum_to}
-
-abbrev pub no_row : GroupKey × ℕ
-no_row = (([], 0), 0)
 
 row_all : (P : Arc × ℕ → Bool) (key : GroupKey) (names : List (List ℕ)) (row : List ℕ) → ((v : ℕ) → v < length names → P ((key, get_or names v []), get_or row v 0) ≡ true) → list_all P (row_flows key names row) ≡ true
 row_all P key [] row each = refl
@@ -48,10 +47,6 @@ flows_all P (g ∷ groups) names numbers each =
     ∙ (list_all-append P (row_flows g.0 names row) (arc_flows (keys_of groups) names (drop k numbers))
     ∙ and_from (list_all P (row_flows g.0 names row)) (list_all P (arc_flows (keys_of groups) names (drop k numbers))) (row_all P g.0 names row here)
     (flows_all P groups names (drop k numbers) (λ h v h_in v_in. ap (λ x. P (((get_or groups h no_row).0, get_or names v []), x)) (later k h v numbers) ∙ each (suc h) v (omega (arith, h_in)) v_in)))
-
-sum_front : (n : ℕ) (f : ℕ → ℕ) → sum_to (suc n) f ≡ f 0 + sum_to n (λ i. f (suc i))
-sum_front zero f = omega arith
-sum_front (suc n) f = omega (arith, sum_front n f)
 
 sum_same : (n : ℕ) (f g : ℕ → ℕ) → ((i : ℕ) → f i ≡ g i) → sum_to n f ≡ sum_to n g
 sum_same zero f g same = refl

@@ -15,9 +15,9 @@ use Rattle.min_cost_flow.specs.Flow.{IsFlowAt, cell_at, flows_at, groups_of}
 use Rattle.shortest_path.specs.declared.arc.Arc.{Arc}
 use Rattle.transport_instance.specs.Assignment.{spends_all}
 use Rattle.transport_instance.specs.Instance.{TransportProblem}
-use Rattle.transport_plan.specs.Network.{switch_price}
 use Rattle.transport_plan.specs.Numbered.{IsNumbered, name_at, row_at}
 use Rattle.transport_plan.proofs.ListedFlow.{IsOptimalAt, balanced, column_is, optimal_rows, spent_all}
+use Rattle.transport_plan.proofs.Numbering.{switch_at}
 
 may_by : (forbidden : Bool) (c : ℕ) → is_there (if forbidden then None else Some (pos c)) ≡ true → forbidden ≡ false
 may_by true c is = absurd (false≢true is)
@@ -31,26 +31,22 @@ costs_by : (forbidden : Bool) (c : ℕ) → forbidden ≡ false → or_free (if 
 costs_by true c is = absurd (false≢true (sym is))
 costs_by false c is = refl
 
-module _ (p : TransportProblem) (q : FlowProblem) (placed totals : List ℕ) (arcs : List (Option Arc)) (price : ℕ → ℤ) (beta : List ℤ) (are : IsNumbered p q) (flow : IsFlowAt q placed totals arcs) (optimal : numbers.IsOptimal (flows_at q placed totals) price)
+module _ (p : TransportProblem) (q : FlowProblem) (placed totals : List ℕ) (arcs : List (Option Arc)) (potential : ℕ → ℤ) (beta : List ℤ) (are : IsNumbered p q) (flow : IsFlowAt q placed totals arcs) (optimal : numbers.IsOptimal (flows_at q placed totals) potential)
     (lows : (v : ℕ) → v < length p.limits → get_or q.low.items v 0 ≤ get_or totals v 0) (highs : (v : ℕ) → v < length p.limits → get_or totals v 0 ≤ get_or q.high.items v 0)
-    (priced : length beta ≡ length p.limits) (beta_is : (v : ℕ) → v < length p.limits → get_or beta v (pos 0) ≡ (price v -ℤ price (length p.limits))) where
+    (priced : length beta ≡ length p.limits) (beta_is : (v : ℕ) → v < length p.limits → get_or beta v (pos 0) ≡ (potential v -ℤ potential (length p.limits))) where
   k_is : names_of q ≡ length p.limits
   k_is = are.names
 
-  -- the switch of a group's point to a name
-  switch : (g w : ℕ) → g < length p.groups → w < length p.limits → price_at q.prices.items (names_of q) (group_at q.groups.items g).variant w ≡ switch_price p.pricing (row_at p g).0.0 (name_at p w)
-  switch g w g_in w_in = are.prices (group_at q.groups.items g).variant w (are.variant_in g g_in) w_in ∙ ap (λ n. switch_price p.pricing n (name_at p w)) (are.variant g g_in)
-
   allowed_is : (g w : ℕ) → g < length p.groups → w < length p.limits → may_take q.groups.items q.prices.items (names_of q) g w ≡ true → is_forbidden p.pricing (row_at p g).0.0 (name_at p w) ≡ false
-  allowed_is g w g_in w_in may = may_by (is_forbidden p.pricing (row_at p g).0.0 (name_at p w)) (price_of p.pricing (row_at p g).0.0 (name_at p w)) (ap is_there (sym (switch g w g_in w_in)) ∙ may)
+  allowed_is g w g_in w_in may = may_by (is_forbidden p.pricing (row_at p g).0.0 (name_at p w)) (price_of p.pricing (row_at p g).0.0 (name_at p w)) (ap is_there (sym (switch_at p q are g w g_in w_in)) ∙ may)
 
   may_is : (g w : ℕ) → g < length p.groups → w < length p.limits → is_forbidden p.pricing (row_at p g).0.0 (name_at p w) ≡ false → may_take q.groups.items q.prices.items (names_of q) g w ≡ true
-  may_is g w g_in w_in allowed = ap is_there (switch g w g_in w_in) ∙ there_by (is_forbidden p.pricing (row_at p g).0.0 (name_at p w)) (price_of p.pricing (row_at p g).0.0 (name_at p w)) allowed
+  may_is g w g_in w_in allowed = ap is_there (switch_at p q are g w g_in w_in) ∙ there_by (is_forbidden p.pricing (row_at p g).0.0 (name_at p w)) (price_of p.pricing (row_at p g).0.0 (name_at p w)) allowed
 
   cost_is : (g w : ℕ) → g < length p.groups → w < length p.limits → is_forbidden p.pricing (row_at p g).0.0 (name_at p w) ≡ false → cost_at q.groups.items q.prices.items (names_of q) g w ≡ charge p.pricing (row_at p g).0 (keys_of p.limits) w
   cost_is g w g_in w_in allowed =
       let one : or_free (price_at q.prices.items (names_of q) (group_at q.groups.items g).variant w) ≡ pos (price_of p.pricing (row_at p g).0.0 (name_at p w)) =
-      ap or_free (switch g w g_in w_in) ∙ costs_by (is_forbidden p.pricing (row_at p g).0.0 (name_at p w)) (price_of p.pricing (row_at p g).0.0 (name_at p w)) allowed in
+      ap or_free (switch_at p q are g w g_in w_in) ∙ costs_by (is_forbidden p.pricing (row_at p g).0.0 (name_at p w)) (price_of p.pricing (row_at p g).0.0 (name_at p w)) allowed in
       ap (λ z. pos (group_at q.groups.items g).count *ℤ z) one ∙ ap (λ c. pos (c * price_of p.pricing (row_at p g).0.0 (name_at p w))) (are.count g g_in)
 
   size : length placed ≡ length p.groups * length p.limits
@@ -75,8 +71,8 @@ module _ (p : TransportProblem) (q : FlowProblem) (placed totals : List ℕ) (ar
       column_is p.groups (length p.limits) placed v v_in size spent_is
       ∙ sym (flow.columns v (name_in v v_in) ∙ (ap (λ n. sum_to n (λ g. cell_at placed (names_of q) g v)) are.groups ∙ ap (λ k. sum_to (length p.groups) (λ g. get_or placed (g * k + v) 0)) k_is))
 
-  price_limits : price (length p.limits) ≡ price (names_of q)
-  price_limits = ap price (sym k_is)
+  potential_limits : potential (length p.limits) ≡ potential (names_of q)
+  potential_limits = ap potential (sym k_is)
 
   wide : length (keys_of p.limits) ≡ length p.limits
   wide = length-keys_of p.limits
@@ -114,7 +110,7 @@ module _ (p : TransportProblem) (q : FlowProblem) (placed totals : List ℕ) (ar
         let h = are.high v v_in in (
           omega (arith, t, l, lows v v_in),
           omega (arith, t, h, highs v v_in),
-          (λ less. omega (arith, ints, optimal.room v (name_in v v_in) (omega (arith, less, t, h)), beta_is v v_in, price_limits)),
-          (λ more. omega (arith, ints, optimal.spare v (name_in v v_in) (omega (arith, more, t, l)), beta_is v v_in, price_limits)),
+          (λ less. omega (arith, ints, optimal.room v (name_in v v_in) (omega (arith, less, t, h)), beta_is v v_in, potential_limits)),
+          (λ more. omega (arith, ints, optimal.spare v (name_in v v_in) (omega (arith, more, t, l)), beta_is v v_in, potential_limits)),
         ));
   }

@@ -77,8 +77,12 @@ count_rises x y same less =
     let rank = ranked x.1 y.1 Less (sym (then_count (slice_cmp nat_cmp x.0 y.0) x.1 y.1 tie less)) in
     omega (arith, rank)
 
-abbrev no_row : GroupKey × ℕ
+abbrev pub no_row : GroupKey × ℕ
 no_row = (([], 0), 0)
+
+-- what the switch of a group's point to a name costs
+pub switch_at : (p : TransportProblem) (q : FlowProblem) → IsNumbered p q → (g w : ℕ) → g < length p.groups → w < length p.limits → price_at q.prices.items (names_of q) (group_at q.groups.items g).variant w ≡ switch_price p.pricing (row_at p g).0.0 (name_at p w)
+switch_at p q are g w g_in w_in = are.prices (group_at q.groups.items g).variant w (are.variant_in g g_in) w_in ∙ ap (λ n. switch_price p.pricing n (name_at p w)) (are.variant g g_in)
 
 module _ (t : TransportProblem) (problem : IsProblem t) (q : FlowProblem) (are : AreGroups (keys_of t.limits) t.groups q.groups.items) (table : q.prices.items ≡ flat_map (price_row t.pricing (keys_of t.limits)) (keys_of t.limits))
     (priced : All IsPriced q.prices.items) (low : q.low.items ≡ map (λ l. l.1.0) t.limits) (high : q.high.items ≡ map (λ l. l.1.1) t.limits) where

@@ -10,10 +10,7 @@ use Rattle.transport_instance.specs.Groups.{GroupKey}
 use Rattle.transport_instance.specs.Instance.{TransportProblem, IsProblem}
 use Rattle.transport_instance.specs.Rows.{whole_amount}
 use Rattle.transport_plan.specs.Numbered.{IsNumbered}
-use Rattle.transport_plan.proofs.Numbering.{sum_to-list}
-
-abbrev no_row : GroupKey × ℕ
-no_row = (([], 0), 0)
+use Rattle.transport_plan.proofs.Numbering.{no_row, sum_to-list}
 
 -- the points are those of the instance
 pub points_are : (p : TransportProblem) (q : FlowProblem) → IsNumbered p q → points_of q ≡ whole_amount p.groups

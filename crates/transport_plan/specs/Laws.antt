@@ -43,11 +43,11 @@ AreWithin p q totals =
     ((v : ℕ) → v < length p.limits → slice_index q.low.items v ≤ slice_index totals v)
     × ((v : ℕ) → v < length p.limits → slice_index totals v ≤ slice_index q.high.items v)
 
--- each name is priced by what its price is over that of the limits
+-- each name is priced by what its potential is over that of the limits
 abbrev pub ArePrices : TransportProblem → (ℕ → ℤ) → List ℤ → Type 0
-ArePrices p price beta =
+ArePrices p potential beta =
     (length beta ≡ length p.limits)
-    × ((v : ℕ) → v < length p.limits → slice_index_or beta v (pos 0) ≡ (price v -ℤ price (length p.limits)))
+    × ((v : ℕ) → v < length p.limits → slice_index_or beta v (pos 0) ≡ (potential v -ℤ potential (length p.limits)))
 
 -- each group is priced by the least that a switch of one of its points costs, less the price of the new name
 abbrev pub AreOffers : TransportProblem → FlowProblem → List ℤ → List ℤ → Type 0
@@ -55,12 +55,12 @@ AreOffers p q beta alpha =
     (length alpha ≡ length p.groups)
     × ((g : ℕ) → g < length p.groups → IsLeastAt q.groups.items q.prices.items (names_of q) beta g (slice_index_or alpha g (pos 0)))
 
--- A flow within its limits that is optimal by prices of its names is optimal for the problem by the prices over that of the limits.
+-- A flow within its limits that is optimal by potentials of its names is optimal for the problem by the prices over that of the limits.
 abbrev pub OptimalFlows : Type 0
 OptimalFlows =
-    (p : TransportProblem) (q : FlowProblem) (placed totals : List ℕ) (arcs : List (Option Arc)) (price : ℕ → ℤ) (beta : List ℤ)
-    → IsNumbered p q → IsFlowAt q placed totals arcs → numbers.IsOptimal (flows_at q placed totals) price
-    → AreWithin p q totals → ArePrices p price beta → IsOptimal p placed beta
+    (p : TransportProblem) (q : FlowProblem) (placed totals : List ℕ) (arcs : List (Option Arc)) (potential : ℕ → ℤ) (beta : List ℤ)
+    → IsNumbered p q → IsFlowAt q placed totals arcs → numbers.IsOptimal (flows_at q placed totals) potential
+    → AreWithin p q totals → ArePrices p potential beta → IsOptimal p placed beta
 
 -- The prices of groups by number are least offers.
 abbrev pub LeastOffers : Type 0
@@ -68,11 +68,11 @@ LeastOffers =
     (p : TransportProblem) (q : FlowProblem) (alpha beta : List ℤ) → IsNumbered p q → AreOffers p q beta alpha
     → AreLeastOffers p.pricing p.groups (keys_of p.limits) beta alpha
 
--- A flow within its limits that is optimal by prices of its names is proved to cost the least.
+-- A flow within its limits that is optimal by potentials of its names is proved to cost the least.
 abbrev pub OptimalFlowIsProved : Type 0
 OptimalFlowIsProved =
-    (p : TransportProblem) (q : FlowProblem) (placed totals : List ℕ) (arcs : List (Option Arc)) (price : ℕ → ℤ) (alpha beta : List ℤ) (cost : ℕ)
-    → AreLimits p.limits → IsNumbered p q → IsFlowAt q placed totals arcs → numbers.IsOptimal (flows_at q placed totals) price
-    → AreWithin p q totals → ArePrices p price beta → AreOffers p q beta alpha
+    (p : TransportProblem) (q : FlowProblem) (placed totals : List ℕ) (arcs : List (Option Arc)) (potential : ℕ → ℤ) (alpha beta : List ℤ) (cost : ℕ)
+    → AreLimits p.limits → IsNumbered p q → IsFlowAt q placed totals arcs → numbers.IsOptimal (flows_at q placed totals) potential
+    → AreWithin p q totals → ArePrices p potential beta → AreOffers p q beta alpha
     → cost ≡ all_cost q.groups.items q.prices.items placed (names_of q) (groups_of q)
     → IsProved p placed (certificate_of p alpha beta cost)

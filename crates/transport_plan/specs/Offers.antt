@@ -2,15 +2,9 @@
 use Rattle.std.specs.Prelude.{◌≡◌, ℕ, ◌^◌, ◌<◌, ℤ, pos, negsuc, ◌+ℤ◌, ◌*ℤ◌, ◌≤ℤ◌, List, length, Option, Some, None}
 use Rattle.std.specs.List.{slice_index_or}
 
--- the largest number of a certificate that a plan file can hold, and the largest price
+-- the largest number of a certificate that a plan file can hold
 abbrev pub max_dual : ℕ
 max_dual = 2 ^ 53
-
-abbrev pub max_price : ℕ
-max_price = 1000000
-
-abbrev pub IsPrice : ℤ → Type 0
-IsPrice z = (pos 0 ≤ℤ z) × (z ≤ℤ pos max_price)
 
 abbrev pub IsDualSize : ℤ → Type 0
 IsDualSize z = (negsuc max_dual ≤ℤ z) × (z ≤ℤ pos max_dual)

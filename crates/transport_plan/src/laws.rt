@@ -16,8 +16,8 @@ pub fn a_failed_search_leaves_a_cut()
     ensures under { UnmetIsUnder }
 {}
 
-/// A flow within its limits that is optimal by prices of its names is optimal for the problem, where each name is priced by what its
-/// price is over that of the limits.
+/// A flow within its limits that is optimal by potentials of its names is optimal for the problem, where each name is priced by what its
+/// potential is over that of the limits.
 pub fn an_optimal_flow_is_optimal()
     ensures { OptimalFlows }
 {}
@@ -27,7 +27,7 @@ pub fn the_prices_of_groups_are_least_offers()
     ensures { LeastOffers }
 {}
 
-/// A flow within its limits that is optimal by prices of its names is proved to cost the least: by these prices, by those of the
+/// A flow within its limits that is optimal by potentials of its names is proved to cost the least: by these prices, by those of the
 /// groups, and by its cost.
 pub fn an_optimal_flow_is_proved()
     ensures { OptimalFlowIsProved }

@@ -1,7 +1,8 @@
 //! The dual prices of names and groups.
 ghost use Rattle.std.specs.Prelude.{◌≡◌, ◌<◌, ◌+◌, ◌*◌, ◌^◌, ℕ, ℤ, pos, ◌+ℤ◌, ◌*ℤ◌, ◌≤ℤ◌, length, slice_index_or, ◌-ℤ◌, IfOk};
+ghost use Rattle.min_cost_flow.specs.Offered.{IsPrice};
 ghost use Rattle.min_cost_flow.specs.Problem.{AreGroups, ArePrices};
-ghost use Rattle.transport_plan.specs.Offers.{IsPrice, IsDualSize, MayTake, HasSlack, IsTight};
+ghost use Rattle.transport_plan.specs.Offers.{IsDualSize, MayTake, HasSlack, IsTight};
 ghost use Rattle.transport_plan.specs.Prices.{IsLeastAt, IsNear};
 
 use min_cost_flow::Group;

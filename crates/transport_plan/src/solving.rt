@@ -59,11 +59,11 @@ pub fn solve<L: Ledger>(
         flow,
         search,
     } = find_flow(alloc, instance, &problem, effort)?;
-    Ok(match outcome {
-        Outcome::Cheapest => planned(alloc, instance, &problem, flow, &search)?,
-        Outcome::Over => cut_over(alloc, instance, &problem, &flow, &search)?,
-        Outcome::Under => cut_under(alloc, instance, &problem, &flow, &search)?,
-    })
+    match outcome {
+        Outcome::Cheapest => planned(alloc, instance, &problem, flow, &search),
+        Outcome::Over => cut_over(alloc, instance, &problem, &flow, &search),
+        Outcome::Under => cut_under(alloc, instance, &problem, &flow, &search),
+    }
 }
 
 /// The cheapest flow of an instance's problem, and what it takes by the instance's points and names.

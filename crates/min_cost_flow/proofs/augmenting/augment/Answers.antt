@@ -10,9 +10,9 @@ use Rattle.min_cost_flow.proofs.augmenting.augment.Goals as goal
 
 pub returns-clause-least : goal.returns-clause-least
 returns-clause-least c =
-    let price = potential_of c.args.search.now in
-    let even = subst (λ (xs : List Step). All (IsEven c.args.problem.now price) xs) (sym c.as_slice-steps.ensures.value) c.in_ok-path.ensures.steps.even in
-    c.shift_along.ensures.least price even c.requires.least
+    let potential = potential_of c.args.search.now in
+    let even = subst (λ (xs : List Step). All (IsEven c.args.problem.now potential) xs) (sym c.as_slice-steps.ensures.value) c.in_ok-path.ensures.steps.even in
+    c.push_along.ensures.least potential even c.requires.least
 
 pub returns-clause-augmented : goal.returns-clause-augmented
 returns-clause-augmented c =
@@ -29,7 +29,7 @@ returns-clause-augmented c =
     let most_is : c.room_between-most.result ≡ min (total_at old path.first - get_or c.args.limits.now path.first 0) (get_or c.args.limits.now c.args.last 0 - total_at old c.args.last) =
     most ∙ ap (λ xs. min (get_or xs path.first 0 - get_or c.args.limits.now path.first 0) (get_or c.args.limits.now c.args.last 0 - get_or xs c.args.last 0)) totals in
     let bottleneck = subst (λ m. IsBottleneck p old path.steps.items m points) most_is (subst (λ (xs : List Step). IsBottleneck p old xs c.room_between-most.result points) c.as_slice-steps.ensures.value c.narrowest-points.ensures.bottleneck) in
-    augmented p c.args.flow.now c.shift_along.new.flow (potential_of c.args.search.now) (rank_of c.args.search.now) c.args.limits.now c.args.source c.args.last c.narrowest-points.result path c.in_ok-path.ensures c.requires.above c.requires.below
+    augmented p c.args.flow.now c.push_along.new.flow (potential_of c.args.search.now) (rank_of c.args.search.now) c.args.limits.now c.args.source c.args.last c.narrowest-points.result path c.in_ok-path.ensures c.requires.above c.requires.below
     bottleneck
     (c.narrowest-points.ensures.some (omega (arith, most, first_is, last_is, over, c.requires.below)))
-    (c.shift_along.ensures.totals path.first c.args.last leads)
+    (c.push_along.ensures.totals path.first c.args.last leads)

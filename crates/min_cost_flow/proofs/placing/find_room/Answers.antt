@@ -5,7 +5,7 @@ use Rattle.min_cost_flow.proofs.OptimalLaws.{reduced_from_optimal}
 use Rattle.min_cost_flow.specs.Problem.{names_of}
 use Rattle.min_cost_flow.specs.Flow.{flows_of}
 use Rattle.min_cost_flow.proofs.ArcCosts.{cheap_arcs}
-use Rattle.shortest_path.specs.Found.{HasFound, HasSize, IsStuck, parent_of, potential_of, rank_of}
+use Rattle.shortest_path.specs.Found.{HasFound, HasSize, IsStuck, predecessor_of, potential_of, rank_of}
 use Rattle.shortest_path.specs.Network.{IsReduced, IsWithin, arc_at, max_cost}
 use Rattle.shortest_path.specs.declared.arc.Arc.{Arc}
 use Rattle.min_cost_flow.proofs.Filled.{short_potential, stuck_of, way_of}
@@ -45,12 +45,12 @@ returns-in-Some-clause-way g c =
     let e = c.in-Some.ensures in
     let node_is : c.in-Some.limits ≡ names_of p = wants.only c.in-Some.limits e.found.is_wanted in
     let size : HasSize (names_of p + 1) s' = subst (λ n. HasSize n s') wants.size e.size in
-    let found : HasFound (names_of p + 1) (arc_at f.arcs.items (names_of p + 1)) wanted from (potential_of s) (potential_of s') (parent_of s') (rank_of s') (names_of p) =
-    subst (λ k. HasFound (names_of p + 1) (arc_at f.arcs.items (names_of p + 1)) wanted from (potential_of s) (potential_of s') (parent_of s') (rank_of s') k) node_is
-    (subst (λ (xs : List (Option Arc)). HasFound (names_of p + 1) (arc_at xs (names_of p + 1)) wanted from (potential_of s) (potential_of s') (parent_of s') (rank_of s') c.in-Some.limits) c.as_slice.ensures.value
-    (subst (λ n. HasFound n (arc_at c.as_slice.result.now n) wanted from (potential_of s) (potential_of s') (parent_of s') (rank_of s') c.in-Some.limits) wants.size e.found)) in
-    let last_is : c.index.result.now ≡ parent_of s' (names_of p) =
-    c.index.ensures ∙ (get_or_default s'.parents.items c.in-Some.limits c.index.result.now 0 (omega (arith, node_is, size.parents)) ∙ ap (parent_of s') node_is) in
+    let found : HasFound (names_of p + 1) (arc_at f.arcs.items (names_of p + 1)) wanted from (potential_of s) (potential_of s') (predecessor_of s') (rank_of s') (names_of p) =
+    subst (λ k. HasFound (names_of p + 1) (arc_at f.arcs.items (names_of p + 1)) wanted from (potential_of s) (potential_of s') (predecessor_of s') (rank_of s') k) node_is
+    (subst (λ (xs : List (Option Arc)). HasFound (names_of p + 1) (arc_at xs (names_of p + 1)) wanted from (potential_of s) (potential_of s') (predecessor_of s') (rank_of s') c.in-Some.limits) c.as_slice.ensures.value
+    (subst (λ n. HasFound n (arc_at c.as_slice.result.now n) wanted from (potential_of s) (potential_of s') (predecessor_of s') (rank_of s') c.in-Some.limits) wants.size e.found)) in
+    let last_is : c.index.result.now ≡ predecessor_of s' (names_of p) =
+    c.index.ensures ∙ (get_or_default s'.predecessors.items c.in-Some.limits c.index.result.now 0 (omega (arith, node_is, size.predecessors)) ∙ ap (predecessor_of s') node_is) in
     way_of p c.requires.problem f s s' wanted from c.index.result.now c.requires.midway c.requires.from size found last_is
 
 pub returns-in-None-clause-way : goal.returns-in-None-clause-way

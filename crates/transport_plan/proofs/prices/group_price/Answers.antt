@@ -3,7 +3,8 @@ use Rattle.std.proofs.Common.{◌≡◌, ◌<◌, ◌≤◌, ◌+◌, ◌^◌, t
 use Rattle.std.proofs.lemmas.Int.{ints, to_z-of_z}
 use Rattle.std.specs.Int.{w64}
 use lib.Signed.{lt_z, mag}
-use Rattle.transport_plan.specs.Offers.{MayTake, IsPrice, IsDualSize}
+use Rattle.min_cost_flow.specs.Offered.{IsPrice}
+use Rattle.transport_plan.specs.Offers.{MayTake, IsDualSize}
 use Rattle.transport_plan.proofs.LeastOffer.{IsLeastBelow, passes, improves, stays, attained}
 use Rattle.transport_plan.proofs.prices.group_price.Goals as goal
 use Rattle.transport_plan.proofs.prices.group_price.Goals.{in-Some+then-offered-least, in-Some+else-offered-least, in_default}
@@ -21,7 +22,7 @@ not_less a b h = grind (arith, ints)
 here : (count : ℕ) (price name result : ℤ) → IsPrice price → IsDualSize name → (result +ℤ to_z w64 (of_z w64 name)) ≡ (pos count *ℤ to_z w64 (of_z w64 price)) → mag result < 2 ^ 63
     → (to_z w64 (of_z w64 result) +ℤ name) ≡ (pos count *ℤ price)
 here count price name result cheap small value fits =
-    let same_price : to_z w64 (of_z w64 price) ≡ price = omega (arith, ints, cheap.0, cheap.1) in
+    let same_price : to_z w64 (of_z w64 price) ≡ price = omega (arith, ints, cheap.low, cheap.high) in
     let same_name : to_z w64 (of_z w64 name) ≡ name = omega (arith, ints, small.0, small.1) in
     let same_result : to_z w64 (of_z w64 result) ≡ result = to_z-of_z w64 result (record { sfits = fits }) in
     omega (arith, ints, value, ap (λ z. pos count *ℤ z) same_price, same_name, same_result)

@@ -3,8 +3,7 @@ use Rattle.std.proofs.Common.{◌≡◌, ℕ, ◌+◌, ◌*◌, ◌<◌, pos, No
 use Rattle.std.proofs.lemmas.Int.{to_z-of_z}
 use Rattle.std.specs.Int.{w64}
 use Rattle.min_cost_flow.specs.Problem.{group_at}
-use Rattle.min_cost_flow.proofs.Cells.{cell_in}
-use Rattle.min_cost_flow.proofs.Cells.{part_at, part_length}
+use Rattle.min_cost_flow.proofs.Cells.{cell_in, part_at, part_length}
 use Rattle.transport_plan.specs.Prices.{IsLeastAt}
 use Rattle.transport_plan.proofs.PushedPrices.{least_at}
 use Rattle.transport_plan.proofs.prices.price_of.Goals as goal
@@ -18,8 +17,7 @@ group_price-requires-clause-cheap c =
     let size = c.requires.prices.size in
     λ v z may.
     let inside : v < k = omega (arith, may.place, part_length k k variant prices size v_in) in
-    let price = c.requires.prices.each (variant * k + v) z (cell_in k k variant v v_in inside) (sym (part_at k k variant prices size v_in v None inside) ∙ may.price_at) in
-    (price.low, price.high)
+    c.requires.prices.each (variant * k + v) z (cell_in k k variant v v_in inside) (sym (part_at k k variant prices size v_in v None inside) ∙ may.price_at)
 
 pub group_price-requires-clause-some : goal.group_price-requires-clause-some
 group_price-requires-clause-some c =

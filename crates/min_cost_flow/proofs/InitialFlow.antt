@@ -1,4 +1,4 @@
--- The flow in which each point keeps its variant is one, and optimal by prices of 0.
+-- The flow in which each point keeps its variant is one, and optimal by potentials of 0.
 use Rattle.std.proofs.Common.{◌≡◌, ℕ, zero, suc, ◌+◌, ◌*◌, ◌<◌, ◌≤◌, ⊎_elim, ℤ, pos, negsuc, ◌*ℤ◌, ◌≤ℤ◌, true, List, length, get_or, Option, Some, None, refl, sym, ap, ◌∙◌, subst, arith}
 use Rattle.std.proofs.lemmas.Bool.{cases_eq}
 use Rattle.std.proofs.lemmas.Int.{ints}
@@ -12,7 +12,7 @@ use Rattle.min_cost_flow.specs.Spans.{AreSpans, IsIn, span_at}
 use Rattle.min_cost_flow.specs.declared.span.Span.{Span}
 use Rattle.min_cost_flow.specs.Flow.{IsFlowAt, cell_at, flows_at, groups_of}
 use Rattle.min_cost_flow.specs.Residual.{HasArcs, HasLimits, HasRow}
-use Rattle.min_cost_flow.specs.Staying.{at_home}
+use Rattle.min_cost_flow.specs.Initial.{at_home}
 use Rattle.min_cost_flow.proofs.Homes.{home_away, home_here}
 use Rattle.min_cost_flow.proofs.ResidualRows.{residual_of}
 use Rattle.min_cost_flow.proofs.Sums.{sum_one, sum_same}

@@ -5,7 +5,7 @@ use Rattle.min_cost_flow.specs.Problem.{names_of}
 use Rattle.min_cost_flow.specs.Residual.{ChangesLimits, HasArcs, IsLimitArc}
 use Rattle.min_cost_flow.proofs.WrittenArcs.{from_is, limits_change, limits_set, to_is}
 use Rattle.shortest_path.specs.Network.{arc_at}
-use Rattle.min_cost_flow.proofs.residual.renew_limits.Goals as goal
+use Rattle.min_cost_flow.proofs.residual.rebuild_limits.Goals as goal
 
 pub returns-clause-limits : goal.returns-clause-limits
 returns-clause-limits c =

@@ -5,11 +5,11 @@ ghost use Rattle.min_cost_flow.specs.Optimal.{IsOptimal};
 ghost use Rattle.min_cost_flow.specs.Problem.{IsFlowProblem, group_at, names_of, sum_to};
 ghost use Rattle.min_cost_flow.specs.Residual.{HasArcs, HasLimits, HasRow, MayBe};
 ghost use Rattle.min_cost_flow.specs.Spans.{AreSpans, IsIn, no_span, span_at};
-ghost use Rattle.min_cost_flow.specs.Staying.{at_home};
+ghost use Rattle.min_cost_flow.specs.Initial.{at_home};
 ghost use Rattle.shortest_path.specs.Network.{arc_at};
 
 use crate::problem::{FlowProblem, Group};
-use crate::residual::{renew_from, renew_limits};
+use crate::residual::{rebuild_from, rebuild_limits};
 use crate::span::{Span, widen};
 use shortest_path::Arc;
 
@@ -94,7 +94,7 @@ fn begin_arcs(
     ensures spans { AreSpans problem.now.groups.items (names_of problem.now) placed.now spans.new }
 {
     for name in 0..problem.high.len() {
-        renew_from(arcs, spans, problem, placed, name);
-        renew_limits(arcs, problem, totals, name);
+        rebuild_from(arcs, spans, problem, placed, name);
+        rebuild_limits(arcs, problem, totals, name);
     }
 }

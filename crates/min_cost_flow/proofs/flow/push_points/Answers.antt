@@ -6,8 +6,8 @@ use Rattle.min_cost_flow.proofs.Spans.{came}
 use Rattle.min_cost_flow.specs.Flow.{cell_at}
 use Rattle.min_cost_flow.specs.Residual.{HasRow, ChangesGroup}
 use Rattle.min_cost_flow.proofs.AfterMove.{residual_after}
-use Rattle.min_cost_flow.proofs.MovedPoints.{arrived, cell_small, cell_stays, columns_after, free_after, shifted as all_shifted, spent_after, sum_enough, sum_small}
-use Rattle.min_cost_flow.proofs.flow.shift_points.Goals as goal
+use Rattle.min_cost_flow.proofs.MovedPoints.{arrived, cell_small, cell_stays, columns_after, free_after, pushed as all_pushed, spent_after, sum_enough, sum_small}
+use Rattle.min_cost_flow.proofs.flow.push_points.Goals as goal
 
 pub move_points-requires-clause-small : goal.move_points-requires-clause-small
 move_points-requires-clause-small c =
@@ -68,8 +68,8 @@ leave-requires-clause-spans c =
     (subst (λ n. (i : ℕ) → i ≢ group * n + from → i ≢ group * n + to → get_or new i 0 ≡ get_or old i 0) k_is m.others)
     c.move_points-2.ensures.left c.move_points-2.ensures.entered c.move_points-2.ensures.others g w w_in some)
 
-pub returns-clause-shifted : goal.returns-clause-shifted
-returns-clause-shifted c =
+pub returns-clause-pushed : goal.returns-clause-pushed
+returns-clause-pushed c =
     let p = c.args.problem.now in
     let r = c.requires in
     let group = c.args.group in
@@ -80,7 +80,7 @@ returns-clause-shifted c =
     let new = c.move_points.new.cells in
     let k_is : c.len-names.result ≡ names_of p = c.len-names.ensures ∙ p.high.ok.0 in
     let m = c.move_points.ensures in
-    all_shifted p r.problem old c.args.totals.now c.args.arcs.now r.flow group from to points r.group r.from r.to r.apart r.points new c.move_points-2.new.cells
+    all_pushed p r.problem old c.args.totals.now c.args.arcs.now r.flow group from to points r.group r.from r.to r.apart r.points new c.move_points-2.new.cells
     (subst (λ n. get_or new (group * n + from) 0 + points ≡ get_or old (group * n + from) 0) k_is m.left)
     (subst (λ n. get_or new (group * n + to) 0 ≡ get_or old (group * n + to) 0 + points) k_is m.entered)
     (subst (λ n. (i : ℕ) → i ≢ group * n + from → i ≢ group * n + to → get_or new i 0 ≡ get_or old i 0) k_is m.others)
@@ -110,12 +110,12 @@ returns-clause-flow c =
     record {
       placed = c.move_points.auto.cells ∙ r.flow.placed;
       totals = c.move_points-2.auto.cells ∙ r.flow.totals;
-      arcs = c.renew_limits-2.auto.arcs ∙ (c.renew_limits.auto.arcs ∙ (c.arrive.auto.arcs ∙ (c.leave.auto.arcs ∙ r.flow.arcs)));
+      arcs = c.rebuild_limits-2.auto.arcs ∙ (c.rebuild_limits.auto.arcs ∙ (c.arrive.auto.arcs ∙ (c.leave.auto.arcs ∙ r.flow.arcs)));
       spent = spent_after p r.problem old sums cells r.flow group from to points r.group r.from r.to r.apart r.points new sums' left entered others n.left n.entered n.others;
       columns = columns_after p r.problem old sums cells r.flow group from to points r.group r.from r.to r.apart r.points new sums' left entered others n.left n.entered n.others;
       free = free_after p r.problem old sums cells r.flow group from to points r.group r.from r.to r.apart r.points new sums' left entered others n.left n.entered n.others r.allowed;
-      residual = residual_after p old sums new sums' cells c.leave.new.arcs c.arrive.new.arcs c.renew_limits.new.arcs c.renew_limits-2.new.arcs r.flow.residual group from to r.from r.to r.apart
+      residual = residual_after p old sums new sums' cells c.leave.new.arcs c.arrive.new.arcs c.rebuild_limits.new.arcs c.rebuild_limits-2.new.arcs r.flow.residual group from to r.from r.to r.apart
           (omega (arith, r.some, r.points)) (omega (arith, entered, r.some))
           (cell_stays p r.problem old sums cells r.flow group from to points r.group r.from r.to r.apart r.points new sums' left entered others n.left n.entered n.others)
-          n.others c.leave.ensures.row c.leave.ensures.others arrive c.arrive.ensures.others c.renew_limits.ensures.limits c.renew_limits.ensures.others c.renew_limits-2.ensures.limits c.renew_limits-2.ensures.others;
+          n.others c.leave.ensures.row c.leave.ensures.others arrive c.arrive.ensures.others c.rebuild_limits.ensures.limits c.rebuild_limits.ensures.others c.rebuild_limits-2.ensures.limits c.rebuild_limits-2.ensures.others;
     }

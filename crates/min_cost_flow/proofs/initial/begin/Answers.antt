@@ -3,9 +3,9 @@ use Rattle.std.proofs.Common.{◌≡◌, ◌<◌, ◌≤◌, ℕ, length, get_or
 use Rattle.min_cost_flow.specs.Problem.{group_at, names_of, sum_to}
 use Rattle.min_cost_flow.specs.Spans.{IsIn, span_at}
 use Rattle.min_cost_flow.specs.Flow.{cell_at, groups_of}
-use Rattle.min_cost_flow.specs.Staying.{at_home}
-use Rattle.min_cost_flow.proofs.Stayed.{stays_flow, stays_may, stays_optimal, stays_spans}
-use Rattle.min_cost_flow.proofs.staying.begin.Goals as goal
+use Rattle.min_cost_flow.specs.Initial.{at_home}
+use Rattle.min_cost_flow.proofs.InitialFlow.{stays_flow, stays_may, stays_optimal, stays_spans}
+use Rattle.min_cost_flow.proofs.initial.begin.Goals as goal
 
 pub begin_arcs-requires-clause-free : goal.begin_arcs-requires-clause-free
 begin_arcs-requires-clause-free c =

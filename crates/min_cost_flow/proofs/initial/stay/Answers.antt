@@ -2,7 +2,7 @@
 use Rattle.std.proofs.Common.{◌≡◌, ◌+◌, ◌*◌, length, get_or, set, ap, refl, arith}
 use Rattle.min_cost_flow.specs.Problem.{group_at}
 use Rattle.min_cost_flow.proofs.Homes.{one_more, room}
-use Rattle.min_cost_flow.proofs.staying.stay.Goals as goal
+use Rattle.min_cost_flow.proofs.initial.stay.Goals as goal
 
 pub overflow_add-totals : goal.overflow_add-totals
 overflow_add-totals c = omega (arith, room c.args.groups.now (length c.args.totals.now) c.loop-g.g c.loop-g.placed c.loop-g.totals c.loop-g.invariant c.loop-g-test.true (c.requires.variants c.loop-g.g c.loop-g-test.true) c.requires.weight)
