@@ -17,7 +17,10 @@ use std::alloc::{AllocError, Global};
 use transport_instance::Instance;
 
 /// The problem of an instance in numbers: a name is an index of the limits, and groups stand by old variant and then by count.
-pub(crate) fn flow_problem(alloc: Global, instance: &Instance<'_>) -> Result<FlowProblem, AllocError>
+pub(crate) fn flow_problem(
+    alloc: Global,
+    instance: &Instance<'_>,
+) -> Result<FlowProblem, AllocError>
     ensures numbered { IfOk result (IsNumbered instance.now) }
     ensures lawful { IfOk result IsFlowProblem }
 {

@@ -41,7 +41,11 @@ fn offer(price: i64, count: u32, name: i64) -> i64
 }
 
 /// The price of each name: its potential over that of the limits, which stand after the names.
-pub(crate) fn name_prices(alloc: Global, potentials: &[i64], names: usize) -> Result<Vec<i64>, AllocError>
+pub(crate) fn name_prices(
+    alloc: Global,
+    potentials: &[i64],
+    names: usize,
+) -> Result<Vec<i64>, AllocError>
     requires size { length potentials.now ≡ names + 1 }
     requires near { (v : ℕ) → v < names + 1 → IsNear (slice_index_or potentials.now v (pos 0)) }
     ensures size { IfOk result (λ b. length b.items ≡ names) }
