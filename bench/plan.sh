@@ -8,17 +8,28 @@ set -e
 root=$(cd "$(dirname "$0")/.." && pwd)
 work=$(mktemp -d)
 trap 'rm -rf "$work"' EXIT
-mkdir -p "$work/crates/plan_bench/src" "$work/crates/plan_bench/proofs/run"
-printf 'plan_bench: bucket_core book_core price_core transport_instance transport_plan anyhow\n' > "$work/crates.txt"
-for crate in limits murmur_core flag_text bucket_core logic_ast book_core price_core transport_instance transport_network plan_text \
-    search_effort shortest_path flow_laws residual_arcs residual_flow augmenting_paths flow_passes flow_certificates \
-    flow_answers flow_cuts transport_plan; do
-    grep -E "^$crate:" "$root/crates.txt" >> "$work/crates.txt"
+mkdir -p "$work/crates/plan_bench/src" "$work/crates/plan_bench/proofs/run" "$work/crates/plan_bench/proofs/solve_uncounted"
+line='plan_bench: bucket_core book_core price_core transport_instance shortest_path transport_plan anyhow'
+printf '%s\n' "$line" > "$work/crates.txt"
+# The crates that it stands on: crates.txt has them lowest first, so they are found from its end on.
+python3 - "$line" "$root/crates.txt" > "$work/below" <<'END'
+import sys
+wanted, found = set(sys.argv[1].split()), []
+for line in reversed(open(sys.argv[2], encoding="utf-8").read().split("\n")):
+    name, _, below = line.split("#")[0].partition(":")
+    if name.split()[:1] and name.split()[0] in wanted:
+        wanted.update(below.split())
+        found.append(name.split()[0])
+print(*reversed(found))
+END
+for crate in $(cat "$work/below"); do
+    grep -E "^$crate( [^:]*)?:" "$root/crates.txt" >> "$work/crates.txt"
     cp -r "$root/crates/$crate" "$work/crates/$crate"
 done
 cp "$root/HANDLES" "$work/HANDLES"
 cp "$root/bench/plan/plan.rattle" "$work/crates/plan_bench/src/main.rt"
 cp "$root/bench/plan/answers.proof" "$work/crates/plan_bench/proofs/run/Answers.antt"
+cp "$root/bench/plan/invariants.proof" "$work/crates/plan_bench/proofs/solve_uncounted/Invariants.antt"
 git init -q "$work"
 g++ -O2 -o "$work/lemon" "$root/bench/plan/plan_lemon.cpp"
 (cd "$work/crates/plan_bench" && "${RT:-rt}" run > "$work/log" 2>&1) || { tail "$work/log"; exit 1; }

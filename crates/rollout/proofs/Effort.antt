@@ -5,7 +5,7 @@ use Rattle.price_core.specs.Limits.{Limits}
 use Rattle.rollout.specs.Effort.{IsBounded, SpendsOn, Spends}
 use Rattle.rollout_checks.specs.Lawful.{Problem}
 use Rattle.rollout_checks.specs.declared.fault.RolloutFault.{RolloutFault}
-use Rattle.search_effort.specs.Spent.{Spent}
+use Rattle.shortest_path.specs.Spent.{Spent}
 use Rattle.transport_instance.specs.Groups.{AreSizes}
 use Rattle.transport_instance.specs.Instance.{TransportProblem}
 use Rattle.transport_instance.specs.Rows.{whole_amount}

@@ -3,7 +3,7 @@ use Rattle.std.specs.Prelude.{◌≡◌, ℕ, ◌+◌, ◌*◌, ◌≤◌, ◌�
 use Rattle.bucket_core.specs.Rule.{total_weight}
 use Rattle.rollout_checks.specs.Lawful.{Problem}
 use Rattle.rollout_checks.specs.declared.fault.RolloutFault.{RolloutFault}
-use Rattle.search_effort.specs.Spent.{Spent}
+use Rattle.shortest_path.specs.Spent.{Spent}
 use Rattle.transport_instance.specs.Groups.{GroupKey, AreSizes}
 
 -- At most two augmentations for each point, and so many settlings as two searches for each point, and two more, make that settle

@@ -24,18 +24,17 @@ ghost use Rattle.transport_plan.specs.Solved.{IsPlan as IsSolved};
 ghost use Rattle.rollout_checks.specs.declared.fault.RolloutFault.TheVariants.{WantOfMemory};
 ghost use Rattle.rollout_checks.specs.declared.refining.Refining.TheVariants.{Times};
 
-use assignment_rule::spread;
 use flag_defs::Flags;
 use page_tally::Recorded;
 use plan_text::Planned;
 use rollout_checks::{Problem, Refining, RolloutFault, problem_of};
-use search_effort::Effort;
+use shortest_path::Effort;
 use std::alloc::{AllocError, Global};
 use std::marker::Brand;
 use std::sync::ledger::{Blank, Ledger};
 use std::thread::Threads;
 use transport_core::{CutKind, Instance};
-use transport_plan::{Solved, solve};
+use transport_plan::{Solved, solve, spread};
 
 /// The rule that meets a request and costs the recorded inputs the least, with its certificate, or a set of names which
 /// shows that no rule does: a set over its high limits where there is one, and else one under its low limits. Of what was

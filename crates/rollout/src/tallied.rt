@@ -15,7 +15,7 @@ use crate::planner::plan_on;
 use flag_defs::Flags;
 use plan_text::Planned;
 use rollout_checks::{Refining, RolloutFault, problem_of_tally};
-use search_effort::Effort;
+use shortest_path::Effort;
 use std::alloc::Global;
 use std::marker::Brand;
 use std::sync::ledger::{Blank, Ledger};

@@ -10,8 +10,6 @@ use Rattle.price_core.specs.declared.fault.PriceFault.{PriceFault}
 use Rattle.price_core.specs.declared.fault.PriceFault.TheVariants as price
 use Rattle.transport_instance.specs.declared.fault.CheckFault.{CheckFault}
 use Rattle.transport_instance.specs.declared.fault.CheckFault.TheVariants as check
-use Rattle.transport_plan.specs.declared.fault.PlanFault.{PlanFault}
-use Rattle.transport_plan.specs.declared.fault.PlanFault.TheVariants as plan
 use Rattle.rollout_checks.specs.declared.fault.RolloutFault.{RolloutFault}
 use Rattle.rollout_checks.specs.declared.fault.RolloutFault.TheVariants.{WantOfMemory, Request, UnknownFlag, NoSite, Computed, UnknownVariant, TotalsSum, TotalTooLarge, NoWeight, TooLarge, OtherTally}
 
@@ -74,10 +72,6 @@ of_document document.WantOfMemory = WantOfMemory
 of_document document.NotJson = TooLarge
 of_document document.NoFlags = TooLarge
 of_document document.TooLarge = TooLarge
-
--- of what is told of an instance
-abbrev pub of_plan : PlanFault → RolloutFault
-of_plan plan.WantOfMemory = WantOfMemory
 
 -- of what is told of limits that an instance cannot have
 abbrev pub of_check : CheckFault → RolloutFault

@@ -1,5 +1,5 @@
 ghost use Rattle.std.specs.Prelude.{◌≡◌};
-ghost use Rattle.rollout_checks.specs.Fault.{number_of, name_of, of_check, of_document, of_logic, of_plan, of_price, of_rule};
+ghost use Rattle.rollout_checks.specs.Fault.{number_of, name_of, of_check, of_document, of_logic, of_price, of_rule};
 ghost use Rattle.rollout_checks.specs.declared.fault.RolloutFault.TheVariants.{WantOfMemory};
 
 use bucket_core::RuleFault;
@@ -9,7 +9,6 @@ use price_core::PriceFault;
 use std::alloc::{AllocError, AllocFailed};
 use thiserror::Error;
 use transport_core::CheckFault;
-use transport_plan::PlanFault;
 
 /// Why a rollout is refused. A request is tested for 1, 2, 3, 4, 9, 11, 5, 6 and 7 in that order, for 11 on a
 /// tally alone. No refusal has the number 8.
@@ -150,16 +149,6 @@ impl From<DefFault> for RolloutFault {
         match fault {
             DefFault::WantOfMemory => RolloutFault::WantOfMemory,
             _ => RolloutFault::TooLarge,
-        }
-    }
-}
-
-impl From<PlanFault> for RolloutFault {
-    ghost from_gives = { λ f e. e ≡ of_plan f };
-
-    fn from(fault: PlanFault) -> RolloutFault {
-        match fault {
-            PlanFault::WantOfMemory => RolloutFault::WantOfMemory,
         }
     }
 }

@@ -10,12 +10,12 @@ use Rattle.shortest_path.specs.Searched.{IsSearched, IsNearest, HasNone, Lowers}
 use Rattle.shortest_path.specs.declared.arc.Arc.{Arc}
 use Rattle.shortest_path.proofs.Settling.{still_reduced, tight}
 
-pub begun : (nodes : ℕ) (arc : ℕ → ℕ → Option Arc) (potential : ℕ → ℤ) (source : ℕ) (len : ℕ → Option ℤ) (parent rank : ℕ → ℕ) → source < nodes
-    → ((v : ℕ) → v < nodes → rank v ≡ nodes) → ((v : ℕ) → v < nodes → v ≢ source → len v ≡ None) → len source ≡ Some (pos 0) → IsSearched nodes arc potential source max_cost 0 len parent rank
-begun nodes arc potential source len parent rank source_in unsettled unreached start =
-    let zero : (v : ℕ) (b : ℤ) → v < nodes → len v ≡ Some b → (v ≡ source) × (b ≡ pos 0) = λ v b within is.
+pub begun : (nodes : ℕ) (arc : ℕ → ℕ → Option Arc) (potential : ℕ → ℤ) (source : ℕ) (distance : ℕ → Option ℤ) (predecessor rank : ℕ → ℕ) → source < nodes
+    → ((v : ℕ) → v < nodes → rank v ≡ nodes) → ((v : ℕ) → v < nodes → v ≢ source → distance v ≡ None) → distance source ≡ Some (pos 0) → IsSearched nodes arc potential source max_cost 0 distance predecessor rank
+begun nodes arc potential source distance predecessor rank source_in unsettled unreached start =
+    let zero : (v : ℕ) (b : ℤ) → v < nodes → distance v ≡ Some b → (v ≡ source) × (b ≡ pos 0) = λ v b within is.
     ⊎_elim
-    (λ (here : v ≡ source). (here, same_Some b (pos 0) (sym is ∙ (ap len here ∙ start))))
+    (λ (here : v ≡ source). (here, same_Some b (pos 0) (sym is ∙ (ap distance here ∙ start))))
     (λ (not : v ≡ source → ⊥). let clash : Some b ≡ None = sym is ∙ unreached v within not in absurd (none_of b clash))
     (cases_eq v source)
     in
@@ -33,11 +33,11 @@ begun nodes arc potential source len parent rank source_in unsettled unreached s
     none_of : (b : ℤ) → Some b ≡ None → ⊥
     none_of b clash = cc
 
-pub stuck : (nodes : ℕ) (arc : ℕ → ℕ → Option Arc) (wanted : List Bool) (source count : ℕ) (potential : ℕ → ℤ) (len : ℕ → Option ℤ) (parent rank : ℕ → ℕ) → source < nodes
-    → IsSearched nodes arc potential source max_cost count len parent rank → HasNone nodes len rank → ((v : ℕ) → v < nodes → rank v < nodes → slice_get wanted v ≡ Some true → ⊥)
+pub stuck : (nodes : ℕ) (arc : ℕ → ℕ → Option Arc) (wanted : List Bool) (source count : ℕ) (potential : ℕ → ℤ) (distance : ℕ → Option ℤ) (predecessor rank : ℕ → ℕ) → source < nodes
+    → IsSearched nodes arc potential source max_cost count distance predecessor rank → HasNone nodes distance rank → ((v : ℕ) → v < nodes → rank v < nodes → slice_get wanted v ≡ Some true → ⊥)
     → IsStuck nodes arc wanted source potential potential rank
-stuck nodes arc wanted source count potential len parent rank source_in search none unwanted =
-    let settled : (v : ℕ) (a : ℤ) → v < nodes → len v ≡ Some a → rank v < nodes = λ v a within is.
+stuck nodes arc wanted source count potential distance predecessor rank source_in search none unwanted =
+    let settled : (v : ℕ) (a : ℤ) → v < nodes → distance v ≡ Some a → rank v < nodes = λ v a within is.
     ⊎_elim (λ (s : rank v < nodes). s) (λ (un : nodes ≤ rank v). absurd (none v a within un is)) (cases_lt (rank v) nodes)
     in
     record {
@@ -50,20 +50,20 @@ stuck nodes arc wanted source count potential len parent rank source_in search n
       unwanted = unwanted;
     }
 
-module _ (nodes : ℕ) (arc : ℕ → ℕ → Option Arc) (wanted : List Bool) (source : ℕ) (potential potential' : ℕ → ℤ) (len : ℕ → Option ℤ) (parent rank : ℕ → ℕ) (node : ℕ) (so_far shown : ℤ)
-    (reduced : IsReduced nodes arc potential) (search : IsSearched nodes arc potential source max_cost nodes len parent rank)
-    (near : IsNearest nodes potential len rank node so_far) (lowers : Lowers nodes potential potential' len rank node shown) (same : shown ≡ so_far) where
-  lowered : Lowers nodes potential potential' len rank node so_far
-  lowered = subst (λ z. Lowers nodes potential potential' len rank node z) same lowers
+module _ (nodes : ℕ) (arc : ℕ → ℕ → Option Arc) (wanted : List Bool) (source : ℕ) (potential potential' : ℕ → ℤ) (distance : ℕ → Option ℤ) (predecessor rank : ℕ → ℕ) (node : ℕ) (so_far shown : ℤ)
+    (reduced : IsReduced nodes arc potential) (search : IsSearched nodes arc potential source max_cost nodes distance predecessor rank)
+    (near : IsNearest nodes potential distance rank node so_far) (lowers : Lowers nodes potential potential' distance rank node shown) (same : shown ≡ so_far) where
+  lowered : Lowers nodes potential potential' distance rank node so_far
+  lowered = subst (λ z. Lowers nodes potential potential' distance rank node z) same lowers
 
-  pub found : slice_get wanted node ≡ Some true → ((v : ℕ) → v < nodes → rank v < nodes → slice_get wanted v ≡ Some true → ⊥) → HasFound nodes arc wanted source potential potential' parent rank node
+  pub found : slice_get wanted node ≡ Some true → ((v : ℕ) → v < nodes → rank v < nodes → slice_get wanted v ≡ Some true → ⊥) → HasFound nodes arc wanted source potential potential' predecessor rank node
   found is_wanted unwanted = record {
     within = near.within;
     is_wanted = is_wanted;
     unsettled = near.unsettled;
     unwanted = unwanted;
-    reduced = still_reduced nodes arc potential potential' source max_cost nodes len parent rank node so_far reduced search near lowered;
-    tight = tight nodes arc potential potential' source max_cost nodes len parent rank node so_far reduced search near lowered;
+    reduced = still_reduced nodes arc potential potential' source max_cost nodes distance predecessor rank node so_far reduced search near lowered;
+    tight = tight nodes arc potential potential' source max_cost nodes distance predecessor rank node so_far reduced search near lowered;
     kept = lowered.others;
     fallen = λ v within settled.
         let known = search.known v within settled in

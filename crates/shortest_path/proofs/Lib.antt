@@ -1,7 +1,7 @@
-pub mod Settling
-pub mod Relaxing
-pub mod Nearest
-pub mod Rounds
-pub mod Lowering
+pub mod Counted
 pub mod Finding
-mod Counted
+pub mod Lowering
+pub mod Nearest
+pub mod Relaxing
+pub mod Rounds
+pub mod Settling

@@ -32,28 +32,28 @@ kept_sum r a b d s t u is = omega (arith, ints, s.low, s.high, t.low, t.high, u.
 -- ---- the loop
 
 -- the settled nodes below `v` are lowered, and the others are as they were
-pub record LowersBelow (nodes : ℕ) (potentials potentials' : List ℤ) (len : ℕ → Option ℤ) (rank : ℕ → ℕ) (base so_far : ℤ) (v : ℕ) : Type 0 where
+pub record LowersBelow (nodes : ℕ) (potentials potentials' : List ℤ) (distance : ℕ → Option ℤ) (rank : ℕ → ℕ) (base so_far : ℤ) (v : ℕ) : Type 0 where
   pub size : length potentials' ≡ nodes
-  pub settled : (w : ℕ) (a : ℤ) → w < v → rank w < nodes → len w ≡ Some a → get_or potentials' w (pos 0) ≡ ((base +ℤ a) -ℤ so_far)
+  pub settled : (w : ℕ) (a : ℤ) → w < v → rank w < nodes → distance w ≡ Some a → get_or potentials' w (pos 0) ≡ ((base +ℤ a) -ℤ so_far)
   pub others : (w : ℕ) → w < nodes → nodes ≤ rank w → get_or potentials' w (pos 0) ≡ get_or potentials w (pos 0)
   pub rest : (w : ℕ) → v ≤ w → get_or potentials' w (pos 0) ≡ get_or potentials w (pos 0)
 
-module _ (nodes : ℕ) (potentials potentials' potentials'' : List ℤ) (len : ℕ → Option ℤ) (rank : ℕ → ℕ) (base so_far : ℤ) (v : ℕ) (before : LowersBelow nodes potentials potentials' len rank base so_far v) (within : v < nodes) where
-  pub skips : potentials'' ≡ potentials' → ((a : ℤ) → rank v < nodes → len v ≡ Some a → ⊥) → LowersBelow nodes potentials potentials'' len rank base so_far (v + 1)
+module _ (nodes : ℕ) (potentials potentials' potentials'' : List ℤ) (distance : ℕ → Option ℤ) (rank : ℕ → ℕ) (base so_far : ℤ) (v : ℕ) (before : LowersBelow nodes potentials potentials' distance rank base so_far v) (within : v < nodes) where
+  pub skips : potentials'' ≡ potentials' → ((a : ℤ) → rank v < nodes → distance v ≡ Some a → ⊥) → LowersBelow nodes potentials potentials'' distance rank base so_far (v + 1)
   skips same none =
       let at : (w : ℕ) → get_or potentials'' w (pos 0) ≡ get_or potentials' w (pos 0) = λ w. ap (λ xs. get_or xs w (pos 0)) same in
       record {
         size = ap length same ∙ before.size;
         settled = λ w a below is_settled is.
             ⊎_elim
-            (λ (here : w ≡ v). absurd (none a (omega (arith, ap rank here, is_settled)) (ap len (sym here) ∙ is)))
+            (λ (here : w ≡ v). absurd (none a (omega (arith, ap rank here, is_settled)) (ap distance (sym here) ∙ is)))
             (λ (not : w ≡ v → ⊥). at w ∙ before.settled w a (omega (arith, not)) is_settled is)
             (cases_eq w v);
         others = λ w w_in un. at w ∙ before.others w w_in un;
         rest = λ w above. at w ∙ before.rest w (omega arith);
       }
 
-  pub sets : (a new : ℤ) → potentials'' ≡ set potentials' v new → rank v < nodes → len v ≡ Some a → new ≡ ((base +ℤ a) -ℤ so_far) → LowersBelow nodes potentials potentials'' len rank base so_far (v + 1)
+  pub sets : (a new : ℤ) → potentials'' ≡ set potentials' v new → rank v < nodes → distance v ≡ Some a → new ≡ ((base +ℤ a) -ℤ so_far) → LowersBelow nodes potentials potentials'' distance rank base so_far (v + 1)
   sets a new written v_settled v_is new_is =
       let other : (w : ℕ) → (w ≡ v → ⊥) → get_or potentials'' w (pos 0) ≡ get_or potentials' w (pos 0) = λ w not. ap (λ xs. get_or xs w (pos 0)) written ∙ get_or-set_other potentials' v w new (pos 0) not in
       record {
@@ -61,7 +61,7 @@ module _ (nodes : ℕ) (potentials potentials' potentials'' : List ℤ) (len : �
         settled = λ w b below is_settled is.
             ⊎_elim
             (λ (here : w ≡ v).
-            let b_is : a ≡ b = same_Some a b (sym v_is ∙ (ap len (sym here) ∙ is)) in
+            let b_is : a ≡ b = same_Some a b (sym v_is ∙ (ap distance (sym here) ∙ is)) in
             let at : get_or potentials'' w (pos 0) ≡ new = ap (λ xs. get_or xs w (pos 0)) written ∙ (ap (λ k. get_or (set potentials' v new) k (pos 0)) here ∙ get_or-set_same potentials' v new (pos 0) (omega (arith, before.size))) in
             omega (arith, ints, at, new_is, b_is))
             (λ (not : w ≡ v → ⊥). other w not ∙ before.settled w b (omega (arith, not)) is_settled is)

@@ -36,18 +36,18 @@ module _ (nodes node : ℕ) (arcs : List (Option Arc)) (square : length arcs ≡
 
 -- how many nodes are not settled
 abbrev pub unsettled : ℕ → List ℕ → ℕ
-unsettled nodes ranks = count_by (λ r. nat_le nodes r) ranks
+unsettled nodes settle_order = count_by (λ r. nat_le nodes r) settle_order
 
 -- what holds before each round
-pub record IsRound (nodes : ℕ) (arcs : List (Option Arc)) (potentials : List ℤ) (wanted : List Bool) (source count : ℕ) (lens : List (Option ℤ)) (parents ranks : List ℕ) : Type 0 where
-  pub lengths : length lens ≡ nodes
-  pub sizes : length parents ≡ nodes
-  pub many : length ranks ≡ nodes
-  pub left : count + unsettled nodes ranks ≡ nodes
-  pub searched : IsSearched nodes (arc_at arcs nodes) (λ v. get_or potentials v (pos 0)) source max_cost count (λ v. get_or lens v None) (λ v. get_or parents v 0) (λ v. get_or ranks v 0)
-  pub unwanted : (v : ℕ) → v < nodes → get_or ranks v 0 < nodes → slice_get wanted v ≡ Some true → ⊥
+pub record IsRound (nodes : ℕ) (arcs : List (Option Arc)) (potentials : List ℤ) (wanted : List Bool) (source count : ℕ) (distances : List (Option ℤ)) (predecessors settle_order : List ℕ) : Type 0 where
+  pub distances_many : length distances ≡ nodes
+  pub sizes : length predecessors ≡ nodes
+  pub many : length settle_order ≡ nodes
+  pub left : count + unsettled nodes settle_order ≡ nodes
+  pub searched : IsSearched nodes (arc_at arcs nodes) (λ v. get_or potentials v (pos 0)) source max_cost count (λ v. get_or distances v None) (λ v. get_or predecessors v 0) (λ v. get_or settle_order v 0)
+  pub unwanted : (v : ℕ) → v < nodes → get_or settle_order v 0 < nodes → slice_get wanted v ≡ Some true → ⊥
 
--- lengths are short after that few rounds
+-- distances are short after that few rounds
 pub short_after : (count : ℕ) (b : ℤ) → count ≤ max_nodes → neg_ℤ (pos (count * max_cost)) ≤ℤ b → b ≤ℤ pos (count * max_cost) → IsShort b
 short_after count b few low high =
     let most : count * max_cost ≤ max_nodes * max_cost = mul-le-mul_right max_cost few in
@@ -59,49 +59,49 @@ test_above nodes r le = grind (arith, nat_tests)
 test_below : (nodes r : ℕ) → r < nodes → ◌≡◌ {A = ℕ} (cond (nat_le nodes r) 1 0) 0
 test_below nodes r less = grind (arith, nat_tests)
 
-pub fewer : (nodes : ℕ) (ranks : List ℕ) (node count : ℕ) → node < length ranks → nodes ≤ get_or ranks node 0 → count < nodes → unsettled nodes (set ranks node count) + 1 ≡ unsettled nodes ranks
-fewer nodes ranks node count within un small =
-    omega (arith, sum_by-set (λ (r : ℕ). cond (nat_le nodes r) 1 0) ranks node count 0 within, test_above nodes (get_or ranks node 0) un, test_below nodes count small)
+pub fewer : (nodes : ℕ) (settle_order : List ℕ) (node count : ℕ) → node < length settle_order → nodes ≤ get_or settle_order node 0 → count < nodes → unsettled nodes (set settle_order node count) + 1 ≡ unsettled nodes settle_order
+fewer nodes settle_order node count within un small =
+    omega (arith, sum_by-set (λ (r : ℕ). cond (nat_le nodes r) 1 0) settle_order node count 0 within, test_above nodes (get_or settle_order node 0) un, test_below nodes count small)
 
 -- where no node has a rank, all are left
-pub all_left : (nodes : ℕ) (ranks : List ℕ) → ((v : ℕ) → v < length ranks → nodes ≤ get_or ranks v 0) → unsettled nodes ranks ≡ length ranks
+pub all_left : (nodes : ℕ) (settle_order : List ℕ) → ((v : ℕ) → v < length settle_order → nodes ≤ get_or settle_order v 0) → unsettled nodes settle_order ≡ length settle_order
 all_left nodes [] un = refl
-all_left nodes (r ∷ ranks) un = omega (arith, sum_by-cons (λ (x : ℕ). cond (nat_le nodes x) 1 0) r ranks, test_above nodes r (un 0 (omega arith)), all_left nodes ranks (λ v below. un (suc v) (omega arith)))
+all_left nodes (r ∷ settle_order) un = omega (arith, sum_by-cons (λ (x : ℕ). cond (nat_le nodes x) 1 0) r settle_order, test_above nodes r (un 0 (omega arith)), all_left nodes settle_order (λ v below. un (suc v) (omega arith)))
 
-pub some_left : (nodes : ℕ) (ranks : List ℕ) (node : ℕ) → node < length ranks → nodes ≤ get_or ranks node 0 → 0 < nodes → 1 ≤ unsettled nodes ranks
-some_left nodes ranks node within un some = omega (arith, fewer nodes ranks node 0 within un some)
+pub some_left : (nodes : ℕ) (settle_order : List ℕ) (node : ℕ) → node < length settle_order → nodes ≤ get_or settle_order node 0 → 0 < nodes → 1 ≤ unsettled nodes settle_order
+some_left nodes settle_order node within un some = omega (arith, fewer nodes settle_order node 0 within un some)
 
-module _ (nodes : ℕ) (arcs : List (Option Arc)) (potentials : List ℤ) (wanted : List Bool) (source count : ℕ) (lens : List (Option ℤ)) (parents ranks : List ℕ) (before : IsRound nodes arcs potentials wanted source count lens parents ranks) where
-  pub short_lengths : nodes ≤ max_nodes → (v : ℕ) (a : ℤ) → v < nodes → get_or lens v None ≡ Some a → IsShort a
-  short_lengths few v a within is = short_after count a (omega (arith, before.left)) (before.searched.low v a within is) (before.searched.high v a within is)
+module _ (nodes : ℕ) (arcs : List (Option Arc)) (potentials : List ℤ) (wanted : List Bool) (source count : ℕ) (distances : List (Option ℤ)) (predecessors settle_order : List ℕ) (before : IsRound nodes arcs potentials wanted source count distances predecessors settle_order) where
+  pub short_distances : nodes ≤ max_nodes → (v : ℕ) (a : ℤ) → v < nodes → get_or distances v None ≡ Some a → IsShort a
+  short_distances few v a within is = short_after count a (omega (arith, before.left)) (before.searched.low v a within is) (before.searched.high v a within is)
 
-  module _ (node : ℕ) (so_far : ℤ) (near : IsNearest nodes (λ v. get_or potentials v (pos 0)) (λ v. get_or lens v None) (λ v. get_or ranks v 0) node so_far) where
+  module _ (node : ℕ) (so_far : ℤ) (near : IsNearest nodes (λ v. get_or potentials v (pos 0)) (λ v. get_or distances v None) (λ v. get_or settle_order v 0) node so_far) where
     pub small : count < nodes
-    small = omega (arith, before.left, some_left nodes ranks node (omega (arith, before.many, near.within)) near.unsettled (omega (arith, near.within)))
+    small = omega (arith, before.left, some_left nodes settle_order node (omega (arith, before.many, near.within)) near.unsettled (omega (arith, near.within)))
 
-    pub falls : unsettled nodes (set ranks node count) < unsettled nodes ranks
-    falls = omega (arith, fewer nodes ranks node count (omega (arith, before.many, near.within)) near.unsettled small)
+    pub falls : unsettled nodes (set settle_order node count) < unsettled nodes settle_order
+    falls = omega (arith, fewer nodes settle_order node count (omega (arith, before.many, near.within)) near.unsettled small)
 
-    pub next : (lens' : List (Option ℤ)) (parents' : List ℕ) (row : List (Option Arc)) (shown : ℤ) → length row ≡ nodes → ((v : ℕ) → v < nodes → get_or row v None ≡ arc_at arcs nodes node v) → shown ≡ so_far → source < nodes → (slice_get wanted node ≡ Some true → ⊥) → length lens' ≡ nodes → length parents' ≡ nodes
+    pub next : (distances' : List (Option ℤ)) (predecessors' : List ℕ) (row : List (Option Arc)) (shown : ℤ) → length row ≡ nodes → ((v : ℕ) → v < nodes → get_or row v None ≡ arc_at arcs nodes node v) → shown ≡ so_far → source < nodes → (slice_get wanted node ≡ Some true → ⊥) → length distances' ≡ nodes → length predecessors' ≡ nodes
         → IsReduced nodes (arc_at arcs nodes) (λ v. get_or potentials v (pos 0)) → IsWithin nodes (arc_at arcs nodes) max_cost
-        → ((v : ℕ) → v < length row → Relaxes (length row) node shown (get_or row v None) (get_or (set ranks node count) v 0) (get_or lens v None) (get_or lens' v None) (get_or parents v 0) (get_or parents' v 0))
-        → IsRound nodes arcs potentials wanted source (count + 1) lens' parents' (set ranks node count)
-    next lens' parents' row shown wide row_at shown_is source_in not_wanted lens_many parents_many reduced costs each =
-        let inside : node < length ranks = omega (arith, before.many, near.within) in
-        let other : (v : ℕ) → (v ≡ node → ⊥) → get_or (set ranks node count) v 0 ≡ get_or ranks v 0 = λ v not. get_or-set_other ranks node v count 0 not in
-        let here : get_or (set ranks node count) node 0 ≡ count = get_or-set_same ranks node count 0 inside in
+        → ((v : ℕ) → v < length row → Relaxes (length row) node shown (get_or row v None) (get_or (set settle_order node count) v 0) (get_or distances v None) (get_or distances' v None) (get_or predecessors v 0) (get_or predecessors' v 0))
+        → IsRound nodes arcs potentials wanted source (count + 1) distances' predecessors' (set settle_order node count)
+    next distances' predecessors' row shown wide row_at shown_is source_in not_wanted distances_many predecessors_many reduced costs each =
+        let inside : node < length settle_order = omega (arith, before.many, near.within) in
+        let other : (v : ℕ) → (v ≡ node → ⊥) → get_or (set settle_order node count) v 0 ≡ get_or settle_order v 0 = λ v not. get_or-set_other settle_order node v count 0 not in
+        let here : get_or (set settle_order node count) node 0 ≡ count = get_or-set_same settle_order node count 0 inside in
         record {
-          lengths = lens_many;
-          sizes = parents_many;
-          many = length-set ranks node count ∙ before.many;
-          left = omega (arith, before.left, fewer nodes ranks node count inside near.unsettled small);
-          searched = settled_next nodes (arc_at arcs nodes) (λ v. get_or potentials v (pos 0)) source max_cost count (λ v. get_or lens v None) (λ v. get_or lens' v None) (λ v. get_or parents v 0) (λ v. get_or parents' v 0) (λ v. get_or ranks v 0) (λ v. get_or (set ranks node count) v 0) node so_far
+          distances_many = distances_many;
+          sizes = predecessors_many;
+          many = length-set settle_order node count ∙ before.many;
+          left = omega (arith, before.left, fewer nodes settle_order node count inside near.unsettled small);
+          searched = settled_next nodes (arc_at arcs nodes) (λ v. get_or potentials v (pos 0)) source max_cost count (λ v. get_or distances v None) (λ v. get_or distances' v None) (λ v. get_or predecessors v 0) (λ v. get_or predecessors' v 0) (λ v. get_or settle_order v 0) (λ v. get_or (set settle_order node count) v 0) node so_far
               reduced costs before.searched near small here other
               (λ v within.
-              let rank' : ℕ = get_or (set ranks node count) v 0 in
-              subst (λ a. Relaxes nodes node so_far a rank' (get_or lens v None) (get_or lens' v None) (get_or parents v 0) (get_or parents' v 0)) (row_at v within)
-              (subst (λ z. Relaxes nodes node z (get_or row v None) rank' (get_or lens v None) (get_or lens' v None) (get_or parents v 0) (get_or parents' v 0)) shown_is
-              (subst (λ n. Relaxes n node shown (get_or row v None) rank' (get_or lens v None) (get_or lens' v None) (get_or parents v 0) (get_or parents' v 0)) wide (each v (omega (arith, wide, within))))))
+              let rank' : ℕ = get_or (set settle_order node count) v 0 in
+              subst (λ a. Relaxes nodes node so_far a rank' (get_or distances v None) (get_or distances' v None) (get_or predecessors v 0) (get_or predecessors' v 0)) (row_at v within)
+              (subst (λ z. Relaxes nodes node z (get_or row v None) rank' (get_or distances v None) (get_or distances' v None) (get_or predecessors v 0) (get_or predecessors' v 0)) shown_is
+              (subst (λ n. Relaxes n node shown (get_or row v None) rank' (get_or distances v None) (get_or distances' v None) (get_or predecessors v 0) (get_or predecessors' v 0)) wide (each v (omega (arith, wide, within))))))
               source_in;
           unwanted = λ v within settled is.
               ⊎_elim
@@ -111,7 +111,7 @@ module _ (nodes : ℕ) (arcs : List (Option Arc)) (potentials : List ℤ) (wante
         }
 
   -- the bounds of the last round hold after it
-  pub widened : IsSearched nodes (arc_at arcs nodes) (λ v. get_or potentials v (pos 0)) source max_cost nodes (λ v. get_or lens v None) (λ v. get_or parents v 0) (λ v. get_or ranks v 0)
+  pub widened : IsSearched nodes (arc_at arcs nodes) (λ v. get_or potentials v (pos 0)) source max_cost nodes (λ v. get_or distances v None) (λ v. get_or predecessors v 0) (λ v. get_or settle_order v 0)
   widened =
       let s = before.searched in
       let few : count ≤ nodes = omega (arith, before.left) in

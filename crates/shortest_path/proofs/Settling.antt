@@ -4,33 +4,33 @@ use Rattle.std.proofs.lemmas.Bool.{cases_eq, cases_lt}
 use Rattle.std.proofs.lemmas.Int.{ints}
 use Rattle.std.proofs.lemmas.Option.{same_Some}
 use Rattle.shortest_path.specs.Network.{IsReduced, IsWithin}
-use Rattle.shortest_path.specs.Searched.{Stays, Moves, Relaxes, IsChild, IsSearched, IsNearest, IsTight, Lowers}
+use Rattle.shortest_path.specs.Searched.{Stays, Moves, Relaxes, IsSuccessor, IsSearched, IsNearest, IsTight, Lowers}
 use Rattle.shortest_path.specs.declared.arc.Arc.{Arc}
 
 more-times : (count most : ℕ) → (count + 1) * most ≡ count * most + most
 more-times count most = omega arith
 
 -- `node` is settled with the rank `count`, and its arcs are looked along
-module _ (nodes : ℕ) (arc : ℕ → ℕ → Option Arc) (potential : ℕ → ℤ) (source most count : ℕ) (len len' : ℕ → Option ℤ) (parent parent' rank rank' : ℕ → ℕ) (node : ℕ) (so_far : ℤ)
-    (reduced : IsReduced nodes arc potential) (costs : IsWithin nodes arc most) (before : IsSearched nodes arc potential source most count len parent rank)
-    (near : IsNearest nodes potential len rank node so_far) (small : count < nodes)
+module _ (nodes : ℕ) (arc : ℕ → ℕ → Option Arc) (potential : ℕ → ℤ) (source most count : ℕ) (distance distance' : ℕ → Option ℤ) (predecessor predecessor' rank rank' : ℕ → ℕ) (node : ℕ) (so_far : ℤ)
+    (reduced : IsReduced nodes arc potential) (costs : IsWithin nodes arc most) (before : IsSearched nodes arc potential source most count distance predecessor rank)
+    (near : IsNearest nodes potential distance rank node so_far) (small : count < nodes)
     (here : rank' node ≡ count) (others : (v : ℕ) → (v ≡ node → ⊥) → rank' v ≡ rank v)
-    (each : (v : ℕ) → v < nodes → Relaxes nodes node so_far (arc node v) (rank' v) (len v) (len' v) (parent v) (parent' v)) where
+    (each : (v : ℕ) → v < nodes → Relaxes nodes node so_far (arc node v) (rank' v) (distance v) (distance' v) (predecessor v) (predecessor' v)) where
   -- a settled node is not this one before
   other_from_settled : (v : ℕ) → rank v < nodes → (v ≡ node → ⊥)
   other_from_settled v settled is = absurd (omega (arith, near.unsettled, ap rank is))
 
-  stays_settled : (v : ℕ) → v < nodes → rank' v < nodes → Stays (len v) (len' v) (parent v) (parent' v)
+  stays_settled : (v : ℕ) → v < nodes → rank' v < nodes → Stays (distance v) (distance' v) (predecessor v) (predecessor' v)
   stays_settled v within settled =
       ⊎_elim
-      (λ (s : Stays (len v) (len' v) (parent v) (parent' v)). s)
-      (λ (m : Moves nodes node so_far (arc node v) (rank' v) (len v) (len' v) (parent' v)). absurd (omega (arith, m.unsettled)))
+      (λ (s : Stays (distance v) (distance' v) (predecessor v) (predecessor' v)). s)
+      (λ (m : Moves nodes node so_far (arc node v) (rank' v) (distance v) (distance' v) (predecessor' v)). absurd (omega (arith, m.unsettled)))
       ((each v within).change)
 
   still_settled : (v : ℕ) → rank v < nodes → rank' v ≡ rank v
   still_settled v settled = others v (other_from_settled v settled)
 
-  node_stays : Stays (len node) (len' node) (parent node) (parent' node)
+  node_stays : Stays (distance node) (distance' node) (predecessor node) (predecessor' node)
   node_stays = stays_settled node near.within (omega (arith, here))
 
   few' : (v : ℕ) → v < nodes → rank' v < nodes → rank' v < count + 1
@@ -40,74 +40,74 @@ module _ (nodes : ℕ) (arc : ℕ → ℕ → Option Arc) (potential : ℕ → �
       (λ (not : v ≡ node → ⊥). let same = others v not in omega (arith, same, before.few v within (omega (arith, same))))
       (cases_eq v node)
 
-  known' : (v : ℕ) → v < nodes → rank' v < nodes → (a : ℤ) × (len' v ≡ Some a)
+  known' : (v : ℕ) → v < nodes → rank' v < nodes → (a : ℤ) × (distance' v ≡ Some a)
   known' v within settled =
       ⊎_elim
-      (λ (is : v ≡ node). (so_far, ap len' is ∙ (node_stays.same_length ∙ near.reached)))
+      (λ (is : v ≡ node). (so_far, ap distance' is ∙ (node_stays.same_distance ∙ near.reached)))
       (λ (not : v ≡ node → ⊥).
       let old = before.known v within (omega (arith, others v not)) in
-      (old.0, (stays_settled v within settled).same_length ∙ old.1))
+      (old.0, (stays_settled v within settled).same_distance ∙ old.1))
       (cases_eq v node)
 
-  closed_from_node : (v : ℕ) (r : Arc) → v < nodes → arc node v ≡ Some r → (b : ℤ) × (len' v ≡ Some b) × (b ≤ℤ (so_far +ℤ r.cost))
+  closed_from_node : (v : ℕ) (r : Arc) → v < nodes → arc node v ≡ Some r → (b : ℤ) × (distance' v ≡ Some b) × (b ≤ℤ (so_far +ℤ r.cost))
   closed_from_node v r within there =
       let rc = reduced.least node v r near.within within there in
       ⊎_elim
       (λ (settled : rank' v < nodes).
       ⊎_elim
-      (λ (is : v ≡ node). (so_far, ap len' is ∙ (node_stays.same_length ∙ near.reached), omega (arith, ints, rc, ap potential is)))
+      (λ (is : v ≡ node). (so_far, ap distance' is ∙ (node_stays.same_distance ∙ near.reached), omega (arith, ints, rc, ap potential is)))
       (λ (not : v ≡ node → ⊥).
       let was : rank v < nodes = omega (arith, others v not) in
       let old = before.known v within was in
       let order = before.order v node old.0 so_far within near.within was near.unsettled old.1 near.reached in
-      (old.0, (stays_settled v within settled).same_length ∙ old.1, omega (arith, ints, rc, order)))
+      (old.0, (stays_settled v within settled).same_distance ∙ old.1, omega (arith, ints, rc, order)))
       (cases_eq v node))
       (λ (unsettled : nodes ≤ rank' v). (each v within).covers r unsettled there)
       (cases_lt (rank' v) nodes)
 
-  closed' : (u v : ℕ) (a : ℤ) (r : Arc) → u < nodes → v < nodes → rank' u < nodes → len' u ≡ Some a → arc u v ≡ Some r → (b : ℤ) × (len' v ≡ Some b) × (b ≤ℤ (a +ℤ r.cost))
+  closed' : (u v : ℕ) (a : ℤ) (r : Arc) → u < nodes → v < nodes → rank' u < nodes → distance' u ≡ Some a → arc u v ≡ Some r → (b : ℤ) × (distance' v ≡ Some b) × (b ≤ℤ (a +ℤ r.cost))
   closed' u v a r u_in v_in settled is there =
       ⊎_elim
       (λ (same : u ≡ node).
-      let a_is : so_far ≡ a = same_Some so_far a (sym near.reached ∙ (sym node_stays.same_length ∙ (ap len' (sym same) ∙ is))) in
+      let a_is : so_far ≡ a = same_Some so_far a (sym near.reached ∙ (sym node_stays.same_distance ∙ (ap distance' (sym same) ∙ is))) in
       let next = closed_from_node v r v_in (ap (λ n. arc n v) (sym same) ∙ there) in
       (next.0, next.1, omega (arith, ints, next.2, a_is)))
       (λ (not : u ≡ node → ⊥).
       let was : rank u < nodes = omega (arith, others u not) in
-      let old = before.closed u v a r u_in v_in was (sym (stays_settled u u_in settled).same_length ∙ is) there in
+      let old = before.closed u v a r u_in v_in was (sym (stays_settled u u_in settled).same_distance ∙ is) there in
       ⊎_elim
-      (λ (s : Stays (len v) (len' v) (parent v) (parent' v)). (old.0, s.same_length ∙ old.1, old.2))
-      (λ (m : Moves nodes node so_far (arc node v) (rank' v) (len v) (len' v) (parent' v)). (so_far +ℤ m.along.cost, m.new_length, omega (arith, ints, m.less old.0 old.1, old.2)))
+      (λ (s : Stays (distance v) (distance' v) (predecessor v) (predecessor' v)). (old.0, s.same_distance ∙ old.1, old.2))
+      (λ (m : Moves nodes node so_far (arc node v) (rank' v) (distance v) (distance' v) (predecessor' v)). (so_far +ℤ m.along.cost, m.new_distance, omega (arith, ints, m.less old.0 old.1, old.2)))
       ((each v v_in).change))
       (cases_eq u node)
 
   -- an unsettled node's length, and that it is no nearer than the one that was settled
-  no_nearer : (v : ℕ) (b : ℤ) → v < nodes → nodes ≤ rank' v → len' v ≡ Some b → (so_far +ℤ potential v) ≤ℤ (b +ℤ potential node)
+  no_nearer : (v : ℕ) (b : ℤ) → v < nodes → nodes ≤ rank' v → distance' v ≡ Some b → (so_far +ℤ potential v) ≤ℤ (b +ℤ potential node)
   no_nearer v b within unsettled is =
       let not : v ≡ node → ⊥ = λ same. absurd (omega (arith, ap rank' same, here)) in
       ⊎_elim
-      (λ (s : Stays (len v) (len' v) (parent v) (parent' v)). near.least v b within (omega (arith, others v not)) (sym s.same_length ∙ is))
-      (λ (m : Moves nodes node so_far (arc node v) (rank' v) (len v) (len' v) (parent' v)).
-      let b_is : so_far +ℤ m.along.cost ≡ b = same_Some (so_far +ℤ m.along.cost) b (sym m.new_length ∙ is) in
+      (λ (s : Stays (distance v) (distance' v) (predecessor v) (predecessor' v)). near.least v b within (omega (arith, others v not)) (sym s.same_distance ∙ is))
+      (λ (m : Moves nodes node so_far (arc node v) (rank' v) (distance v) (distance' v) (predecessor' v)).
+      let b_is : so_far +ℤ m.along.cost ≡ b = same_Some (so_far +ℤ m.along.cost) b (sym m.new_distance ∙ is) in
       omega (arith, ints, b_is, reduced.least node v m.along near.within within m.there))
       ((each v within).change)
 
-  order' : (u v : ℕ) (a b : ℤ) → u < nodes → v < nodes → rank' u < nodes → nodes ≤ rank' v → len' u ≡ Some a → len' v ≡ Some b → (a +ℤ potential v) ≤ℤ (b +ℤ potential u)
+  order' : (u v : ℕ) (a b : ℤ) → u < nodes → v < nodes → rank' u < nodes → nodes ≤ rank' v → distance' u ≡ Some a → distance' v ≡ Some b → (a +ℤ potential v) ≤ℤ (b +ℤ potential u)
   order' u v a b u_in v_in settled unsettled u_is v_is =
       let far = no_nearer v b v_in unsettled v_is in
       ⊎_elim
       (λ (same : u ≡ node).
-      let a_is : so_far ≡ a = same_Some so_far a (sym near.reached ∙ (sym node_stays.same_length ∙ (ap len' (sym same) ∙ u_is))) in
+      let a_is : so_far ≡ a = same_Some so_far a (sym near.reached ∙ (sym node_stays.same_distance ∙ (ap distance' (sym same) ∙ u_is))) in
       omega (arith, ints, far, a_is, ap potential same))
       (λ (not : u ≡ node → ⊥).
       let was : rank u < nodes = omega (arith, others u not) in
-      let old = before.order u node a so_far u_in near.within was near.unsettled (sym (stays_settled u u_in settled).same_length ∙ u_is) near.reached in
+      let old = before.order u node a so_far u_in near.within was near.unsettled (sym (stays_settled u u_in settled).same_distance ∙ u_is) near.reached in
       omega (arith, ints, far, old))
       (cases_eq u node)
 
-  kept_child : (v : ℕ) (b : ℤ) → v < nodes → parent' v ≡ parent v → IsChild nodes arc len parent rank v b → IsChild nodes arc len' parent' rank' v b
+  kept_child : (v : ℕ) (b : ℤ) → v < nodes → predecessor' v ≡ predecessor v → IsSuccessor nodes arc distance predecessor rank v b → IsSuccessor nodes arc distance' predecessor' rank' v b
   kept_child v b within same child =
-      let p = parent v in
+      let p = predecessor v in
       let settled : rank' p < nodes = omega (arith, still_settled p child.settled, child.settled) in
       let lower : rank' p < rank' v =
       ⊎_elim
@@ -120,58 +120,58 @@ module _ (nodes : ℕ) (arc : ℕ → ℕ → Option Arc) (potential : ℕ → �
         settled = omega (arith, ap rank' same, settled);
         before = omega (arith, ap rank' same, lower);
         so_far = child.so_far;
-        reached = ap len' same ∙ ((stays_settled p child.within settled).same_length ∙ child.reached);
+        reached = ap distance' same ∙ ((stays_settled p child.within settled).same_distance ∙ child.reached);
         along = child.along;
         there = ap (λ n. arc n v) same ∙ child.there;
         sum = child.sum;
       }
 
-  tree' : (v : ℕ) (b : ℤ) → v < nodes → len' v ≡ Some b → (v ≡ source) ⊎ IsChild nodes arc len' parent' rank' v b
+  tree' : (v : ℕ) (b : ℤ) → v < nodes → distance' v ≡ Some b → (v ≡ source) ⊎ IsSuccessor nodes arc distance' predecessor' rank' v b
   tree' v b within is =
       ⊎_elim
-      (λ (s : Stays (len v) (len' v) (parent v) (parent' v)).
+      (λ (s : Stays (distance v) (distance' v) (predecessor v) (predecessor' v)).
       ⊎_elim
       (λ (root : v ≡ source). inl root)
-      (λ (child : IsChild nodes arc len parent rank v b). inr (kept_child v b within s.same_parent child))
-      (before.tree v b within (sym s.same_length ∙ is)))
-      (λ (m : Moves nodes node so_far (arc node v) (rank' v) (len v) (len' v) (parent' v)).
-      let b_is : so_far +ℤ m.along.cost ≡ b = same_Some (so_far +ℤ m.along.cost) b (sym m.new_length ∙ is) in
+      (λ (child : IsSuccessor nodes arc distance predecessor rank v b). inr (kept_child v b within s.same_predecessor child))
+      (before.tree v b within (sym s.same_distance ∙ is)))
+      (λ (m : Moves nodes node so_far (arc node v) (rank' v) (distance v) (distance' v) (predecessor' v)).
+      let b_is : so_far +ℤ m.along.cost ≡ b = same_Some (so_far +ℤ m.along.cost) b (sym m.new_distance ∙ is) in
       inr (record {
-        within = omega (arith, m.new_parent, near.within);
-        settled = omega (arith, ap rank' m.new_parent, here);
-        before = omega (arith, ap rank' m.new_parent, here, m.unsettled);
+        within = omega (arith, m.new_predecessor, near.within);
+        settled = omega (arith, ap rank' m.new_predecessor, here);
+        before = omega (arith, ap rank' m.new_predecessor, here, m.unsettled);
         so_far = so_far;
-        reached = ap len' m.new_parent ∙ (node_stays.same_length ∙ near.reached);
+        reached = ap distance' m.new_predecessor ∙ (node_stays.same_distance ∙ near.reached);
         along = m.along;
-        there = ap (λ n. arc n v) m.new_parent ∙ m.there;
+        there = ap (λ n. arc n v) m.new_predecessor ∙ m.there;
         sum = sym b_is;
       }))
       ((each v within).change)
 
-  low' : (v : ℕ) (b : ℤ) → v < nodes → len' v ≡ Some b → neg_ℤ (pos ((count + 1) * most)) ≤ℤ b
+  low' : (v : ℕ) (b : ℤ) → v < nodes → distance' v ≡ Some b → neg_ℤ (pos ((count + 1) * most)) ≤ℤ b
   low' v b within is =
       ⊎_elim
-      (λ (s : Stays (len v) (len' v) (parent v) (parent' v)). omega (arith, ints, more-times count most, before.low v b within (sym s.same_length ∙ is)))
-      (λ (m : Moves nodes node so_far (arc node v) (rank' v) (len v) (len' v) (parent' v)).
-      let b_is : so_far +ℤ m.along.cost ≡ b = same_Some (so_far +ℤ m.along.cost) b (sym m.new_length ∙ is) in
+      (λ (s : Stays (distance v) (distance' v) (predecessor v) (predecessor' v)). omega (arith, ints, more-times count most, before.low v b within (sym s.same_distance ∙ is)))
+      (λ (m : Moves nodes node so_far (arc node v) (rank' v) (distance v) (distance' v) (predecessor' v)).
+      let b_is : so_far +ℤ m.along.cost ≡ b = same_Some (so_far +ℤ m.along.cost) b (sym m.new_distance ∙ is) in
       omega (arith, ints, more-times count most, b_is, before.low node so_far near.within near.reached, costs.low node v m.along near.within within m.there))
       ((each v within).change)
 
-  high' : (v : ℕ) (b : ℤ) → v < nodes → len' v ≡ Some b → b ≤ℤ pos ((count + 1) * most)
+  high' : (v : ℕ) (b : ℤ) → v < nodes → distance' v ≡ Some b → b ≤ℤ pos ((count + 1) * most)
   high' v b within is =
       ⊎_elim
-      (λ (s : Stays (len v) (len' v) (parent v) (parent' v)). omega (arith, ints, more-times count most, before.high v b within (sym s.same_length ∙ is)))
-      (λ (m : Moves nodes node so_far (arc node v) (rank' v) (len v) (len' v) (parent' v)).
-      let b_is : so_far +ℤ m.along.cost ≡ b = same_Some (so_far +ℤ m.along.cost) b (sym m.new_length ∙ is) in
+      (λ (s : Stays (distance v) (distance' v) (predecessor v) (predecessor' v)). omega (arith, ints, more-times count most, before.high v b within (sym s.same_distance ∙ is)))
+      (λ (m : Moves nodes node so_far (arc node v) (rank' v) (distance v) (distance' v) (predecessor' v)).
+      let b_is : so_far +ℤ m.along.cost ≡ b = same_Some (so_far +ℤ m.along.cost) b (sym m.new_distance ∙ is) in
       omega (arith, ints, more-times count most, b_is, before.high node so_far near.within near.reached, costs.high node v m.along near.within within m.there))
       ((each v within).change)
 
-  pub settled_next : source < nodes → IsSearched nodes arc potential source most (count + 1) len' parent' rank'
+  pub settled_next : source < nodes → IsSearched nodes arc potential source most (count + 1) distance' predecessor' rank'
   settled_next source_in = record {
     start =
         ⊎_elim
-        (λ (s : Stays (len source) (len' source) (parent source) (parent' source)). (before.start.0, s.same_length ∙ before.start.1))
-        (λ (m : Moves nodes node so_far (arc node source) (rank' source) (len source) (len' source) (parent' source)). (so_far +ℤ m.along.cost, m.new_length))
+        (λ (s : Stays (distance source) (distance' source) (predecessor source) (predecessor' source)). (before.start.0, s.same_distance ∙ before.start.1))
+        (λ (m : Moves nodes node so_far (arc node source) (rank' source) (distance source) (distance' source) (predecessor' source)). (so_far +ℤ m.along.cost, m.new_distance))
         ((each source source_in).change);
     few = few';
     known = known';
@@ -184,9 +184,9 @@ module _ (nodes : ℕ) (arc : ℕ → ℕ → Option Arc) (potential : ℕ → �
 
 -- ---- the potentials after a search that found its node
 
-module _ (nodes : ℕ) (arc : ℕ → ℕ → Option Arc) (potential potential' : ℕ → ℤ) (source most count : ℕ) (len : ℕ → Option ℤ) (parent rank : ℕ → ℕ) (node : ℕ) (so_far : ℤ)
-    (reduced : IsReduced nodes arc potential) (search : IsSearched nodes arc potential source most count len parent rank)
-    (near : IsNearest nodes potential len rank node so_far) (lowers : Lowers nodes potential potential' len rank node so_far) where
+module _ (nodes : ℕ) (arc : ℕ → ℕ → Option Arc) (potential potential' : ℕ → ℤ) (source most count : ℕ) (distance : ℕ → Option ℤ) (predecessor rank : ℕ → ℕ) (node : ℕ) (so_far : ℤ)
+    (reduced : IsReduced nodes arc potential) (search : IsSearched nodes arc potential source most count distance predecessor rank)
+    (near : IsNearest nodes potential distance rank node so_far) (lowers : Lowers nodes potential potential' distance rank node so_far) where
   least' : (u v : ℕ) (r : Arc) → u < nodes → v < nodes → arc u v ≡ Some r → potential' v ≤ℤ (potential' u +ℤ r.cost)
   least' u v r u_in v_in there =
       let rc = reduced.least u v r u_in v_in there in
@@ -213,20 +213,20 @@ module _ (nodes : ℕ) (arc : ℕ → ℕ → Option Arc) (potential potential' 
   still_reduced = record { least = least' }
 
   -- the potential of a node by its length: a settled one, or the one that was found
-  by_length : (v : ℕ) (a : ℤ) → v < nodes → (rank v < nodes) ⊎ (v ≡ node) → len v ≡ Some a → potential' v ≡ ((potential node +ℤ a) -ℤ so_far)
-  by_length v a within on is =
+  by_distance : (v : ℕ) (a : ℤ) → v < nodes → (rank v < nodes) ⊎ (v ≡ node) → distance v ≡ Some a → potential' v ≡ ((potential node +ℤ a) -ℤ so_far)
+  by_distance v a within on is =
       ⊎_elim
       (λ (settled : rank v < nodes). lowers.settled v a within settled is)
       (λ (same : v ≡ node).
-      let a_is : so_far ≡ a = same_Some so_far a (sym near.reached ∙ (ap len (sym same) ∙ is)) in
+      let a_is : so_far ≡ a = same_Some so_far a (sym near.reached ∙ (ap distance (sym same) ∙ is)) in
       let stays : potential' node ≡ potential node = lowers.others node near.within near.unsettled in
       omega (arith, ints, a_is, ap potential' same, stays))
       on
 
-  tight_child : (v : ℕ) (a : ℤ) → v < nodes → (rank v < nodes) ⊎ (v ≡ node) → len v ≡ Some a → IsChild nodes arc len parent rank v a → IsTight nodes arc potential' parent rank v
+  tight_child : (v : ℕ) (a : ℤ) → v < nodes → (rank v < nodes) ⊎ (v ≡ node) → distance v ≡ Some a → IsSuccessor nodes arc distance predecessor rank v a → IsTight nodes arc potential' predecessor rank v
   tight_child v a within on is child =
-      let here = by_length v a within on is in
-      let there = by_length (parent v) child.so_far child.within (inl child.settled) child.reached in
+      let here = by_distance v a within on is in
+      let there = by_distance (predecessor v) child.so_far child.within (inl child.settled) child.reached in
       record {
         within = child.within;
         settled = child.settled;
@@ -236,18 +236,18 @@ module _ (nodes : ℕ) (arc : ℕ → ℕ → Option Arc) (potential potential' 
         zero = omega (arith, ints, here, there, child.sum);
       }
 
-  reached_by : (v : ℕ) → v < nodes → (rank v < nodes) ⊎ (v ≡ node) → (a : ℤ) × (len v ≡ Some a)
+  reached_by : (v : ℕ) → v < nodes → (rank v < nodes) ⊎ (v ≡ node) → (a : ℤ) × (distance v ≡ Some a)
   reached_by v within on =
       ⊎_elim
       (λ (settled : rank v < nodes). search.known v within settled)
-      (λ (same : v ≡ node). (so_far, ap len same ∙ near.reached))
+      (λ (same : v ≡ node). (so_far, ap distance same ∙ near.reached))
       on
 
   -- on the paths that were found reduced costs are 0
-  pub tight : (v : ℕ) → v < nodes → (rank v < nodes) ⊎ (v ≡ node) → (v ≡ source) ⊎ IsTight nodes arc potential' parent rank v
+  pub tight : (v : ℕ) → v < nodes → (rank v < nodes) ⊎ (v ≡ node) → (v ≡ source) ⊎ IsTight nodes arc potential' predecessor rank v
   tight v within on =
       let known = reached_by v within on in
       ⊎_elim
       (λ (root : v ≡ source). inl root)
-      (λ (child : IsChild nodes arc len parent rank v known.0). inr (tight_child v known.0 within on known.1 child))
+      (λ (child : IsSuccessor nodes arc distance predecessor rank v known.0). inr (tight_child v known.0 within on known.1 child))
       (search.tree v known.0 within known.1)

@@ -8,22 +8,22 @@ use Rattle.shortest_path.specs.declared.search.Search.{Search}
 -- it is of so many nodes
 pub record HasSize (nodes : ℕ) (s : Search) : Type 0 where
   pub potentials : length s.potentials.items ≡ nodes
-  pub lengths : length s.lengths.items ≡ nodes
-  pub parents : length s.parents.items ≡ nodes
-  pub ranks : length s.ranks.items ≡ nodes
+  pub distances : length s.distances.items ≡ nodes
+  pub predecessors : length s.predecessors.items ≡ nodes
+  pub settle_order : length s.settle_order.items ≡ nodes
 
 -- how many nodes a search has settled: those of a rank below the number of nodes, and the one that it found
 abbrev pub settled_nodes : {X : Type 0} → ℕ → List ℕ → Option X → ℕ
-settled_nodes nodes ranks found = count_by (λ rank. nat_lt rank nodes) ranks + (if is_some found then 1 else 0)
+settled_nodes nodes settle_order found = count_by (λ rank. nat_lt rank nodes) settle_order + (if is_some found then 1 else 0)
 
 abbrev pub potential_of : Search → ℕ → ℤ
 potential_of s v = slice_index_or s.potentials.items v (pos 0)
 
-abbrev pub parent_of : Search → ℕ → ℕ
-parent_of s v = slice_index s.parents.items v
+abbrev pub predecessor_of : Search → ℕ → ℕ
+predecessor_of s v = slice_index s.predecessors.items v
 
 abbrev pub rank_of : Search → ℕ → ℕ
-rank_of s v = slice_index s.ranks.items v
+rank_of s v = slice_index s.settle_order.items v
 
 -- The source is settled, no arc leads from a settled node to another, and none that is settled is wanted.
 pub record IsStuck (nodes : ℕ) (arc : ℕ → ℕ → Option Arc) (wanted : List Bool) (source : ℕ) (potential potential' : ℕ → ℤ) (rank : ℕ → ℕ) : Type 0 where
@@ -34,13 +34,13 @@ pub record IsStuck (nodes : ℕ) (arc : ℕ → ℕ → Option Arc) (wanted : Li
 
 -- A wanted node is found: no reduced cost is negative by the new potentials, those on the paths to it and to each settled node
 -- are 0, only settled nodes' potentials changed, and these fell to near that of the node.
-pub record HasFound (nodes : ℕ) (arc : ℕ → ℕ → Option Arc) (wanted : List Bool) (source : ℕ) (potential potential' : ℕ → ℤ) (parent rank : ℕ → ℕ) (node : ℕ) : Type 0 where
+pub record HasFound (nodes : ℕ) (arc : ℕ → ℕ → Option Arc) (wanted : List Bool) (source : ℕ) (potential potential' : ℕ → ℤ) (predecessor rank : ℕ → ℕ) (node : ℕ) : Type 0 where
   pub within : node < nodes
   pub is_wanted : slice_get wanted node ≡ Some true
   pub unsettled : nodes ≤ rank node
   pub unwanted : (v : ℕ) → v < nodes → rank v < nodes → slice_get wanted v ≡ Some true → ⊥
   pub reduced : IsReduced nodes arc potential'
-  pub tight : (v : ℕ) → v < nodes → (rank v < nodes) ⊎ (v ≡ node) → (v ≡ source) ⊎ IsTight nodes arc potential' parent rank v
+  pub tight : (v : ℕ) → v < nodes → (rank v < nodes) ⊎ (v ≡ node) → (v ≡ source) ⊎ IsTight nodes arc potential' predecessor rank v
   pub kept : (v : ℕ) → v < nodes → nodes ≤ rank v → potential' v ≡ potential v
   pub fallen : (v : ℕ) → v < nodes → rank v < nodes → potential' v ≤ℤ potential v
   pub low : (v : ℕ) → v < nodes → rank v < nodes → (potential node -ℤ pos (2 * (nodes * max_cost))) ≤ℤ potential' v
@@ -48,6 +48,6 @@ pub record HasFound (nodes : ℕ) (arc : ℕ → ℕ → Option Arc) (wanted : L
 
 -- the node that was found, or none can be, over arcs that stand by node
 abbrev pub Finds : ℕ → List (Option Arc) → List Bool → ℕ → (ℕ → ℤ) → (ℕ → ℤ) → (ℕ → ℕ) → (ℕ → ℕ) → Option ℕ → Type 0
-Finds nodes arcs wanted source potential potential' parent rank found = MatchOption found
+Finds nodes arcs wanted source potential potential' predecessor rank found = MatchOption found
     (IsStuck nodes (arc_at arcs nodes) wanted source potential potential' rank)
-    (HasFound nodes (arc_at arcs nodes) wanted source potential potential' parent rank)
+    (HasFound nodes (arc_at arcs nodes) wanted source potential potential' predecessor rank)

@@ -1,3 +1,4 @@
 pub mod Found
 pub mod Network
 pub mod Searched
+pub mod Spent

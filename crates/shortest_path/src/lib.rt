@@ -2,15 +2,14 @@
 //! potentials; Ahuja, Magnanti, Orlin, Network Flows, section 9.7).
 //!
 //! ```rust
-//! use search_effort::Effort;
-//! use shortest_path::{Arc, Search};
+//! use shortest_path::{Arc, Effort, Search};
 //!
 //! fn nearest<L: Ledger>(alloc: Global, effort: &mut Effort<L>) -> Result<Option<usize>, AllocError> {
 //!     // Of two nodes, by rows of the nodes that they leave: one arc, from node 0 to node 1.
 //!     let arcs = [None, Some(Arc { cost: 3, group: 0 }), None, None];
 //!     let mut search = Search::new(alloc, 2)?;
 //!     let found = search.find(arcs.as_slice(), [false, true].as_slice(), 0, effort);
-//!     Ok(found)    // node 1, whose parent is node 0; the potential of node 0 is then -3
+//!     Ok(found)    // node 1, whose predecessor is node 0; the potential of node 0 is then -3
 //! }
 //! ```
 //!
@@ -19,10 +18,16 @@
 //! distance by reduced costs, up to the first that is wanted, and lowers the potential of each settled node by as much as it
 //! is nearer than that one. Proved: reduced costs stay non-negative, and those on the paths that were found become 0; and
 //! where no wanted node is found, no arc leaves the settled nodes.
+//!
+//! What a planner spends is counted in an [`Effort`], without a byte at run time: it begins at nothing, and each of its two
+//! methods adds one to its own count and leaves the other. A search counts each node that it settles; augmentations are for the
+//! caller to count.
 #![tactic(auto)]
 
 mod arc;
+mod effort;
 mod search;
 
 pub use arc::Arc;
+pub use effort::Effort;
 pub use search::Search;

@@ -2,18 +2,15 @@
 use Rattle.std.proofs.Common.{◌≡◌, ℕ, suc, ◌+◌, ◌*◌, ◌<◌, ◌≤◌, List, [], ◌∷◌, length, ap, ◌∙◌, arith}
 use Rattle.std.proofs.Math.Nat.{mul-le-mul, mul-le-mul_left}
 use Rattle.std.proofs.lemmas.List.{get_or_default}
-use Rattle.flow_passes.specs.Effort.{Searches, nodes_of, points_of}
-use Rattle.residual_arcs.specs.Problem.{group_at, names_of, sum_to}
-use Rattle.residual_arcs.specs.declared.problem.FlowProblem.{FlowProblem}
-use Rattle.search_effort.specs.Spent.{Spent}
+use Rattle.min_cost_flow.specs.Effort.{Searches, nodes_of, points_of}
+use Rattle.min_cost_flow.specs.Problem.{group_at, names_of, sum_to}
+use Rattle.min_cost_flow.specs.declared.problem.FlowProblem.{FlowProblem}
+use Rattle.shortest_path.specs.Spent.{Spent}
 use Rattle.transport_instance.specs.Groups.{GroupKey}
 use Rattle.transport_instance.specs.Instance.{TransportProblem, IsProblem}
 use Rattle.transport_instance.specs.Rows.{whole_amount}
-use Rattle.transport_network.specs.Numbered.{IsNumbered}
-use Rattle.transport_network.proofs.Numbering.{sum_to-list}
-
-abbrev no_row : GroupKey × ℕ
-no_row = (([], 0), 0)
+use Rattle.transport_plan.specs.Numbered.{IsNumbered}
+use Rattle.transport_plan.proofs.Numbering.{no_row, sum_to-list}
 
 -- the points are those of the instance
 pub points_are : (p : TransportProblem) (q : FlowProblem) → IsNumbered p q → points_of q ≡ whole_amount p.groups

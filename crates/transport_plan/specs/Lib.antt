@@ -1,2 +1,13 @@
-pub mod Fault
+pub mod Chosen
+pub mod Costs
+pub mod Cuts
+pub mod Dealing
+pub mod Laws
+pub mod Marked
+pub mod Network
+pub mod Numbered
+pub mod Offers
+pub mod Placing
+pub mod Prices
+pub mod Slackness
 pub mod Solved

@@ -1,33 +1,29 @@
-ghost use Rattle.std.specs.Prelude.{◌≡◌, ◌+◌, ◌*◌, ◌≤◌, IfOk, IfErr, length, true};
+//! The planner.
 ghost use Rattle.std.specs.Cmp.Lexicographic.{slice_cmp};
 ghost use Rattle.std.specs.List.Sorted.{IsStrictlySortedBy};
 ghost use Rattle.std.specs.Ordering.{nat_cmp};
+ghost use Rattle.std.specs.Prelude.{◌≡◌, ◌+◌, ◌*◌, ◌≤◌, IfOk, length, true};
 ghost use Rattle.bucket_core.specs.Rule.{names_view};
-ghost use Rattle.flow_passes.specs.Cheapest.{IsCheapest};
-ghost use Rattle.flow_passes.specs.Meeting.{IsStuckBelow};
-ghost use Rattle.flow_passes.specs.Placing.{IsStuckAbove};
+ghost use Rattle.min_cost_flow.specs.Cheapest.{IsCheapest};
+ghost use Rattle.min_cost_flow.specs.Flow.{IsFlow};
+ghost use Rattle.min_cost_flow.specs.Meeting.{IsStuckBelow};
+ghost use Rattle.min_cost_flow.specs.Placing.{IsStuckAbove};
+ghost use Rattle.min_cost_flow.specs.Problem.{IsFlowProblem};
 ghost use Rattle.plan_text.specs.PlanFile.{has_whole_numbers};
-ghost use Rattle.residual_arcs.specs.Problem.{IsFlowProblem};
-ghost use Rattle.residual_flow.specs.Flow.{IsFlow};
 ghost use Rattle.transport_instance.specs.Assignment.{IsProved};
 ghost use Rattle.transport_instance.specs.Certificate.{certificate_view};
 ghost use Rattle.transport_instance.specs.Rows.{whole_amount};
-ghost use Rattle.transport_network.specs.Numbered.{IsNumbered};
+ghost use Rattle.transport_plan.specs.Numbered.{IsNumbered};
 ghost use Rattle.transport_plan.specs.Solved.{IfPlan, IfNone, IsPlan, IsCut, IsNeverOver};
 
-use crate::fault::PlanFault;
-use flow_answers::certificate;
-use flow_cuts::{names_above, names_below};
-use flow_passes::{Outcome, Passed, cheapest_flow};
-use residual_arcs::FlowProblem;
-use residual_flow::Flow;
-use search_effort::Effort;
-use shortest_path::Search;
+use crate::certifying::certificate;
+use crate::cuts::{names_above, names_below};
+use crate::network::flow_problem;
+use min_cost_flow::{Flow, FlowProblem, Outcome, Passed, cheapest_flow};
+use shortest_path::{Effort, Search};
 use std::alloc::{AllocError, Global};
-use std::marker::Brand;
-use std::sync::ledger::{Blank, Ledger};
+use std::sync::ledger::Ledger;
 use transport_instance::{Assignment, Certificate, Cut, CutKind, Instance};
-use transport_network::flow_problem;
 
 /// What the planner answers of an instance.
 #[derive(Debug, Drop)]
@@ -47,14 +43,13 @@ pub fn solve<L: Ledger>(
     alloc: Global,
     instance: &Instance<'_>,
     effort: &mut Effort<L>,
-) -> Result<Solved, PlanFault>
+) -> Result<Solved, AllocError>
     ensures proved { IfOk result (λ s. IfPlan s (λ assignment certificate. IsProved instance.now assignment.numbers.items (certificate_view certificate))) }
     ensures least { IfOk result (λ s. IfPlan s (IsPlan instance.now)) }
     ensures deficient { IfOk result (λ s. IfNone s (IsCut instance.now)) }
     ensures under { IfOk result (λ s. IfNone s (λ cut. cut.kind ≡ CutKind.Under → IsNeverOver instance.now)) }
     ensures whole { IfOk result (λ s. IfPlan s (λ _ certificate. has_whole_numbers (certificate_view certificate) ≡ true)) }
     ensures ordered { IfOk result (λ s. IfNone s (λ cut. IsStrictlySortedBy (slice_cmp nat_cmp) (names_view cut.names.items))) }
-    ensures decides { IfErr result (λ fault. fault ≡ PlanFault.WantOfMemory) }
     ensures augmentations { effort.new.augmentations ≤ effort.old.augmentations + 2 * whole_amount instance.now.groups }
     ensures settlings { effort.new.settlings ≤ effort.old.settlings + (2 * whole_amount instance.now.groups + 2) * (length instance.now.groups + length instance.now.limits) }
 {
@@ -64,45 +59,11 @@ pub fn solve<L: Ledger>(
         flow,
         search,
     } = find_flow(alloc, instance, &problem, effort)?;
-    Ok(match outcome {
-        Outcome::Cheapest => planned(alloc, instance, &problem, flow, &search)?,
-        Outcome::Over => cut_over(alloc, instance, &problem, &flow, &search)?,
-        Outcome::Under => cut_under(alloc, instance, &problem, &flow, &search)?,
-    })
-}
-
-/// As [`solve`], for a caller that counts nothing.
-pub fn solve_uncounted(alloc: Global, instance: &Instance<'_>) -> Result<Solved, PlanFault>
-    ensures proved { IfOk result (λ s. IfPlan s (λ assignment certificate. IsProved instance.now assignment.numbers.items (certificate_view certificate))) }
-    ensures least { IfOk result (λ s. IfPlan s (IsPlan instance.now)) }
-    ensures deficient { IfOk result (λ s. IfNone s (IsCut instance.now)) }
-    ensures under { IfOk result (λ s. IfNone s (λ cut. cut.kind ≡ CutKind.Under → IsNeverOver instance.now)) }
-    ensures whole { IfOk result (λ s. IfPlan s (λ _ certificate. has_whole_numbers (certificate_view certificate) ≡ true)) }
-    ensures ordered { IfOk result (λ s. IfNone s (λ cut. IsStrictlySortedBy (slice_cmp nat_cmp) (names_view cut.names.items))) }
-    ensures decides { IfErr result (λ fault. fault ≡ PlanFault.WantOfMemory) }
-{
-    solve_on::<Brand>(alloc, instance, Blank::new(2))
-}
-
-/// As [`solve`], over a counter of its own.
-fn solve_on<L: Ledger>(
-    alloc: Global,
-    instance: &Instance<'_>,
-    blank: Blank,
-) -> Result<Solved, PlanFault>
-    requires name { blank.name ≡ L.name }
-    requires parts { blank.parts ≡ L.parts }
-    requires two { blank.parts ≡ 2 }
-    ensures proved { IfOk result (λ s. IfPlan s (λ assignment certificate. IsProved instance.now assignment.numbers.items (certificate_view certificate))) }
-    ensures least { IfOk result (λ s. IfPlan s (IsPlan instance.now)) }
-    ensures deficient { IfOk result (λ s. IfNone s (IsCut instance.now)) }
-    ensures under { IfOk result (λ s. IfNone s (λ cut. cut.kind ≡ CutKind.Under → IsNeverOver instance.now)) }
-    ensures whole { IfOk result (λ s. IfPlan s (λ _ certificate. has_whole_numbers (certificate_view certificate) ≡ true)) }
-    ensures ordered { IfOk result (λ s. IfNone s (λ cut. IsStrictlySortedBy (slice_cmp nat_cmp) (names_view cut.names.items))) }
-    ensures decides { IfErr result (λ fault. fault ≡ PlanFault.WantOfMemory) }
-{
-    let mut effort = Effort::<L>::none(blank);
-    solve(alloc, instance, &mut effort)
+    match outcome {
+        Outcome::Cheapest => planned(alloc, instance, &problem, flow, &search),
+        Outcome::Over => cut_over(alloc, instance, &problem, &flow, &search),
+        Outcome::Under => cut_under(alloc, instance, &problem, &flow, &search),
+    }
 }
 
 /// The cheapest flow of an instance's problem, and what it takes by the instance's points and names.

@@ -3,8 +3,8 @@ use Rattle.shortest_path.proofs.search.begin.Given as goal
 
 abbrev pub invariant-loop-v : goal.invariant-loop-v
 invariant-loop-v l = record {
-  lengths : length l.lengths ≡ length l.initial.ranks;
-  ranks : length l.ranks ≡ length l.initial.ranks;
-  unsettled : (w : ℕ) → w < l.v → get_or l.ranks w 0 ≡ length l.initial.ranks;
-  unreached : (w : ℕ) → w < l.v → get_or l.lengths w None ≡ None;
+  distances : length l.distances ≡ length l.initial.settle_order;
+  settle_order : length l.settle_order ≡ length l.initial.settle_order;
+  unsettled : (w : ℕ) → w < l.v → get_or l.settle_order w 0 ≡ length l.initial.settle_order;
+  unreached : (w : ℕ) → w < l.v → get_or l.distances w None ≡ None;
 }

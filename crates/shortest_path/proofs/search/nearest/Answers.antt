@@ -6,7 +6,7 @@ use Rattle.std.proofs.lemmas.Option.{same_Some}
 use Rattle.shortest_path.specs.Network.{IsShort}
 use Rattle.shortest_path.proofs.Nearest.{passes, improves, renamed}
 use Rattle.shortest_path.proofs.search.nearest.Goals as goal
-use Rattle.shortest_path.proofs.search.nearest.Goals.{then-ranks-v+in-Some+then-is_below, then-ranks-v+in-Some+else-is_below, then-ranks-v+in_default, else-ranks-v}
+use Rattle.shortest_path.proofs.search.nearest.Goals.{then-settle_order-v+in-Some+then-is_below, then-settle_order-v+in-Some+else-is_below, then-settle_order-v+in_default, else-settle_order-v}
 
 difference_fits : (a b : ℤ) → IsShort a → IsShort b → FitsSigned w64 (to_z w64 (of_z w64 a) -ℤ to_z w64 (of_z w64 b))
 difference_fits a b s t = omega (arith, ints, s.low, s.high, t.low, t.high)
@@ -17,41 +17,41 @@ shown a b s is = omega (arith, ints, s.low, s.high, is)
 restored : (a b : ℤ) → IsShort a → IsShort b → a ≡ to_z w64 (of_z w64 (to_z w64 (of_z w64 a) -ℤ to_z w64 (of_z w64 b))) +ℤ b
 restored a b s t = omega (arith, ints, s.low, s.high, t.low, t.high)
 
-not_less : (length pot : ℤ) (len least : Option ℤ) → IsShort length → IsShort pot → len ≡ Some length
-    → (x : ℤ) × (least ≡ Some x) × (x ≤ℤ to_z w64 (of_z w64 (to_z w64 (of_z w64 length) -ℤ to_z w64 (of_z w64 pot))))
-    → (b : ℤ) → len ≡ Some b → (k : ℤ) × (least ≡ Some k) × ((k +ℤ pot) ≤ℤ b)
-not_less length pot len least s t is known b b_is =
-    let same : length ≡ b = same_Some length b (sym is ∙ b_is) in
+not_less : (found pot : ℤ) (distance least : Option ℤ) → IsShort found → IsShort pot → distance ≡ Some found
+    → (x : ℤ) × (least ≡ Some x) × (x ≤ℤ to_z w64 (of_z w64 (to_z w64 (of_z w64 found) -ℤ to_z w64 (of_z w64 pot))))
+    → (b : ℤ) → distance ≡ Some b → (k : ℤ) × (least ≡ Some k) × ((k +ℤ pot) ≤ℤ b)
+not_less found pot distance least s t is known b b_is =
+    let same : found ≡ b = same_Some found b (sym is ∙ b_is) in
     (known.0, known.1, omega (arith, ints, s.low, s.high, t.low, t.high, known.2, same))
 
 pub overflow_sub-reduced : goal.overflow_sub-reduced
-overflow_sub-reduced c = difference_fits c.in-Some.length (get_or c.args.potentials.now c.loop-v.v (pos 0)) (c.requires.short_lengths c.loop-v.v c.in-Some.length c.loop-v-test.true c.in-Some.is) (c.requires.short c.loop-v.v c.loop-v-test.true)
+overflow_sub-reduced c = difference_fits c.in-Some.distance (get_or c.args.potentials.now c.loop-v.v (pos 0)) (c.requires.short_distances c.loop-v.v c.in-Some.distance c.loop-v-test.true c.in-Some.is) (c.requires.short c.loop-v.v c.loop-v-test.true)
 
 pub loop-v-preserved : goal.loop-v-preserved
 loop-v-preserved c =
-    let n : ℕ = length c.args.ranks.now in
+    let n : ℕ = length c.args.settle_order.now in
     let v = c.loop-v.v in
     let pot : ℕ → ℤ = λ k. get_or c.args.potentials.now k (pos 0) in
-    let len : ℕ → Option ℤ = λ k. get_or c.args.lengths.now k None in
-    let rank : ℕ → ℕ = λ k. get_or c.args.ranks.now k 0 in
-    let pass = passes n pot len rank c.loop-v.least c.loop-v.node (to_z w64 c.loop-v.so_far-bits) v c.loop-v.invariant c.loop-v-test.true in
-    let same = renamed n pot len rank c.loop-v.least c.if-ranks-v.least c.loop-v.node c.if-ranks-v.node (to_z w64 c.loop-v.so_far-bits) (to_z w64 c.if-ranks-v.so_far-bits) (v + 1) in
-    elim c.if-ranks-v.branch [
-      | then-ranks-v+in-Some+then-is_below w ↦
-          let length_short = c.requires.short_lengths v w.in-Some.length c.loop-v-test.true w.in-Some.is in
-          let new : ℤ = to_z w64 (of_z w64 (to_z w64 (of_z w64 w.in-Some.length) -ℤ to_z w64 (of_z w64 (pot v)))) in
-          renamed n pot len rank (Some new) c.if-ranks-v.least v c.if-ranks-v.node w.in-Some.length (to_z w64 c.if-ranks-v.so_far-bits) (v + 1) w.least-is w.node-is (shown w.in-Some.length _ length_short w.so_far-is)
-          (improves n pot len rank c.loop-v.least c.loop-v.node (to_z w64 c.loop-v.so_far-bits) v c.loop-v.invariant c.loop-v-test.true new w.in-Some.length w.if-ranks-v.true w.in-Some.is (restored w.in-Some.length (pot v) length_short (c.requires.short v c.loop-v-test.true)) w.if-is_below.ensures)
-      | then-ranks-v+in-Some+else-is_below w ↦
-          let length_short = c.requires.short_lengths v w.in-Some.length c.loop-v-test.true w.in-Some.is in
-          same w.least-is w.node-is w.so_far-is (pass (λ b un b_is. not_less w.in-Some.length (pot v) (len v) c.loop-v.least length_short (c.requires.short v c.loop-v-test.true) w.in-Some.is w.if-is_below.ensures b b_is))
-      | then-ranks-v+in_default w ↦ same w.least-is w.node-is w.so_far-is (pass (λ b un is. absurd (w.in_default.not-Some b is)))
-      | else-ranks-v w ↦ same w.least-is w.node-is w.so_far-is (pass (λ b un is. absurd (omega (arith, un, w.if-ranks-v.false))))
+    let distance : ℕ → Option ℤ = λ k. get_or c.args.distances.now k None in
+    let rank : ℕ → ℕ = λ k. get_or c.args.settle_order.now k 0 in
+    let pass = passes n pot distance rank c.loop-v.least c.loop-v.node (to_z w64 c.loop-v.so_far-bits) v c.loop-v.invariant c.loop-v-test.true in
+    let same = renamed n pot distance rank c.loop-v.least c.if-settle_order-v.least c.loop-v.node c.if-settle_order-v.node (to_z w64 c.loop-v.so_far-bits) (to_z w64 c.if-settle_order-v.so_far-bits) (v + 1) in
+    elim c.if-settle_order-v.branch [
+      | then-settle_order-v+in-Some+then-is_below w ↦
+          let distance_short = c.requires.short_distances v w.in-Some.distance c.loop-v-test.true w.in-Some.is in
+          let new : ℤ = to_z w64 (of_z w64 (to_z w64 (of_z w64 w.in-Some.distance) -ℤ to_z w64 (of_z w64 (pot v)))) in
+          renamed n pot distance rank (Some new) c.if-settle_order-v.least v c.if-settle_order-v.node w.in-Some.distance (to_z w64 c.if-settle_order-v.so_far-bits) (v + 1) w.least-is w.node-is (shown w.in-Some.distance _ distance_short w.so_far-is)
+          (improves n pot distance rank c.loop-v.least c.loop-v.node (to_z w64 c.loop-v.so_far-bits) v c.loop-v.invariant c.loop-v-test.true new w.in-Some.distance w.if-settle_order-v.true w.in-Some.is (restored w.in-Some.distance (pot v) distance_short (c.requires.short v c.loop-v-test.true)) w.if-is_below.ensures)
+      | then-settle_order-v+in-Some+else-is_below w ↦
+          let distance_short = c.requires.short_distances v w.in-Some.distance c.loop-v-test.true w.in-Some.is in
+          same w.least-is w.node-is w.so_far-is (pass (λ b un b_is. not_less w.in-Some.distance (pot v) (distance v) c.loop-v.least distance_short (c.requires.short v c.loop-v-test.true) w.in-Some.is w.if-is_below.ensures b b_is))
+      | then-settle_order-v+in_default w ↦ same w.least-is w.node-is w.so_far-is (pass (λ b un is. absurd (w.in_default.not-Some b is)))
+      | else-settle_order-v w ↦ same w.least-is w.node-is w.so_far-is (pass (λ b un is. absurd (omega (arith, un, w.if-settle_order-v.false))))
     ]
 
 pub returns-in-Some-least : goal.returns-in-Some-least
 returns-in-Some-least c =
-    let n : ℕ = length c.args.ranks.now in
+    let n : ℕ = length c.args.settle_order.now in
     let l = c.loop-v.invariant in
     let best = l.some c.in-Some-least.field-0 c.in-Some-least.is in
     record {

@@ -6,7 +6,7 @@ use Rattle.shortest_path.specs.Network.{IsShort}
 use Rattle.shortest_path.specs.declared.arc.Arc.{Arc}
 use Rattle.shortest_path.proofs.Relaxing.{keeps, takes}
 use Rattle.shortest_path.proofs.search.relax.Goals as goal
-use Rattle.shortest_path.proofs.search.relax.Goals.{then-ranks-v+in-Some+then-is_below, then-ranks-v+in-Some+else-is_below, then-ranks-v+in_default, else-ranks-v}
+use Rattle.shortest_path.proofs.search.relax.Goals.{then-settle_order-v+in-Some+then-is_below, then-settle_order-v+in-Some+else-is_below, then-settle_order-v+in_default, else-settle_order-v}
 
 sum_is : (so_far cost : ℤ) → IsShort so_far → IsShort cost → to_z w64 (of_z w64 (to_z w64 (of_z w64 so_far) +ℤ to_z w64 (of_z w64 cost))) ≡ to_z w64 (of_z w64 so_far) +ℤ cost
 sum_is so_far cost a b = omega (arith, ints, a.low, a.high, b.low, b.high)
@@ -24,13 +24,13 @@ loop-v-preserved c =
     let n : ℕ = length arcs in
     let v = c.loop-v.v in
     let so_far : ℤ = to_z w64 (of_z w64 c.args.so_far) in
-    let keep = keeps n c.args.node so_far arcs c.args.ranks.now c.args.lengths.now c.loop-v.lengths c.if-ranks-v.lengths c.args.parents.now c.loop-v.parents c.if-ranks-v.parents v c.loop-v-test.true c.loop-v.invariant in
-    let take = takes n c.args.node so_far arcs c.args.ranks.now c.args.lengths.now c.loop-v.lengths c.if-ranks-v.lengths c.args.parents.now c.loop-v.parents c.if-ranks-v.parents v c.loop-v-test.true c.loop-v.invariant in
-    elim c.if-ranks-v.branch [
-      | then-ranks-v+in-Some+then-is_below w ↦
-          take w.in-Some.arc _ w.lengths-is w.parents-is w.if-ranks-v.true w.in-Some.is (sum_is c.args.so_far w.in-Some.arc.cost c.requires.so_far (c.requires.costs v w.in-Some.arc c.loop-v-test.true w.in-Some.is)) w.if-is_below.ensures
-      | then-ranks-v+in-Some+else-is_below w ↦
-          keep w.lengths-is w.parents-is (λ a un there. covered (get_or arcs v None) w.in-Some.arc (get_or c.loop-v.lengths v None) so_far _ w.in-Some.is (sum_is c.args.so_far w.in-Some.arc.cost c.requires.so_far (c.requires.costs v w.in-Some.arc c.loop-v-test.true w.in-Some.is)) w.if-is_below.ensures a there)
-      | then-ranks-v+in_default w ↦ keep w.lengths-is w.parents-is (λ a un there. absurd (w.in_default.not-Some a there))
-      | else-ranks-v w ↦ keep w.lengths-is w.parents-is (λ a un there. absurd (omega (arith, un, w.if-ranks-v.false)))
+    let keep = keeps n c.args.node so_far arcs c.args.settle_order.now c.args.distances.now c.loop-v.distances c.if-settle_order-v.distances c.args.predecessors.now c.loop-v.predecessors c.if-settle_order-v.predecessors v c.loop-v-test.true c.loop-v.invariant in
+    let take = takes n c.args.node so_far arcs c.args.settle_order.now c.args.distances.now c.loop-v.distances c.if-settle_order-v.distances c.args.predecessors.now c.loop-v.predecessors c.if-settle_order-v.predecessors v c.loop-v-test.true c.loop-v.invariant in
+    elim c.if-settle_order-v.branch [
+      | then-settle_order-v+in-Some+then-is_below w ↦
+          take w.in-Some.arc _ w.distances-is w.predecessors-is w.if-settle_order-v.true w.in-Some.is (sum_is c.args.so_far w.in-Some.arc.cost c.requires.so_far (c.requires.costs v w.in-Some.arc c.loop-v-test.true w.in-Some.is)) w.if-is_below.ensures
+      | then-settle_order-v+in-Some+else-is_below w ↦
+          keep w.distances-is w.predecessors-is (λ a un there. covered (get_or arcs v None) w.in-Some.arc (get_or c.loop-v.distances v None) so_far _ w.in-Some.is (sum_is c.args.so_far w.in-Some.arc.cost c.requires.so_far (c.requires.costs v w.in-Some.arc c.loop-v-test.true w.in-Some.is)) w.if-is_below.ensures a there)
+      | then-settle_order-v+in_default w ↦ keep w.distances-is w.predecessors-is (λ a un there. absurd (w.in_default.not-Some a there))
+      | else-settle_order-v w ↦ keep w.distances-is w.predecessors-is (λ a un there. absurd (omega (arith, un, w.if-settle_order-v.false)))
     ]

@@ -1,3 +1,0 @@
-pub mod Tracing
-pub mod Moved
-pub mod Augmented

@@ -1,9 +1,0 @@
-pub mod Bounded
-pub mod Certified
-pub mod Costs
-pub mod Largest
-pub mod Listed
-pub mod Numbered
-pub mod Offering
-pub mod Priced
-pub mod Pushed

@@ -1,6 +1,0 @@
-use Rattle.std.proofs.Common.{◌≡◌}
-use Rattle.flow_answers.specs.Costs.{all_cost}
-use Rattle.flow_answers.proofs.cost.cost_of.Given as goal
-
-abbrev pub invariant-loop-g : goal.invariant-loop-g
-invariant-loop-g l = l.cost ≡ all_cost l.groups l.prices l.placed l.names l.g

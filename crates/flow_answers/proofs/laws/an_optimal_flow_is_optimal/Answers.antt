@@ -1,7 +1,0 @@
--- The law is its lemma.
-use Rattle.flow_answers.proofs.Numbered.{optimal_is}
-use Rattle.flow_answers.proofs.laws.an_optimal_flow_is_optimal.Goals as goal
-
-pub returns : goal.returns
-returns c p q placed totals arcs price beta are flow optimal within prices =
-    optimal_is p q placed totals arcs price beta are flow optimal within.0 within.1 prices.0 prices.1

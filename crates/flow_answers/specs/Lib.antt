@@ -1,3 +1,0 @@
-pub mod Costs
-pub mod Laws
-pub mod Prices

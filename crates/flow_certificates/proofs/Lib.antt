@@ -1,5 +1,0 @@
-pub mod Cuts
-pub mod Offered
-pub mod Optimal
-pub mod Slackness
-pub mod Totals

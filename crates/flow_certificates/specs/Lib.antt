@@ -1,4 +1,0 @@
-pub mod Cuts
-pub mod Laws
-pub mod Offers
-pub mod Slackness

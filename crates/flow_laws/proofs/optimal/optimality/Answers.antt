@@ -1,9 +1,0 @@
--- The laws are their lemmas.
-use Rattle.flow_laws.proofs.OptimalLaws.{reduced_from_optimal, optimal_from_reduced}
-use Rattle.flow_laws.proofs.optimal.optimality.Goals as goal
-
-pub returns-clause-reduced : goal.returns-clause-reduced
-returns-clause-reduced c f arc price residual optimal = reduced_from_optimal f arc price residual optimal
-
-pub returns-clause-optimal : goal.returns-clause-optimal
-returns-clause-optimal c f arc price residual reduced = optimal_from_reduced f arc price residual reduced

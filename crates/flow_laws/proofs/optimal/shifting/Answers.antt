@@ -1,6 +1,0 @@
--- The law is its lemma.
-use Rattle.flow_laws.proofs.OptimalLaws.{least_after}
-use Rattle.flow_laws.proofs.optimal.shifting.Goals as goal
-
-pub returns : goal.returns
-returns c old new price group from to points least shift group_in from_in to_in apart some even = least_after old new price group from to points least shift group_in from_in to_in apart some even

@@ -1,7 +1,0 @@
-use Rattle.std.proofs.Common.{◌<◌, ◌≤◌, ℕ, get_or}
-use Rattle.residual_arcs.specs.Problem.{names_of}
-use Rattle.residual_flow.specs.Flow.{total_at}
-use Rattle.flow_passes.proofs.meeting.name_below.Given as goal
-
-abbrev pub invariant-loop-name : goal.invariant-loop-name
-invariant-loop-name l = (v : ℕ) → v < l.name → v < names_of l.problem → get_or l.problem.low.items v 0 ≤ total_at l.flow v

@@ -1,4 +1,0 @@
-pub mod Cheapest
-pub mod Effort
-pub mod Meeting
-pub mod Placing

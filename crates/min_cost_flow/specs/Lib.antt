@@ -1,0 +1,12 @@
+pub mod Cheapest
+pub mod Effort
+pub mod Flow
+pub mod Initial
+pub mod Meeting
+pub mod Offered
+pub mod Optimal
+pub mod Paths
+pub mod Placing
+pub mod Problem
+pub mod Residual
+pub mod Spans

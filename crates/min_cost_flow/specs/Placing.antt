@@ -1,0 +1,72 @@
+-- A flow whose points are placed within the high limits, name by name.
+use Rattle.std.specs.Prelude.{◌≡◌, ℕ, ◌*◌, ◌+◌, ◌-◌, ◌<◌, ◌≤◌, pos, ◌≤ℤ◌, true, Bool, List, length, slice_get, slice_index, Some}
+use Rattle.std.proofs.Common.{neg_ℤ}
+use Rattle.min_cost_flow.specs.Paths.{AreTraced}
+use Rattle.min_cost_flow.specs.Optimal.{IsOptimal}
+use Rattle.min_cost_flow.specs.Problem.{may_take_in, names_of, sum_to}
+use Rattle.min_cost_flow.specs.declared.problem.FlowProblem.{FlowProblem}
+use Rattle.min_cost_flow.specs.Flow.{IsFlow, flows_of, groups_of, placed_at, total_at}
+use Rattle.min_cost_flow.specs.declared.flow.Flow.{Flow}
+use Rattle.shortest_path.specs.Found.{HasSize, predecessor_of, potential_of, rank_of}
+use Rattle.shortest_path.specs.Network.{arc_at, max_cost}
+use Rattle.shortest_path.specs.declared.search.Search.{Search}
+
+-- how far potentials fall below that of the node that a search finds
+abbrev pub reach : ℕ
+reach = 2 * (65 * max_cost)
+
+-- the points that the names are above their high limits
+abbrev pub excess : FlowProblem → Flow → ℕ
+excess p f = sum_to (names_of p) (λ v. total_at f v - slice_index p.high.items v)
+
+-- the flow is optimal by the potentials, which are not above that of the limits, 0, and near it
+pub record IsMidway (p : FlowProblem) (f : Flow) (s : Search) : Type 0 where
+  pub flow : IsFlow p f
+  pub optimal : IsOptimal (flows_of p f) (potential_of s)
+  pub size : HasSize (names_of p + 1) s
+  pub limits : potential_of s (names_of p) ≡ pos 0
+  pub low : (v : ℕ) → v < names_of p + 1 → neg_ℤ (pos reach) ≤ℤ potential_of s v
+  pub high : (v : ℕ) → v < names_of p + 1 → potential_of s v ≤ℤ pos 0
+
+-- only the limits are wanted
+pub record WantsLimits (p : FlowProblem) (wanted : List Bool) : Type 0 where
+  pub size : length wanted ≡ names_of p + 1
+  pub limits : slice_get wanted (names_of p) ≡ Some true
+  pub only : (v : ℕ) → slice_get wanted v ≡ Some true → v ≡ names_of p
+
+-- names that were within their high limits are so
+abbrev pub StayPlaced : FlowProblem → Flow → Flow → Type 0
+StayPlaced p old new = (v : ℕ) → total_at old v ≤ slice_index p.high.items v → total_at new v ≤ slice_index p.high.items v
+
+-- no name is above its high limit
+abbrev pub MeetsHigh : FlowProblem → Flow → Type 0
+MeetsHigh p f = (v : ℕ) → v < names_of p → total_at f v ≤ slice_index p.high.items v
+
+-- the name is within its high limit, and so are all that were, midway
+abbrev pub IsEmptied : FlowProblem → Flow → Flow → Search → ℕ → Type 0
+IsEmptied p old new s from = IsMidway p new s × (total_at new from ≤ slice_index p.high.items from) × StayPlaced p old new
+
+-- a search has found the shortest path to the limits, over a name with room, and its potentials are those of a flow midway
+pub record IsWay (p : FlowProblem) (f : Flow) (s : Search) (from last : ℕ) : Type 0 where
+  pub midway : IsMidway p f s
+  pub within : last < names_of p
+  pub room : total_at f last < slice_index p.high.items last
+  pub level : potential_of s last ≡ potential_of s (names_of p)
+  pub unsettled : rank_of s (names_of p) < names_of p + 1 → ⊥
+  pub traced : AreTraced (names_of p) (arc_at f.arcs.items (names_of p + 1)) (potential_of s) (predecessor_of s) (rank_of s) from last
+
+-- no point at a settled name may take one that is not settled
+abbrev pub IsClosed : FlowProblem → Flow → Search → Type 0
+IsClosed p f s =
+    (g v w : ℕ) → g < groups_of p → v < names_of p → w < names_of p → 0 < placed_at p f g v → rank_of s v < names_of p + 1
+    → may_take_in p g w ≡ true → rank_of s w < names_of p + 1
+
+-- the names that the last search settled are full, one of them is above its high limit, and no point leaves them
+pub record IsStuckAbove (p : FlowProblem) (f : Flow) (s : Search) : Type 0 where
+  pub size : HasSize (names_of p + 1) s
+  pub above : ℕ
+  pub within : above < names_of p
+  pub settled : rank_of s above < names_of p + 1
+  pub over : slice_index p.high.items above < total_at f above
+  pub full : (v : ℕ) → v < names_of p → rank_of s v < names_of p + 1 → slice_index p.high.items v ≤ total_at f v
+  pub closed : IsClosed p f s

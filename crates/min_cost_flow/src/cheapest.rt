@@ -1,0 +1,87 @@
+//! The cheapest flow, by both passes.
+ghost use Rattle.std.specs.Prelude.{◌≡◌, ◌≤◌, ◌+◌, ◌*◌, IfOk, OnOk};
+ghost use Rattle.min_cost_flow.specs.Cheapest.{IsCheapest};
+ghost use Rattle.min_cost_flow.specs.Effort.{Searches, nodes_of, points_of};
+ghost use Rattle.min_cost_flow.specs.Flow.{IsFlow};
+ghost use Rattle.min_cost_flow.specs.Meeting.{IsStuckBelow};
+ghost use Rattle.min_cost_flow.specs.Placing.{IsMidway, IsStuckAbove};
+ghost use Rattle.min_cost_flow.specs.Problem.{IsFlowProblem};
+
+use crate::flow::Flow;
+use crate::meeting::meet_low;
+use crate::placing::place_within_high;
+use crate::problem::FlowProblem;
+use shortest_path::{Effort, Search};
+use std::alloc::{AllocError, Global};
+use std::sync::ledger::Ledger;
+
+/// How the passes ended.
+#[derive(Clone, Copy, Debug, PartialEq, Eq)]
+pub enum Outcome {
+    /// Each name is within its limits, at the least cost.
+    Cheapest,
+    /// The first pass failed: the names that the last search settled are full, and no point leaves them.
+    Over,
+    /// The second pass failed: the names that the last search did not settle have no points to spare, and none enters them.
+    Under,
+}
+
+/// The flow that the passes made, and what the last search left.
+#[derive(Drop)]
+pub struct Passed {
+    pub outcome: Outcome,
+    pub flow: Flow,
+    pub search: Search,
+}
+
+/// The cheapest flow within all limits, or one that shows that there is none. Augmentations and settlings are counted: there are at
+/// most as many augmentations as points in each of the two passes, and one search more than augmentations, each of which settles
+/// each name and the limits at most once. A search takes `O(k^2)` steps at k names.
+pub fn cheapest_flow<L: Ledger>(
+    alloc: Global,
+    problem: &FlowProblem,
+    effort: &mut Effort<L>,
+) -> Result<Passed, AllocError>
+    requires { IsFlowProblem problem.now }
+    ensures flow { IfOk result (λ r. IsFlow problem.now r.flow) }
+    ensures cheapest { IfOk result (λ r. r.outcome ≡ Outcome.Cheapest → IsCheapest problem.now r.flow r.search) }
+    ensures over { IfOk result (λ r. r.outcome ≡ Outcome.Over → IsStuckAbove problem.now r.flow r.search) }
+    ensures under { IfOk result (λ r. r.outcome ≡ Outcome.Under → IsStuckBelow problem.now r.flow r.search) }
+    ensures augmentations { effort.new.augmentations ≤ effort.old.augmentations + 2 * points_of problem.now }
+    ensures searches { Searches (nodes_of problem.now) 1 effort.old effort.new }
+{
+    let mut flow = Flow::initial(alloc, problem)?;
+    let mut search = Search::new(alloc, problem.high.len() + 1)?;
+    let outcome = pass(alloc, problem, &mut flow, &mut search, effort)?;
+    Ok(Passed {
+        outcome,
+        flow,
+        search,
+    })
+}
+
+/// Both passes over a flow.
+fn pass<L: Ledger>(
+    alloc: Global,
+    problem: &FlowProblem,
+    flow: &mut Flow,
+    search: &mut Search,
+    effort: &mut Effort<L>,
+) -> Result<Outcome, AllocError>
+    requires problem { IsFlowProblem problem.now }
+    requires midway { IsMidway problem.now flow.old search.old }
+    ensures flow { OnOk result (IsFlow problem.now flow.new) }
+    ensures cheapest { IfOk result (λ outcome. outcome ≡ Outcome.Cheapest → IsCheapest problem.now flow.new search.new) }
+    ensures over { IfOk result (λ outcome. outcome ≡ Outcome.Over → IsStuckAbove problem.now flow.new search.new) }
+    ensures under { IfOk result (λ outcome. outcome ≡ Outcome.Under → IsStuckBelow problem.now flow.new search.new) }
+    ensures augmentations { effort.new.augmentations ≤ effort.old.augmentations + 2 * points_of problem.now }
+    ensures searches { Searches (nodes_of problem.now) 1 effort.old effort.new }
+{
+    if !place_within_high(alloc, problem, flow, search, effort)? {
+        return Ok(Outcome::Over);
+    }
+    if !meet_low(alloc, problem, flow, search, effort)? {
+        return Ok(Outcome::Under);
+    }
+    Ok(Outcome::Cheapest)
+}

@@ -1,0 +1,127 @@
+//! The second pass: names below their low limits get points from names that have more than theirs.
+ghost use Rattle.std.specs.Prelude.{◌≡◌, ◌≤◌, ◌<◌, ◌+◌, IfOk, IsTrue, MatchBool, MatchOption, MatchResult, OnOk, false, length, nat_lt, slice_index, slice_index_or};
+ghost use Rattle.min_cost_flow.specs.Effort.{Searches, nodes_of};
+ghost use Rattle.min_cost_flow.specs.Flow.{IsFlow, total_at};
+ghost use Rattle.min_cost_flow.specs.Meeting.{IsBelow, IsMeeting, IsStuckBelow, IsStuckIfBelow, IsWayBelow, MeetsLow, WantsBelow, missing};
+ghost use Rattle.min_cost_flow.specs.Problem.{IsFlowProblem, names_of};
+ghost use Rattle.shortest_path.specs.Spent.{Settles};
+
+use crate::augmenting::augment;
+use crate::flow::Flow;
+use crate::problem::FlowProblem;
+use shortest_path::{Effort, Search};
+use std::alloc::{AllocError, Global};
+use std::sync::ledger::Ledger;
+
+/// Moves points to the names below their low limits, each time along a shortest path from the names that have more than theirs.
+/// Answers whether none is below; if not, the last search reached no such name.
+pub(crate) fn meet_low<L: Ledger>(
+    alloc: Global,
+    problem: &FlowProblem,
+    flow: &mut Flow,
+    search: &mut Search,
+    effort: &mut Effort<L>,
+) -> Result<bool, AllocError>
+    requires problem { IsFlowProblem problem.now }
+    requires meeting { IsMeeting problem.now flow.old search.old }
+    ensures met { IfOk result (λ met. MatchBool met
+        (IsMeeting problem.now flow.new search.new × MeetsLow problem.now flow.new)
+        (IsStuckBelow problem.now flow.new search.new)) }
+    ensures augmentations { effort.new.augmentations ≤ effort.old.augmentations + missing problem.now flow.old }
+    ensures searches { Searches (nodes_of problem.now) 1 effort.old effort.new }
+    ensures found { IfOk result (λ met. IsTrue met → Searches (nodes_of problem.now) 0 effort.old effort.new) }
+{
+    let mut wanted = vec![in alloc; false; problem.high.len() + 1]?;
+    'points: while let Some(_) = name_below(problem, flow) {
+        mark_wanted(&mut wanted, problem, flow);
+        let Some(last) = find_below(problem, flow, search, wanted.as_slice(), effort) else {
+            return Ok(false);
+        };
+        fill_below(alloc, problem, flow, search, last, effort)?;
+    }
+    Ok(true)
+}
+
+/// A name below its low limit, if there is one.
+fn name_below(problem: &FlowProblem, flow: &Flow) -> Option<usize>
+    requires problem { IsFlowProblem problem.now }
+    requires flow { IsFlow problem.now flow.now }
+    ensures { MatchOption result (MeetsLow problem.now flow.now) (λ v. IsBelow problem.now flow.now v) }
+{
+    for name in 0..problem.high.len() {
+        if is_below(problem, flow, name) {
+            return Some(name);
+        }
+    }
+    None
+}
+
+/// Whether a name is below its low limit.
+fn is_below(problem: &FlowProblem, flow: &Flow, name: usize) -> bool
+    requires problem { IsFlowProblem problem.now }
+    requires flow { IsFlow problem.now flow.now }
+    requires name { name < names_of problem.now }
+    ensures { result ≡ nat_lt (total_at flow.now name) (slice_index problem.now.low.items name) }
+{
+    flow.totals[name] < problem.low[name]
+}
+
+/// The names below their low limits are wanted.
+fn mark_wanted(wanted: &mut [bool], problem: &FlowProblem, flow: &Flow)
+    requires problem { IsFlowProblem problem.now }
+    requires flow { IsFlow problem.now flow.now }
+    requires size { length wanted.old ≡ names_of problem.now + 1 }
+    requires limits { slice_index_or wanted.old (names_of problem.now) false ≡ false }
+    ensures { WantsBelow problem.now flow.now wanted.new }
+{
+    for name in 0..problem.high.len() {
+        wanted[name] = is_below(problem, flow, name);
+    }
+}
+
+/// The nearest name below its low limit.
+fn find_below<L: Ledger>(
+    problem: &FlowProblem,
+    flow: &Flow,
+    search: &mut Search,
+    wanted: &[bool],
+    effort: &mut Effort<L>,
+) -> Option<usize>
+    requires problem { IsFlowProblem problem.now }
+    requires meeting { IsMeeting problem.now flow.now search.old }
+    requires wanted { WantsBelow problem.now flow.now wanted.now }
+    ensures way { MatchOption result
+        (IsStuckIfBelow problem.now flow.now search.new) (λ last. IsWayBelow problem.now flow.now search.new last) }
+    ensures effort { Settles (nodes_of problem.now) effort.old effort.new }
+{
+    search.find(flow.arcs.as_slice(), wanted, problem.high.len(), effort)
+}
+
+/// Moves points along the path to a name below its low limit.
+fn fill_below<L: Ledger>(
+    alloc: Global,
+    problem: &FlowProblem,
+    flow: &mut Flow,
+    search: &Search,
+    last: usize,
+    effort: &mut Effort<L>,
+) -> Result<(), AllocError>
+    requires problem { IsFlowProblem problem.now }
+    requires way { IsWayBelow problem.now flow.old search.now last }
+    ensures meeting { OnOk result (IsMeeting problem.now flow.new search.now) }
+    ensures fewer { OnOk result (missing problem.now flow.new < missing problem.now flow.old) }
+    ensures augmentations { MatchResult result (λ _. effort.new.augmentations ≡ effort.old.augmentations + 1) (λ _. effort.new.augmentations ≡ effort.old.augmentations) }
+    ensures settlings { effort.new.settlings ≡ effort.old.settlings }
+{
+    augment(
+        alloc,
+        problem,
+        flow,
+        search,
+        problem.low.as_slice(),
+        problem.high.len(),
+        last,
+    )?;
+    effort.count_augmentation();
+    Ok(())
+}

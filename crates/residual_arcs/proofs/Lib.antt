@@ -1,9 +1,0 @@
-pub mod Cells
-pub mod Cheapest
-pub mod Ends
-pub mod Entering
-pub mod Offering
-pub mod Parts
-pub mod Products
-pub mod Spans
-pub mod Turns

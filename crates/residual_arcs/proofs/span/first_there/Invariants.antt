@@ -1,6 +1,0 @@
-use Rattle.std.proofs.Common.{ℕ, ◌<◌, ◌≤◌}
-use Rattle.residual_arcs.specs.Spans.{IsThere}
-use Rattle.residual_arcs.proofs.span.first_there.Given as goal
-
-abbrev pub invariant-loop-group : goal.invariant-loop-group
-invariant-loop-group l = (g : ℕ) → l.fn.span.first ≤ g → g < l.group → IsThere l.groups l.placed l.names l.name l.variant g → ⊥

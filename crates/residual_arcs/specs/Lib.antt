@@ -1,4 +1,0 @@
-pub mod Offered
-pub mod Problem
-pub mod Row
-pub mod Spans

@@ -1,5 +1,0 @@
-use Rattle.residual_flow.proofs.Joined.{JoinedBelow}
-use Rattle.residual_flow.proofs.staying.begin_spans.Given as goal
-
-abbrev pub invariant-loop-g : goal.invariant-loop-g
-invariant-loop-g l = JoinedBelow l.groups l.names l.g l.spans

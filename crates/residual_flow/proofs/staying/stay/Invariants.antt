@@ -1,6 +1,0 @@
-use Rattle.std.proofs.Common.{length}
-use Rattle.residual_flow.proofs.Homes.{HomesBelow}
-use Rattle.residual_flow.proofs.staying.stay.Given as goal
-
-abbrev pub invariant-loop-g : goal.invariant-loop-g
-invariant-loop-g l = HomesBelow l.groups (length l.initial.totals) l.g l.placed l.totals

@@ -1,3 +1,0 @@
-pub mod Flow
-pub mod Rows
-pub mod Staying

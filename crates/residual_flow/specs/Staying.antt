@@ -1,7 +1,0 @@
--- The flow in which each point keeps its old variant.
-use Rattle.std.specs.Prelude.{ℕ, ◌==◌, List, if◌then◌else◌}
-use Rattle.residual_arcs.specs.Problem.{group_at}
-use Rattle.residual_arcs.specs.declared.problem.Group.{Group}
-
-abbrev pub at_home : List Group → ℕ → ℕ → ℕ
-at_home groups g v = if v == (group_at groups g).variant then (group_at groups g).points else 0

@@ -1,0 +1,6 @@
+use Rattle.min_cost_flow.specs.Problem.{names_of}
+use Rattle.transport_plan.proofs.Holding.{Holding}
+use Rattle.transport_plan.proofs.marks.mark_held.Given as goal
+
+abbrev pub invariant-loop-group : goal.invariant-loop-group
+invariant-loop-group l = Holding (names_of l.problem) l.problem.groups.items l.problem.prices.items l.flow.placed.items l.search.settle_order.items l.marks l.group

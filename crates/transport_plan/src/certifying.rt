@@ -1,0 +1,79 @@
+//! The certificate of a cheapest flow.
+ghost use Rattle.std.specs.List.{zip};
+ghost use Rattle.std.specs.Map.{keys_of};
+ghost use Rattle.std.specs.Prelude.{◌≡◌, IfOk, length, true};
+ghost use Rattle.min_cost_flow.specs.Cheapest.{IsCheapest};
+ghost use Rattle.min_cost_flow.specs.Flow.{IsFlow};
+ghost use Rattle.min_cost_flow.specs.Problem.{IsFlowProblem};
+ghost use Rattle.plan_text.specs.PlanFile.{has_whole_numbers};
+ghost use Rattle.price_core.specs.Limits.{limits_view};
+ghost use Rattle.transport_instance.specs.Assignment.{IsProved};
+ghost use Rattle.transport_instance.specs.Certificate.{alpha_view, beta_view, certificate_view};
+ghost use Rattle.transport_instance.specs.Groups.{rows_view};
+ghost use Rattle.transport_plan.specs.Numbered.{IsNumbered};
+
+use crate::cost::cost_of;
+use crate::prices::{group_prices, name_prices};
+use min_cost_flow::{Flow, FlowProblem};
+use price_core::Limit;
+use shortest_path::Search;
+use std::alloc::{AllocError, Global};
+use transport_instance::{Certificate, Instance};
+
+/// The certificate of a cheapest flow of an instance, with the potentials that the last search left. A plan file can hold its
+/// numbers. It takes `O(groups * k)` steps at k names.
+pub(crate) fn certificate(
+    alloc: Global,
+    instance: &Instance<'_>,
+    problem: &FlowProblem,
+    flow: &Flow,
+    search: &Search,
+) -> Result<Certificate, AllocError>
+    requires numbered { IsNumbered instance.now problem.now }
+    requires lawful { IsFlowProblem problem.now }
+    requires flow { IsFlow problem.now flow.now }
+    requires cheapest { IsCheapest problem.now flow.now search.now }
+    ensures proved { IfOk result (λ c. IsProved instance.now flow.now.placed.items (certificate_view c)) }
+    ensures whole { IfOk result (λ c. has_whole_numbers (certificate_view c) ≡ true) }
+{
+    let width = problem.high.len();
+    let names = name_prices(alloc, &search.potentials, width)?;
+    let groups = group_prices(alloc, &problem.groups, &problem.prices, &names)?;
+    let cost = cost_of(&problem.groups, &problem.prices, &flow.placed, width);
+    let alpha = beside_groups(alloc, instance.groups(), &groups)?;
+    let beta = beside_names(alloc, instance.totals().entries(), &names)?;
+    Ok(Certificate { alpha, beta, cost })
+}
+
+/// Each group's variant and number of inputs, with its price.
+fn beside_groups(
+    alloc: Global,
+    groups: &[((&str, u32), u32)],
+    prices: &[i64],
+) -> Result<Vec<(String, u32, i64)>, AllocError>
+    requires { length prices.now ≡ length groups.now }
+    ensures { IfOk result (λ rows. alpha_view rows.items ≡ zip (keys_of (rows_view groups.now)) prices.now) }
+{
+    let mut rows = Vec::with_capacity(alloc, groups.len())?;
+    for (place, price) in prices.iter().enumerate() {
+        let (name, count) = groups[place].0;
+        rows.push((String::from_str(alloc, name)?, count, *price))?;
+    }
+    Ok(rows)
+}
+
+/// Each name with its price.
+fn beside_names(
+    alloc: Global,
+    limits: &[Limit],
+    prices: &[i64],
+) -> Result<Vec<(String, i64)>, AllocError>
+    requires { length prices.now ≡ length limits.now }
+    ensures { IfOk result (λ rows. beta_view rows.items ≡ zip (keys_of (limits_view limits.now)) prices.now) }
+{
+    let mut rows = Vec::with_capacity(alloc, limits.len())?;
+    for (place, price) in prices.iter().enumerate() {
+        rows.push((limits[place].name.clone()?, *price))?;
+    }
+    Ok(rows)
+}
