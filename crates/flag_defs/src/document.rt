@@ -4,10 +4,10 @@ ghost use Rattle.std.specs.Str.{is_utf8};
 ghost use Rattle.flag_defs.specs.Flags.{HoldsUnless};
 ghost use Rattle.flag_defs.specs.Document.{DocumentMeans, max_bytes};
 
+use crate::bounded::limited;
 use crate::entries::read_entries;
 use crate::fault::DefFault;
 use crate::flags::Flags;
-use crate::limits::limited;
 use std::alloc::Global;
 
 /// The flags of a document: a JSON object with the member `flags`, an object from key to definition, and perhaps

@@ -31,6 +31,7 @@
 //!   others hold, weighed first (`Lent`).
 #![tactic(auto)]
 
+mod bounded;
 mod breach;
 mod copy;
 mod definition;
@@ -44,7 +45,6 @@ mod forecast;
 mod kind;
 mod laws;
 mod lent;
-mod limits;
 mod make;
 mod members;
 mod outline;

@@ -11,12 +11,12 @@ ghost use Rattle.flag_defs.specs.Flag.{entries_view};
 ghost use Rattle.flag_defs.specs.Flags.{flags_view};
 ghost use Rattle.flag_defs.specs.Lent.{lent_view};
 
+use crate::bounded::limited;
 use crate::copy::copy_entries;
 use crate::fault::DefFault;
 use crate::flag::Flag;
 use crate::flags::Flags;
 use crate::lent::{are_heavy, copy_lent};
-use crate::limits::limited;
 use crate::sort::sort_entries;
 use limits::FLAGS;
 use std::alloc::{AllocError, Global};
