@@ -3,7 +3,7 @@ ghost use Rattle.std.specs.List.{All};
 ghost use Rattle.std.specs.Prelude.{◌≡◌, ◌≤◌, ◌<◌, ◌+◌, ◌*◌, ◌^◌, ◌++◌, ℕ, IfOk, OnOk, length, replicate, sum, count_by, ◌==◌, slice_index};
 ghost use Rattle.transport_plan.specs.Dealing.{row, IsDealt, DealsTo};
 
-use crate::limits::{Limit, limits_of};
+use crate::bounds::{Limit, limits_of};
 use crate::stretches::{Stretch, other};
 use std::alloc::{AllocError, Global};
 

@@ -1,7 +1,7 @@
 -- A group's numbers are as many as names.
 use Rattle.std.proofs.Common.{length, arith}
 use Rattle.transport_plan.proofs.Numbers.{row_wide}
-use Rattle.transport_plan.proofs.limits.sizes_of.Goals as goal
+use Rattle.transport_plan.proofs.bounds.sizes_of.Goals as goal
 
 pub rank-rank-requires-clause-base : goal.rank-rank-requires-clause-base
 rank-rank-requires-clause-base c = omega (arith, c.at-stretch.ensures.named c.args.names c.requires.named, row_wide (length c.args.bases.now) c.args.names c.at-stretch.result.group c.args.numbers.now c.requires.shape c.at-stretch.ensures.group)
