@@ -1,13 +1,10 @@
 -- The parts of a value, by whether it is a list.
 use Rattle.std.proofs.Common.{◌≡◌, List, [], ◌∷◌, map, Some, None, sym, refl, ap, ◌∙◌}
-use Rattle.std.specs.List.{list_any}
 use Rattle.flag_text.specs.declared.tree.Tree.{Tree}
 use Rattle.flag_text.specs.Readers.{as_list}
 use Rattle.flag_text.specs.Shape.{Shape, null, boolean, whole, other, text, list, object, Items}
 use Rattle.flag_text.specs.View.{view, items_of, items_view}
-use Rattle.logic_evaluator.specs.Comparison.{is_same}
-use Rattle.logic_evaluator.specs.Lists.{shapes_of, parts_of, is_in}
-use Rattle.logic_evaluator.specs.Text.{both_texts, occurs_in}
+use Rattle.logic_evaluator.specs.Lists.{shapes_of, parts_of}
 use Rattle.logic_evaluator.proofs.Values.{shapes_of_items}
 
 listed : (us : Items) (ts : List Tree) → Some us ≡ Some (items_view ts) → shapes_of us ≡ map view ts
@@ -30,21 +27,3 @@ parts_of-alone other e = refl
 parts_of-alone (text s) e = refl
 parts_of-alone (list us) e = cc
 parts_of-alone (object ms) e = refl
-
-pub is_in-listed : (v t : Shape) (ts : List Tree) → Some (items_view ts) ≡ as_list t → is_in v t ≡ list_any (is_same v) (map view ts)
-is_in-listed v null ts e = cc
-is_in-listed v (boolean b) ts e = cc
-is_in-listed v (whole n) ts e = cc
-is_in-listed v other ts e = cc
-is_in-listed v (text s) ts e = cc
-is_in-listed v (list us) ts e = ap (list_any (is_same v)) (listed us ts (sym e))
-is_in-listed v (object ms) ts e = cc
-
-pub is_in-alone : (v t : Shape) → None ≡ as_list t → is_in v t ≡ both_texts occurs_in v t
-is_in-alone v null e = refl
-is_in-alone v (boolean b) e = refl
-is_in-alone v (whole n) e = refl
-is_in-alone v other e = refl
-is_in-alone v (text s) e = refl
-is_in-alone v (list us) e = cc
-is_in-alone v (object ms) e = refl

@@ -1,5 +1,6 @@
 //! The operators that take the values of all their arguments.
-ghost use Rattle.std.specs.Prelude.{◌≡◌, ◌<◌, map};
+ghost use Rattle.std.specs.Prelude.{◌≡◌, ◌≢◌, ◌<◌, map};
+ghost use Rattle.logic_ast.specs.declared.operator.Operator.TheVariants.{Merge};
 ghost use Rattle.flag_text.specs.Outcome.{GivesUnless};
 ghost use Rattle.logic_evaluator.specs.declared.fault.EvalFault.TheVariants.{WantOfMemory};
 ghost use Rattle.logic_evaluator.specs.Arithmetic.{if_number};
@@ -19,6 +20,7 @@ use crate::truth::is_true;
 use crate::value::Value;
 use crate::version::version_matches;
 use logic_ast::Operator;
+use smallvec::SmallVec;
 use std::alloc::Global;
 
 /// What the operator gives of the values.
@@ -26,8 +28,24 @@ pub(crate) fn apply<'a>(
     alloc: Global,
     operator: Operator,
     scope: Scope,
+    values: SmallVec<Value<'a>, 3>,
+) -> Result<Value<'a>, EvalFault>
+    ensures exact { GivesUnless WantOfMemory value_view result (applied operator (scope_view scope.entry) (map value_view values.entry.items)) }
+{
+    match operator {
+        Operator::Merge => Ok(Value::Items(merged(alloc, values)?)),
+        _ => applied(alloc, operator, scope, values.as_slice()),
+    }
+}
+
+// What any other operator than `merge` gives of them.
+fn applied<'a>(
+    alloc: Global,
+    operator: Operator,
+    scope: Scope,
     values: &[Value<'a>],
 ) -> Result<Value<'a>, EvalFault>
+    requires { operator ≢ Merge }
     ensures exact { GivesUnless WantOfMemory value_view result (applied operator (scope_view scope.entry) (map value_view values.now)) }
 {
     let first = argument(values, 0);
@@ -43,7 +61,6 @@ pub(crate) fn apply<'a>(
         Operator::Remainder => number(remainder(first, second)),
         Operator::Max => number(maximum(values)),
         Operator::Min => number(minimum(values)),
-        Operator::Merge => Ok(Value::Items(merged(alloc, values)?)),
         Operator::Cat => Ok(Value::Text(joined(alloc, values)?)),
         Operator::Substr => Ok(Value::Text(part(alloc, values)?)),
         Operator::SemVer => {

@@ -98,7 +98,7 @@ fn operate<'s, 'a>(
         }
         _ => {
             let values = evaluate_all(meter, arguments, scope, subject)?;
-            apply(meter.alloc, operator, scope, values.as_slice())
+            apply(meter.alloc, operator, scope, values)
         }
     }
 }

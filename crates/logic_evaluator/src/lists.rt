@@ -9,56 +9,64 @@ ghost use Rattle.logic_evaluator.specs.Views.{seen_view, value_view};
 use crate::comparison::is_same;
 use crate::seen::{Seen, seen_tree};
 use crate::text::occurs_in;
-use crate::value::{Value, copy};
+use crate::value::Value;
 use flag_text::Tree;
+use smallvec::SmallVec;
 use std::alloc::{AllocError, Global};
 
 /// `merge`: one list of what the values hold: the items of a list, any other value as it is.
-pub(crate) fn merged<'a>(alloc: Global, values: &[Value<'a>]) -> Result<Vec<Value<'a>>, AllocError>
-    ensures { IfOk result (λ v. map value_view v.items ≡ flat_map parts_of (map value_view values.now)) }
+pub(crate) fn merged<'a>(
+    alloc: Global,
+    values: SmallVec<Value<'a>, 3>,
+) -> Result<Vec<Value<'a>>, AllocError>
+    ensures { IfOk result (λ v. map value_view v.items ≡ flat_map parts_of (map value_view values.entry.items)) }
 {
     let mut items = Vec::new(alloc);
     for value in values {
-        push_parts(alloc, &mut items, value)?;
+        push_parts(&mut items, value)?;
     }
     Ok(items)
 }
 
-fn push_parts<'a>(
-    alloc: Global,
-    items: &mut Vec<Value<'a>>,
-    value: &Value<'a>,
-) -> Result<(), AllocError>
-    ensures { OnOk result (map value_view items.new.items ≡ map value_view items.old.items ++ parts_of (value_view value.now)) }
+fn push_parts<'a>(items: &mut Vec<Value<'a>>, value: Value<'a>) -> Result<(), AllocError>
+    ensures { OnOk result (map value_view items.new.items ≡ map value_view items.old.items ++ parts_of (value_view value.entry)) }
 {
-    match value.seen() {
-        Seen::Trees(trees) => push_lent(items, trees),
-        Seen::Values(parts) => push_copies(alloc, items, parts),
+    match value {
+        Value::Lent(tree) => push_tree(items, tree),
+        Value::Items(parts) => push_values(items, parts),
         _ => {
-            items.push(copy(alloc, value)?)?;
+            items.push(value)?;
             Ok(())
         }
     }
 }
 
-fn push_lent<'a>(items: &mut Vec<Value<'a>>, trees: &'a [Tree]) -> Result<(), AllocError>
-    ensures { OnOk result (map value_view items.new.items ≡ map value_view items.old.items ++ map view trees.now) }
+fn push_tree<'a>(items: &mut Vec<Value<'a>>, tree: &'a Tree) -> Result<(), AllocError>
+    ensures { OnOk result (map value_view items.new.items ≡ map value_view items.old.items ++ parts_of (view tree.now)) }
 {
-    for tree in trees {
-        items.push(Value::Lent(tree))?;
+    match tree.as_list() {
+        Some(parts) => push_lent(items, parts),
+        None => {
+            items.push(Value::Lent(tree))?;
+            Ok(())
+        }
+    }
+}
+
+fn push_lent<'a>(items: &mut Vec<Value<'a>>, parts: &'a [Tree]) -> Result<(), AllocError>
+    ensures { OnOk result (map value_view items.new.items ≡ map value_view items.old.items ++ map view parts.now) }
+{
+    for part in parts {
+        items.push(Value::Lent(part))?;
     }
     Ok(())
 }
 
-fn push_copies<'a>(
-    alloc: Global,
-    items: &mut Vec<Value<'a>>,
-    parts: &[Value<'a>],
-) -> Result<(), AllocError>
-    ensures { OnOk result (map value_view items.new.items ≡ map value_view items.old.items ++ map value_view parts.now) }
+fn push_values<'a>(items: &mut Vec<Value<'a>>, parts: Vec<Value<'a>>) -> Result<(), AllocError>
+    ensures { OnOk result (map value_view items.new.items ≡ map value_view items.old.items ++ map value_view parts.entry.items) }
 {
     for part in parts {
-        items.push(copy(alloc, part)?)?;
+        items.push(part)?;
     }
     Ok(())
 }

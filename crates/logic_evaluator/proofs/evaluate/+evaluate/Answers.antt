@@ -161,7 +161,7 @@ operate-returns-in_err-values-in_default t c = record {
 
 pub operate-returns-in_ok-values-in_default : goal.operate-returns-in_ok-values-in_default
 operate-returns-in_ok-values-in_default t c = record {
-  exact = gives_same _ _ _ _ (ap (λ r. paid (progress c.args.meter.now) (r (scope_view c.args.scope))) (operated-other c.args.operator (meanings (default_view c.args.subject) (nodes_view c.args.arguments.now.items)) c.in_default.not-Var c.in_default.not-If c.in_default.not-And c.in_default.not-Or c.in_default.not-Map c.in_default.not-Filter c.in_default.not-AllOf c.in_default.not-SomeOf c.in_default.not-NoneOf c.in_default.not-Reduce) ∙ (bind_ok _ _ _ _ _ c.in_ok-values-in_default.ensures.exact ∙ ap (λ vs. paid (progress c.evaluate_all-in_default.new.meter) (let r : Run Shape = ends (applied c.args.operator (scope_view c.args.scope) (map value_view vs)) in r)) (sym c.as_slice.ensures))) (ended _ _ _ _ c.apply.ensures.exact);
+  exact = gives_same _ _ _ _ (ap (λ r. paid (progress c.args.meter.now) (r (scope_view c.args.scope))) (operated-other c.args.operator (meanings (default_view c.args.subject) (nodes_view c.args.arguments.now.items)) c.in_default.not-Var c.in_default.not-If c.in_default.not-And c.in_default.not-Or c.in_default.not-Map c.in_default.not-Filter c.in_default.not-AllOf c.in_default.not-SomeOf c.in_default.not-NoneOf c.in_default.not-Reduce) ∙ bind_ok _ _ _ _ _ c.in_ok-values-in_default.ensures.exact) (ended _ _ _ _ c.apply.ensures.exact);
 }
 
 pub first_of_truth-returns-then-is_empty : goal.first_of_truth-returns-then-is_empty

@@ -3,5 +3,5 @@ use Rattle.flag_text.specs.View.{view}
 use Rattle.logic_evaluator.specs.Views.{value_view}
 use Rattle.logic_evaluator.proofs.lists.push_lent.Given as goal
 
-abbrev pub invariant-loop-tree : goal.invariant-loop-tree
-invariant-loop-tree l = map value_view l.items.items ++ map view (drop l.tree-index l.trees) ≡ map value_view l.initial.items.items ++ map view l.trees
+abbrev pub invariant-loop-part : goal.invariant-loop-part
+invariant-loop-part l = map value_view l.items.items ++ map view (drop l.part-index l.parts) ≡ map value_view l.initial.items.items ++ map view l.parts
