@@ -8,8 +8,8 @@ use std::sync::Wait;
 use std::thread;
 use std::thread::{Promise, Threads};
 
-/// The bytes of the stack of a thread: four times what the deepest of targetings takes.
-const STACK: usize = 1 << 20;
+/// The bytes of the stack of a thread: more than the deepest of targetings, and of the values that it may make, takes.
+const STACK: usize = 1 << 22;
 
 /// What a thread does.
 trait Task<T> {
