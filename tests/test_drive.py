@@ -115,6 +115,18 @@ class Drive(ProgramTest):
         self.assertEqual([ran.status for ran in told], [0, 0])
         self.assertEqual(told[0], told[1])
 
+    def test_workers_make_deep_values(self):
+        """A value of 4,050 levels is made, copied and dropped by workers as by one."""
+        inside = {"var": "accumulator"}
+        for _ in range(90):
+            inside = [inside]
+        reduced = {"reduce": [[0] * 45, inside]}
+        files = driven({"if": [{"in": [0, {"merge": [[reduced]]}]}, "a", "a"]}, {}, 16)
+        small = {"preexec_fn": lambda: resource.setrlimit(resource.RLIMIT_STACK, (131_072, 131_072))}
+        told = [run(["drive", "d", "a", workers, "b"], files, **how) for workers, how in (("1", {}), ("8", small))]
+        self.assertEqual([ran.status for ran in told], [0, 0])
+        self.assertEqual(told[0], told[1])
+
     def test_a_refusal_leaves_no_book(self):
         for workers, asks, refusal in REFUSALS:
             with self.subTest(workers=workers, asks=asks):

@@ -230,6 +230,19 @@ def costly_evaluations():
     yield resolved("literals copied by map", {"if": [{"in": [0, mapped]}, "on", "off"]})
     named = {"map": [{"var": "xs"}, {"a" + "x" * 30_000: 1, "b" + "x" * 30_000: 1}]}
     yield resolved("names of literal objects copied by map", {"if": [{"in": [0, named]}, "on", "off"]}, json.dumps({"xs": list(range(10_000))}))
+    given = {"map": [{"var": "xs"}, {"fractional": [["n" * 60_000, 1]]}]}
+    for count in (10_000, 30_000):
+        context = json.dumps({"xs": [0] * count, "targetingKey": "k"})
+        yield resolved(f"a bucket's name of 60 KB at {count:,} elements", {"if": [{"in": [0, given]}, "on", "off"]}, context)
+    for what, many in (
+        ("a list of 9,000 objects of the context", [{"var": "o"}] * 9_000),
+        ("9,000 objects of the context that merge joins", {"merge": [{"var": "o"}] * 9_000}),
+        ("9,000 whole contexts", [{"var": ""}] * 9_000),
+        ("objects that filter keeps", {"filter": [[{"x" * 30_000: 1}] * 60, True]}),
+        ("an object that reduce hands on", {"reduce": [{"var": "xs"}, [{"var": "current"}, {"var": "o"}], 0]}),
+    ):
+        context = json.dumps({"o": {"x" * 60_000: 1}, "xs": [0] * 20})
+        yield resolved(what, {"if": [{"in": [0, many]}, "on", "off"]}, context)
     kept = {"reduce": [list(range(3000)), {"cat": [{"var": "accumulator"}, "x" * 50]}, ""]}
     yield resolved("a text made by reduce", {"if": [{"==": [kept, "x"]}, "on", "off"]})
     yield resolved("a fractional of 4,900 buckets", {"if": [True, split(4900)]}, json.dumps({"targetingKey": "k"}))
