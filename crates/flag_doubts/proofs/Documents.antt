@@ -5,8 +5,8 @@ use Rattle.std.specs.Str.{IsUtf8, is_utf8}
 use Rattle.json.specs.Json.{Json, document}
 use Rattle.flag_doubts.specs.Doubled.{json_of}
 
-pub is_json : (bytes : List ℕ) (j : Json) → IsUtf8 bytes → document bytes ≡ Some j → json_of bytes ≡ Some j
-is_json bytes j text e = ap (λ b. cond b (document bytes) None) (is_utf8-from_IsUtf8 bytes text) ∙ e
+pub json_text : (bytes : List ℕ) → IsUtf8 bytes → json_of bytes ≡ document bytes
+json_text bytes text = ap (λ b. cond b (document bytes) None) (is_utf8-from_IsUtf8 bytes text)
 
 pub no_json : (bytes : List ℕ) → (IsUtf8 bytes → document bytes ≡ None) → json_of bytes ≡ None
 no_json bytes none = go (is_utf8 bytes) refl

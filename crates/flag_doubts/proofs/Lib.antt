@@ -2,8 +2,11 @@ pub mod Branches
 pub mod Counts
 pub mod Documents
 pub mod Faulting
+pub mod Grammar
 pub mod Keys
 pub mod Matches
+pub mod Open
+pub mod Others
+pub mod SecondNames
 pub mod Sites
 pub mod Told
-pub mod Twins

@@ -1,7 +1,9 @@
 pub mod Doubled
 pub mod Doubts
+pub mod FoundFlags
 pub mod Laws
 pub mod Outcomes
+pub mod Passed
 pub mod Repeated
 pub mod Views
 pub mod Weights

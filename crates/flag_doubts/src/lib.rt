@@ -26,10 +26,14 @@
 mod doubled;
 mod doubt;
 mod doubting;
+mod flags;
 mod given;
 mod laws;
+mod places;
 mod repeated;
 mod results;
+mod twins;
+mod walk;
 mod weights;
 
 pub use doubt::{Doubt, FlagDoubts};

@@ -1,23 +1,24 @@
 use Rattle.std.proofs.Common.{◌≡◌, ◌<◌, ◌≤◌, length, get_or, true, not, cond, nat_lt, take, string_bytes, sym, ap, ◌∙◌, subst}
-use Rattle.std.proofs.lemmas.List.{take_all}
+use Rattle.std.proofs.lemmas.List.{get_or_default, take_all}
 use Rattle.std.proofs.lemmas.Map.Text.{btree_set_updates_text}
 use Rattle.std.specs.BTreeSet.{contains_text}
 use Rattle.std.specs.Str.{bytes_eq}
 use Rattle.flag_doubts.proofs.Counts.{Members, count, counted, met_once, met_twice, met_first, was_met, was_new}
+use Rattle.flag_doubts.proofs.SecondNames.{nameless}
 use Rattle.flag_doubts.proofs.doubled.repeated.Goals as goal
 use Rattle.flag_doubts.proofs.doubled.repeated.Goals.{then-not-branch+in_ok-from_str-2+in_ok-insert-2, else-not-branch}
 
 pub loop-name-preserved : goal.loop-name-preserved
 loop-name-preserved c =
-    let xs = c.args.members.now.items in
+    let xs = c.args.names.now in
     let i = c.loop-name.name-index in
-    let m = c.loop-name-item.result in
-    let h : i < length xs = subst (λ (ys : Members). i < length ys) c.deref-name-items.ensures.value c.loop-name-test.true in
-    let is : m ≡ get_or xs i m = c.loop-name-item.is ∙ ap (λ ys. get_or ys i m) c.deref-name-items.ensures.value in
-    let name : string_bytes c.in_ok-from_str.field-0 ≡ m.0.now = c.in_ok-from_str.ensures.ok in
+    let m = get_or xs i nameless in
+    let h = c.loop-name-test.true in
+    let is = get_or_default xs i nameless m h in
+    let name : string_bytes c.in_ok-from_str.field-0 ≡ m.now = c.in_ok-from_str.ensures.ok in
     let known = c.loop-name.invariant in
-    let had : contains_text c.loop-name.met m.0.now ≡ nat_lt 0 (count m.0.now (take i xs)) = known.met m.0.now in
-    let added : c.in_ok-insert.field-0 ≡ not (contains_text c.loop-name.met m.0.now) = c.in_ok-insert.ensures.added ∙ ap (λ b. not (contains_text c.loop-name.met b)) name in
+    let had : contains_text c.loop-name.met m.now ≡ nat_lt 0 (count m.now (take i xs)) = known.met m.now in
+    let added : c.in_ok-insert.field-0 ≡ not (contains_text c.loop-name.met m.now) = c.in_ok-insert.ensures.added ∙ ap (λ b. not (contains_text c.loop-name.met b)) name in
     record {
       met = λ key.
           met_once xs i m h is key (contains_text c.loop-name.met key) (contains_text c.insert.new.self key) (known.met key)
@@ -35,6 +36,6 @@ loop-name-preserved c =
 
 pub returns : goal.returns
 returns c = λ key.
-    let xs = c.args.members.now.items in
-    let all : length xs ≤ c.loop-name.name-index = subst (λ (ys : Members). length ys ≤ c.loop-name.name-index) c.deref-name-items.ensures.value c.loop-name-test.false in
+    let xs = c.args.names.now in
+    let all : length xs ≤ c.loop-name.name-index = c.loop-name-test.false in
     c.loop-name.invariant.again key ∙ ap (λ ms. nat_lt 1 (count key ms)) (take_all c.loop-name.name-index xs all) ∙ ap (nat_lt 1) (counted key xs)

@@ -5,6 +5,6 @@ use Rattle.flag_doubts.proofs.doubled.repeated.Given as goal
 
 abbrev pub invariant-loop-name : goal.invariant-loop-name
 invariant-loop-name l = record {
-  met : (key : List ℕ) → contains_text l.met key ≡ nat_lt 0 (count key (take l.name-index l.members.items));
-  again : (key : List ℕ) → contains_text l.met_again key ≡ nat_lt 1 (count key (take l.name-index l.members.items));
+  met : (key : List ℕ) → contains_text l.met key ≡ nat_lt 0 (count key (take l.name-index l.names));
+  again : (key : List ℕ) → contains_text l.met_again key ≡ nat_lt 1 (count key (take l.name-index l.names));
 }

@@ -1,15 +1,13 @@
-use Rattle.std.proofs.Common.{Err, IfOk, ap, sym, subst}
-use Rattle.json.specs.Value.{value_view}
-use Rattle.flag_doubts.proofs.Documents.{is_json, no_json}
+use Rattle.std.proofs.Common.{ap, sym, subst, ◌∙◌}
+use Rattle.json.specs.Json.{document}
+use Rattle.flag_doubts.proofs.Documents.{json_text, no_json}
 use Rattle.flag_doubts.specs.Repeated.{Finds}
 use Rattle.flag_doubts.proofs.repeated.repeated_in.Goals as goal
 
-pub returns-in-Ok : goal.returns-in-Ok
-returns-in-Ok c =
-    let there = is_json c.args.bytes.now (value_view c.in-Ok.document) c.in-Ok.ensures.ok.0 c.in-Ok.ensures.ok.1 in
-    subst (λ o. IfOk c.of_document.result (Finds o)) (sym there) c.of_document.ensures
+pub returns-in_default : goal.returns-in_default
+returns-in_default c = subst (λ o. Finds o c.nothing.result) (sym (no_json c.args.bytes.now (λ u. absurd (c.in_default.ensures u)))) c.nothing.ensures
 
-pub returns-in-Err-Invalid : goal.returns-in-Err-Invalid
-returns-in-Err-Invalid c =
-    let none = no_json c.args.bytes.now (c.in-Err-Invalid.ensures.invalid (ap Err c.in-Err-Invalid.field-0-is)) in
-    subst (λ o. Finds o c.nothing.result) (sym none) c.nothing.ensures
+pub returns-in-Ok-of_text : goal.returns-in-Ok-of_text
+returns-in-Ok-of_text c =
+    let text = c.in-Ok.ensures in
+    subst (λ o. Finds o c.in-Ok-of_text.found) (ap (λ bytes. document bytes) text.0 ∙ sym (json_text c.args.bytes.now text.1)) c.in-Ok-of_text.ensures.ok

@@ -1,0 +1,17 @@
+-- What a walk of tokens passes, and that it comes upon in it.
+use Rattle.std.specs.Prelude.{◌≡◌, ℕ, ◌<◌, ◌∷◌, List, is_some, Option, Some, None}
+use Rattle.json.specs.Find.{as_object}
+use Rattle.json.specs.Json.{Parse, value}
+use Rattle.json.specs.Token.{Token}
+use Rattle.flag_doubts.specs.Repeated.{repeats}
+use Rattle.flag_doubts.specs.declared.walk.Next.{Next}
+use Rattle.flag_doubts.specs.declared.walk.Next.TheVariants.{Object, Other}
+
+-- from the old tokens to the new ones the grammar reads something of which P holds
+abbrev pub Passes : {A : Type 0} → Parse A → List Token → List Token → (A → Type 0) → Type 0
+Passes {A} parse old new P = (a : A) × (parse old ≡ Some (a, new)) × P a
+
+-- an object was opened, or another value was passed
+abbrev pub Begins : ℕ → List Token → List Token → Next → Type 0
+Begins depth old new Object = (0 < depth) × (old ≡ Token.begin_object ∷ new)
+Begins depth old new (Other place) = Passes (value depth) old new (λ j. (as_object j ≡ None) × (is_some place ≡ repeats j))
