@@ -1,3 +1,4 @@
 pub mod Alike
 pub mod Items
 pub mod Lawful
+pub mod Scalars

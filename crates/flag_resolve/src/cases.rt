@@ -18,7 +18,7 @@ use crate::resolution::Resolution;
 use flag_defs::{Flag, Flags, Kind};
 use flag_text::Tree;
 use logic_ast::Expr;
-use logic_eval::{Context, EvalFault, Reached, eval};
+use logic_eval::{Context, EvalFault, Reached, eval_scalar};
 use std::alloc::{AllocError, Global};
 
 /// What the flag of this key resolves to in the context at the moment, for a caller who wants a value of this kind.
@@ -124,7 +124,7 @@ fn evaluated(
     requires { is_broken (flag_view flag.now) ≡ false }
     ensures { IfOk result (λ r. resolution_view r ≡ evaluated (asked_view asked.now) (flag_view flag.now) (evaluation_of (expr_view targeting.now) (situation context.now))) }
 {
-    match eval(alloc, targeting, context) {
+    match eval_scalar(alloc, targeting, context) {
         Ok((value, reached)) => targeted(alloc, asked, flag, &value, reached),
         Err(EvalFault::WantOfMemory) => Err(AllocError),
         Err(_) => asked.failed(alloc, Code::ParseError, Vec::new(alloc)),

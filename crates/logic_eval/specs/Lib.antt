@@ -15,3 +15,4 @@ pub use Rattle.logic_evaluator.specs.Text
 pub use Rattle.logic_evaluator.specs.Truth
 pub use Rattle.logic_evaluator.specs.Version
 pub use Rattle.logic_evaluator.specs.Views
+pub mod Scalar

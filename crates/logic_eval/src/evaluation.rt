@@ -20,7 +20,7 @@ use logic_evaluator::{Context, EvalFault, Meter, Reached, evaluate_node};
 use std::alloc::Global;
 
 /// The units that an evaluation may cost.
-const MOST_UNITS: u64 = 100_000;
+pub(crate) const MOST_UNITS: u64 = 100_000;
 
 /// What the expression evaluates to in the context, and the sites that were reached, in the order of
 /// evaluation.

@@ -24,6 +24,7 @@
 
 mod evaluation;
 mod laws;
+mod scalar;
 
 pub use evaluation::eval;
 pub use laws::{
@@ -31,3 +32,4 @@ pub use laws::{
     a_rule_that_chooses_alike_changes_nothing_else,
 };
 pub use logic_evaluator::{Context, EvalFault, Reached};
+pub use scalar::eval_scalar;
