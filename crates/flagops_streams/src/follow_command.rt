@@ -3,7 +3,7 @@ ghost use Rattle.std.specs.Prelude.{◌≡◌, false, map};
 ghost use Rattle.flagops_streams.specs.Ended.{FollowsAsked, TellsFollow};
 
 use crate::asked::Following;
-use crate::follow::follow_port;
+use crate::following::follow_port;
 use crate::words::read_follow;
 use flag_text::Outlet;
 use flagops_commands::explain;

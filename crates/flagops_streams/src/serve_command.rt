@@ -7,7 +7,7 @@ use crate::loading::{Unloaded, loaded};
 use crate::refusal::Refusal;
 use crate::remark::{Remarks, say_refused};
 use crate::report::refuse;
-use crate::serve::serve_documents;
+use crate::serving::serve_documents;
 use crate::words::read_serve;
 use flag_defs::DefFault;
 use flag_text::Outlet;

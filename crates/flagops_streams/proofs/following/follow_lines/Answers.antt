@@ -2,7 +2,7 @@ use Rattle.std.proofs.Common.{None, Some, refl}
 use Rattle.sync_server.specs.declared.end.ReadEnd.TheVariants.{WantOfMemory}
 use Rattle.sync_server.proofs.Followed.{at_most}
 use Rattle.flagops_streams.proofs.Lines.{ended, lines_taken, off, wanting}
-use Rattle.flagops_streams.proofs.follow.follow_lines.Goals as goal
+use Rattle.flagops_streams.proofs.following.follow_lines.Goals as goal
 
 pub returns-in-Some-clause-printed : goal.returns-in-Some-clause-printed
 returns-in-Some-clause-printed g c =

@@ -6,7 +6,7 @@ use Rattle.source_merge.specs.View.{sources_view}
 use Rattle.flagops_streams.specs.Documents.{MayFail, ServesTo, texts_of, told_view}
 use Rattle.flagops_streams.specs.declared.refusal.Refusal.TheVariants.{Share}
 use Rattle.flagops_streams.proofs.Gives.{more_fail, not_shared}
-use Rattle.flagops_streams.proofs.serve.publish_to.Goals as goal
+use Rattle.flagops_streams.proofs.serving.publish_to.Goals as goal
 
 pub returns-in-Err-clause-serves : goal.returns-in-Err-clause-serves
 returns-in-Err-clause-serves g c =

@@ -8,7 +8,7 @@ use Rattle.snap_share.specs.declared.fault.ShareFault.TheVariants as share
 use Rattle.flagops_streams.specs.Documents.{Gives, MayRefuse, Merges}
 use Rattle.flagops_streams.specs.declared.refusal.Refusal.TheVariants.{Publish}
 use Rattle.flagops_streams.proofs.Gives.{not_published, one_more, refused_here}
-use Rattle.flagops_streams.proofs.serve.publish_others.Goals as goal
+use Rattle.flagops_streams.proofs.serving.publish_others.Goals as goal
 
 pub returns-in_err-flags-clause-gives : goal.returns-in_err-flags-clause-gives
 returns-in_err-flags-clause-gives g c =

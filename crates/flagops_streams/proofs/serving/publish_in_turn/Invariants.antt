@@ -1,4 +1,4 @@
-use Rattle.flagops_streams.proofs.serve.publish_in_turn.Given as goal
+use Rattle.flagops_streams.proofs.serving.publish_in_turn.Given as goal
 
 -- the history that was just made
 abbrev pub ghosts-publish_to : goal.ghosts-publish_to

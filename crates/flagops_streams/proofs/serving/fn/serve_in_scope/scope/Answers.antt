@@ -9,7 +9,7 @@ use Rattle.flagops_streams.specs.Told.{IsGone}
 use Rattle.flagops_streams.proofs.Gives.{none_missed_at, told_ok, unless_beside}
 use Rattle.flagops_streams.proofs.Told.{gone_as, left_zero, lines_as}
 use Rattle.flagops_streams.proofs.Crossings.{Attending, attend_send}
-use Rattle.flagops_streams.proofs.serve.fn.serve_in_scope.scope.Goals as goal
+use Rattle.flagops_streams.proofs.serving.fn.serve_in_scope.scope.Goals as goal
 
 abbrev at_life : Lft → NamedLft
 at_life κ = record { mir = erased; lft = κ }

@@ -5,7 +5,7 @@ use Rattle.source_merge.specs.View.{sources_view}
 use Rattle.flagops_streams.specs.Documents.{Gives, GivesSome, texts_of, told_view}
 use Rattle.flagops_streams.specs.declared.refusal.Refusal.TheVariants.{NoThread}
 use Rattle.flagops_streams.proofs.Gives.{beside_served}
-use Rattle.flagops_streams.proofs.serve.publish_shared.Goals as goal
+use Rattle.flagops_streams.proofs.serving.publish_shared.Goals as goal
 
 -- telling leaves what is published
 pub returns-clause-serves : goal.returns-clause-serves

@@ -1,6 +1,6 @@
 use Rattle.flagops_streams.specs.Told.{IsForewarning}
 use Rattle.flagops_streams.proofs.Told.{lines_behind}
-use Rattle.flagops_streams.proofs.serve.forewarn.Goals as goal
+use Rattle.flagops_streams.proofs.serving.forewarn.Goals as goal
 
 pub loop-place-preserved : goal.loop-place-preserved
 loop-place-preserved g c =

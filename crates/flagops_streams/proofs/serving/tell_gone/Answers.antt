@@ -1,7 +1,7 @@
 use Rattle.std.proofs.Common.{◌+◌, arith, nat_eq}
 use Rattle.flagops_streams.specs.Told.{IsGone}
 use Rattle.flagops_streams.proofs.Told.{gone_as, left_zero, lines_as, lines_behind, right_zero}
-use Rattle.flagops_streams.proofs.serve.tell_gone.Goals as goal
+use Rattle.flagops_streams.proofs.serving.tell_gone.Goals as goal
 
 pub loop-subscriber-preserved : goal.loop-subscriber-preserved
 loop-subscriber-preserved g c =

@@ -1,6 +1,6 @@
 use Rattle.std.proofs.Common.{◌≡◌, false}
 use Rattle.flagops_streams.specs.Told.{IsForewarning, TellsLines}
-use Rattle.flagops_streams.proofs.serve.forewarn.Given as goal
+use Rattle.flagops_streams.proofs.serving.forewarn.Given as goal
 
 -- so far nothing was told but that documents will be refused
 abbrev pub invariant-loop-place : goal.invariant-loop-place

@@ -6,7 +6,7 @@ use Rattle.flagops_streams.specs.Documents.{Gives, MayRefuse, Merges, ServesTo, 
 use Rattle.flagops_streams.specs.Told.{IsArrival, IsGone, IsServeLine}
 use Rattle.flagops_streams.proofs.Gives.{first_of, first_served, none_missed}
 use Rattle.flagops_streams.proofs.Told.{lines_as, lines_behind}
-use Rattle.flagops_streams.proofs.serve.publish_in_turn.Goals as goal
+use Rattle.flagops_streams.proofs.serving.publish_in_turn.Goals as goal
 
 pub returns-in_err-arrived-clause-serves : goal.returns-in_err-arrived-clause-serves
 returns-in_err-arrived-clause-serves g c =

@@ -2,7 +2,7 @@ use Rattle.std.proofs.Common.{◌≡◌, ◌+◌, drop, length, map}
 use Rattle.flag_defs.specs.Flags.{flags_view}
 use Rattle.source_merge.specs.View.{sources_view}
 use Rattle.flagops_streams.specs.Documents.{Answer, Gives, texts_of}
-use Rattle.flagops_streams.proofs.serve.publish_others.Given as goal
+use Rattle.flagops_streams.proofs.serving.publish_others.Given as goal
 
 -- what the documents left give behind all that was published is what all of them give
 abbrev pub invariant-loop-text : goal.invariant-loop-text

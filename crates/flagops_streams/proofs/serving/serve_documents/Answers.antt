@@ -7,7 +7,7 @@ use Rattle.flagops_streams.specs.Told.{IsServeLine}
 use Rattle.flagops_streams.specs.declared.refusal.Refusal.{Refusal}
 use Rattle.flagops_streams.proofs.Gives.{reported}
 use Rattle.flagops_streams.proofs.Told.{serve_line_as, reported_behind}
-use Rattle.flagops_streams.proofs.serve.serve_documents.Goals as goal
+use Rattle.flagops_streams.proofs.serving.serve_documents.Goals as goal
 
 pub returns-clause-documents : goal.returns-clause-documents
 returns-clause-documents g c =

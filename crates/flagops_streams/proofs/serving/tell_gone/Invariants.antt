@@ -1,6 +1,6 @@
 use Rattle.std.proofs.Common.{◌≡◌, ◌≤◌, false, nat_eq}
 use Rattle.flagops_streams.specs.Told.{IsGone, TellsLines}
-use Rattle.flagops_streams.proofs.serve.tell_gone.Given as goal
+use Rattle.flagops_streams.proofs.serving.tell_gone.Given as goal
 
 -- so far nothing was told but that subscribers have gone, and those that were not served are counted
 abbrev pub invariant-loop-subscriber : goal.invariant-loop-subscriber

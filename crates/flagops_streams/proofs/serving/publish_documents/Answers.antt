@@ -1,7 +1,7 @@
 use Rattle.std.proofs.Common.{inl, is_ok}
 use Rattle.flagops_streams.specs.Told.{IsForewarning, IsServeLine}
 use Rattle.flagops_streams.proofs.Told.{lines_as, lines_behind}
-use Rattle.flagops_streams.proofs.serve.publish_documents.Goals as goal
+use Rattle.flagops_streams.proofs.serving.publish_documents.Goals as goal
 
 pub returns-clause-lines : goal.returns-clause-lines
 returns-clause-lines g c =
