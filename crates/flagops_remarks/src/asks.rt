@@ -3,13 +3,13 @@ ghost use Rattle.std.specs.Prelude.{IfOk, codes, string_bytes};
 ghost use Rattle.flagops_remarks.specs.Named.{Names, NamesWord};
 
 use crate::lines::{Lines, Opening};
+use crate::unread::put_meant;
+use flag_defs::Kind;
 use flag_text::Tree;
-use limits::SEATS;
+use limits::{LATEST_MOMENT, SEATS};
 use std::alloc::{AllocError, Global};
+use std::fmt;
 use unread_members::Reader;
-
-/// The latest moment, 2^53-1.
-const LATEST_MOMENT: i64 = limits::LATEST_MOMENT as i64;
 
 /// The asks for each input from which on it is told how many there are.
 const MANY: u128 = 20;
@@ -23,9 +23,10 @@ pub fn of_asks(alloc: Global, path: &str, tree: &Tree) -> Result<String, AllocEr
     ensures names { IfOk result (λ s. Names path.now (string_bytes s)) }
 {
     let mut lines = Lines::new(alloc);
-    lines.put(" is no list of asks: ");
+    write!(lines, " is no list of asks: ");
     put_fault(&mut lines, tree);
-    lines.put(
+    write!(
+        lines,
         "\n  an ask has a key, want (bool, text, whole or object), default, context (an object) and moment\n",
     );
     lines.headed(Opening::Error, path)
@@ -34,109 +35,59 @@ pub fn of_asks(alloc: Global, path: &str, tree: &Tree) -> Result<String, AllocEr
 /// The first ask that is none, with the first member that is not of its form.
 fn put_fault(lines: &mut Lines, tree: &Tree) {
     let Tree::List(asks) = tree else {
-        lines.put("it is ");
-        lines.put_value(tree);
-        return;
+        return write!(lines, "it is {}", lines.value(tree));
     };
-    for i in 0..asks.len() {
-        if let Some(name) = wrong_member(&asks[i]) {
-            put_member(lines, i, name, asks[i].member(name));
-            return;
+    for (place, ask) in asks.iter().enumerate() {
+        for name in ["key", "want", "default", "context", "moment"] {
+            match ask.member(name) {
+                Some(value) if is_sound(name, value) => {}
+                Some(value) => {
+                    return write!(lines, "at [{place}].{name} stands {}", lines.value(value));
+                }
+                None => {
+                    return write!(lines, "its item [{place}] has no {name}");
+                }
+            }
         }
     }
-    lines.put("it has too many");
-}
-
-fn put_member(lines: &mut Lines, place: usize, name: &str, value: Option<&Tree>) {
-    match value {
-        Some(value) => {
-            lines.put("at ");
-            lines.put_place(place);
-            lines.put_all(&[".", name, " stands "]);
-            lines.put_value(value);
-        }
-        None => {
-            lines.put("its item ");
-            lines.put_place(place);
-            lines.put_all(&[" has no ", name]);
-        }
-    }
-}
-
-/// The first member of an ask that is missing or not of its form.
-fn wrong_member(ask: &Tree) -> Option<&'static str> {
-    for name in ["key", "want", "default", "context", "moment"] {
-        if !is_sound(name, ask.member(name)) {
-            return Some(name);
-        }
-    }
-    None
+    write!(lines, "it has too many");
 }
 
 /// Whether a member of an ask is of its form.
-fn is_sound(name: &str, value: Option<&Tree>) -> bool {
-    match value {
-        Some(Tree::Text(text)) => name == "key"
-            || name == "default"
-            || name == "want" && is_kind(text.as_str()),
-        Some(Tree::Object(_)) => name == "context" || name == "default",
-        Some(Tree::Whole(moment)) => name == "default"
-            || name == "moment" && *moment >= 0 && *moment <= LATEST_MOMENT,
-        Some(_) => name == "default",
-        None => false,
-    }
-}
-
-fn is_kind(word: &str) -> bool {
-    matches!(word, "bool" | "text" | "whole" | "object")
+fn is_sound(name: &str, value: &Tree) -> bool {
+    name == "default"
+        || match value {
+            Tree::Text(text) => name == "key"
+                || name == "want" && Kind::named(text.as_str()).is_some(),
+            Tree::Object(_) => name == "context",
+            Tree::Whole(moment) => name == "moment"
+                && 0 <= *moment
+                && *moment <= LATEST_MOMENT as i64,
+            _ => false,
+        }
 }
 
 /// Of asks that have a member that is not read: how many have one, and the first such member.
 pub fn of_unread_asks(alloc: Global, path: &str, tree: &Tree) -> Result<String, AllocError>
     ensures names { IfOk result (λ s. Names path.now (string_bytes s)) }
 {
+    let asks = tree.as_list().unwrap_or(&[]);
+    let unread = asks
+        .iter()
+        .filter(|ask| Reader::Ask.unread(ask).is_some())
+        .count();
+    let unread = Count(unread as u128, "ask");
     let mut lines = Lines::new(alloc);
-    if let Tree::List(asks) = tree {
-        put_unread(&mut lines, asks.as_slice());
+    write!(lines, ": {unread} with a member that is not read\n");
+    for (place, ask) in asks.iter().enumerate() {
+        if let Some(name) = Reader::Ask.unread(ask) {
+            let number = place.saturating_add(1);
+            write!(lines, "  {} in ask {number}", lines.name(name));
+            put_meant(&mut lines, name, Reader::Ask);
+            break;
+        }
     }
     lines.headed(Opening::Note, path)
-}
-
-fn put_unread(lines: &mut Lines, asks: &[Tree]) {
-    lines.put(": ");
-    put_count(lines, unread_asks(asks), "ask");
-    lines.put(" with a member that is not read\n");
-    for i in 0..asks.len() {
-        if let Some(name) = Reader::Ask.unread(&asks[i]) {
-            put_unread_member(lines, i.saturating_add(1), name);
-            return;
-        }
-    }
-}
-
-/// How many asks have a member that is not read.
-fn unread_asks(asks: &[Tree]) -> u128 {
-    let mut count: u128 = 0;
-    for ask in asks {
-        if Reader::Ask.unread(ask).is_some() {
-            count = count.saturating_add(1);
-        }
-    }
-    count
-}
-
-/// The first member that is not read of the ask of a number, and the one that may be meant.
-fn put_unread_member(lines: &mut Lines, number: usize, name: &str) {
-    lines.put("  ");
-    lines.put_name(name);
-    lines.put(" in ask ");
-    lines.put_shown(&number);
-    if let Some(meant) = Reader::Ask.meant(name) {
-        lines.put("; perhaps ");
-        lines.put_name(meant);
-        lines.put(" is meant");
-    }
-    lines.put("\n");
 }
 
 /// Of asks that were read and not driven, by the name of the fault.
@@ -145,17 +96,15 @@ pub fn of_workers(alloc: Global, workers: usize, fault: &str) -> Result<String, 
 {
     let mut lines = Lines::new(alloc);
     if workers == 0 || workers > SEATS {
-        lines.put(" is ");
-        lines.put_shown(&workers);
-        lines.put(
-            ", and 1 to 64 threads can answer the asks\n  as many as there are processors serve best\n",
+        write!(
+            lines,
+            " is {workers}, and 1 to 64 threads can answer the asks\n  as many as there are processors serve best\n",
         );
     } else {
-        lines.put_all(&[
-            " drove no asks: ",
-            fault,
-            "\n  docs/REFUSALS.md, part Asks, tells what to do\n",
-        ]);
+        write!(
+            lines,
+            " drove no asks: {fault}\n  docs/REFUSALS.md, part Asks, tells what to do\n",
+        );
     }
     lines.behind_word("WORKERS")
 }
@@ -177,17 +126,16 @@ pub fn of_driven(alloc: Global, path: &str, drive: Drive<'_>) -> Result<String, 
     ensures names { IfOk result (λ s. Names path.now (string_bytes s)) }
 {
     let mut lines = Lines::new(alloc);
-    lines.put(": ");
     put_endings(&mut lines, drive.endings);
-    lines.put("\n  they reached ");
-    put_count(&mut lines, drive.reached, "input");
-    lines.put(", ");
-    lines.put_shown(&drive.has.saturating_sub(drive.had));
-    lines.put(" of them new; the book has ");
-    lines.put_shown(&drive.has);
-    lines.put("\n");
+    write!(
+        lines,
+        "\n  they reached {}, {} of them new; the book has {}\n",
+        Count(drive.reached, "input"),
+        drive.has.saturating_sub(drive.had),
+        drive.has,
+    );
     if drive.reached == 0 {
-        lines.put(NOTHING);
+        write!(lines, "{NOTHING}");
     } else {
         put_sharing(&mut lines, drive);
     }
@@ -197,24 +145,16 @@ pub fn of_driven(alloc: Global, path: &str, drive: Drive<'_>) -> Result<String, 
 /// That many asks matched a targeting for each input that they reached, where they did: so it is where the contexts lack what
 /// the bucketing expression reads.
 fn put_sharing(lines: &mut Lines, drive: Drive<'_>) {
-    let asks = matched(drive.endings) as u128;
-    if drive.reached > 0 && asks / MANY >= drive.reached {
-        lines.put("  there are ");
-        lines.put_shown(&(asks / drive.reached));
-        lines.put(
-            " asks for each input: the same users asked again, or every context lacks what the bucketing expression reads\n",
-        );
-    }
-}
-
-/// How many asks ended with what a targeting gave.
-fn matched(endings: &[(&'static str, usize)]) -> usize {
-    for (word, count) in endings {
-        if *word == "TARGETING_MATCH" {
-            return *count;
+    for (word, count) in drive.endings {
+        let asks = *count as u128;
+        if *word == "TARGETING_MATCH" && drive.reached > 0 && asks / MANY >= drive.reached {
+            write!(
+                lines,
+                "  there are {} asks for each input: the same users asked again, or every context lacks what the bucketing expression reads\n",
+                asks / drive.reached,
+            );
         }
     }
-    0
 }
 
 /// Of asks that were driven and reached no input, where the book is left as it was.
@@ -226,10 +166,8 @@ pub fn of_unrecorded_asks(
     ensures names { IfOk result (λ s. Names path.now (string_bytes s)) }
 {
     let mut lines = Lines::new(alloc);
-    lines.put(": ");
     put_endings(&mut lines, endings);
-    lines.put("\n");
-    lines.put(NOTHING);
+    write!(lines, "\n{NOTHING}");
     lines.headed(Opening::Note, path)
 }
 
@@ -239,20 +177,22 @@ fn put_endings(lines: &mut Lines, endings: &[(&'static str, usize)]) {
     for (_, count) in endings {
         asks = asks.saturating_add(*count as u128);
     }
-    put_count(lines, asks, "ask");
+    write!(lines, ": {}", Count(asks, "ask"));
     for (word, count) in endings {
         if *count > 0 {
-            lines.put_all(&[", ", word, " "]);
-            lines.put_shown(count);
+            write!(lines, ", {word} {count}");
         }
     }
 }
 
 /// A number of things.
-fn put_count(lines: &mut Lines, count: u128, thing: &str) {
-    lines.put_shown(&count);
-    lines.put_all(&[" ", thing]);
-    if count != 1 {
-        lines.put("s");
+#[derive(Clone, Copy)]
+struct Count(u128, &'static str);
+
+impl fmt::Display for Count {
+    fn fmt<W: fmt::Write>(&self, f: &mut fmt::Formatter<W>) -> fmt::Result {
+        let Count(count, thing) = self;
+        let ending = if *count == 1 { "" } else { "s" };
+        write!(f, "{count} {thing}{ending}")
     }
 }

@@ -4,8 +4,11 @@ ghost use Rattle.flagops_remarks.specs.Named.{Names};
 
 use crate::ends::Ends;
 use crate::lines::{Lines, Opening};
+use crate::parts::Name;
+use crate::quoting::quoted;
 use book_core::{BookFileFault, Page};
 use std::alloc::{AllocError, Global};
+use std::fmt::Display;
 
 /// The most pages that are listed.
 const MOST_PAGES: usize = 10;
@@ -19,46 +22,39 @@ pub fn of_book(
 ) -> Result<String, AllocError>
     ensures names { IfOk result (λ s. Names path.now (string_bytes s)) }
 {
+    let is_cut = match fault {
+        BookFileFault::Line(line) => ends.is_cut_at(line),
+        _ => false,
+    };
     let mut lines = Lines::new(alloc);
     match ends {
-        Ends::Empty => lines.put(" is empty, and no book"),
-        Ends::Marked => lines.put(
-            " begins with a byte order mark, and is no book\n  save it as UTF-8 without the mark",
+        Ends::Empty => write!(lines, " is empty, and no book\n"),
+        Ends::Marked => write!(
+            lines,
+            " begins with a byte order mark, and is no book\n  save it as UTF-8 without the mark\n",
         ),
-        _ if is_cut(ends, fault) => {
-            lines.put(" is no book: its last line has no line feed (");
-            lines.put_shown(&fault);
-            lines.put(
-                ")\n  was it cut off? each line of a book has its line end, the last one too",
-            );
-        }
-        _ => {
-            lines.put(" is no book: ");
-            lines.put_shown(&fault);
-            lines.put_all(&["\n  ", taken(fault)]);
-        }
+        _ => put_misread(&mut lines, "book", is_cut, fault, taken(fault)),
     }
-    lines.put("\n");
     lines.headed(Opening::Error, path)
 }
 
-/// Whether the line at fault is the last one, which has no line feed.
-fn is_cut(ends: Ends, fault: BookFileFault) -> bool {
-    match fault {
-        BookFileFault::Line(line) => ends.is_cut_at(u128::from(line)),
-        _ => false,
+/// The fault of a file with lines, and what is taken in place of it; or that the line at fault is the last one, which has no
+/// line feed.
+pub(crate) fn put_misread<F: Display + Drop>(
+    lines: &mut Lines,
+    what: &str,
+    is_cut: bool,
+    fault: F,
+    taken: &str,
+) {
+    if is_cut {
+        write!(
+            lines,
+            " is no {what}: its last line has no line feed ({fault})\n  was it cut off? each line of a {what} has its line end, the last one too\n",
+        );
+    } else {
+        write!(lines, " is no {what}: {fault}\n  {taken}\n");
     }
-}
-
-/// Of a path at which a book is to be written, and whose file is none.
-pub fn of_other_file(alloc: Global, path: &str, fault: BookFileFault) -> Result<String, AllocError>
-    ensures names { IfOk result (λ s. Names path.now (string_bytes s)) }
-{
-    let mut lines = Lines::new(alloc);
-    lines.put(" is a file that is no book, and stays as it is: ");
-    lines.put_shown(&fault);
-    lines.put("\n  give the path of a book, of an empty file, or of no file yet\n");
-    lines.headed(Opening::Error, path)
 }
 
 /// What is taken in place of a fault.
@@ -68,8 +64,9 @@ fn taken(fault: BookFileFault) -> &'static str {
         BookFileFault::Line(_) => {
             "a page is {\"by\":null,\"flag\":\"KEY\",\"site\":0}, an input a text on a line, each with its line end"
         }
-        BookFileFault::Order(_) =>
-            "pages are sorted by flag, site and by, inputs by their bytes, each once",
+        BookFileFault::Order(_) => {
+            "pages are sorted by flag, site and by, inputs by their bytes, each once"
+        }
         BookFileFault::InputTooLong(_) | BookFileFault::PageFull(_) => {
             "leave inputs out, or make the book by the program"
         }
@@ -77,12 +74,25 @@ fn taken(fault: BookFileFault) -> &'static str {
     }
 }
 
+/// Of a path at which a book is to be written, and whose file is none.
+pub fn of_other_file(alloc: Global, path: &str, fault: BookFileFault) -> Result<String, AllocError>
+    ensures names { IfOk result (λ s. Names path.now (string_bytes s)) }
+{
+    let mut lines = Lines::new(alloc);
+    write!(
+        lines,
+        " is a file that is no book, and stays as it is: {fault}\n  give the path of a book, of an empty file, or of no file yet\n",
+    );
+    lines.headed(Opening::Error, path)
+}
+
 /// Of a book whose inputs are too many beside those of another.
 pub fn of_full_book(alloc: Global, path: &str) -> Result<String, AllocError>
     ensures names { IfOk result (λ s. Names path.now (string_bytes s)) }
 {
     let mut lines = Lines::new(alloc);
-    lines.put(
+    write!(
+        lines,
         " cannot take the other inputs: a page would have more than 1,000,000\n  begin another book, or plan on a part of the users\n",
     );
     lines.headed(Opening::Error, path)
@@ -97,13 +107,13 @@ pub fn of_unrecorded(
 ) -> Result<String, AllocError>
     ensures names { IfOk result (λ s. Names path.now (string_bytes s)) }
 {
+    let page = whole_page(alloc, page)?;
     let mut lines = Lines::new(alloc);
-    lines.put(" has no input on the page of the request, so no recorded user counts:\n  flag ");
-    lines.put_name(page.flag.as_str());
-    lines.put(", ");
-    put_page(&mut lines, page);
-    lines.put("\n");
-    put_others(&mut lines, others);
+    write!(
+        lines,
+        " has no input on the page of the request, so no recorded user counts:\n  {page}\n",
+    );
+    put_others(&mut lines, others)?;
     lines.headed(Opening::Note, path)
 }
 
@@ -116,69 +126,59 @@ pub fn of_foreign(
 ) -> Result<String, AllocError>
     ensures names { IfOk result (λ s. Names path.now (string_bytes s)) }
 {
+    let key = page.flag.as_str();
     let mut lines = Lines::new(alloc);
-    lines.put(" has inputs on the page of the request that are none of its flag: ");
-    lines.put_shown(&count_lacking(inputs, page.flag.as_str()));
-    lines.put(" of ");
-    lines.put_shown(&inputs.len());
-    lines.put(" do not begin with its key\n  flag ");
-    lines.put_name(page.flag.as_str());
-    lines.put(", ");
-    put_page(&mut lines, page);
-    if let Some(first) = first_lacking(inputs, page.flag.as_str()) {
-        lines.put("; the first is ");
-        lines.put_name(first);
+    write!(
+        lines,
+        " has inputs on the page of the request that are none of its flag: {} of {} do not begin with its key\n  {}",
+        inputs
+            .iter()
+            .filter(|input| is_foreign(input.as_str(), key))
+            .count(),
+        inputs.len(),
+        whole_page(alloc, page)?,
+    );
+    if let Some(first) = inputs.iter().find(|input| is_foreign(input.as_str(), key)) {
+        write!(lines, "; the first is {}", lines.name(first.as_str()));
     }
-    lines.put(
+    write!(
+        lines,
         "\n  where \"by\" is null an input is the flag's key with the targeting key behind it\n",
     );
     lines.headed(Opening::Note, path)
 }
 
-/// How many of the inputs do not begin with a key.
-fn count_lacking(inputs: &[String], key: &str) -> usize {
-    let mut count: usize = 0;
-    for input in inputs {
-        if !input.as_bytes().starts_with(key.as_bytes()) {
-            count = count.saturating_add(1);
-        }
-    }
-    count
-}
-
-/// The first that does not.
-fn first_lacking<'a>(inputs: &'a [String], key: &str) -> Option<&'a str> {
-    for input in inputs {
-        if !input.as_bytes().starts_with(key.as_bytes()) {
-            return Some(input.as_str());
-        }
-    }
-    None
+/// Whether an input does not begin with a key.
+fn is_foreign(input: &str, key: &str) -> bool {
+    !input.as_bytes().starts_with(key.as_bytes())
 }
 
 /// The pages of the same flag, or that there is none.
-fn put_others(lines: &mut Lines, others: &[&Page]) {
-    for i in 0..others.len() {
-        if i == MOST_PAGES {
-            lines.put("  and more pages of this flag\n");
-            return;
-        }
-        lines.put("  the book has of this flag: ");
-        put_page(lines, others[i]);
-        lines.put("\n");
+fn put_others(lines: &mut Lines, others: &[&Page]) -> Result<(), AllocError> {
+    for page in others.iter().take(MOST_PAGES) {
+        let page = spelled(lines.alloc, page)?;
+        write!(lines, "  the book has of this flag: {page}\n");
     }
     if others.is_empty() {
-        lines.put("  the book has no page of this flag\n");
+        write!(lines, "  the book has no page of this flag\n");
+    } else if others.len() > MOST_PAGES {
+        write!(lines, "  and more pages of this flag\n");
     }
+    Ok(())
+}
+
+/// A page with its flag.
+pub(crate) fn whole_page(alloc: Global, page: &Page) -> Result<String, AllocError> {
+    let name = page.flag.as_str();
+    let rest = spelled(alloc, page)?;
+    format!(in alloc; "flag {}, {rest}", Name { alloc, name })
 }
 
 /// A page as a book spells it, without its flag.
-pub(crate) fn put_page(lines: &mut Lines, page: &Page) {
-    lines.put("\"site\":");
-    lines.put_shown(&page.site);
-    lines.put(", \"by\":");
-    match &page.by {
-        Some(by) => lines.put_text(by.as_str()),
-        None => lines.put("null"),
-    }
+fn spelled(alloc: Global, page: &Page) -> Result<String, AllocError> {
+    let by = match &page.by {
+        Some(by) => quoted(alloc, by.as_str())?,
+        None => String::from_str(alloc, "null")?,
+    };
+    format!(in alloc; "\"site\":{}, \"by\":{by}", page.site)
 }

@@ -5,11 +5,10 @@ ghost use Rattle.flag_text.specs.Readers.{as_object, member_of};
 ghost use Rattle.flag_text.specs.View.{members_view, view};
 ghost use Rattle.flagops_remarks.specs.Broken.{BrokenLines, IsBrokenLine, TellsBroken, rule_member, rule_name};
 
-use crate::lines::{Lines, step};
+use crate::lines::Lines;
+use crate::quoting::quoted_step;
 use crate::referred::Referred;
-use crate::search::{Sought, Wrong, first_wrong};
-use crate::way::Way;
-use crate::wrongs::{put_wrong, unplaced};
+use crate::search::Sought;
 use flag_defs::{Breach, breaches};
 use flag_text::{Tree, read_doc};
 use limits::TEXT_BYTES;
@@ -25,8 +24,7 @@ pub fn of_breaches(alloc: Global, bytes: &[u8]) -> Result<String, AllocError>
         return Err(AllocError);
     };
     let found = breaches(alloc, &document)?;
-    let evaluators = members_in(&document, "$evaluators");
-    let mut causes = Causes::find(alloc, evaluators, found.as_slice())?;
+    let mut causes = Causes::new(alloc, members_in(&document, "$evaluators"));
     let flags = members_in(&document, "flags");
     lines_of(alloc, flags, &mut causes, found.as_slice())
 }
@@ -41,34 +39,13 @@ struct Causes<'a> {
 }
 
 impl<'a> Causes<'a> {
-    /// Looks through the evaluators for what breaks one of the flags.
-    fn find(
-        alloc: Global,
-        evaluators: &'a [(String, Tree)],
-        found: &[Option<Breach>],
-    ) -> Result<Causes<'a>, AllocError> {
-        let unknown = where_broken(evaluators, found, Breach::Reference);
-        let parts = where_broken(evaluators, found, Breach::TargetingPart);
-        let operations = where_broken(evaluators, found, Breach::Expression);
-        Ok(Causes {
-            numbers: Referred::find(alloc, &[], Sought::NotWhole)?,
-            unknown: Referred::find(alloc, unknown, Sought::Unknown(evaluators))?,
-            parts: Referred::find(alloc, parts, Sought::NotWhole)?,
-            operations: Referred::find(alloc, operations, Sought::Operation)?,
-        })
-    }
-}
-
-/// The evaluators where a flag breaks this rule, and none where they need not be looked through.
-fn where_broken<'a>(
-    evaluators: &'a [(String, Tree)],
-    found: &[Option<Breach>],
-    breach: Breach,
-) -> &'a [(String, Tree)] {
-    if found.contains(&Some(breach)) {
-        evaluators
-    } else {
-        &[]
+    fn new(alloc: Global, evaluators: &'a [(String, Tree)]) -> Causes<'a> {
+        Causes {
+            numbers: Referred::new(alloc, &[], Sought::NotWhole),
+            unknown: Referred::new(alloc, evaluators, Sought::Unknown(evaluators)),
+            parts: Referred::new(alloc, evaluators, Sought::NotWhole),
+            operations: Referred::new(alloc, evaluators, Sought::Operation),
+        }
     }
 }
 
@@ -105,8 +82,8 @@ fn line(
     ensures { IfOk result (λ s. IsBrokenLine key.now breach (string_bytes s)) }
 {
     let mut lines = Lines::new(alloc);
-    put_breach(&mut lines, definition, causes, breach);
-    let flag = step(alloc, key)?;
+    put_breach(&mut lines, definition, causes, breach)?;
+    let flag = quoted_step(alloc, key)?;
     let (member, rule) = (rule_member(breach), rule_name(breach));
     let lines = lines.finish()?;
     format!(in alloc; "broken: flags{flag}{member}{lines} ({rule})\n")
@@ -162,63 +139,50 @@ fn members_in<'a>(tree: &'a Tree, name: &str) -> &'a [(String, Tree)]
 }
 
 /// What is wrong by the rule that a definition breaks, and where in the member that it is about.
-fn put_breach(lines: &mut Lines, definition: &Tree, causes: &mut Causes<'_>, breach: Breach) {
+fn put_breach(
+    lines: &mut Lines,
+    definition: &Tree,
+    causes: &mut Causes<'_>,
+    breach: Breach,
+) -> Result<(), AllocError> {
+    let value = match rule_member(breach).strip_prefix(".") {
+        Some(name) => definition.member(name),
+        None => Some(definition),
+    };
     match breach {
-        Breach::Definition => put_instead(lines, definition, "no object"),
-        Breach::State => put_member(
-            lines,
-            definition,
-            "state",
-            "neither \"ENABLED\" nor \"DISABLED\"",
-        ),
-        Breach::Variants => put_variants(lines, definition),
+        Breach::Definition => put_other(lines, value, "no object"),
+        Breach::State => put_other(lines, value, "neither \"ENABLED\" nor \"DISABLED\""),
+        Breach::Variants => match value {
+            Some(Tree::Object(members)) => {
+                write!(lines, " has {} members, not 1 to 64", members.len());
+            }
+            _ => put_other(lines, value, "no object of 1 to 64 variants"),
+        },
         Breach::Kinds => put_kinds(lines, members_in(definition, "variants")),
-        Breach::VariantNumber => put_first(lines, definition, "variants", &mut causes.numbers),
-        Breach::VariantLevels => lines.put(" nests deeper than 100 levels"),
-        Breach::DefaultVariant => put_default_variant(lines, definition),
-        Breach::Targeting => put_member(
+        Breach::VariantNumber => causes.numbers.put(lines, value)?,
+        Breach::VariantLevels => write!(lines, " nests deeper than 100 levels"),
+        Breach::DefaultVariant => {
+            let variants = lines.listed(members_in(definition, "variants"));
+            let what = format!(in lines.alloc; "no variant; there are {variants}")?;
+            put_other(lines, value, what.as_str());
+        }
+        Breach::Targeting => put_other(lines, value, "no object, or refers to none"),
+        Breach::Reference => causes.unknown.put(lines, value)?,
+        Breach::TargetingSize => write!(
             lines,
-            definition,
-            "targeting",
-            "no object, or refers to none",
-        ),
-        Breach::Reference => put_first(lines, definition, "targeting", &mut causes.unknown),
-        Breach::TargetingSize => lines.put(
             " has more than 10,000 nodes or 100 levels, with its references replaced",
         ),
-        Breach::TargetingPart => put_first(lines, definition, "targeting", &mut causes.parts),
-        Breach::Expression => { put_first(lines, definition, "targeting", &mut causes.operations) }
+        Breach::TargetingPart => causes.parts.put(lines, value)?,
+        Breach::Expression => causes.operations.put(lines, value)?,
     }
+    Ok(())
 }
 
 /// A member that is not what it has to be.
-fn put_member(lines: &mut Lines, definition: &Tree, name: &str, what: &str) {
-    match definition.member(name) {
-        Some(value) => put_instead(lines, value, what),
-        None => lines.put(" is missing"),
-    }
-}
-
-fn put_instead(lines: &mut Lines, value: &Tree, what: &str) {
-    lines.put(" is ");
-    lines.put_value(value);
-    lines.put_all(&[", ", what]);
-}
-
-/// What is no object of 1 to 64 members.
-fn put_variants(lines: &mut Lines, definition: &Tree) {
-    match definition.member("variants") {
-        Some(Tree::Object(members)) => {
-            lines.put(" has ");
-            lines.put_shown(&members.len());
-            lines.put(" members, not 1 to 64");
-        }
-        _ => put_member(
-            lines,
-            definition,
-            "variants",
-            "no object of 1 to 64 variants",
-        ),
+fn put_other(lines: &mut Lines, value: Option<&Tree>, what: &str) {
+    match value {
+        Some(value) => write!(lines, " is {}, {what}", lines.value(value)),
+        None => write!(lines, " is missing"),
     }
 }
 
@@ -226,36 +190,24 @@ fn put_variants(lines: &mut Lines, definition: &Tree) {
 fn put_kinds(lines: &mut Lines, variants: &[(String, Tree)]) {
     let mut first: Option<&'static str> = None;
     for (name, value) in variants {
+        let (step, shown) = (lines.step(name.as_str()), lines.value(value));
         match (kind(value), first) {
             (Some(kind), None) => first = Some(kind),
             (Some(kind), Some(other)) if kind == other => {}
-            (kind, other) => {
-                lines.put_step(name.as_str());
-                put_other_kind(lines, value, kind, other);
-                return;
+            (Some(kind), Some(other)) => return write!(
+                lines,
+                "{step} is {kind} and the first variant {other}; all are of one kind",
+            ),
+            (None, _) if matches!(value, Tree::Other) => {
+                return write!(lines, "{step} is {shown}");
             }
+            (None, _) => return write!(
+                lines,
+                "{step} is {shown}, no boolean, text, whole number or object",
+            ),
         }
     }
-    lines.put(" are not of one kind");
-}
-
-/// A variant that is not of the kind of the first.
-fn put_other_kind(lines: &mut Lines, value: &Tree, kind: Option<&str>, first: Option<&str>) {
-    lines.put(" is ");
-    match (kind, first) {
-        (Some(kind), Some(first)) => lines.put_all(&[
-            kind,
-            " and the first variant ",
-            first,
-            "; all are of one kind",
-        ]),
-        _ => {
-            lines.put_value(value);
-            if !matches!(value, Tree::Other) {
-                lines.put(", no boolean, text, whole number or object");
-            }
-        }
-    }
+    write!(lines, " are not of one kind");
 }
 
 fn kind(tree: &Tree) -> Option<&'static str> {
@@ -265,41 +217,5 @@ fn kind(tree: &Tree) -> Option<&'static str> {
         Tree::Whole(_) => Some("a whole number"),
         Tree::Object(_) => Some("an object"),
         Tree::Null | Tree::Other | Tree::List(_) => None,
-    }
-}
-
-fn put_default_variant(lines: &mut Lines, definition: &Tree) {
-    lines.put(" is ");
-    if let Some(value) = definition.member("defaultVariant") {
-        lines.put_value(value);
-    }
-    lines.put(", no variant; there are ");
-    lines.put_members(members_in(definition, "variants"));
-}
-
-/// The first place at which something is wrong in a member, or in the evaluators that it refers to.
-fn put_first(lines: &mut Lines, definition: &Tree, name: &str, referred: &mut Referred<'_>) {
-    if let Some(tree) = definition.member(name) {
-        let mut way = Way::new();
-        if let Some(wrong) = first_wrong(tree, referred.sought, &mut way) {
-            way.put(lines, usize::MAX);
-            put_wrong(lines, wrong, "", referred.evaluators);
-            return;
-        }
-        if referred.put(lines, tree) {
-            return;
-        }
-        put_reference(lines, tree);
-    }
-    lines.put_all(&[" has ", unplaced(referred.sought)]);
-}
-
-/// The first reference of a tree, where there is one: what is wrong is then in what the tree refers to.
-fn put_reference(lines: &mut Lines, tree: &Tree) {
-    let mut way = Way::new();
-    if let Some(Wrong::Reference(name)) = first_wrong(tree, Sought::Reference, &mut way) {
-        lines.put(", or what it refers to (first ");
-        lines.put_name(name);
-        lines.put("),");
     }
 }

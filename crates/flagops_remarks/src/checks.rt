@@ -2,9 +2,8 @@
 ghost use Rattle.std.specs.Prelude.{IfOk, string_bytes};
 ghost use Rattle.flagops_remarks.specs.Named.{Names};
 
-use crate::explained::points_of;
 use crate::lines::{Lines, Opening};
-use crate::sites::Place;
+use crate::place::Place;
 use bucket_core::{Rule, total_weight};
 use flag_defs::Flags;
 use plan_text::Planned;
@@ -24,80 +23,77 @@ pub fn of_check(
     ensures names { IfOk result (λ s. Names path.now (string_bytes s)) }
 {
     let mut lines = Lines::new(alloc);
-    lines.put(" does not answer this request:\n  ");
+    write!(lines, " does not answer this request:\n  ");
     match planned {
         Planned::Emit(rule, certificate) => match Request::read(alloc, request) {
-            Ok(asked) => put_rule_fault(&mut lines, flags, &asked, rule, certificate, fault),
+            Ok(asked) => {
+                let place = Place::of(alloc, flags, &asked);
+                put_rule_fault(&mut lines, place, &asked, rule, certificate, fault)?;
+            }
             Err(_) => put_numbers_fault(&mut lines, certificate.cost, fault),
         },
-        Planned::NoneExists(cut) => {
-            lines.put("its set of variants (");
-            lines.put_names(cut.names.as_slice());
-            lines.put(
-                ") does not show that no rule fits\n  the rule of the site or the request is not the one that it was planned on",
-            );
-        }
+        Planned::NoneExists(cut) => write!(
+            lines,
+            "its set of variants ({}) does not show that no rule fits\n  the rule of the site or the request is not the one that it was planned on",
+            lines.listed(cut.names.as_slice()),
+        ),
     }
-    lines.put("\n  plan again with this document, request and book\n");
+    write!(
+        lines,
+        "\n  plan again with this document, request and book\n",
+    );
     lines.headed(Opening::Plan, path)
 }
 
-/// What is wrong with a rule, or with the numbers beside it.
+/// What is wrong with a rule, or with the numbers beside it; and whether the rule of the site shows that it is not the one that
+/// was planned on. What is of the rule alone, whatever the numbers beside it, `plan` prints never.
 fn put_rule_fault(
     lines: &mut Lines,
-    flags: &Flags,
+    place: Place<'_>,
     asked: &Request,
     rule: &Rule,
     certificate: &Certificate,
     fault: &CheckFault,
-) {
-    let place = Place::of(flags, asked);
+) -> Result<(), AllocError> {
+    let variants = place.variants()?;
+    let entries = place.entries()?;
     match fault {
-        CheckFault::Weight => put_weights(lines, place, rule),
-        CheckFault::Totals => put_totals(lines, place, asked, rule),
-        CheckFault::Forbidden(point) => put_forbidden(lines, place, rule, *point),
+        CheckFault::Weight => write!(
+            lines,
+            "its rule has {} points and the rule of the site {} (with --refine M: M times as many)",
+            rule.total(),
+            total_weight(entries.as_slice()),
+        ),
+        CheckFault::Totals => put_totals(lines, asked, variants.as_slice(), rule)?,
+        CheckFault::Forbidden(point) => put_forbidden(lines, entries.as_slice(), rule, *point),
         _ => put_numbers_fault(lines, certificate.cost, fault),
     }
-    if !put_moved(lines, place, rule, certificate) && is_of_the_rule(fault) {
-        lines.put(
+    let groups = certificate.alpha.as_slice();
+    if entries.as_slice() == rule.entries() {
+        write!(
+            lines,
+            "\n  the site has the rule of this plan already: the document may have moved on",
+        );
+    } else if let Some(name) = moved(variants.as_slice(), entries.as_slice(), groups) {
+        write!(
+            lines,
+            "\n  the document has moved on: {} has points in the rule of the site or in the one that was planned on, and not in both",
+            lines.name(name),
+        );
+    } else if matches!(
+        fault,
+        CheckFault::Weight | CheckFault::Totals | CheckFault::Forbidden(_)
+    ) {
+        write!(
+            lines,
             "\n  what 'plan' prints fits its request: the document or the request has moved on since",
         );
     }
+    Ok(())
 }
 
-/// Whether it is of the rule alone that is planned, whatever the numbers beside it: `plan` prints none such.
-fn is_of_the_rule(fault: &CheckFault) -> bool {
-    matches!(
-        fault,
-        CheckFault::Weight | CheckFault::Totals | CheckFault::Forbidden(_)
-    )
-}
-
-/// That the rule of the site is not the one that was planned on, and whether that shows: it is the rule of the plan, or it has
-/// other variants than the groups of the plan.
-fn put_moved(lines: &mut Lines, place: Place<'_>, rule: &Rule, certificate: &Certificate) -> bool {
-    let entries = place.entries(lines);
-    if entries.as_slice() == rule.entries() {
-        lines.put("\n  the site has the rule of this plan already: the document may have moved on");
-        return true;
-    }
-    let variants = place.variants(lines);
-    let Some(name) = moved(
-        variants.as_slice(),
-        entries.as_slice(),
-        certificate.alpha.as_slice(),
-    ) else {
-        return false;
-    };
-    lines.put("\n  the document has moved on: ");
-    lines.put_name(name);
-    lines.put(
-        " has points in the rule of the site or in the one that was planned on, and not in both",
-    );
-    true
-}
-
-/// The first variant that has points in the entries and is of no group, or the other way round.
+/// The first variant that has points in the entries and is of no group, or the other way round: so it is where the rule of the
+/// site has other variants than the groups of the plan.
 fn moved<'a>(
     variants: &'a [String],
     entries: &[(String, u64)],
@@ -105,76 +101,64 @@ fn moved<'a>(
 ) -> Option<&'a str> {
     for variant in variants {
         let name = variant.as_str();
-        if (points_of(entries, 1, name) > 0) != has_group(groups, name) {
+        let has_points = entries
+            .iter()
+            .any(|(entry, weight)| *weight > 0 && entry.as_str() == name);
+        if has_points != groups.iter().any(|(group, _, _)| group.as_str() == name) {
             return Some(name);
         }
     }
     None
 }
 
-fn has_group(groups: &[(String, u32, i64)], name: &str) -> bool {
-    for (group, _, _) in groups {
-        if group.as_str() == name {
-            return true;
-        }
-    }
-    false
-}
-
-fn put_weights(lines: &mut Lines, place: Place<'_>, rule: &Rule) {
-    let old = place.total(lines);
-    lines.put("its rule has ");
-    lines.put_shown(&rule.total());
-    lines.put(" points and the rule of the site ");
-    lines.put_shown(&old);
-    lines.put(" (with --refine M: M times as many)");
-}
-
 /// The first variant with fewer or more points than its limits.
-fn put_totals(lines: &mut Lines, place: Place<'_>, asked: &Request, rule: &Rule) {
-    let names = place.variants(lines);
-    match asked.totals(lines.alloc, names.as_slice()) {
+fn put_totals(
+    lines: &mut Lines,
+    asked: &Request,
+    variants: &[String],
+    rule: &Rule,
+) -> Result<(), AllocError> {
+    match asked.totals(lines.alloc, variants) {
         Ok(totals) => put_passed_limit(lines, totals.entries(), rule),
-        Err(PriceFault::WantOfMemory) => lines.fall_short(AllocError),
-        Err(_) => lines.put("the request names what is no variant"),
+        Err(PriceFault::WantOfMemory) => return Err(AllocError),
+        Err(_) => write!(lines, "the request names what is no variant"),
     }
+    Ok(())
 }
 
 fn put_passed_limit(lines: &mut Lines, limits: &[Limit], rule: &Rule) {
     for limit in limits {
-        let points = rule.total_of(limit.name.as_str());
-        if points < u64::from(limit.low) || points > u64::from(limit.high) {
-            lines.put_name(limit.name.as_str());
-            lines.put(" has ");
-            lines.put_shown(&points);
-            lines.put(" points in its rule, and the request takes ");
-            lines.put_shown(&limit.low);
-            if limit.low != limit.high {
-                lines.put(" to ");
-                lines.put_shown(&limit.high);
+        let (name, low, high) = (limit.name.as_str(), limit.low, limit.high);
+        let points = rule.total_of(name);
+        if points < u64::from(low) || points > u64::from(high) {
+            write!(
+                lines,
+                "{} has {points} points in its rule, and the request takes {low}",
+                lines.name(name),
+            );
+            if low != high {
+                write!(lines, " to {high}");
             }
             return;
         }
     }
-    lines.put("its rule names what is no variant of the flag");
+    write!(lines, "its rule names what is no variant of the flag");
 }
 
 /// The change at a point.
-fn put_forbidden(lines: &mut Lines, place: Place<'_>, rule: &Rule, point: u32) {
-    let entries = place.entries(lines);
-    let total = total_weight(entries.as_slice());
+fn put_forbidden(lines: &mut Lines, entries: &[(String, u64)], rule: &Rule, point: u32) {
+    let total = total_weight(entries);
     let factor = if total == 0 {
         1
     } else {
         u128::from(rule.total()) / total
     };
-    lines.put("point ");
-    lines.put_shown(&point);
-    lines.put(" changes from ");
-    lines.put_name(name_at(entries.as_slice(), factor, point));
-    lines.put(" to ");
-    lines.put_name(name_at(rule.entries(), 1, point));
-    lines.put(", which the request forbids");
+    write!(
+        lines,
+        "point {point} changes from {} to {}, which the request forbids",
+        lines.name(name_at(entries, factor, point)),
+        lines.name(name_at(rule.entries(), 1, point)),
+    );
 }
 
 /// The name at a point of entries whose weights are taken so many times.
@@ -192,27 +176,21 @@ fn name_at(entries: &[(String, u64)], factor: u128, point: u32) -> &str {
 /// What is wrong with the numbers of a certificate.
 fn put_numbers_fault(lines: &mut Lines, cost: u64, fault: &CheckFault) {
     match fault {
-        CheckFault::Slack(name, count, variant) => {
-            lines.put("its numbers for points of ");
-            lines.put_name(name.as_str());
-            lines.put(" with ");
-            lines.put_shown(count);
-            lines.put(" users and for ");
-            lines.put_name(variant.as_str());
-            lines.put(" sum above that change's cost");
-        }
-        CheckFault::Sum => {
-            lines.put("its numbers do not sum to its cost, ");
-            lines.put_shown(&cost);
-        }
-        CheckFault::Cost => {
-            lines.put("its rule does not cost the recorded users ");
-            lines.put_shown(&cost);
-            lines.put(", as it says");
-        }
-        CheckFault::Groups => lines.put(
+        CheckFault::Slack(name, count, variant) => write!(
+            lines,
+            "its numbers for points of {} with {count} users and for {} sum above that change's cost",
+            lines.name(name.as_str()),
+            lines.name(variant.as_str()),
+        ),
+        CheckFault::Sum => write!(lines, "its numbers do not sum to its cost, {cost}"),
+        CheckFault::Cost => write!(
+            lines,
+            "its rule does not cost the recorded users {cost}, as it says",
+        ),
+        CheckFault::Groups => write!(
+            lines,
             "its numbers are for another book or rule: other groups of points, or other variants\n  the document or the book has moved on since it was planned",
         ),
-        _ => lines.put_shown(fault),
+        _ => write!(lines, "{fault}"),
     }
 }

@@ -1,51 +1,42 @@
 //! Which bucket of a site is not literal, and why: what a plan can't take.
 use crate::lines::Lines;
-use crate::sites::Place;
+use crate::place::Place;
 use flag_text::Tree;
 use logic_ast::{Bucket, Node};
 
 /// Of a site with a bucket that is not literal: the first such bucket, and what is wrong with it.
 pub(crate) fn put_computed(lines: &mut Lines, place: Place<'_>) {
-    place.put(lines);
+    write!(lines, "{place}");
     let found = match place.targeting() {
         Some(targeting) => computed_at(targeting.root(), place.number),
         None => None,
     };
     match found {
-        Some((number, name, weight)) => put_bucket(lines, number, name, weight),
-        None => lines.put(" has a bucket whose name or weight is computed"),
+        Some((number, name, weight)) => {
+            write!(lines, ": bucket {number}");
+            put_bucket(lines, name, weight);
+        }
+        None => write!(lines, " has a bucket whose name or weight is computed"),
     }
-    lines.put(
+    write!(
+        lines,
         "\n  a plan needs literal buckets [name, weight], each weight a whole number from 0 to 2147483647",
     );
 }
 
-/// What is wrong with a bucket, which is counted from 1.
-fn put_bucket(lines: &mut Lines, number: usize, name: &Node, weight: &Node) {
-    lines.put(": bucket ");
-    lines.put_shown(&number);
+/// What is wrong with a bucket.
+fn put_bucket(lines: &mut Lines, name: &Node, weight: &Node) {
     match (name, weight) {
-        (Node::Literal(name), Node::Literal(weight)) => put_literals(lines, name, weight),
-        (Node::Literal(_), _) => lines.put(" has a weight that is computed"),
-        _ => lines.put(" has a name that is computed"),
-    }
-}
-
-/// What is wrong with a bucket of a name and a weight that both stand there.
-fn put_literals(lines: &mut Lines, name: &Tree, weight: &Tree) {
-    match name {
-        Tree::Text(name) => {
-            lines.put(", ");
-            lines.put_name(name.as_str());
+        (Node::Literal(Tree::Text(name)), Node::Literal(weight)) => {
+            write!(lines, ", {}, ", lines.name(name.as_str()));
             match weight {
-                Tree::Whole(weight) => {
-                    lines.put(", weighs ");
-                    lines.put_shown(weight);
-                }
-                _ => lines.put(", has a weight that is no number"),
+                Tree::Whole(weight) => write!(lines, "weighs {weight}"),
+                _ => write!(lines, "has a weight that is no number"),
             }
         }
-        _ => lines.put(" has a name that is no text"),
+        (Node::Literal(_), Node::Literal(_)) => write!(lines, " has a name that is no text"),
+        (Node::Literal(_), _) => write!(lines, " has a weight that is computed"),
+        _ => write!(lines, " has a name that is computed"),
     }
 }
 

@@ -3,11 +3,14 @@ ghost use Rattle.std.specs.Prelude.{◌≢◌, IfOk, string_bytes};
 ghost use Rattle.flagops_remarks.specs.Named.{Names};
 
 use crate::lines::{Lines, Opening};
-use crate::texts::put_not_json;
+use crate::texts::{put_not_json, unless_short};
 use flag_defs::DefFault;
 use flag_text::{Tree, read_doc};
 use limits::{FLAGS, TEXT_BYTES};
 use std::alloc::{AllocError, Global};
+
+/// What a document looks like.
+const LOOK: &str = "{\"flags\":{\"KEY\":{\"state\":\"ENABLED\",\"variants\":{..}}}}";
 
 /// Of the bytes of a file.
 pub fn of_document(
@@ -18,72 +21,64 @@ pub fn of_document(
 ) -> Result<String, AllocError>
     ensures names { fault ≢ DefFault.WantOfMemory → IfOk result (λ s. Names path.now (string_bytes s)) }
 {
-    if fault == DefFault::WantOfMemory {
-        return String::from_str(alloc, "error: out of memory\n");
-    }
     let mut lines = Lines::new(alloc);
     match fault {
-        DefFault::WantOfMemory => {}
-        DefFault::NotJson => put_not_json(&mut lines, bytes),
-        DefFault::NoFlags => put_no_flags(&mut lines, bytes),
-        DefFault::TooLarge => put_too_large(&mut lines, bytes),
+        DefFault::WantOfMemory => return String::from_str(alloc, "error: out of memory\n"),
+        DefFault::NotJson => put_not_json(&mut lines, bytes)?,
+        DefFault::NoFlags => {
+            write!(lines, " is no flag document: ");
+            put_no_flags(&mut lines, bytes)?;
+            write!(lines, "\n  it begins as {LOOK}\n");
+        }
+        DefFault::TooLarge => {
+            write!(lines, " is too large: ");
+            put_too_large(&mut lines, bytes)?;
+            write!(
+                lines,
+                "\n  a document has at most 10,000 flags and 4,194,304 bytes, also as \"flagops apply\" prints it\n",
+            );
+        }
     }
     lines.headed(Opening::Error, path)
 }
 
 /// What stands in the place of the flags.
-fn put_no_flags(lines: &mut Lines, bytes: &[u8]) {
-    lines.put(" is no flag document: ");
-    match read_doc(lines.alloc, bytes, TEXT_BYTES) {
-        Ok(document) => put_other(lines, &document),
-        Err(_) => lines.put("it has no \"flags\""),
-    }
-    lines.put("\n  it begins as {\"flags\":{\"KEY\":{\"state\":\"ENABLED\",\"variants\":{..}}}}\n");
-}
-
-fn put_other(lines: &mut Lines, document: &Tree) {
-    let (name, other) = match (document, document.member("flags")) {
-        (Tree::Object(_), Some(flags)) => ("\"flags\"", flags),
-        (Tree::Object(_), None) => {
-            lines.put("it has no \"flags\"");
-            return;
-        }
-        (other, _) => ("it", other),
+fn put_no_flags(lines: &mut Lines, bytes: &[u8]) -> Result<(), AllocError> {
+    let document = unless_short(read_doc(lines.alloc, bytes, TEXT_BYTES))?;
+    let Some(document) = document else {
+        write!(lines, "it has no \"flags\"");
+        return Ok(());
     };
-    lines.put_all(&[name, " is "]);
-    lines.put_value(other);
-    lines.put(", no object");
+    match (&document, document.member("flags")) {
+        (Tree::Object(_), Some(flags)) => {
+            write!(lines, "\"flags\" is {}, no object", lines.value(flags));
+        }
+        (Tree::Object(_), None) => write!(lines, "it has no \"flags\""),
+        (other, _) => write!(lines, "it is {}, no object", lines.value(other)),
+    }
+    Ok(())
 }
 
 /// Which limit a document passes.
-fn put_too_large(lines: &mut Lines, bytes: &[u8]) {
-    lines.put(" is too large: ");
-    let flags = flags_in(lines.alloc, bytes);
+fn put_too_large(lines: &mut Lines, bytes: &[u8]) -> Result<(), AllocError> {
+    let flags = flags_in(lines.alloc, bytes)?;
     if bytes.len() > TEXT_BYTES {
-        put_count(lines, bytes.len(), " bytes");
+        write!(lines, "it has {} bytes", bytes.len());
     } else if flags > FLAGS {
-        put_count(lines, flags, " flags");
+        write!(lines, "it has {flags} flags");
     } else {
-        lines.put("it is too long with its references replaced");
+        write!(lines, "it is too long with its references replaced");
     }
-    lines.put(
-        "\n  a document has at most 10,000 flags and 4,194,304 bytes, also as \"flagops apply\" prints it\n",
-    );
-}
-
-fn put_count(lines: &mut Lines, count: usize, of: &str) {
-    lines.put("it has ");
-    lines.put_shown(&count);
-    lines.put(of);
+    Ok(())
 }
 
 /// The number of flags in a document.
-fn flags_in(alloc: Global, bytes: &[u8]) -> usize {
-    let Ok(document) = read_doc(alloc, bytes, TEXT_BYTES) else {
-        return 0;
+fn flags_in(alloc: Global, bytes: &[u8]) -> Result<usize, AllocError> {
+    let Some(document) = unless_short(read_doc(alloc, bytes, TEXT_BYTES))? else {
+        return Ok(0);
     };
     match document.member("flags") {
-        Some(Tree::Object(flags)) => flags.len(),
-        _ => 0,
+        Some(Tree::Object(flags)) => Ok(flags.len()),
+        _ => Ok(0),
     }
 }

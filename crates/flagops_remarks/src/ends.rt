@@ -3,7 +3,7 @@ ghost use Rattle.std.specs.Prelude.{◌≡◌, count_by};
 ghost use Rattle.flagops_remarks.specs.Ends.{ends_of, is_feed, lines_in};
 
 /// What some editors write before a text in UTF-8.
-const BYTE_ORDER_MARK: &[u8] = b"\xef\xbb\xbf";
+pub(crate) const BYTE_ORDER_MARK: &[u8] = b"\xef\xbb\xbf";
 
 /// What is seen of the bytes of a file at their two ends.
 #[derive(Clone, Copy, Debug)]
@@ -35,9 +35,9 @@ impl Ends {
     }
 
     /// Whether the last line has no line feed and this number, from 1.
-    pub(crate) fn is_cut_at(self, line: u128) -> bool {
+    pub(crate) fn is_cut_at(self, line: u64) -> bool {
         match self {
-            Ends::Cut(last) => last as u128 == line,
+            Ends::Cut(last) => last as u64 == line,
             _ => false,
         }
     }

@@ -1,23 +1,23 @@
 //! For each evaluator of a document the nearest place at which something is wrong, in itself or in those that it refers to.
 //!
 //! One search for the whole document finds them, backward from the evaluators in which something is wrong: it looks at each
-//! reference once, however many flags are told of.
+//! reference twice, however many flags are told of.
 use crate::search::{Sought, first_wrong, position, reference};
 use crate::way::Way;
 use flag_text::Tree;
-use std::alloc::{AllocError, AllocFailed, Global};
+use std::alloc::{AllocError, Global};
 
 /// How many references lead from an evaluator to the nearest in which something is wrong, and the place of that one.
 #[derive(Clone, Copy)]
-pub(crate) struct Nearest {
+struct Nearest {
     steps: usize,
-    pub(crate) place: usize,
+    place: usize,
 }
 
 /// The evaluators, each with the nearest that has what is sought. Of two that are as near, the one that is referred to first.
 #[derive(Drop)]
 pub(crate) struct Causes<'a> {
-    pub(crate) evaluators: &'a [(String, Tree)],
+    evaluators: &'a [(String, Tree)],
     nearest: Vec<Option<Nearest>>,
 }
 
@@ -33,13 +33,18 @@ impl<'a> Causes<'a> {
             nearest: Vec::new(alloc),
         };
         let mut reached = causes.begin(alloc, sought)?;
-        let links = Links::between(alloc, evaluators)?;
+        let links = links_among(alloc, evaluators)?;
         for turn in 0..evaluators.len() {
             let Some(place) = reached.get(turn).copied() else {
                 break;
             };
-            let steps = causes.settle(place, links.from(place));
-            causes.reach(&mut reached, links.to(place), steps.saturating_add(1))?;
+            let steps = causes.settle(alloc, place)?;
+            for link in links_to(links.as_slice(), place) {
+                if causes.at(link.from).is_none() {
+                    causes.set(link.from, steps.saturating_add(1), place);
+                    reached.push(link.from)?;
+                }
+            }
         }
         Ok(causes)
     }
@@ -60,41 +65,23 @@ impl<'a> Causes<'a> {
         Ok(places)
     }
 
-    /// Gives an evaluator that was reached the place of the first that it refers to of those which are a step nearer, and
-    /// answers its steps.
-    fn settle(&mut self, place: usize, links: &[Link]) -> usize {
-        let Some(nearest) = self.at(place) else {
-            return 0;
-        };
-        for link in links {
-            if let Some(next) = self.at(link.to) {
-                if next.steps < nearest.steps {
-                    self.set(place, nearest.steps, next.place);
-                    break;
+    /// Gives an evaluator that was reached by a reference the nearest of those that it refers to, all of which with fewer steps
+    /// were settled before it. It answers its steps.
+    fn settle(&mut self, alloc: Global, place: usize) -> Result<usize, AllocError> {
+        let evaluators = self.evaluators;
+        match (self.at(place), evaluators.get(place)) {
+            (Some(reached), Some((_, tree))) if reached.steps > 0 => {
+                if let Some(nearest) = self.nearest(alloc, tree)? {
+                    self.set(place, reached.steps, nearest);
                 }
+                Ok(reached.steps)
             }
+            _ => Ok(0),
         }
-        nearest.steps
     }
 
-    /// Adds those that refer to an evaluator, and were not yet reached.
-    fn reach(
-        &mut self,
-        reached: &mut Vec<usize>,
-        links: &[Link],
-        steps: usize,
-    ) -> Result<(), AllocError> {
-        for link in links {
-            if self.at(link.from).is_none() {
-                self.set(link.from, steps, link.to);
-                reached.push(link.from)?;
-            }
-        }
-        Ok(())
-    }
-
-    fn at(&self, place: usize) -> Option<Nearest> {
-        *self.nearest.get(place)?
+    fn at(&self, evaluator: usize) -> Option<Nearest> {
+        *self.nearest.get(evaluator)?
     }
 
     fn set(&mut self, evaluator: usize, steps: usize, place: usize) {
@@ -103,15 +90,13 @@ impl<'a> Causes<'a> {
         }
     }
 
-    /// The place of the nearest evaluator with what is sought, of those that a targeting refers to, itself or by others.
-    pub(crate) fn nearest(
-        &self,
-        alloc: Global,
-        targeting: &Tree,
-    ) -> Result<Option<usize>, AllocError> {
+    /// The place of the nearest evaluator with what is sought, of those that a tree refers to, itself or by others.
+    pub(crate) fn nearest(&self, alloc: Global, tree: &Tree) -> Result<Option<usize>, AllocError> {
         let mut first: Option<Nearest> = None;
-        for place in references(alloc, self.evaluators, targeting)? {
-            first = nearer(first, self.at(place));
+        for name in references(alloc, tree)? {
+            if let Some(place) = position(self.evaluators, name) {
+                first = nearer(first, self.at(place));
+            }
         }
         Ok(first.map(|nearest| nearest.place))
     }
@@ -133,104 +118,62 @@ struct Link {
     to: usize,
 }
 
-/// The references among evaluators.
-#[derive(Drop)]
-struct Links {
-    /// In the order in which they stand.
-    forward: Vec<Link>,
-    /// In the order of what they refer to.
-    backward: Vec<Link>,
-}
-
-impl Links {
-    fn between(alloc: Global, evaluators: &[(String, Tree)]) -> Result<Links, AllocError> {
-        let mut forward = Vec::new(alloc);
-        let mut backward = Vec::new(alloc);
-        for (from, (_, tree)) in evaluators.iter().enumerate() {
-            for to in references(alloc, evaluators, tree)? {
-                forward.push(Link { from, to })?;
-                backward.push(Link { from, to })?;
-            }
-        }
-        backward.sort_unstable_by_key(|link| link.to);
-        Ok(Links { forward, backward })
-    }
-
-    /// The references that stand in an evaluator.
-    fn from(&self, place: usize) -> &[Link] {
-        let start = self.forward.partition_point(|link| link.from < place);
-        let end = self.forward.partition_point(|link| link.from <= place);
-        self.forward.get(start..end).unwrap_or(&[])
-    }
-
-    /// The references to an evaluator.
-    fn to(&self, place: usize) -> &[Link] {
-        let start = self.backward.partition_point(|link| link.to < place);
-        let end = self.backward.partition_point(|link| link.to <= place);
-        self.backward.get(start..end).unwrap_or(&[])
-    }
-}
-
-/// The places of the evaluators that a tree refers to itself, in the order in which it does.
-fn references(
-    alloc: Global,
-    evaluators: &[(String, Tree)],
-    tree: &Tree,
-) -> Result<Vec<usize>, AllocError> {
-    let mut referred = Referred {
-        evaluators,
-        places: Vec::new(alloc),
-        short: None,
-    };
-    refer(&mut referred, tree);
-    match referred.short {
-        Some(want) => Err(want),
-        None => Ok(referred.places),
-    }
-}
-
-/// The evaluators that were referred to so far.
-#[derive(Drop)]
-struct Referred<'a> {
-    evaluators: &'a [(String, Tree)],
-    places: Vec<usize>,
-    short: Option<AllocError>,
-}
-
-impl<'a> Referred<'a> {
-    /// Adds the evaluator of a name, where there is one.
-    fn add(&mut self, name: &str) {
-        if let Some(place) = position(self.evaluators, name) {
-            if let Err(AllocFailed { .. }) = self.places.push(place) {
-                self.short = Some(AllocError);
+/// The references among evaluators, in the order of what they refer to.
+fn links_among(alloc: Global, evaluators: &[(String, Tree)]) -> Result<Vec<Link>, AllocError> {
+    let mut links = Vec::new(alloc);
+    for (from, (_, tree)) in evaluators.iter().enumerate() {
+        for name in references(alloc, tree)? {
+            if let Some(to) = position(evaluators, name) {
+                links.push(Link { from, to })?;
             }
         }
     }
+    links.sort_unstable_by_key(|link| link.to);
+    Ok(links)
 }
 
-/// Adds the evaluators that a tree refers to.
+/// Those of the references that are to an evaluator.
+fn links_to(links: &[Link], place: usize) -> &[Link] {
+    let start = links.partition_point(|link| link.to < place);
+    let end = links.partition_point(|link| link.to <= place);
+    links.get(start..end).unwrap_or(&[])
+}
+
+/// The names that a tree refers to itself, in the order in which it does.
+pub(crate) fn references(alloc: Global, tree: &Tree) -> Result<Vec<&str>, AllocError> {
+    let mut names = Vec::new(alloc);
+    refer(&mut names, tree)?;
+    Ok(names)
+}
+
+/// Adds the names that a tree refers to.
 #[cycle(refer)]
-fn refer(referred: &mut Referred<'_>, tree: &Tree) {
+fn refer<'a>(names: &mut Vec<&'a str>, tree: &'a Tree) -> Result<(), AllocError> {
     match tree {
-        Tree::List(items) => refer_items(referred, items),
+        Tree::List(items) => refer_items(names, items),
         Tree::Object(members) => match reference(members.as_slice()) {
-            Some(name) => referred.add(name),
-            None => refer_members(referred, members),
+            Some(name) => Ok(names.push(name)?),
+            None => refer_members(names, members),
         },
-        _ => {}
+        _ => Ok(()),
     }
 }
 
 #[cycle(refer)]
-fn refer_items(referred: &mut Referred<'_>, items: &Vec<Tree>) {
+fn refer_items<'a>(names: &mut Vec<&'a str>, items: &'a Vec<Tree>) -> Result<(), AllocError> {
     for item in items {
-        refer(referred, item);
+        refer(names, item)?;
     }
+    Ok(())
 }
 
 #[cycle(refer)]
-fn refer_members(referred: &mut Referred<'_>, members: &Vec<(String, Tree)>) {
+fn refer_members<'a>(
+    names: &mut Vec<&'a str>,
+    members: &'a Vec<(String, Tree)>,
+) -> Result<(), AllocError> {
     for (_, member) in members {
-        refer(referred, member);
+        refer(names, member)?;
     }
+    Ok(())
 }

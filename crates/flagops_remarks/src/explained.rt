@@ -2,14 +2,15 @@
 ghost use Rattle.std.specs.Prelude.{IfOk, string_bytes};
 ghost use Rattle.flagops_remarks.specs.Named.{Names};
 
-use crate::blocked::put_blocked;
 use crate::lines::{Lines, Opening};
-use crate::sites::Place;
-use bucket_core::Rule;
+use crate::place::Place;
+use crate::sites::is_among;
+use bucket_core::{Rule, RuleFault};
 use flag_defs::Flags;
 use plan_text::Planned;
-use price_core::Request;
+use price_core::{Limit, PriceFault, Prices, Request};
 use std::alloc::{AllocError, Global};
+use transport_instance::{Cut, CutKind};
 
 /// The most variants whose points are told.
 const MOST_VARIANTS: usize = 10;
@@ -28,81 +29,64 @@ pub fn of_planned(
     ensures names { IfOk result (λ s. Names path.now (string_bytes s)) }
 {
     let mut lines = Lines::new(alloc);
-    lines.put(": ");
+    write!(lines, ": ");
     match Request::read(alloc, request) {
-        Ok(asked) => match planned {
-            Planned::Emit(rule, _) => {
-                put_changed(&mut lines, Place::of(flags, &asked), factor, counts, rule);
+        Ok(asked) => {
+            let place = Place::of(alloc, flags, &asked);
+            match place.rule(factor) {
+                Ok(old) => put_planned(&mut lines, place, &asked, &old, counts, planned)?,
+                Err(RuleFault::WantOfMemory) => return Err(AllocError),
+                Err(fault) => write!(lines, "{fault}"),
             }
-            Planned::NoneExists(cut) => {
-                put_blocked(&mut lines, Place::of(flags, &asked), &asked, factor, cut);
-            }
-        },
-        Err(fault) => lines.put_shown(&fault),
+        }
+        Err(fault) => write!(lines, "{fault}"),
     }
-    lines.put("\n");
+    write!(lines, "\n");
     lines.headed(Opening::Note, path)
 }
 
-/// How many users a rule switches, and how many points its variants have before and after.
-fn put_changed(lines: &mut Lines, place: Place<'_>, factor: u32, counts: &[u32], rule: &Rule) {
-    let entries = place.entries(lines);
-    lines.put("switches ");
-    lines.put_shown(&switched(entries.as_slice(), factor, counts, rule));
-    lines.put(" of ");
-    lines.put_shown(&sum(counts));
-    lines.put(" recorded users; no rule that fits costs less");
-    put_variants(lines, place, entries.as_slice(), factor, rule);
+fn put_planned(
+    lines: &mut Lines,
+    place: Place<'_>,
+    asked: &Request,
+    old: &Rule,
+    counts: &[u32],
+    planned: &Planned,
+) -> Result<(), AllocError> {
+    match planned {
+        Planned::Emit(new, _) => {
+            write!(
+                lines,
+                "switches {} of {} recorded users; no rule that fits costs less",
+                switched(old, new, counts),
+                sum(counts),
+            );
+            put_variants(lines, place.variants()?.as_slice(), old, new);
+            Ok(())
+        }
+        Planned::NoneExists(cut) => put_blocked(lines, place, asked, old, cut),
+    }
 }
 
 /// The points before and after of the first variants that get or lose some.
-fn put_variants(
-    lines: &mut Lines,
-    place: Place<'_>,
-    entries: &[(String, u64)],
-    factor: u32,
-    rule: &Rule,
-) {
-    let variants = place.variants(lines);
+fn put_variants(lines: &mut Lines, variants: &[String], old: &Rule, new: &Rule) {
+    let total = new.total();
     let mut told = 0usize;
-    for variant in &variants {
+    for variant in variants {
         let name = variant.as_str();
-        let old = points_of(entries, factor, name);
-        let new = u128::from(rule.total_of(name));
-        if old != new {
+        let (before, after) = (old.total_of(name), new.total_of(name));
+        if before != after {
             if told >= MOST_VARIANTS {
-                lines.put("\n  and more variants");
-                return;
+                return write!(lines, "\n  and more variants");
             }
             told = told.saturating_add(1);
-            put_points(lines, name, old, new, rule.total());
+            write!(
+                lines,
+                "\n  {} goes from {before} to {after} of {total} points",
+                lines.name(name),
+            );
         }
     }
-}
-
-/// The points of a variant before and after, of so many.
-fn put_points(lines: &mut Lines, name: &str, old: u128, new: u128, total: u32) {
-    lines.put("\n  ");
-    lines.put_name(name);
-    lines.put(" goes from ");
-    lines.put_shown(&old);
-    lines.put(" to ");
-    lines.put_shown(&new);
-    lines.put(" of ");
-    lines.put_shown(&total);
-    lines.put(" points");
-}
-
-/// The points of a name, of entries whose weights are taken so many times.
-pub(crate) fn points_of(entries: &[(String, u64)], factor: u32, name: &str) -> u128 {
-    let mut points: u128 = 0;
-    for (entry, weight) in entries {
-        if entry.as_str() == name {
-            let more = u128::from(*weight).saturating_mul(u128::from(factor));
-            points = points.saturating_add(more);
-        }
-    }
-    points
 }
 
 fn sum(counts: &[u32]) -> u128 {
@@ -113,62 +97,124 @@ fn sum(counts: &[u32]) -> u128 {
     all
 }
 
-/// How many of the inputs at the points get another variant by the rule than by the entries.
-fn switched(entries: &[(String, u64)], factor: u32, counts: &[u32], rule: &Rule) -> u128 {
-    let mut old = Runs::new(entries, factor);
-    let mut new = Runs::new(rule.entries(), 1);
+/// How many of the inputs at the points get another variant by the new rule than by the old one.
+fn switched(old: &Rule, new: &Rule, counts: &[u32]) -> u128 {
     let mut users: u128 = 0;
-    for count in counts {
-        if old.next_name() != new.next_name() {
-            users = users.saturating_add(u128::from(*count));
+    for point in 0..old.total().min(new.total()) {
+        if old.variant_at(point) != new.variant_at(point) {
+            let count = counts.get(point as usize).copied().unwrap_or(0);
+            users = users.saturating_add(u128::from(count));
         }
     }
     users
 }
 
-/// The names at the points, one after the other, by entries whose weights are taken so many times.
-#[derive(Drop)]
-struct Runs<'a> {
-    entries: &'a [(String, u64)],
-    factor: u32,
-    /// The entries that were entered, the name of the last one, and how many of its points are left.
-    entered: usize,
-    name: Option<&'a str>,
-    left: u64,
+/// The set of variants that shows that no rule fits, where the site has this rule.
+fn put_blocked(
+    lines: &mut Lines,
+    place: Place<'_>,
+    asked: &Request,
+    old: &Rule,
+    cut: &Cut,
+) -> Result<(), AllocError> {
+    write!(lines, "no rule fits\n  ");
+    let variants = place.variants()?;
+    let variants = variants.as_slice();
+    match asked.totals(lines.alloc, variants) {
+        Ok(totals) => {
+            let open = side(lines.alloc, variants, asked.prices(), cut, true)?;
+            let closed = side(lines.alloc, variants, asked.prices(), cut, false)?;
+            let limits = totals.entries();
+            put_cut(lines, old, limits, cut, open.as_slice(), closed.as_slice());
+        }
+        Err(PriceFault::WantOfMemory) => return Err(AllocError),
+        Err(fault) => write!(lines, "{fault}"),
+    }
+    Ok(())
 }
 
-impl<'a> Runs<'a> {
-    fn new(entries: &'a [(String, u64)], factor: u32) -> Runs<'a> {
-        Runs {
-            entries,
-            factor,
-            entered: 0,
-            name: None,
-            left: 0,
+/// More points have the variants of the set than may be kept or moved (Over), or fewer have or may take them than are asked for
+/// (Under); and what would have to be asked for, or the changes that would have to be allowed in place of it.
+fn put_cut(
+    lines: &mut Lines,
+    old: &Rule,
+    limits: &[Limit],
+    cut: &Cut,
+    open: &[String],
+    closed: &[String],
+) {
+    let set = cut.names.as_slice();
+    let (names, others) = (lines.listed(set), lines.listed(open));
+    let (points, way) = match cut.kind {
+        CutKind::Over => {
+            let points = points_of(old, set);
+            let (_, most) = limits_of(limits, open);
+            let excess = points.saturating_sub(most);
+            write!(
+                lines,
+                "{points} points have {names}; they may only become {others}, of which at most {most} are asked for\n  ask for {excess} more of those",
+            );
+            (excess, "to")
         }
+        CutKind::Under => {
+            let points = points_of(old, open);
+            let (least, _) = limits_of(limits, set);
+            let lack = least.saturating_sub(points);
+            write!(
+                lines,
+                "at least {least} points are asked for of {names}; only {others} may become that, which have {points}\n  ask for {lack} less of those",
+            );
+            (lack, "from")
+        }
+    };
+    if !closed.is_empty() {
+        write!(
+            lines,
+            ", or let {points} points change {way} {}, which \"forbid\" keeps them from",
+            lines.listed(closed),
+        );
     }
+}
 
-    /// The name at the next point, where there is one.
-    fn next_name(&mut self) -> Option<&'a str> {
-        if self.left == 0 {
-            self.enter();
+/// The variants that some of the set may be changed to (Over), or that may be changed to some of the set (Under), with those
+/// of the set; or the others.
+fn side(
+    alloc: Global,
+    variants: &[String],
+    prices: &Prices,
+    cut: &Cut,
+    is_open: bool,
+) -> Result<Vec<String>, AllocError> {
+    let mut side = Vec::new(alloc);
+    for variant in variants {
+        let allows = cut.names.iter().any(|name| match cut.kind {
+            CutKind::Over => !prices.forbidden(name.as_str(), variant.as_str()),
+            CutKind::Under => !prices.forbidden(variant.as_str(), name.as_str()),
+        });
+        if allows == is_open {
+            side.push(variant.clone()?)?;
         }
-        self.left = self.left.saturating_sub(1);
-        self.name
     }
+    Ok(side)
+}
 
-    /// Goes to the next entry that has points.
-    fn enter(&mut self) {
-        self.name = None;
-        let entries = self.entries;
-        for at in self.entered..entries.len() {
-            let (name, weight) = &entries[at];
-            self.entered = at + 1;
-            if *weight > 0 {
-                self.name = Some(name.as_str());
-                self.left = weight.saturating_mul(u64::from(self.factor));
-                return;
-            }
+/// The points of the names in a rule.
+fn points_of(rule: &Rule, names: &[String]) -> u128 {
+    let mut points: u128 = 0;
+    for name in names {
+        points = points.saturating_add(u128::from(rule.total_of(name.as_str())));
+    }
+    points
+}
+
+/// The sums of the low and of the high limits of the names.
+fn limits_of(limits: &[Limit], names: &[String]) -> (u128, u128) {
+    let (mut low, mut high) = (0u128, 0u128);
+    for limit in limits {
+        if is_among(names, limit.name.as_str()) {
+            low = low.saturating_add(u128::from(limit.low));
+            high = high.saturating_add(u128::from(limit.high));
         }
     }
+    (low, high)
 }

@@ -4,7 +4,7 @@ ghost use Rattle.flagops_remarks.specs.Named.{Names, NamesWord};
 
 use crate::lines::{Lines, Opening};
 use book_core::BookFault;
-use bucket_core::RuleFault;
+use bucket_core::{RuleFault, literal_bucket};
 use flag_text::Tree;
 use std::alloc::{AllocError, Global};
 use std::io;
@@ -17,14 +17,9 @@ pub fn of_unreadable(
 ) -> Result<String, AllocError>
     ensures names { IfOk result (λ s. Names path.now (string_bytes s)) }
 {
-    let mut lines = Lines::new(alloc);
-    lines.put(" cannot be read");
-    put_trouble(
-        &mut lines,
-        trouble,
-        "  it is missing, is a folder, or may not be read; paths are taken from where the program runs\n",
-    );
-    lines.headed(Opening::File, path)
+    let causes =
+        "it is missing, is a folder, or may not be read; paths are taken from where the program runs";
+    of_trouble(alloc, path, "cannot be read", trouble, causes)
 }
 
 /// Of a path at which no file is written, and why, as far as the system says.
@@ -35,26 +30,26 @@ pub fn of_unwritable(
 ) -> Result<String, AllocError>
     ensures names { IfOk result (λ s. Names path.now (string_bytes s)) }
 {
-    let mut lines = Lines::new(alloc);
-    lines.put(" cannot be written");
-    put_trouble(
-        &mut lines,
-        trouble,
-        "  its folder is missing, or the path is a folder, or it may not be written\n",
-    );
-    lines.headed(Opening::File, path)
+    let causes = "its folder is missing, or the path is a folder, or it may not be written";
+    of_trouble(alloc, path, "cannot be written", trouble, causes)
 }
 
-/// The system's own words for what went wrong, or else what it may be.
-fn put_trouble(lines: &mut Lines, trouble: Option<io::Error>, else_line: &str) {
+/// Of what cannot be done to a file: the system's own words for what went wrong, or else what it may be.
+fn of_trouble(
+    alloc: Global,
+    path: &str,
+    what: &str,
+    trouble: Option<io::Error>,
+    causes: &str,
+) -> Result<String, AllocError>
+    ensures names { IfOk result (λ s. Names path.now (string_bytes s)) }
+{
+    let mut lines = Lines::new(alloc);
     match trouble {
-        Some(error) => {
-            lines.put(": ");
-            lines.put_shown(&error);
-            lines.put("\n");
-        }
-        None => lines.put_all(&["\n", else_line]),
+        Some(error) => write!(lines, " {what}: {error}\n"),
+        None => write!(lines, " {what}\n  {causes}\n"),
     }
+    lines.headed(Opening::File, path)
 }
 
 /// Of the path of a book that has more bytes than are read.
@@ -62,7 +57,10 @@ pub fn of_long_book(alloc: Global, path: &str) -> Result<String, AllocError>
     ensures names { IfOk result (λ s. Names path.now (string_bytes s)) }
 {
     let mut lines = Lines::new(alloc);
-    lines.put(" has more than 2^40 bytes, and counts as one that cannot be read\n");
+    write!(
+        lines,
+        " has more than 2^40 bytes, and counts as one that cannot be read\n",
+    );
     lines.headed(Opening::File, path)
 }
 
@@ -75,54 +73,54 @@ pub fn of_rule(
 ) -> Result<String, AllocError>
     ensures names { IfOk result (λ s. Names path.now (string_bytes s)) }
 {
-    let advice = match fault {
-        RuleFault::BadRule => {
-            "a rule is a list of buckets [name, weight] with weights from 0 to 2147483647"
-        }
-        RuleFault::NoWeight => "give one bucket a weight above 0",
-        RuleFault::TooHeavy => "divide the weights by a common factor",
-        RuleFault::WantOfMemory => return Err(AllocError),
-    };
     let mut lines = Lines::new(alloc);
-    if fault == RuleFault::BadRule {
-        lines.put(" is no rule: ");
-        match tree {
-            Some(tree) => put_wrong_bucket(&mut lines, tree),
-            None => lines.put("an item is no bucket (the file is too large to say which)"),
+    match fault {
+        RuleFault::BadRule => {
+            write!(lines, " is no rule: ");
+            match tree {
+                Some(tree) => put_wrong_bucket(&mut lines, tree),
+                None => {
+                    write!(
+                        lines,
+                        "an item is no bucket (the file is too large to say which)"
+                    );
+                }
+            }
+            write!(
+                lines,
+                "\n  a rule is a list of buckets [name, weight] with weights from 0 to 2147483647\n",
+            );
         }
-    } else {
-        lines.put(": ");
-        lines.put_shown(&fault);
+        RuleFault::NoWeight => {
+            write!(lines, ": {fault}\n  give one bucket a weight above 0\n");
+        }
+        RuleFault::TooHeavy => {
+            write!(
+                lines,
+                ": {fault}\n  divide the weights by a common factor\n"
+            );
+        }
+        RuleFault::WantOfMemory => return Err(AllocError),
     }
-    lines.put_all(&["\n  ", advice, "\n"]);
     lines.headed(Opening::Error, path)
 }
 
 /// The first item that is no bucket.
 fn put_wrong_bucket(lines: &mut Lines, tree: &Tree) {
     let Tree::List(items) = tree else {
-        lines.put("it is ");
-        lines.put_value(tree);
-        return;
+        return write!(lines, "it is {}", lines.value(tree));
     };
-    for i in 0..items.len() {
-        if !is_bucket(&items[i]) {
-            lines.put("its item ");
-            lines.put_place(i);
-            lines.put(" is no bucket");
-            return;
+    for (place, item) in items.iter().enumerate() {
+        if !is_bucket(item) {
+            return write!(lines, "its item [{place}] is no bucket");
         }
     }
-    lines.put("its buckets are not sound");
+    write!(lines, "its buckets are not sound");
 }
 
 fn is_bucket(tree: &Tree) -> bool {
-    let Tree::List(parts) = tree else {
-        return false;
-    };
-    match parts.as_slice() {
-        [Tree::Text(_)] => true,
-        [Tree::Text(_), Tree::Whole(weight)] => *weight >= 0 && *weight <= 2_147_483_647,
+    match tree {
+        Tree::List(parts) => literal_bucket(parts.as_slice()).is_some(),
         _ => false,
     }
 }
@@ -137,17 +135,15 @@ pub fn of_keys(
     ensures names { IfOk result (λ s. Names path.now (string_bytes s)) }
 {
     let mut lines = Lines::new(alloc);
-    lines.put(" is no list of keys: ");
     match place {
-        Some(place) => {
-            lines.put("its item ");
-            lines.put_place(place);
-        }
-        None => lines.put("it"),
+        Some(place) => write!(lines, " is no list of keys: its item [{place}]"),
+        None => write!(lines, " is no list of keys: it"),
     }
-    lines.put(" is ");
-    lines.put_value(value);
-    lines.put("\n  keys are a list of texts, the hash inputs of the users\n");
+    write!(
+        lines,
+        " is {}\n  keys are a list of texts, the hash inputs of the users\n",
+        lines.value(value),
+    );
     lines.headed(Opening::Error, path)
 }
 
@@ -161,12 +157,10 @@ pub fn of_noted(
     ensures names { IfOk result (λ s. Names path.now (string_bytes s)) }
 {
     let mut lines = Lines::new(alloc);
-    lines.put(": the key ");
-    lines.put_name(key);
-    lines.put(" is not taken: ");
-    lines.put_shown(&fault);
-    lines.put(
-        "\n  leave it out: keys have at most 1,024 bytes, and at most 1,000,000 of them differ\n",
+    write!(
+        lines,
+        ": the key {} is not taken: {fault}\n  leave it out: keys have at most 1,024 bytes, and at most 1,000,000 of them differ\n",
+        lines.name(key),
     );
     lines.headed(Opening::Error, path)
 }
@@ -176,10 +170,9 @@ pub fn of_weights(alloc: Global, old: u32, new: u32) -> Result<String, AllocErro
     ensures names { IfOk result (λ s. NamesWord (codes "the weights of OLD") (string_bytes s)) }
 {
     let mut lines = Lines::new(alloc);
-    lines.put(" sum to ");
-    lines.put_shown(&old);
-    lines.put(" and those of NEW to ");
-    lines.put_shown(&new);
-    lines.put("\n  write both rules with weights of one sum\n");
+    write!(
+        lines,
+        " sum to {old} and those of NEW to {new}\n  write both rules with weights of one sum\n",
+    );
     lines.behind_word("the weights of OLD")
 }

@@ -20,7 +20,6 @@
 #![tactic(auto)]
 
 mod asks;
-mod blocked;
 mod books;
 mod breaches;
 mod checks;
@@ -32,7 +31,10 @@ mod explained;
 mod files;
 mod kept;
 mod lines;
+mod parts;
+mod place;
 mod plans;
+mod quoting;
 mod referred;
 mod requests;
 mod search;
@@ -41,7 +43,6 @@ mod tallies;
 mod texts;
 mod unread;
 mod way;
-mod wrongs;
 
 pub use asks::{Drive, of_asks, of_driven, of_unread_asks, of_unrecorded_asks, of_workers};
 pub use books::{of_book, of_foreign, of_full_book, of_other_file, of_unrecorded};

@@ -19,40 +19,27 @@ pub fn of_plan_file(
 ) -> Result<String, AllocError>
     ensures names { IfOk result (λ s. Names path.now (string_bytes s)) }
 {
-    if fault != PlanFileFault::BadPlan {
-        return of_fault(alloc, path, None, fault);
-    }
-    match read_tree(alloc, bytes, FILE_BYTES) {
-        Ok(tree) => of_fault(alloc, path, Some(&tree), fault),
-        Err(fault) => of_text(alloc, path, bytes, FILE_BYTES, fault),
-    }
-}
-
-/// Of a fault, or of the tree in which the place of it is.
-fn of_fault(
-    alloc: Global,
-    path: &str,
-    tree: Option<&Tree>,
-    fault: PlanFileFault,
-) -> Result<String, AllocError>
-    ensures names { IfOk result (λ s. Names path.now (string_bytes s)) }
-{
     let mut lines = Lines::new(alloc);
-    lines.put(" is no plan: ");
-    match tree {
-        Some(tree) => put_misshaped(&mut lines, tree),
-        None => lines.put_shown(&fault),
+    write!(lines, " is no plan: ");
+    if fault == PlanFileFault::BadPlan {
+        match read_tree(alloc, bytes, FILE_BYTES) {
+            Ok(tree) => put_misshaped(&mut lines, &tree),
+            Err(fault) => return of_text(alloc, path, bytes, FILE_BYTES, fault),
+        }
+    } else {
+        write!(lines, "{fault}");
     }
-    lines.put("\n  take a file that \"flagops plan\" printed; it has at most 67,108,864 bytes\n");
+    write!(
+        lines,
+        "\n  take a file that \"flagops plan\" printed; it has at most 67,108,864 bytes\n",
+    );
     lines.headed(Opening::Error, path)
 }
 
-/// The first member that is missing, or of another kind.
+/// The first member that is missing, or of another kind than a list, or than a number where it is one.
 fn put_misshaped(lines: &mut Lines, tree: &Tree) {
     if tree.as_object().is_none() {
-        lines.put("it is ");
-        lines.put_value(tree);
-        return;
+        return write!(lines, "it is {}", lines.value(tree));
     }
     let names: &[&str] = if tree.member("none").is_some() {
         &["plan", "none"]
@@ -60,31 +47,19 @@ fn put_misshaped(lines: &mut Lines, tree: &Tree) {
         &["plan", "alpha", "beta", "cost", "rule"]
     };
     for name in names {
-        let value = tree.member(name);
-        if !is_sound(name, value) {
-            put_unsound(lines, name, value);
-            return;
+        let is_number = *name == "plan" || *name == "cost";
+        match tree.member(name) {
+            Some(Tree::Whole(_)) if is_number => {}
+            Some(Tree::List(_)) if !is_number => {}
+            Some(value) => {
+                return write!(lines, "\"{name}\" is {}", lines.value(value));
+            }
+            None => {
+                return write!(lines, "\"{name}\" is missing");
+            }
         }
     }
     put_wrong_list(lines, tree);
-}
-
-/// Whether a member is of its kind: a list, but for two numbers.
-fn is_sound(name: &str, value: Option<&Tree>) -> bool {
-    let is_number = name == "plan" || name == "cost";
-    match value {
-        Some(Tree::Whole(_)) => is_number,
-        Some(Tree::List(_)) => !is_number,
-        _ => false,
-    }
-}
-
-fn put_unsound(lines: &mut Lines, name: &str, value: Option<&Tree>) {
-    lines.put_all(&["\"", name, "\" is "]);
-    match value {
-        Some(value) => lines.put_value(value),
-        None => lines.put("missing"),
-    }
 }
 
 /// The first item of a list that is not of its form; else the order is wrong.
@@ -95,26 +70,16 @@ fn put_wrong_list(lines: &mut Lines, tree: &Tree) {
         ("beta", "[VARIANT,n]"),
         ("rule", "bucket [VARIANT,WEIGHT]"),
     ] {
-        if let Some(place) = wrong_item(pairs(tree, name), name) {
-            lines.put(name);
-            lines.put_place(place);
-            lines.put_all(&[" is no ", takes]);
-            return;
+        for (place, item) in pairs(tree, name).iter().enumerate() {
+            if !is_item(item, name) {
+                return write!(lines, "{name}[{place}] is no {takes}");
+            }
         }
     }
-    lines.put("a list is out of order, or an item misshaped");
+    write!(lines, "a list is out of order, or an item misshaped");
 }
 
-/// The place of the first item that is not of the form of its list.
-fn wrong_item(items: &[Tree], name: &str) -> Option<usize> {
-    for i in 0..items.len() {
-        if !is_item(&items[i], name) {
-            return Some(i);
-        }
-    }
-    None
-}
-
+/// Whether an item is of the form of its list.
 fn is_item(item: &Tree, name: &str) -> bool {
     match item {
         Tree::Text(_) => name == "none",
@@ -133,7 +98,8 @@ pub fn of_large_plan(alloc: Global) -> Result<String, AllocError>
     ensures names { IfOk result (λ s. NamesWord (codes "the plan") (string_bytes s)) }
 {
     let mut lines = Lines::new(alloc);
-    lines.put(
+    write!(
+        lines,
         " has more than 67,108,864 bytes\n  divide the weights of the site by a common factor\n",
     );
     lines.behind_word("the plan")

@@ -1,67 +1,85 @@
-//! What is told of the evaluators that a targeting refers to.
-use crate::evaluators::Causes;
+//! What is told of what is wrong in a flag's member, or in the evaluators that it refers to.
+use crate::evaluators::{Causes, references};
 use crate::lines::Lines;
-use crate::search::{Sought, first_wrong};
+use crate::search::{Sought, Wrong, first_wrong};
 use crate::way::Way;
-use crate::wrongs::put_wrong;
 use flag_text::Tree;
-use std::alloc::{AllocError, AllocFailed, Global};
+use std::alloc::{AllocError, Global};
 use std::collections::BTreeMap;
 
-/// What is sought in targetings and in the evaluators that they refer to.
+/// What is sought in the members of flags and in the evaluators that they refer to.
 #[derive(Drop)]
 pub(crate) struct Referred<'a> {
-    pub(crate) sought: Sought<'a>,
-    pub(crate) evaluators: &'a [(String, Tree)],
-    causes: Causes<'a>,
+    sought: Sought<'a>,
+    evaluators: &'a [(String, Tree)],
+    /// The nearest to each evaluator, once a flag refers to what is sought.
+    causes: Option<Causes<'a>>,
     /// What was told of an evaluator so far, by its place.
     told: BTreeMap<usize, String>,
 }
 
 impl<'a> Referred<'a> {
-    pub(crate) fn find(
+    pub(crate) fn new(
         alloc: Global,
         evaluators: &'a [(String, Tree)],
         sought: Sought<'a>,
-    ) -> Result<Referred<'a>, AllocError> {
-        Ok(Referred {
+    ) -> Referred<'a> {
+        Referred {
             sought,
             evaluators,
-            causes: Causes::find(alloc, evaluators, sought)?,
+            causes: None,
             told: BTreeMap::new(alloc),
-        })
-    }
-
-    /// Tells of the nearest evaluator with what is sought that a targeting refers to, and answers whether there is one.
-    pub(crate) fn put(&mut self, lines: &mut Lines, targeting: &Tree) -> bool {
-        match self.causes.nearest(lines.alloc, targeting) {
-            Ok(Some(place)) => {
-                self.put_at(lines, place);
-                true
-            }
-            Ok(None) => false,
-            Err(want) => {
-                lines.fall_short(want);
-                true
-            }
         }
     }
 
-    /// Tells of the evaluator at a place, which is searched but once.
-    fn put_at(&mut self, lines: &mut Lines, place: usize) {
+    /// The first place at which something is wrong in a member, or in the evaluators that it refers to.
+    pub(crate) fn put(
+        &mut self,
+        lines: &mut Lines,
+        member: Option<&Tree>,
+    ) -> Result<(), AllocError> {
+        if let Some(tree) = member {
+            let mut way = Way::new();
+            if let Some(wrong) = first_wrong(tree, self.sought, &mut way) {
+                let way = way.text(lines.alloc, usize::MAX)?;
+                write!(lines, "{way}");
+                put_wrong(lines, wrong, "", self.evaluators);
+                return Ok(());
+            }
+            if let Some(place) = self.nearest(lines.alloc, tree)? {
+                return self.put_evaluator(lines, place);
+            }
+            // what is wrong is then in what the tree refers to, where it refers to anything
+            if let Some(name) = references(lines.alloc, tree)?.first() {
+                let name = lines.name(name);
+                write!(lines, ", or what it refers to (first {name}),");
+            }
+        }
+        write!(lines, " has {}", unplaced(self.sought));
+        Ok(())
+    }
+
+    /// The place of the nearest evaluator with what is sought that a tree refers to.
+    fn nearest(&mut self, alloc: Global, tree: &Tree) -> Result<Option<usize>, AllocError> {
+        if self.causes.is_none() {
+            self.causes = Some(Causes::find(alloc, self.evaluators, self.sought)?);
+        }
+        match &self.causes {
+            Some(causes) => causes.nearest(alloc, tree),
+            None => Ok(None),
+        }
+    }
+
+    /// The evaluator at a place, which is searched but once.
+    fn put_evaluator(&mut self, lines: &mut Lines, place: usize) -> Result<(), AllocError> {
+        if self.told.get(&place).is_none() {
+            let text = self.text_at(lines.alloc, place)?;
+            self.told.insert(place, text)?;
+        }
         if let Some(told) = self.told.get(&place) {
-            lines.put(told.as_str());
-            return;
+            write!(lines, "{told}");
         }
-        match self.text_at(lines.alloc, place) {
-            Ok(text) => {
-                lines.put(text.as_str());
-                if let Err(AllocFailed { .. }) = self.told.insert(place, text) {
-                    lines.fall_short(AllocError);
-                }
-            }
-            Err(want) => lines.fall_short(want),
-        }
+        Ok(())
     }
 
     fn text_at(&self, alloc: Global, place: usize) -> Result<String, AllocError> {
@@ -69,12 +87,52 @@ impl<'a> Referred<'a> {
         if let Some((key, tree)) = self.evaluators.get(place) {
             let mut way = Way::new();
             if let Some(wrong) = first_wrong(tree, self.sought, &mut way) {
-                lines.put(" refers to $evaluators");
-                lines.put_step(key.as_str());
-                way.put(&mut lines, usize::MAX);
+                let way = way.text(alloc, usize::MAX)?;
+                let evaluator = lines.step(key.as_str());
+                write!(lines, " refers to $evaluators{evaluator}{way}");
                 put_wrong(&mut lines, wrong, ", which", self.evaluators);
             }
         }
         lines.finish()
+    }
+}
+
+/// What is wrong, behind a word for the place.
+fn put_wrong(lines: &mut Lines, wrong: Wrong<'_>, which: &str, evaluators: &[(String, Tree)]) {
+    match wrong {
+        Wrong::Number => write!(lines, "{which} is a number that is not whole"),
+        Wrong::Reference(name) => write!(
+            lines,
+            "{which} refers to {}, no evaluator; there are {}",
+            lines.name(name),
+            lines.listed(evaluators),
+        ),
+        Wrong::Operator(name) => {
+            write!(lines, ": the operator {} is unknown", lines.name(name));
+        }
+        Wrong::Arguments(name, count) => {
+            let name = lines.name(name);
+            write!(
+                lines,
+                ": the operator {name} does not take {count} arguments"
+            );
+        }
+        Wrong::Bucket(place) => {
+            write!(
+                lines,
+                ": argument {place} of \"fractional\" is no bucket [name, weight]"
+            );
+        }
+        Wrong::Levels => write!(lines, "{which} nests too deep"),
+    }
+}
+
+/// What is wrong where no place was found.
+fn unplaced(sought: Sought<'_>) -> &'static str {
+    match sought {
+        Sought::NotWhole => "a number that is not whole, or a $ref that is none",
+        Sought::Unknown(_) => "a $ref back to itself, or to no evaluator",
+        Sought::Operation => "an operator that is unknown or has wrong arguments",
+        Sought::Within(_) => "what is not taken",
     }
 }

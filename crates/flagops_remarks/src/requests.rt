@@ -4,14 +4,18 @@ ghost use Rattle.flagops_remarks.specs.Named.{Names};
 
 use crate::lines::{Lines, Opening};
 use crate::texts::of_text;
+use bucket_core::weight_of;
 use flag_text::{Tree, read_tree};
-use limits::TEXT_BYTES;
+use limits::{SITES, TEXT_BYTES};
 use price_core::PriceFault;
-use std::alloc::{AllocError, AllocFailed, Global};
+use std::alloc::{AllocError, Global};
 use std::collections::BTreeSet;
 
 /// What a request looks like.
 const LOOK: &str = "{\"plan\":1,\"flag\":\"KEY\",\"site\":0,\"totals\":{\"NAME\":n,..}}";
+
+/// The largest price.
+const MAX_PRICE: i64 = 1_000_000;
 
 /// Of the bytes of a file.
 pub fn of_request(
@@ -22,52 +26,46 @@ pub fn of_request(
 ) -> Result<String, AllocError>
     ensures names { IfOk result (λ s. Names path.now (string_bytes s)) }
 {
-    match read_tree(alloc, bytes, TEXT_BYTES) {
-        Ok(tree) => of_tree(alloc, path, &tree, fault),
-        Err(fault) => of_text(alloc, path, bytes, TEXT_BYTES, fault),
-    }
-}
-
-fn of_tree(alloc: Global, path: &str, tree: &Tree, fault: PriceFault) -> Result<String, AllocError>
-    ensures names { IfOk result (λ s. Names path.now (string_bytes s)) }
-{
+    let tree = match read_tree(alloc, bytes, TEXT_BYTES) {
+        Ok(tree) => tree,
+        Err(fault) => return of_text(alloc, path, bytes, TEXT_BYTES, fault),
+    };
     let mut lines = Lines::new(alloc);
-    lines.put(": ");
+    write!(lines, ": ");
     match fault {
-        PriceFault::BadRequest => put_misshaped(&mut lines, tree),
-        PriceFault::SelfPair => put_self_pair(&mut lines, tree),
-        PriceFault::PriceRange => put_price(&mut lines, tree),
-        PriceFault::EmptyRange => put_empty_range(&mut lines, tree),
-        PriceFault::UnknownVariant | PriceFault::WantOfMemory => lines.put_shown(&fault),
+        PriceFault::BadRequest => put_misshaped(&mut lines, &tree)?,
+        PriceFault::SelfPair => put_self_pair(&mut lines, &tree),
+        PriceFault::PriceRange => put_price(&mut lines, &tree),
+        PriceFault::EmptyRange => put_empty_range(&mut lines, &tree),
+        PriceFault::UnknownVariant | PriceFault::WantOfMemory => write!(lines, "{fault}"),
     }
-    lines.put("\n");
+    write!(lines, "\n");
     lines.headed(Opening::Request, path)
 }
 
 /// The first member that is not of its shape, and what a request looks like. Each function that is asked tells of the first
 /// fault of its kind, and answers whether there is one.
-fn put_misshaped(lines: &mut Lines, tree: &Tree) {
+fn put_misshaped(lines: &mut Lines, tree: &Tree) -> Result<(), AllocError> {
     let is_told = put_misshaped_member(lines, tree)
         || put_misshaped_total(lines, tree)
         || put_misshaped_pair(lines, tree, "prices", "[FROM,TO,n]")
         || put_misshaped_pair(lines, tree, "forbid", "[FROM,TO]")
-        || put_doubled(lines, tree, "prices")
-        || put_doubled(lines, tree, "forbid");
+        || put_doubled(lines, tree, "prices")?
+        || put_doubled(lines, tree, "forbid")?;
     if !is_told {
-        lines.put("a pair of variants stands twice in a list");
+        write!(lines, "a pair of variants stands twice in a list");
     }
-    lines.put_all(&[
-        "\n  it looks like ",
-        LOOK,
-        "; docs/FORMATS.md has all of it",
-    ]);
+    write!(
+        lines,
+        "\n  it looks like {LOOK}; docs/FORMATS.md has all of it",
+    );
+    Ok(())
 }
 
 /// The first member that is missing, or of another kind.
 fn put_misshaped_member(lines: &mut Lines, tree: &Tree) -> bool {
     if tree.as_object().is_none() {
-        lines.put("it is ");
-        lines.put_value(tree);
+        write!(lines, "it is {}", lines.value(tree));
         return true;
     }
     for (name, what) in [
@@ -81,7 +79,13 @@ fn put_misshaped_member(lines: &mut Lines, tree: &Tree) -> bool {
     ] {
         let value = tree.member(name);
         if !is_sound(name, value) {
-            put_unsound(lines, name, value, what);
+            match value {
+                Some(value) => {
+                    let value = lines.value(value);
+                    write!(lines, "\"{name}\" is {value}, and has to be {what}");
+                }
+                None => write!(lines, "\"{name}\" is missing, which is {what}"),
+            }
             return true;
         }
     }
@@ -94,7 +98,7 @@ fn is_sound(name: &str, value: Option<&Tree>) -> bool {
         Some(Tree::Whole(n)) => {
             name == "price"
                 || name == "plan" && (*n == 1 || *n == 2)
-                || name == "site" && *n >= 0 && *n <= 4_294_967_295
+                || name == "site" && *n >= 0 && *n < SITES
         }
         Some(Tree::Text(_)) => name == "flag",
         Some(Tree::Object(_)) => name == "totals",
@@ -104,62 +108,50 @@ fn is_sound(name: &str, value: Option<&Tree>) -> bool {
     }
 }
 
-fn put_unsound(lines: &mut Lines, name: &str, value: Option<&Tree>, what: &str) {
-    lines.put_all(&["\"", name, "\" is "]);
-    match value {
-        Some(value) => {
-            lines.put_value(value);
-            lines.put_all(&[", and has to be ", what]);
-        }
-        None => lines.put_all(&["missing, which is ", what]),
-    }
-}
-
 /// The first total that is no number of points, nor a range where these are taken.
 fn put_misshaped_total(lines: &mut Lines, tree: &Tree) -> bool {
     let takes_ranges = matches!(tree.member("plan"), Some(Tree::Whole(2)));
     for (name, total) in totals(tree) {
-        if !is_total(total, takes_ranges) {
-            lines.put("totals");
-            lines.put_step(name.as_str());
-            lines.put(" is ");
-            lines.put_value(total);
-            lines.put(if takes_ranges {
-                ", no number from 0 to 2147483647 nor a range [LOW,HIGH]"
-            } else {
-                ", no number from 0 to 2147483647 (a range [LOW,HIGH] only with \"plan\":2)"
-            });
+        if range(total).is_none() || !takes_ranges && total.as_list().is_some() {
+            write!(
+                lines,
+                "totals{} is {}, no number from 0 to 2147483647 {}",
+                lines.step(name.as_str()),
+                lines.value(total),
+                if takes_ranges {
+                    "nor a range [LOW,HIGH]"
+                } else {
+                    "(a range [LOW,HIGH] only with \"plan\":2)"
+                },
+            );
             return true;
         }
     }
     false
 }
 
-fn is_total(total: &Tree, takes_ranges: bool) -> bool {
+/// The limits that a total of a request gives.
+fn range(total: &Tree) -> Option<(u64, u64)> {
     match total {
-        Tree::Whole(n) => is_points(*n),
         Tree::List(parts) => match parts.as_slice() {
-            [Tree::Whole(low), Tree::Whole(high)] => {
-                takes_ranges && is_points(*low) && is_points(*high)
+            [low, high] => {
+                let low = weight_of(low)?;
+                Some((low, weight_of(high)?))
             }
-            _ => false,
+            _ => None,
         },
-        _ => false,
+        _ => {
+            let points = weight_of(total)?;
+            Some((points, points))
+        }
     }
-}
-
-fn is_points(n: i64) -> bool {
-    n >= 0 && n <= 2_147_483_647
 }
 
 /// The first item of a list of pairs that is none.
 fn put_misshaped_pair(lines: &mut Lines, tree: &Tree, list: &str, takes: &str) -> bool {
-    let items = pairs(tree, list);
-    for i in 0..items.len() {
-        if !is_pair(&items[i], list == "prices") {
-            lines.put(list);
-            lines.put_place(i);
-            lines.put_all(&[" is no ", takes]);
+    for (place, item) in pairs(tree, list).iter().enumerate() {
+        if !is_pair(item, list == "prices") {
+            write!(lines, "{list}[{place}] is no {takes}");
             return true;
         }
     }
@@ -168,12 +160,9 @@ fn put_misshaped_pair(lines: &mut Lines, tree: &Tree, list: &str, takes: &str) -
 
 /// Whether an item is a pair of names, with a price where it has to have one.
 fn is_pair(item: &Tree, is_priced: bool) -> bool {
-    let Tree::List(parts) = item else {
-        return false;
-    };
-    match parts.as_slice() {
-        [Tree::Text(_), Tree::Text(_)] => !is_priced,
-        [Tree::Text(_), Tree::Text(_), Tree::Whole(_)] => is_priced,
+    match item.as_list() {
+        Some([Tree::Text(_), Tree::Text(_)]) => !is_priced,
+        Some([Tree::Text(_), Tree::Text(_), Tree::Whole(_)]) => is_priced,
         _ => false,
     }
 }
@@ -195,142 +184,91 @@ pub(crate) fn pairs<'a>(tree: &'a Tree, name: &str) -> &'a [Tree] {
 }
 
 /// The first pair of variants that stands twice in a list.
-fn put_doubled(lines: &mut Lines, tree: &Tree, list: &str) -> bool {
-    let items = pairs(tree, list);
+fn put_doubled(lines: &mut Lines, tree: &Tree, list: &str) -> Result<bool, AllocError> {
     let mut seen = BTreeSet::new(lines.alloc);
-    for i in 0..items.len() {
-        if let Some((from, to)) = change(&items[i]) {
-            match seen.insert((from, to)) {
-                Ok(true) => {}
-                Ok(false) => {
-                    put_change(lines, list, i, from, to);
-                    return true;
-                }
-                Err(AllocFailed { .. }) => lines.fall_short(AllocError),
+    for (place, item) in pairs(tree, list).iter().enumerate() {
+        if let Some((from, to)) = change(item) {
+            if !seen.insert((from, to))? {
+                write!(
+                    lines,
+                    "{list}[{place}] is the change from {} to {} once more",
+                    lines.name(from),
+                    lines.name(to),
+                );
+                return Ok(true);
             }
         }
     }
-    false
-}
-
-fn put_change(lines: &mut Lines, list: &str, place: usize, from: &str, to: &str) {
-    lines.put(list);
-    lines.put_place(place);
-    lines.put(" is the change from ");
-    lines.put_name(from);
-    lines.put(" to ");
-    lines.put_name(to);
-    lines.put(" once more");
+    Ok(false)
 }
 
 /// The old and the new variant of an item of a list of pairs.
 fn change(item: &Tree) -> Option<(&str, &str)> {
-    match item {
-        Tree::List(parts) => match parts.as_slice() {
-            [Tree::Text(from), Tree::Text(to), ..] => Some((from.as_str(), to.as_str())),
-            _ => None,
-        },
+    match item.as_list()? {
+        [Tree::Text(from), Tree::Text(to), ..] => Some((from.as_str(), to.as_str())),
         _ => None,
     }
 }
 
+/// The first pair of equal names.
 fn put_self_pair(lines: &mut Lines, tree: &Tree) {
     for list in ["prices", "forbid"] {
-        if let Some((place, name)) = self_pair(pairs(tree, list)) {
-            lines.put(list);
-            lines.put_place(place);
-            lines.put(" is a change from ");
-            lines.put_name(name);
-            lines.put(" to itself; leave it out: who stays costs nothing");
-            return;
-        }
-    }
-    lines.put("a pair of equal names");
-}
-
-/// The place of the first pair of equal names, with the name.
-fn self_pair(items: &[Tree]) -> Option<(usize, &str)> {
-    for i in 0..items.len() {
-        if let Some((from, to)) = change(&items[i]) {
-            if from == to {
-                return Some((i, from));
-            }
-        }
-    }
-    None
-}
-
-fn put_price(lines: &mut Lines, tree: &Tree) {
-    if let Some(price) = tree.member("price") {
-        if is_out_of_range(price) {
-            lines.put("\"price\" is ");
-            lines.put_value(price);
-            lines.put("; prices are from 0 to 1000000");
-            return;
-        }
-    }
-    match wrong_price(pairs(tree, "prices")) {
-        Some((place, price)) => {
-            lines.put("prices");
-            lines.put_place(place);
-            lines.put(" has the price ");
-            lines.put_value(price);
-            lines.put("; prices are from 0 to 1000000");
-        }
-        None => lines.put("a price is not from 0 to 1000000"),
-    }
-}
-
-/// The place of the first price that is out of range, with the price.
-fn wrong_price(items: &[Tree]) -> Option<(usize, &Tree)> {
-    for i in 0..items.len() {
-        if let Tree::List(parts) = &items[i] {
-            if let [_, _, price] = parts.as_slice() {
-                if is_out_of_range(price) {
-                    return Some((i, price));
+        for (place, item) in pairs(tree, list).iter().enumerate() {
+            if let Some((from, to)) = change(item) {
+                if from == to {
+                    return write!(
+                        lines,
+                        "{list}[{place}] is a change from {} to itself; leave it out: who stays costs nothing",
+                        lines.name(from),
+                    );
                 }
             }
         }
     }
-    None
+    write!(lines, "a pair of equal names");
+}
+
+/// The first price that is out of range.
+fn put_price(lines: &mut Lines, tree: &Tree) {
+    if let Some(price) = tree.member("price") {
+        if is_out_of_range(price) {
+            let price = lines.value(price);
+            return write!(lines, "\"price\" is {price}; prices are from 0 to 1000000");
+        }
+    }
+    for (place, item) in pairs(tree, "prices").iter().enumerate() {
+        if let Some([_, _, price]) = item.as_list() {
+            if is_out_of_range(price) {
+                let price = lines.value(price);
+                return write!(
+                    lines,
+                    "prices[{place}] has the price {price}; prices are from 0 to 1000000",
+                );
+            }
+        }
+    }
+    write!(lines, "a price is not from 0 to 1000000");
 }
 
 fn is_out_of_range(price: &Tree) -> bool {
     match price {
-        Tree::Whole(n) => *n < 0 || *n > 1_000_000,
+        Tree::Whole(n) => *n < 0 || *n > MAX_PRICE,
         _ => false,
     }
 }
 
+/// The first range whose low limit is above its high one.
 fn put_empty_range(lines: &mut Lines, tree: &Tree) {
     for (name, total) in totals(tree) {
         if let Some((low, high)) = range(total) {
             if low > high {
-                lines.put("totals");
-                lines.put_step(name.as_str());
-                lines.put(" is [");
-                lines.put_shown(&low);
-                lines.put(",");
-                lines.put_shown(&high);
-                lines.put("]; the low limit stands first");
-                return;
+                let name = lines.step(name.as_str());
+                return write!(
+                    lines,
+                    "totals{name} is [{low},{high}]; the low limit stands first",
+                );
             }
         }
     }
-    lines.put("a low limit is above its high limit");
-}
-
-/// The limits that a total of a request gives.
-pub(crate) fn range(total: &Tree) -> Option<(u64, u64)> {
-    match total {
-        Tree::Whole(n) => Some((n.unsigned_abs(), n.unsigned_abs())),
-        Tree::List(parts) => match parts.as_slice() {
-            [Tree::Whole(low), Tree::Whole(high)] => Some((
-                low.unsigned_abs(),
-                high.unsigned_abs(),
-            )),
-            _ => None,
-        },
-        _ => None,
-    }
+    write!(lines, "a low limit is above its high limit");
 }

@@ -1,9 +1,10 @@
 //! The first place in a tree at which something is wrong, in preorder, and the way to it.
 //!
 //! One search finds both: where a part has the place, the step to the part is noted before those that lie in it.
-use crate::way::{Step, Way};
+use crate::way::Way;
 use flag_text::Tree;
 use logic_ast::{Operator, is_fractional};
+use text_spans::Step;
 
 /// What is looked for.
 #[derive(Clone, Copy)]
@@ -12,8 +13,6 @@ pub(crate) enum Sought<'a> {
     NotWhole,
     /// A reference whose name is none of these members', which are sorted.
     Unknown(&'a [(String, Tree)]),
-    /// A reference.
-    Reference,
     /// An operation that is none: its operator is unknown, or it has arguments that it does not take.
     Operation,
     /// A list or an object that lies in so many levels of others.
@@ -72,7 +71,7 @@ fn first_in_items<'a>(
 ) -> Option<Wrong<'a>> {
     for (place, item) in items.iter().enumerate() {
         if let Some(wrong) = first_wrong(item, sought, way) {
-            way.begin_with(Step::Item(place));
+            way.begin_with(Step::Index(place));
             return Some(wrong);
         }
     }
@@ -85,21 +84,17 @@ fn first_in_members<'a>(
     sought: Sought<'_>,
     way: &mut Way<'a>,
 ) -> Option<Wrong<'a>> {
-    if is_passed_over(members.as_slice(), sought) {
+    // no expression stands in the members of a literal object, and of a reference
+    if matches!(sought, Sought::Operation) && operation(members.as_slice()).is_none() {
         return None;
     }
     for (name, member) in members {
         if let Some(wrong) = first_wrong(member, sought, way) {
-            way.begin_with(Step::Member(name.as_str()));
+            way.begin_with(Step::Name(name.as_str()));
             return Some(wrong);
         }
     }
     None
-}
-
-/// Whether no expression stands in the members: those of a literal object, and of a reference.
-fn is_passed_over(members: &[(String, Tree)], sought: Sought<'_>) -> bool {
-    matches!(sought, Sought::Operation) && (members.len() != 1 || reference(members).is_some())
 }
 
 /// What is wrong with a tree itself.
@@ -107,12 +102,12 @@ fn wrong_at<'a>(tree: &'a Tree, sought: Sought<'_>) -> Option<Wrong<'a>> {
     match (sought, tree) {
         (Sought::NotWhole, Tree::Other) => Some(Wrong::Number),
         (Sought::Unknown(known), Tree::Object(members)) => {
-            unknown_reference(members.as_slice(), known)
+            let name = reference(members.as_slice())?;
+            match position(known, name) {
+                Some(_) => None,
+                None => Some(Wrong::Reference(name)),
+            }
         }
-        (Sought::Reference, Tree::Object(members)) => match reference(members.as_slice()) {
-            Some(name) => Some(Wrong::Reference(name)),
-            None => None,
-        },
         (Sought::Operation, Tree::Object(members)) => wrong_operation(members.as_slice()),
         (Sought::Within(0), Tree::List(_) | Tree::Object(_)) => Some(Wrong::Levels),
         _ => None,
@@ -127,14 +122,11 @@ pub(crate) fn reference(members: &[(String, Tree)]) -> Option<&str> {
     }
 }
 
-fn unknown_reference<'a>(
-    members: &'a [(String, Tree)],
-    known: &[(String, Tree)],
-) -> Option<Wrong<'a>> {
-    let name = reference(members)?;
-    match position(known, name) {
-        Some(_) => None,
-        None => Some(Wrong::Reference(name)),
+/// The operator and the arguments of an operation: the one member of an object that is no reference.
+fn operation(members: &[(String, Tree)]) -> Option<(&str, &Tree)> {
+    match members {
+        [(name, arguments)] if reference(members).is_none() => Some((name.as_str(), arguments)),
+        _ => None,
     }
 }
 
@@ -146,11 +138,7 @@ pub(crate) fn position(members: &[(String, Tree)], name: &str) -> Option<usize> 
 }
 
 fn wrong_operation(members: &[(String, Tree)]) -> Option<Wrong<'_>> {
-    if members.len() != 1 || reference(members).is_some() {
-        return None;
-    }
-    let (name, arguments) = &members[0];
-    let name = name.as_str();
+    let (name, arguments) = operation(members)?;
     if is_fractional(name) {
         return wrong_bucket(arguments);
     }
@@ -167,14 +155,13 @@ fn wrong_operation(members: &[(String, Tree)]) -> Option<Wrong<'_>> {
 
 /// What is no bucket among the arguments of a `fractional`, of which the first is an expression unless it is a list.
 fn wrong_bucket(arguments: &Tree) -> Option<Wrong<'_>> {
-    let items = arguments.as_list()?;
-    for i in 0..items.len() {
-        let is_bucket = match &items[i] {
+    for (place, item) in arguments.as_list()?.iter().enumerate() {
+        let is_bucket = match item {
             Tree::List(parts) => parts.len() == 1 || parts.len() == 2,
-            _ => i == 0,
+            _ => place == 0,
         };
         if !is_bucket {
-            return Some(Wrong::Bucket(i));
+            return Some(Wrong::Bucket(place));
         }
     }
     None

@@ -4,78 +4,17 @@ ghost use Rattle.flagops_remarks.specs.Named.{Names};
 
 use crate::computed::put_computed;
 use crate::lines::{Lines, Opening};
-use crate::requests::{of_request, pairs, range, totals};
-use bucket_core::{Rule, total_weight};
-use flag_defs::{Flag, Flags};
+use crate::place::Place;
+use crate::requests::{of_request, pairs, totals};
+use crate::texts::unless_short;
+use bucket_core::Rule;
+use flag_defs::Flags;
 use flag_text::{Tree, read_tree};
 use limits::TEXT_BYTES;
-use logic_ast::{Expr, LogicFault, site, sites};
-use price_core::Request;
+use logic_ast::sites;
+use price_core::{PriceFault, Request};
 use rollout_checks::RolloutFault;
 use std::alloc::{AllocError, Global};
-
-/// A site of a flag in a document.
-#[derive(Clone, Copy)]
-pub(crate) struct Place<'a> {
-    pub(crate) flags: &'a Flags,
-    pub(crate) key: &'a str,
-    pub(crate) number: u32,
-}
-
-impl<'a> Place<'a> {
-    /// The place that a request is for.
-    pub(crate) fn of(flags: &'a Flags, asked: &'a Request) -> Place<'a> {
-        Place {
-            flags,
-            key: asked.flag(),
-            number: asked.site(),
-        }
-    }
-
-    /// The site and the flag, in words.
-    pub(crate) fn put(&self, lines: &mut Lines) {
-        lines.put("site ");
-        lines.put_shown(&self.number);
-        lines.put(" of ");
-        lines.put_name(self.key);
-    }
-
-    /// The names of the flag's variants, none where there is no flag.
-    pub(crate) fn variants(&self, lines: &mut Lines) -> Vec<String> {
-        let Some(flag) = self.flags.get(self.key) else {
-            return Vec::new(lines.alloc)
-        };
-        match flag.names(lines.alloc) {
-            Ok(names) => names,
-            Err(want) => {
-                lines.fall_short(want);
-                Vec::new(lines.alloc)
-            }
-        }
-    }
-
-    /// The names with their weights at the site, none where there is no such site.
-    pub(crate) fn entries(&self, lines: &mut Lines) -> Vec<(String, u64)> {
-        if let Some(targeting) = self.targeting() {
-            match site(lines.alloc, targeting, self.number) {
-                Ok(site) => return site.entries,
-                Err(LogicFault::WantOfMemory) => lines.fall_short(AllocError),
-                Err(_) => {}
-            }
-        }
-        Vec::new(lines.alloc)
-    }
-
-    /// The points of the rule at the site.
-    pub(crate) fn total(&self, lines: &mut Lines) -> u128 {
-        let entries = self.entries(lines);
-        total_weight(entries.as_slice())
-    }
-
-    pub(crate) fn targeting(&self) -> Option<&'a Expr> {
-        self.flags.get(self.key)?.targeting()
-    }
-}
 
 /// Of a request that is refused over a document, on the site's rule refined by a factor.
 pub fn of_rollout(
@@ -92,30 +31,20 @@ pub fn of_rollout(
         return of_request(alloc, path, request, fault);
     }
     let mut lines = Lines::new(alloc);
-    lines.put(": ");
+    write!(lines, ": ");
     match Request::read(alloc, request) {
         Ok(asked) => {
-            let place = Place::of(flags, &asked);
-            put_refused(&mut lines, place, request, factor, fault);
+            let place = Place::of(alloc, flags, &asked);
+            match fault {
+                RolloutFault::UnknownVariant => put_unknown_asked(&mut lines, place, request)?,
+                RolloutFault::TotalsSum => put_sums(&mut lines, place, &asked, factor)?,
+                _ => put_place(&mut lines, place, fault),
+            }
         }
-        Err(_) => lines.put_shown(&fault),
+        Err(_) => write!(lines, "{fault}"),
     }
-    lines.put("\n");
+    write!(lines, "\n");
     lines.headed(Opening::Request, path)
-}
-
-fn put_refused(
-    lines: &mut Lines,
-    place: Place<'_>,
-    request: &[u8],
-    factor: u32,
-    fault: RolloutFault,
-) {
-    match fault {
-        RolloutFault::UnknownVariant => put_unknown_asked(lines, place, request),
-        RolloutFault::TotalsSum => put_sums(lines, place, request, factor),
-        _ => put_place(lines, place, fault),
-    }
 }
 
 /// Of a rule that is not put at a site.
@@ -130,120 +59,108 @@ pub fn of_applied(
 ) -> Result<String, AllocError>
     ensures names { IfOk result (λ s. Names path.now (string_bytes s)) }
 {
-    let place = Place { flags, key, number };
+    let place = Place {
+        alloc,
+        flags,
+        key,
+        number,
+    };
     let mut lines = Lines::new(alloc);
-    lines.put(": ");
+    write!(lines, ": ");
     if fault == RolloutFault::UnknownVariant && flags.get(key).is_some() {
-        put_unknown_applied(&mut lines, place, rule);
+        put_unknown(&mut lines, place, &Tree::Null, rule.entries())?;
+        write!(lines, "\n  it may be a plan for another flag");
     } else {
         put_place(&mut lines, place, fault);
     }
-    lines.put("\n");
+    write!(lines, "\n");
     lines.headed(Opening::Plan, path)
 }
 
 /// What is wrong with a flag or its site.
 fn put_place(lines: &mut Lines, place: Place<'_>, fault: RolloutFault) {
     match fault {
-        RolloutFault::UnknownFlag => put_unknown_flag(lines, place),
+        RolloutFault::UnknownFlag => write!(
+            lines,
+            "the document has no flag {}\n  there are {}",
+            lines.name(place.key),
+            lines.listed(place.flags),
+        ),
         RolloutFault::NoSite => put_no_site(lines, place),
         RolloutFault::Computed => put_computed(lines, place),
-        RolloutFault::TotalTooLarge => put_weights(
+        RolloutFault::TotalTooLarge => write!(
             lines,
-            place,
-            fault,
-            "divide the weights by a common factor, or take a smaller --refine; at most 1,000,000 points",
+            "{place}: {fault}\n  divide the weights by a common factor, or take a smaller --refine; at most 1,000,000 points",
         ),
         RolloutFault::NoWeight => {
-            put_weights(lines, place, fault, "give one bucket a weight above 0");
+            write!(
+                lines,
+                "{place}: {fault}\n  give one bucket a weight above 0"
+            );
         }
-        _ => lines.put_shown(&fault),
+        _ => write!(lines, "{fault}"),
     }
-}
-
-/// A fault of the weights of a site, and what helps.
-fn put_weights(lines: &mut Lines, place: Place<'_>, fault: RolloutFault, advice: &str) {
-    place.put(lines);
-    lines.put(": ");
-    lines.put_shown(&fault);
-    lines.put_all(&["\n  ", advice]);
-}
-
-fn put_unknown_flag(lines: &mut Lines, place: Place<'_>) {
-    lines.put("the document has no flag ");
-    lines.put_name(place.key);
-    lines.put("\n  there are ");
-    for i in 0..place.flags.len() {
-        let (key, _) = place.flags.at(i);
-        lines.put_listed(i, key);
-    }
-    lines.put_rest(place.flags.len());
 }
 
 /// Why a flag has no site of a number.
 fn put_no_site(lines: &mut Lines, place: Place<'_>) {
-    match place.flags.get(place.key) {
-        None => {
-            lines.put("there is no flag ");
-            lines.put_name(place.key);
-        }
-        Some(flag) => {
-            lines.put("the flag ");
-            lines.put_name(place.key);
-            put_sites(lines, flag, place.number);
-        }
-    }
-}
-
-/// The sites that a flag has in place of one of a number.
-fn put_sites(lines: &mut Lines, flag: &Flag, number: u32) {
+    let key = lines.name(place.key);
+    let number = place.number;
+    let Some(flag) = place.flags.get(place.key) else {
+        return write!(lines, "there is no flag {key}");
+    };
     if flag.is_broken() {
-        lines.put(" is broken\n  \"flagops check\" tells why");
-        return;
+        return write!(
+            lines,
+            "the flag {key} is broken\n  \"flagops check\" tells why"
+        );
     }
     let count = match flag.targeting() {
         Some(targeting) => sites(targeting),
         None => 0,
     };
-    lines.put(" has no site ");
-    lines.put_shown(&number);
-    lines.put("\n  its targeting has ");
-    lines.put_shown(&count);
-    lines.put(" \"fractional\", counted from 0 in the order in which they stand");
+    write!(
+        lines,
+        "the flag {key} has no site {number}\n  its targeting has {count} \"fractional\", counted from 0 in the order in which they stand",
+    );
 }
 
 /// The first name of a request that is no variant, or that the rule of the site names another.
-fn put_unknown_asked(lines: &mut Lines, place: Place<'_>, request: &[u8]) {
+fn put_unknown_asked(
+    lines: &mut Lines,
+    place: Place<'_>,
+    request: &[u8],
+) -> Result<(), AllocError> {
     if place.flags.get(place.key).is_none() {
-        lines.put("there is no such flag");
-        return;
+        write!(lines, "there is no such flag");
+        return Ok(());
     }
-    match read_tree(lines.alloc, request, TEXT_BYTES) {
-        Ok(tree) => {
-            let entries = place.entries(lines);
-            put_unknown(lines, place, &tree, entries.as_slice());
-        }
-        Err(_) => lines.put("a name is none of the variants"),
+    match unless_short(read_tree(lines.alloc, request, TEXT_BYTES))? {
+        Some(tree) => put_unknown(lines, place, &tree, place.entries()?.as_slice())?,
+        None => write!(lines, "a name is none of the variants"),
     }
-}
-
-/// The first name of a rule that is no variant.
-fn put_unknown_applied(lines: &mut Lines, place: Place<'_>, rule: &Rule) {
-    put_unknown(lines, place, &Tree::Null, rule.entries());
-    lines.put("\n  it may be a plan for another flag");
+    Ok(())
 }
 
 /// The first name in the tree of a request, or of the entries, that is none of the flag's variants.
-fn put_unknown(lines: &mut Lines, place: Place<'_>, tree: &Tree, entries: &[(String, u64)]) {
-    let variants = place.variants(lines);
+fn put_unknown(
+    lines: &mut Lines,
+    place: Place<'_>,
+    tree: &Tree,
+    entries: &[(String, u64)],
+) -> Result<(), AllocError> {
+    let variants = place.variants()?;
     match unknown_name(variants.as_slice(), tree, entries) {
-        Some(name) => lines.put_name(name),
-        None => lines.put("a name"),
+        Some(name) => write!(lines, "{}", lines.name(name)),
+        None => write!(lines, "a name"),
     }
-    lines.put(" is no variant of ");
-    lines.put_name(place.key);
-    lines.put("\n  there are ");
-    lines.put_names(variants.as_slice());
+    write!(
+        lines,
+        " is no variant of {}\n  there are {}",
+        lines.name(place.key),
+        lines.listed(variants.as_slice()),
+    );
+    Ok(())
 }
 
 fn unknown_name<'a>(
@@ -255,8 +172,10 @@ fn unknown_name<'a>(
         return Some(name);
     }
     for list in ["prices", "forbid"] {
-        if let Some(name) = unknown_in_pairs(variants, pairs(tree, list)) {
-            return Some(name);
+        for item in pairs(tree, list) {
+            if let Some(name) = unknown_text(variants, item) {
+                return Some(name);
+            }
         }
     }
     unknown_key(variants, entries)
@@ -272,19 +191,9 @@ fn unknown_key<'a, T>(variants: &[String], named: &'a [(String, T)]) -> Option<&
     None
 }
 
-fn unknown_in_pairs<'a>(variants: &[String], items: &'a [Tree]) -> Option<&'a str> {
-    for item in items {
-        if let Tree::List(parts) = item {
-            if let Some(name) = unknown_text(variants, parts.as_slice()) {
-                return Some(name);
-            }
-        }
-    }
-    None
-}
-
-fn unknown_text<'a>(variants: &[String], parts: &'a [Tree]) -> Option<&'a str> {
-    for part in parts {
+/// The first text of a list that is no variant.
+fn unknown_text<'a>(variants: &[String], list: &'a Tree) -> Option<&'a str> {
+    for part in list.as_list()? {
         if let Tree::Text(name) = part {
             if !is_among(variants, name.as_str()) {
                 return Some(name.as_str());
@@ -295,55 +204,37 @@ fn unknown_text<'a>(variants: &[String], parts: &'a [Tree]) -> Option<&'a str> {
 }
 
 pub(crate) fn is_among(variants: &[String], name: &str) -> bool {
-    for variant in variants {
-        if variant.as_str() == name {
-            return true;
-        }
-    }
-    false
+    variants.iter().any(|variant| variant.as_str() == name)
 }
 
 /// Both sums of the totals, and that of the rule's weights.
-fn put_sums(lines: &mut Lines, place: Place<'_>, request: &[u8], factor: u32) {
-    let (low, high) = match read_tree(lines.alloc, request, TEXT_BYTES) {
-        Ok(tree) => sums(&tree),
+fn put_sums(
+    lines: &mut Lines,
+    place: Place<'_>,
+    asked: &Request,
+    factor: u32,
+) -> Result<(), AllocError> {
+    let (low, high) = match asked.totals(lines.alloc, place.variants()?.as_slice()) {
+        Ok(totals) => (totals.low_sum(), totals.high_sum()),
+        Err(PriceFault::WantOfMemory) => return Err(AllocError),
         Err(_) => (0, 0),
     };
-    lines.put("the totals sum to ");
-    lines.put_shown(&low);
+    write!(lines, "the totals sum to {low}");
     if low != high {
-        lines.put(" at least and ");
-        lines.put_shown(&high);
-        lines.put(" at most");
+        write!(lines, " at least and {high} at most");
     }
-    let total = place.total(lines).saturating_mul(u128::from(factor));
+    let total = place.total()?.saturating_mul(u128::from(factor));
     // `verify` without a factor takes the one of the plan's rule
-    if u128::from(low) <= total && total <= u128::from(high) {
-        lines.put(",\n  and the rule of the plan has a multiple of the ");
-        lines.put_shown(&total);
-        lines.put(" points at ");
-        place.put(lines);
-        lines.put(
-            "\n  it was planned with --refine, for a request with totals as many times as large",
+    if low <= total && total <= high {
+        write!(
+            lines,
+            ",\n  and the rule of the plan has a multiple of the {total} points at {place}\n  it was planned with --refine, for a request with totals as many times as large",
         );
     } else {
-        lines.put(",\n  and the rule at ");
-        place.put(lines);
-        lines.put(" has ");
-        lines.put_shown(&total);
-        lines.put(" points (a variant that is not named gets none)");
+        write!(
+            lines,
+            ",\n  and the rule at {place} has {total} points (a variant that is not named gets none)",
+        );
     }
-}
-
-/// The sums of the low and of the high limits.
-fn sums(tree: &Tree) -> (u64, u64) {
-    let mut lows: u64 = 0;
-    let mut highs: u64 = 0;
-    for (_, total) in totals(tree) {
-        if let Some((low, high)) = range(total) {
-            lows = lows.saturating_add(low);
-            highs = highs.saturating_add(high);
-        }
-    }
-    (lows, highs)
+    Ok(())
 }

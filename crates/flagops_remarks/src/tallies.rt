@@ -2,10 +2,10 @@
 ghost use Rattle.std.specs.Prelude.{IfOk, string_bytes};
 ghost use Rattle.flagops_remarks.specs.Named.{Names};
 
-use crate::books::put_page;
+use crate::books::{put_misread, whole_page};
 use crate::ends::Ends;
 use crate::lines::{Lines, Opening};
-use crate::sites::Place;
+use crate::place::Place;
 use book_core::Page;
 use flag_defs::Flags;
 use logic_ast::LogicFault;
@@ -23,32 +23,21 @@ pub fn of_tally(
 ) -> Result<String, AllocError>
     ensures names { IfOk result (λ s. Names path.now (string_bytes s)) }
 {
-    let mut lines = Lines::new(alloc);
-    lines.put(" is no tally: ");
-    if is_cut(ends, fault) {
-        lines.put("its last line has no line feed (");
-        lines.put_shown(&fault);
-        lines.put(")\n  was it cut off? each line of a tally has its line end, the last one too\n");
-    } else {
-        lines.put_shown(&fault);
-        lines.put_all(&["\n  ", taken(fault), "\n"]);
-    }
-    lines.headed(Opening::Error, path)
-}
-
-/// Whether the line at fault is the last one, which has no line feed.
-fn is_cut(ends: Ends, fault: TallyFileFault) -> bool {
-    match fault {
-        TallyFileFault::Line(line) => ends.is_cut_at(u128::from(line)),
+    let is_cut = match fault {
+        TallyFileFault::Line(line) => ends.is_cut_at(u64::from(line)),
         _ => false,
-    }
+    };
+    let mut lines = Lines::new(alloc);
+    put_misread(&mut lines, "tally", is_cut, fault, taken(fault));
+    lines.headed(Opening::Error, path)
 }
 
 /// What is taken in place of a fault.
 fn taken(fault: TallyFileFault) -> &'static str {
     match fault {
-        TallyFileFault::Header =>
-            "it begins with the line {\"tally\":1}, and a book with {\"book\":1}",
+        TallyFileFault::Header => {
+            "it begins with the line {\"tally\":1}, and a book with {\"book\":1}"
+        }
         TallyFileFault::Page => {
             "docs/FORMATS.md has its members; it is spelled without blanks, and ends with a line feed"
         }
@@ -65,12 +54,12 @@ fn taken(fault: TallyFileFault) -> &'static str {
 pub fn of_empty_tally(alloc: Global, path: &str, page: &Page) -> Result<String, AllocError>
     ensures names { IfOk result (λ s. Names path.now (string_bytes s)) }
 {
+    let page = whole_page(alloc, page)?;
     let mut lines = Lines::new(alloc);
-    lines.put(" counts no input of the page of the request, so no recorded user counts:\n  flag ");
-    lines.put_name(page.flag.as_str());
-    lines.put(", ");
-    put_page(&mut lines, page);
-    lines.put("\n");
+    write!(
+        lines,
+        " counts no input of the page of the request, so no recorded user counts:\n  {page}\n",
+    );
     lines.headed(Opening::Note, path)
 }
 
@@ -86,47 +75,39 @@ pub fn of_other_tally(
     ensures names { IfOk result (λ s. Names path.now (string_bytes s)) }
 {
     let mut lines = Lines::new(alloc);
-    lines.put(" is for another page or total than the tally ");
-    lines.put_name(tally_path);
-    lines.put(":\n");
+    write!(
+        lines,
+        " is for another page or total than the tally {}:\n",
+        lines.name(tally_path),
+    );
     match Request::read(alloc, request) {
-        Ok(asked) => put_asked(&mut lines, Place::of(flags, &asked)),
-        Err(PriceFault::WantOfMemory) => lines.fall_short(AllocError),
+        Ok(asked) => put_asked(&mut lines, Place::of(alloc, flags, &asked))?,
+        Err(PriceFault::WantOfMemory) => return Err(AllocError),
         Err(_) => {}
     }
-    lines.put("  the tally is of ");
-    put_whole_page(&mut lines, &tally.page);
-    lines.put(", at ");
-    lines.put_shown(&tally.total);
-    lines.put(
-        " points\n  tally the page of the request, with the --refine that it is planned with\n",
+    write!(
+        lines,
+        "  the tally is of {}, at {} points\n  tally the page of the request, with the --refine that it is planned with\n",
+        whole_page(alloc, &tally.page)?,
+        tally.total,
     );
     lines.headed(Opening::Request, path)
 }
 
 /// The page that is asked for, and the points of its rule.
-fn put_asked(lines: &mut Lines, place: Place<'_>) {
+fn put_asked(lines: &mut Lines, place: Place<'_>) -> Result<(), AllocError> {
     let Some(targeting) = place.targeting() else {
-        return;
+        return Ok(());
     };
     match Page::of(lines.alloc, place.key, targeting, place.number) {
-        Ok(page) => {
-            let total = place.total(lines);
-            lines.put("  it is for ");
-            put_whole_page(lines, &page);
-            lines.put(", at ");
-            lines.put_shown(&total);
-            lines.put(" points (with --refine M: M times as many)\n");
-        }
-        Err(LogicFault::WantOfMemory) => lines.fall_short(AllocError),
+        Ok(page) => write!(
+            lines,
+            "  it is for {}, at {} points (with --refine M: M times as many)\n",
+            whole_page(lines.alloc, &page)?,
+            place.total()?,
+        ),
+        Err(LogicFault::WantOfMemory) => return Err(AllocError),
         Err(_) => {}
     }
-}
-
-/// A page with its flag.
-fn put_whole_page(lines: &mut Lines, page: &Page) {
-    lines.put("flag ");
-    lines.put_name(page.flag.as_str());
-    lines.put(", ");
-    put_page(lines, page);
+    Ok(())
 }

@@ -2,19 +2,15 @@
 ghost use Rattle.std.specs.Prelude.{IfOk, string_bytes};
 ghost use Rattle.flagops_remarks.specs.Named.{Names, NamesWord};
 
+use crate::ends::BYTE_ORDER_MARK;
 use crate::lines::{Lines, Opening};
 use crate::search::{Sought, first_wrong};
 use crate::way::Way;
-use flag_text::{TextFault, read_doc};
+use flag_text::{TextFault, Tree, read_doc};
+use limits::TREE_LEVELS;
 use serde_json::Value;
 use simdutf8::basic;
 use std::alloc::{AllocError, Global};
-
-/// The most levels that lists and objects of a text may nest.
-const LEVELS: usize = 120;
-
-/// What some editors write before a text in UTF-8.
-const BYTE_ORDER_MARK: &[u8] = b"\xef\xbb\xbf";
 
 /// The bytes of a way into what nests too deep from which on no further step is shown.
 const MOST_OF_WAY: usize = 40;
@@ -32,11 +28,8 @@ pub fn of_text(
 ) -> Result<String, AllocError>
     ensures names { IfOk result (λ s. Names path.now (string_bytes s)) }
 {
-    if fault == TextFault::WantOfMemory {
-        return Err(AllocError);
-    }
     let mut lines = Lines::new(alloc);
-    put_fault(&mut lines, bytes, limit, fault);
+    put_fault(&mut lines, bytes, limit, fault)?;
     lines.headed(Opening::Error, path)
 }
 
@@ -50,111 +43,123 @@ pub fn of_word(
 ) -> Result<String, AllocError>
     ensures names { IfOk result (λ s. NamesWord name.now (string_bytes s)) }
 {
-    if fault == TextFault::WantOfMemory {
-        return Err(AllocError);
-    }
     let mut lines = Lines::new(alloc);
-    put_fault(&mut lines, bytes, limit, fault);
+    put_fault(&mut lines, bytes, limit, fault)?;
     if fault == TextFault::NotJson {
-        lines.put_all(&[
-            "  ",
-            name,
-            " is JSON: a text stands in quotes of its own, as '\"none\"'\n",
-        ]);
+        write!(
+            lines,
+            "  {name} is JSON: a text stands in quotes of its own, as '\"none\"'\n"
+        );
     }
     lines.behind_word(name)
 }
 
 /// The fault, behind the name of the text.
-fn put_fault(lines: &mut Lines, bytes: &[u8], limit: usize, fault: TextFault) {
+fn put_fault(
+    lines: &mut Lines,
+    bytes: &[u8],
+    limit: usize,
+    fault: TextFault,
+) -> Result<(), AllocError> {
     match fault {
-        TextFault::WantOfMemory => {}
-        TextFault::NotJson => put_not_json(lines, bytes),
-        TextFault::TooLarge => {
-            lines.put(" has more than ");
-            lines.put_shown(&limit);
-            lines.put(" bytes\n");
+        TextFault::WantOfMemory => return Err(AllocError),
+        TextFault::NotJson => put_not_json(lines, bytes)?,
+        TextFault::TooLarge => write!(lines, " has more than {limit} bytes\n"),
+        TextFault::NotWhole => {
+            if bytes.len() > LOOKED_INTO {
+                write!(lines, ": a number in it");
+            } else {
+                let place = place_of(lines.alloc, bytes, limit, Sought::NotWhole, usize::MAX)?;
+                write!(lines, ": the number at {place}");
+            }
+            write!(
+                lines,
+                " is not whole\n  numbers are from -(2^53-1) to 2^53-1, without fraction or exponent: give cents, or a text\n",
+            );
         }
-        TextFault::NotWhole => put_not_whole(lines, bytes, limit),
-        TextFault::TooDeep => put_too_deep(lines, bytes, limit),
+        TextFault::TooDeep => {
+            write!(lines, ": lists and objects nest deeper than 120 levels");
+            if bytes.len() <= LOOKED_INTO {
+                let sought = Sought::Within(TREE_LEVELS);
+                let place = place_of(lines.alloc, bytes, limit, sought, MOST_OF_WAY)?;
+                write!(lines, ", at {place}");
+            }
+            write!(lines, "\n");
+        }
     }
+    Ok(())
 }
 
 /// Of a text that is no JSON: that nothing stands there, that a mark stands before it, or the line and the column at which it
 /// goes wrong.
-pub(crate) fn put_not_json(lines: &mut Lines, bytes: &[u8]) {
+pub(crate) fn put_not_json(lines: &mut Lines, bytes: &[u8]) -> Result<(), AllocError> {
     if bytes.is_empty() {
-        lines.put(" is empty, and no JSON\n");
-        return;
-    }
-    if bytes.starts_with(BYTE_ORDER_MARK) {
-        lines.put(
+        write!(lines, " is empty, and no JSON\n");
+    } else if bytes.starts_with(BYTE_ORDER_MARK) {
+        write!(
+            lines,
             " begins with a byte order mark, and is no JSON\n  save it as UTF-8 without the mark\n",
         );
-        return;
+    } else {
+        write!(lines, " is no JSON: ");
+        put_json_fault(lines, bytes)?;
+        write!(
+            lines,
+            "\n  no trailing comma, no comment; names and texts stand in double quotes\n",
+        );
     }
-    lines.put(" is no JSON: ");
-    put_json_fault(lines, bytes);
-    lines.put("\n  no trailing comma, no comment; names and texts stand in double quotes\n");
+    Ok(())
 }
 
 /// What `serde_json` says of a text that it does not read, with line and column.
-fn put_json_fault(lines: &mut Lines, bytes: &[u8]) {
+fn put_json_fault(lines: &mut Lines, bytes: &[u8]) -> Result<(), AllocError> {
     let Ok(text) = basic::from_utf8(bytes) else {
-        lines.put("its bytes are not UTF-8");
-        return;
+        write!(lines, "its bytes are not UTF-8");
+        return Ok(());
     };
     if bytes.len() > LOOKED_INTO {
-        lines.put("where it goes wrong is looked for in at most 4194304 bytes");
-        return;
+        write!(
+            lines,
+            "where it goes wrong is looked for in at most 4194304 bytes"
+        );
+        return Ok(());
     }
     match Value::from_str(lines.alloc, text) {
-        Ok(_value) => lines.put("it nests too deep"),
-        Err(e) if e.is_memory() => lines.fall_short(AllocError),
-        Err(e) => lines.put_shown(&e),
+        Ok(_value) => write!(lines, "it nests too deep"),
+        Err(e) if e.is_memory() => return Err(AllocError),
+        Err(e) => write!(lines, "{e}"),
     }
-}
-
-fn put_not_whole(lines: &mut Lines, bytes: &[u8], limit: usize) {
-    if bytes.len() > LOOKED_INTO {
-        lines.put(": a number in it");
-    } else {
-        lines.put(": the number at ");
-        put_place(lines, bytes, limit, Sought::NotWhole, usize::MAX);
-    }
-    lines.put(
-        " is not whole\n  numbers are from -(2^53-1) to 2^53-1, without fraction or exponent: give cents, or a text\n",
-    );
-}
-
-fn put_too_deep(lines: &mut Lines, bytes: &[u8], limit: usize) {
-    lines.put(": lists and objects nest deeper than 120 levels");
-    if bytes.len() <= LOOKED_INTO {
-        lines.put(", at ");
-        put_place(lines, bytes, limit, Sought::Within(LEVELS), MOST_OF_WAY);
-    }
-    lines.put("\n");
+    Ok(())
 }
 
 /// The first place in a text that has what is sought. No further step is shown behind the most bytes.
-fn put_place(lines: &mut Lines, bytes: &[u8], limit: usize, sought: Sought<'_>, most: usize) {
-    if let Ok(tree) = read_doc(lines.alloc, bytes, limit) {
-        let mut way = Way::new();
-        let _wrong = first_wrong(&tree, sought, &mut way);
-        let mut shown = Lines::new(lines.alloc);
-        way.put(&mut shown, most);
-        put_from_root(lines, shown);
-    }
+fn place_of(
+    alloc: Global,
+    bytes: &[u8],
+    limit: usize,
+    sought: Sought<'_>,
+    most: usize,
+) -> Result<String, AllocError> {
+    let Some(tree) = unless_short(read_doc(alloc, bytes, limit))? else {
+        return Ok(String::new(alloc));
+    };
+    let mut way = Way::new();
+    let _wrong = first_wrong(&tree, sought, &mut way);
+    let way = way.text(alloc, most)?;
+    let shown = way.as_str();
+    let shown = if shown.is_empty() {
+        "the root"
+    } else {
+        shown.strip_prefix(".").unwrap_or(shown)
+    };
+    String::from_str(alloc, shown)
 }
 
-/// A way without the point that it begins with.
-fn put_from_root(lines: &mut Lines, way: Lines) {
-    match way.finish() {
-        Ok(way) if way.is_empty() => lines.put("the root"),
-        Ok(way) => match way.as_str().strip_prefix(".") {
-            Some(rest) => lines.put(rest),
-            None => lines.put(way.as_str()),
-        },
-        Err(want) => lines.fall_short(want),
+/// What was read, none where it was refused for another fault than want of memory.
+pub(crate) fn unless_short(read: Result<Tree, TextFault>) -> Result<Option<Tree>, AllocError> {
+    match read {
+        Ok(tree) => Ok(Some(tree)),
+        Err(TextFault::WantOfMemory) => Err(AllocError),
+        Err(_) => Ok(None),
     }
 }

@@ -20,7 +20,7 @@ pub fn of_unread(
     ensures names { IfOk result (λ s. Names path.now (string_bytes s)) }
 {
     let mut lines = Lines::new(alloc);
-    lines.put(" has a member that is not read:\n");
+    write!(lines, " has a member that is not read:\n");
     if let Some(members) = tree.as_object() {
         put_unread(&mut lines, members, reader);
     }
@@ -31,24 +31,22 @@ pub fn of_unread(
 fn put_unread(lines: &mut Lines, members: &[(String, Tree)], reader: Reader) {
     let mut listed: usize = 0;
     for (name, _) in members {
-        if !reader.reads(name.as_str()) {
+        let name = name.as_str();
+        if !reader.reads(name) {
             if listed == MOST_MEMBERS {
-                lines.put("  and more\n");
-                return;
+                return write!(lines, "  and more\n");
             }
-            put_member(lines, name.as_str(), reader);
+            write!(lines, "  {}", lines.name(name));
+            put_meant(lines, name, reader);
             listed = listed.saturating_add(1);
         }
     }
 }
 
-fn put_member(lines: &mut Lines, name: &str, reader: Reader) {
-    lines.put("  ");
-    lines.put_name(name);
-    if let Some(meant) = reader.meant(name) {
-        lines.put("; perhaps ");
-        lines.put_name(meant);
-        lines.put(" is meant");
+/// The member that may be meant by a name that is not read, and the end of the line.
+pub(crate) fn put_meant(lines: &mut Lines, name: &str, reader: Reader) {
+    match reader.meant(name) {
+        Some(meant) => write!(lines, "; perhaps {} is meant\n", lines.name(meant)),
+        None => write!(lines, "\n"),
     }
-    lines.put("\n");
 }

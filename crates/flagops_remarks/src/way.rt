@@ -1,26 +1,10 @@
 //! The way from the root of a tree to a place in it.
-use crate::lines::Lines;
+use crate::quoting::quoted_step;
+use std::alloc::{AllocError, Global};
+use text_spans::Step;
 
 /// The most steps to a place: no text that is read nests deeper.
-const MOST_STEPS: usize = 127;
-
-/// A step from a tree to one of its parts.
-#[derive(Clone, Copy)]
-pub(crate) enum Step<'a> {
-    /// To the item at this place.
-    Item(usize),
-    /// To the member of this name.
-    Member(&'a str),
-}
-
-impl<'a> Step<'a> {
-    fn put(self, lines: &mut Lines) {
-        match self {
-            Step::Item(place) => lines.put_place(place),
-            Step::Member(name) => lines.put_step(name),
-        }
-    }
-}
+const MOST_STEPS: usize = limits::JSON_LEVELS;
 
 /// The way to a place, which a search notes from its end back to the root once it found the place.
 #[derive(Drop)]
@@ -34,7 +18,7 @@ impl<'a> Way<'a> {
     /// No steps: the way to the root.
     pub(crate) fn new() -> Way<'a> {
         Way {
-            steps: [Step::Item(0); MOST_STEPS],
+            steps: [Step::Index(0); MOST_STEPS],
             count: 0,
         }
     }
@@ -47,16 +31,20 @@ impl<'a> Way<'a> {
         }
     }
 
-    /// Writes the steps from the root on. Once the lines have more than so many bytes, dots stand for the steps that are left.
-    pub(crate) fn put(&self, lines: &mut Lines, most: usize) {
+    /// The steps from the root on. Behind more than so many bytes, dots stand for the steps that are left.
+    pub(crate) fn text(&self, alloc: Global, most: usize) -> Result<String, AllocError> {
+        let mut text = String::new(alloc);
         for n in (0..self.count).rev() {
-            if lines.len() > most {
-                lines.put("..");
-                return;
+            if text.len() > most {
+                text.push_str("..")?;
+                break;
             }
-            if let Some(step) = self.steps.get(n) {
-                step.put(lines);
+            match self.steps.get(n) {
+                Some(Step::Index(place)) => write!(text, "[{place}]")?,
+                Some(Step::Name(name)) => text.push_str(quoted_step(alloc, name)?.as_str())?,
+                None => {}
             }
         }
+        Ok(text)
     }
 }

@@ -3,7 +3,7 @@ use Rattle.std.proofs.lemmas.Grind.{common_steps}
 use Rattle.std.proofs.lemmas.List.{nil_from_length}
 use Rattle.std.proofs.lemmas.Str.{chars-nil, chars_past_char}
 use Rattle.flagops_remarks.proofs.Shown.{passed, cut, kept}
-use Rattle.flagops_remarks.proofs.lines.front.Goals as goal
+use Rattle.flagops_remarks.proofs.quoting.front.Goals as goal
 
 pub returns-in_err-end-clause-whole : goal.returns-in_err-end-clause-whole
 returns-in_err-end-clause-whole c =
