@@ -81,12 +81,22 @@ fn line(
 ) -> Result<String, AllocError>
     ensures { IfOk result (λ s. IsBrokenLine key.now breach (string_bytes s)) }
 {
-    let mut lines = Lines::new(alloc);
-    put_breach(&mut lines, definition, causes, breach)?;
+    let why = why(alloc, definition, causes, breach)?;
     let flag = quoted_step(alloc, key)?;
     let (member, rule) = (rule_member(breach), rule_name(breach));
-    let lines = lines.finish()?;
-    format!(in alloc; "broken: flags{flag}{member}{lines} ({rule})\n")
+    format!(in alloc; "broken: flags{flag}{member}{why} ({rule})\n")
+}
+
+/// What is wrong with a flag, behind the member that the rule is about.
+fn why(
+    alloc: Global,
+    definition: &Tree,
+    causes: &mut Causes<'_>,
+    breach: Breach,
+) -> Result<String, AllocError> {
+    let mut lines = Lines::new(alloc);
+    put_breach(&mut lines, definition, causes, breach)?;
+    lines.finish()
 }
 
 /// The member of a flag's definition that a rule is about, behind a point; nothing where it is about the definition.

@@ -15,6 +15,7 @@ mod change;
 mod element;
 mod none;
 mod print;
+mod rows;
 mod step;
 mod switches;
 mod variants;

@@ -6,10 +6,10 @@ ghost use Rattle.price_core.specs.Limits.{limit_view, limits_view};
 ghost use Rattle.picture.specs.Spelling.{Adds};
 ghost use Rattle.picture.specs.Told.{limit_told, name, none_told, number, set_told, told};
 
-use crate::bars::{BAR, LEFT, add_bar, look_of};
-use crate::element::{Content, Element, Extent, Piece, Place, add};
+use crate::bars::{BAR, LEFT, add_bar};
+use crate::element::{Content, Element, Place, add};
 use crate::print::place;
-use crate::variants::{NAMES, ROW, number_at, size_for};
+use crate::rows::{NAMES, ROW, add_headings, number_at, size_for, swatch};
 use crate::words::{Style, Word};
 use bucket_core::Rule;
 use price_core::{Limit, Totals};
@@ -97,23 +97,10 @@ fn add_named<'a>(
 ) -> Result<(), AllocError>
     ensures { OnOk result (told elements.new.items ≡ told elements.old.items ++ (name variant.now ∷ [])) }
 {
-    let swatch = Piece {
-        name: variant,
-        look: look_of(limits, variant),
-        place: Place {
-            x: LEFT,
-            y: y.saturating_sub(26),
-        },
-        extent: Extent {
-            width: 44,
-            height: 32,
-        },
-        label: 0,
-    };
     add(
         elements,
         &[
-            Element::Piece(swatch),
+            Element::Piece(swatch(limits, variant, y)),
             Element::Name(Place { x: NAMES, y }, size_for(variant, 1060), variant),
         ],
     )
@@ -132,6 +119,13 @@ fn add_rule<'a>(
     Ok(y.saturating_add(BAR).saturating_add(ROW))
 }
 
+const HEADINGS: &[(Style, u64, Word)] = &[
+    (Style::Heading, NAMES, Word::Variant),
+    (Style::Value, 820, Word::Points),
+    (Style::Value, 990, Word::AtLeast),
+    (Style::Value, 1160, Word::AtMost),
+];
+
 /// Adds a row for each variant with its points and its limits, and gives the height below.
 fn add_limits<'a>(
     elements: &mut Vec<Element<'a>>,
@@ -141,42 +135,12 @@ fn add_limits<'a>(
 ) -> Result<u64, AllocError>
     ensures { OnOk result (told elements.new.items ≡ told elements.old.items ++ flat_map (limit_told old.now) (limits_view limits.entry.now)) }
 {
-    add_headings(elements, y)?;
+    add_headings(elements, HEADINGS, y)?;
     let mut row = y.saturating_add(ROW);
     for limit in limits {
         row = add_limit(elements, old, limits, limit, row)?;
     }
     Ok(row)
-}
-
-fn add_headings(elements: &mut Vec<Element<'_>>, y: u64) -> Result<(), AllocError>
-    ensures { OnOk result (told elements.new.items ≡ told elements.old.items ++ []) }
-{
-    add(
-        elements,
-        &[
-            Element::Text(
-                Style::Heading,
-                Place { x: NAMES, y },
-                Content::Word(Word::Variant),
-            ),
-            Element::Text(
-                Style::Value,
-                Place { x: 820, y },
-                Content::Word(Word::Points),
-            ),
-            Element::Text(
-                Style::Value,
-                Place { x: 990, y },
-                Content::Word(Word::AtLeast),
-            ),
-            Element::Text(
-                Style::Value,
-                Place { x: 1160, y },
-                Content::Word(Word::AtMost),
-            ),
-        ],
-    )
 }
 
 fn add_limit<'a>(

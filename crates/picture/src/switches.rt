@@ -6,11 +6,19 @@ ghost use Rattle.picture.specs.Told.{row_told, switch_told, table_told, told};
 
 use crate::change::Change;
 use crate::element::{Content, Element, Place, add};
-use crate::variants::{NAMES, ROW, number_at, size_for};
+use crate::rows::{NAMES, ROW, add_headings, number_at, size_for};
 use crate::words::{Style, Word};
 use price_core::{Limit, Prices};
 use std::alloc::AllocError;
 use switch_table::Switch;
+
+const HEADINGS: &[(Style, u64, Word)] = &[
+    (Style::Heading, NAMES, Word::From),
+    (Style::Heading, 410, Word::To),
+    (Style::Value, 820, Word::Points),
+    (Style::Value, 970, Word::Users),
+    (Style::Value, 1160, Word::Price),
+];
 
 /// Adds the head of the table and its rows, from a height on, and gives the height below.
 pub(crate) fn add_table<'a>(
@@ -22,43 +30,12 @@ pub(crate) fn add_table<'a>(
     requires { change.now.table.now.0 ≡ length limits.now }
     ensures { OnOk result (told elements.new.items ≡ told elements.old.items ++ table_told change.now.prices.now (keys_of (limits_view limits.entry.now)) change.now.table.now) }
 {
-    add_headings(elements, y)?;
+    add_headings(elements, HEADINGS, y)?;
     let mut row = y.saturating_add(ROW);
     for from in 0..limits.len() {
         row = add_row(elements, change, limits, from, row)?;
     }
     Ok(row)
-}
-
-fn add_headings(elements: &mut Vec<Element<'_>>, y: u64) -> Result<(), AllocError>
-    ensures { OnOk result (told elements.new.items ≡ told elements.old.items ++ []) }
-{
-    add(
-        elements,
-        &[
-            Element::Text(
-                Style::Heading,
-                Place { x: NAMES, y },
-                Content::Word(Word::From),
-            ),
-            Element::Text(Style::Heading, Place { x: 410, y }, Content::Word(Word::To)),
-            Element::Text(
-                Style::Value,
-                Place { x: 820, y },
-                Content::Word(Word::Points),
-            ),
-            Element::Text(
-                Style::Value,
-                Place { x: 970, y },
-                Content::Word(Word::Users),
-            ),
-            Element::Text(
-                Style::Value,
-                Place { x: 1160, y },
-                Content::Word(Word::Price),
-            ),
-        ],
-    )
 }
 
 /// Adds the switches from one variant to each, from a height on, and gives the height below.

@@ -6,29 +6,23 @@ ghost use Rattle.std.specs.Str.{bytes_eq};
 ghost use Rattle.bucket_core.specs.Rule.{total_of};
 ghost use Rattle.price_core.specs.Limits.{limit_view, limits_view};
 ghost use Rattle.transport_instance.specs.Certificate.{beta_view};
-ghost use Rattle.picture.specs.Told.{dual_told, number_element, told, totals_told, variant_told};
+ghost use Rattle.picture.specs.Told.{dual_told, told, totals_told, variant_told};
 
-use crate::bars::{LEFT, look_of};
 use crate::change::Change;
-use crate::element::{Content, Element, Extent, Piece, Place, add};
+use crate::element::{Content, Element, Place, add};
+use crate::rows::{NAMES, ROW, add_headings, number_at, size_for, swatch};
 use crate::words::{Style, Word};
 use price_core::Limit;
 use std::alloc::AllocError;
 
-/// The height of a row.
-pub(crate) const ROW: u64 = 46;
-
-/// Where names stand.
-pub(crate) const NAMES: u64 = 100;
-
-/// The size of letters.
-pub(crate) const SIZE: u64 = 28;
-
-/// The size at which a name finds room in so many units: a letter is as wide as three fifths of its size.
-pub(crate) fn size_for(name: &str, width: u64) -> u64 {
-    let letters = (name.len() as u64).max(1);
-    (width.saturating_mul(5) / letters.saturating_mul(3).max(1)).clamp(1, SIZE)
-}
+const HEADINGS: &[(Style, u64, Word)] = &[
+    (Style::Heading, NAMES, Word::Variant),
+    (Style::Value, 600, Word::Before),
+    (Style::Value, 720, Word::After),
+    (Style::Value, 860, Word::AtLeast),
+    (Style::Value, 990, Word::AtMost),
+    (Style::Value, 1160, Word::DualPrice),
+];
 
 /// Adds the head of the list and a row for each variant, from a height on, and gives the height below.
 pub(crate) fn add_variants<'a>(
@@ -40,52 +34,12 @@ pub(crate) fn add_variants<'a>(
     ensures { OnOk result (told elements.new.items ≡ told elements.old.items
         ++ flat_map (variant_told change.now.old.now change.now.new.now (beta_view change.now.certificate.now.beta.items)) (limits_view limits.entry.now)) }
 {
-    add_headings(elements, y)?;
+    add_headings(elements, HEADINGS, y)?;
     let mut row = y.saturating_add(ROW);
     for limit in limits {
         row = add_variant(elements, change, limits, limit, row)?;
     }
     Ok(row.saturating_add(ROW))
-}
-
-fn add_headings(elements: &mut Vec<Element<'_>>, y: u64) -> Result<(), AllocError>
-    ensures { OnOk result (told elements.new.items ≡ told elements.old.items ++ []) }
-{
-    add(
-        elements,
-        &[
-            Element::Text(
-                Style::Heading,
-                Place { x: NAMES, y },
-                Content::Word(Word::Variant),
-            ),
-            Element::Text(
-                Style::Value,
-                Place { x: 600, y },
-                Content::Word(Word::Before),
-            ),
-            Element::Text(
-                Style::Value,
-                Place { x: 720, y },
-                Content::Word(Word::After),
-            ),
-            Element::Text(
-                Style::Value,
-                Place { x: 860, y },
-                Content::Word(Word::AtLeast),
-            ),
-            Element::Text(
-                Style::Value,
-                Place { x: 990, y },
-                Content::Word(Word::AtMost),
-            ),
-            Element::Text(
-                Style::Value,
-                Place { x: 1160, y },
-                Content::Word(Word::DualPrice),
-            ),
-        ],
-    )
 }
 
 /// Adds the row of a variant at a height, and gives the height below. A long name has a line of its own.
@@ -124,23 +78,10 @@ fn add_totals<'a>(
 {
     let name = limit.name.as_str();
     let width = if y < below { 1060 } else { 440 };
-    let swatch = Piece {
-        name,
-        look: look_of(limits, name),
-        place: Place {
-            x: LEFT,
-            y: y.saturating_sub(26),
-        },
-        extent: Extent {
-            width: 44,
-            height: 32,
-        },
-        label: 0,
-    };
     add(
         elements,
         &[
-            Element::Piece(swatch),
+            Element::Piece(swatch(limits, name, y)),
             Element::Name(Place { x: NAMES, y }, size_for(name, width), name),
             number_at(600, below, change.old.total_of(name)),
             number_at(720, below, change.new.total_of(name)),
@@ -161,13 +102,6 @@ fn add_dual(elements: &mut Vec<Element<'_>>, dual: Option<i64>, y: u64) -> Resul
         ),
         None => add(elements, &[]),
     }
-}
-
-/// A number that ends at a place.
-pub(crate) fn number_at<'a>(x: u64, y: u64, number: u64) -> Element<'a>
-    ensures { result ≡ number_element x y number }
-{
-    Element::Text(Style::Value, Place { x, y }, Content::Number(number))
 }
 
 /// The dual price of a name, if it has one.

@@ -1,4 +1,5 @@
 pub mod Changes
+pub mod Cursors
 pub mod Inserts
 pub mod Lawful
 pub mod Limited

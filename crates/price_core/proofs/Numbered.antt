@@ -1,11 +1,11 @@
 -- Numbers of names: one name more, and prices looked up by numbers.
-use Rattle.std.proofs.Common.{◌≡◌, ℕ, zero, suc, ◌+◌, ◌<◌, ◌≤◌, ◌==◌, true, false, ◌&&◌, cond, List, [], ◌∷◌, ◌++◌, length, get_or, ◌⊎◌, inl, inr, Option, Some, None, unwrap_or, option_map, option_and_then, drop, add-one, refl, sym, ap, ◌∙◌, arith, String, Global, string_bytes}
+use Rattle.std.proofs.Common.{◌≡◌, ℕ, zero, suc, ◌+◌, ◌<◌, ◌≤◌, ◌==◌, Bool, not, true, false, ◌&&◌, cond, List, [], ◌∷◌, ◌++◌, length, get_or, ◌⊎◌, inl, inr, Option, Some, None, is_some, unwrap_or, option_map, option_and_then, drop, add-one, refl, sym, ap, ◌∙◌, arith, String, Global, string_bytes}
 use denote.Ref.{Bor}
 use Rattle.std.proofs.Math.Seq.{drop-cons}
 use Rattle.std.specs.HashMap as hash
 use Rattle.std.specs.HashMap.{HashMap, get_by}
-use Rattle.std.specs.List.{slice_get}
-use Rattle.std.specs.Map.{lookup}
+use Rattle.std.specs.List.{slice_get, list_any}
+use Rattle.std.specs.Map.{keys_of, lookup}
 use Rattle.std.specs.Str.{bytes_eq}
 use Rattle.std.proofs.lemmas.Bool.{and_left, and_right, cases_Bool, cases_lt, cond-true, cond-false, eq-eqb, ne_eqb, false_from_ne_true}
 use Rattle.std.proofs.lemmas.Bool.Decides.{same_from_decides, Decides-eqb, Decides-like}
@@ -17,9 +17,10 @@ use Rattle.murmur_core.specs.Murmur.{hash as hash_of}
 use Rattle.bucket_core.specs.Point.{scale, point_of}
 use Rattle.bucket_core.specs.Rule.{Entries, at, choice, entry_name, entry_view, entries_view as rule_entries, total_weight}
 use Rattle.price_core.specs.Cost.{name_of_input}
-use Rattle.price_core.specs.Numbering.{Numbers, numbers_view, number_of, IsNumbering, Keeps, AreFirstNumbers, AreNumbersOf, is_between, ArePricesBetween, pair_of_numbers, price_between, IsSwitching}
-use Rattle.price_core.specs.Pricing.{Pair, Pricing, is_same_pair, price_of, change_view, entries_view}
+use Rattle.price_core.specs.Numbering.{Numbers, numbers_view, number_of, IsNumbering, Keeps, AreFirstNumbers, AreNumbersOf, is_between, AreBetween, pair_of_numbers, price_between, is_barred_between, IsSwitching}
+use Rattle.price_core.specs.Pricing.{Pair, Pricing, is_same_pair, price_of, is_forbidden, change_view, entries_view}
 use Rattle.price_core.specs.declared.change.Change.{Change}
+use Rattle.price_core.proofs.Pricings.{barred-lookup}
 
 pub number-borrowed : (q : List ℕ) (es : List (Bor (List ℕ) × ℕ)) → lookup (λ (k : Bor (List ℕ)). bytes_eq q k.now) es ≡ number_of (numbers_view es) q
 number-borrowed q [] = refl
@@ -119,7 +120,7 @@ numbers_kept before after r numbers keeps are = record {
   firsts = λ i name inside here. let read = slice_get-get_or numbers i 0 inside in keeps name (get_or numbers i 0) (are.firsts i name inside here ∙ read) ∙ sym read;
 }
 
--- ---- prices by numbers
+-- ---- what is said of changes, by numbers
 
 -- both names have their numbers
 both : (o q : Option ℕ) (a b : ℕ) → option_and_then {U = ℕ × ℕ} (λ x. option_map (λ y. (x, y)) q) o ≡ Some (a, b) → (o ≡ Some a) × (q ≡ Some b)
@@ -132,22 +133,22 @@ neither None q h = inl refl
 neither (Some x) None h = inr refl
 neither (Some x) (Some y) h = absurd (none-some (x, y) (sym h))
 
-pub priced_more : {S : Type 0} (ns : Numbers) (rest : List (Pair × ℕ)) (m m' : HashMap (ℕ × ℕ) ℕ S) (p : Pair) (price : ℕ) (pair : ℕ × ℕ) → IsNumbering ns → pair_of_numbers ns p ≡ Some pair
-    → ((q : ℕ × ℕ) → get_by (is_between q.0 q.1) m' ≡ cond (is_between pair.0 pair.1 q) (Some price) (get_by (is_between q.0 q.1) m)) → ArePricesBetween ns rest m → ArePricesBetween ns ((p, price) ∷ rest) m'
-priced_more ns rest m m' p price pair n has updates are = λ x y a b hx hy.
+pub found_more : {X S : Type 0} (ns : Numbers) (rest : List (Pair × X)) (m m' : HashMap (ℕ × ℕ) X S) (p : Pair) (said : X) (pair : ℕ × ℕ) → IsNumbering ns → pair_of_numbers ns p ≡ Some pair
+    → ((q : ℕ × ℕ) → get_by (is_between q.0 q.1) m' ≡ cond (is_between pair.0 pair.1 q) (Some said) (get_by (is_between q.0 q.1) m)) → AreBetween ns rest m → AreBetween ns ((p, said) ∷ rest) m'
+found_more ns rest m m' p said pair n has updates are = λ x y a b hx hy.
     let numbers = both (number_of ns p.0) (number_of ns p.1) pair.0 pair.1 has in
     let same : is_between pair.0 pair.1 (a, b) ≡ is_same_pair (x, y) p = λ i. turned_number ns x p.0 a pair.0 n hx numbers.0 i && turned_number ns y p.1 b pair.1 n hy numbers.1 i in
-    updates (a, b) ∙ ((λ i. cond (same i) (Some price) (get_by (is_between a b) m)) ∙ ap (λ o. cond (is_same_pair (x, y) p) (Some price) o) (are x y a b hx hy))
+    updates (a, b) ∙ ((λ i. cond (same i) (Some said) (get_by (is_between a b) m)) ∙ ap (λ o. cond (is_same_pair (x, y) p) (Some said) o) (are x y a b hx hy))
 
-pub priced_none : {S : Type 0} (ns : Numbers) (rest : List (Pair × ℕ)) (m : HashMap (ℕ × ℕ) ℕ S) (p : Pair) (price : ℕ) → pair_of_numbers ns p ≡ None → ArePricesBetween ns rest m → ArePricesBetween ns ((p, price) ∷ rest) m
-priced_none ns rest m p price none are = λ x y a b hx hy. are x y a b hx hy ∙ sym (cond-false (is_same_pair (x, y) p) (Some price) (lookup (is_same_pair (x, y)) rest) (other x y a b hx hy (neither (number_of ns p.0) (number_of ns p.1) none)))
+pub found_none : {X S : Type 0} (ns : Numbers) (rest : List (Pair × X)) (m : HashMap (ℕ × ℕ) X S) (p : Pair) (said : X) → pair_of_numbers ns p ≡ None → AreBetween ns rest m → AreBetween ns ((p, said) ∷ rest) m
+found_none ns rest m p said none are = λ x y a b hx hy. are x y a b hx hy ∙ sym (cond-false (is_same_pair (x, y) p) (Some said) (lookup (is_same_pair (x, y)) rest) (other x y a b hx hy (neither (number_of ns p.0) (number_of ns p.1) none)))
   where
     other : (x y : List ℕ) (a b : ℕ) → number_of ns x ≡ Some a → number_of ns y ≡ Some b → (number_of ns p.0 ≡ None) ⊎ (number_of ns p.1 ≡ None) → is_same_pair (x, y) p ≡ false
     other x y a b hx hy (inl h) = and_left (bytes_eq x p.0) (bytes_eq y p.1) (without ns x p.0 a hx h)
     other x y a b hx hy (inr h) = and_right (bytes_eq x p.0) (bytes_eq y p.1) (without ns y p.1 b hy h)
 
 -- the last entries, with the one before them
-pub one_before : (es : List (Change × ℕ)) (left i : ℕ) (e : Change × ℕ) → left ≡ i + 1 → i < length es → e ≡ get_or es i e → entries_view (drop i es) ≡ (change_view e.0, e.1) ∷ entries_view (drop left es)
+pub one_before : {X : Type 0} (es : List (Change × X)) (left i : ℕ) (e : Change × X) → left ≡ i + 1 → i < length es → e ≡ get_or es i e → entries_view (drop i es) ≡ (change_view e.0, e.1) ∷ entries_view (drop left es)
 one_before es left i e next inside is =
     let front : drop i es ≡ e ∷ drop (i + 1) es = rw add-one (drop-cons es i e inside ∙ ap (λ x. x ∷ drop (suc i) es) (sym is)) in
     ap entries_view front ∙ ap (λ n. (change_view e.0, e.1) ∷ entries_view (drop n es)) (sym next)
@@ -164,16 +165,24 @@ named_within [] i name h = absurd (none-some name h)
 named_within (e ∷ es) zero name h = omega arith
 named_within (e ∷ es) (suc i) name h = omega (arith, named_within es i name h)
 
-pub switching_of : {S : Type 0} (ns : Numbers) (old new : Entries) (pricing : Pricing) (froms tos : List ℕ) (m : HashMap (ℕ × ℕ) ℕ S) → IsNumbering ns → AreNumbersOf ns old froms → AreNumbersOf ns new tos → ArePricesBetween ns pricing.named m → IsSwitching old new pricing froms tos m
-switching_of ns old new pricing froms tos m n are_old are_new priced = record {
+pub switching_of : {S : Type 0} (ns : Numbers) (old new : Entries) (pricing : Pricing) (froms tos : List ℕ) (m : HashMap (ℕ × ℕ) ℕ S) (barred : HashMap (ℕ × ℕ) (Unit {0}) S) (bars : List (Pair × Unit {0})) → IsNumbering ns → AreNumbersOf ns old froms
+    → AreNumbersOf ns new tos → AreBetween ns pricing.named m → AreBetween ns bars barred → keys_of bars ≡ pricing.barred → IsSwitching old new pricing froms tos m barred
+switching_of ns old new pricing froms tos m barred bars n are_old are_new priced bars_at are_barred = record {
   old_many = are_old.as_many;
   new_many = are_new.as_many;
-  exact = λ i j x y hi hj.
+  priced = λ i j x y hi hj.
       let a = get_or froms i 0 in
       let b = get_or tos j 0 in
       let hx = number_at ns old froms i x are_old hi (named_within old i x hi) in
       let hy = number_at ns new tos j y are_new hj (named_within new j y hj) in
       (λ k. cond (same_number ns x y a b n hx hy k) 0 (unwrap_or (priced x y a b hx hy k) pricing.usual));
+  forbids = λ i j x y hi hj.
+      let a = get_or froms i 0 in
+      let b = get_or tos j 0 in
+      let hx = number_at ns old froms i x are_old hi (named_within old i x hi) in
+      let hy = number_at ns new tos j y are_new hj (named_within new j y hj) in
+      let listed = ap is_some (bars_at x y a b hx hy) ∙ (barred-lookup (x, y) bars ∙ ap (list_any (is_same_pair (x, y))) are_barred) in
+      (λ k. not (same_number ns x y a b n hx hy k) && listed k);
 }
 
 -- ---- the price that is found
@@ -184,6 +193,13 @@ same_price usual m a b h = sym (cond-true (a == b) 0 (unwrap_or (get_by (is_betw
 pub other_price : {S : Type 0} (usual : ℕ) (m : HashMap (ℕ × ℕ) ℕ S) (a b : ℕ) → (a ≡ b → ⊥) → unwrap_or (get_by (is_between a b) m) usual ≡ price_between usual m a b
 other_price usual m a b h = sym (cond-false (a == b) 0 (unwrap_or (get_by (is_between a b) m) usual) (ne_eqb a b h))
 
+-- no change between equal numbers is forbidden
+pub same_bar : {S : Type 0} (m : HashMap (ℕ × ℕ) (Unit {0}) S) (a b : ℕ) → not (a == b) ≡ false → not (a == b) ≡ is_barred_between m a b
+same_bar m a b h = h ∙ sym (ap (λ t. t && is_some (get_by (is_between a b) m)) h)
+
+pub other_bar : {S : Type 0} (m : HashMap (ℕ × ℕ) (Unit {0}) S) (a b : ℕ) → not (a == b) ≡ true → is_some (get_by (is_between a b) m) ≡ is_barred_between m a b
+other_bar m a b h = sym (ap (λ t. t && is_some (get_by (is_between a b) m)) h)
+
 pub read_at : (numbers : List ℕ) (i n : ℕ) → i < length numbers → n ≡ get_or numbers i n → n ≡ get_or numbers i 0
 read_at numbers i n h is = sym (get_or_from_slice_get numbers i n 0 (slice_get_read numbers (length numbers) i n refl h is))
 
@@ -191,12 +207,19 @@ read_at numbers i n h is = sym (get_or_from_slice_get numbers i n 0 (slice_get_r
 abbrev pub Rules : Type 0
 Rules = Entries × Entries × Pricing
 
-pub price_found : {S : Type 0} (old new : Entries) (pricing : Pricing) (froms tos : List ℕ) (m : HashMap (ℕ × ℕ) ℕ S) (whole : Rules) (i j a b price : ℕ) → IsSwitching old new pricing froms tos m → (old, new, pricing) ≡ whole
+pub price_found : {S : Type 0} (old new : Entries) (pricing : Pricing) (froms tos : List ℕ) (m : HashMap (ℕ × ℕ) ℕ S) (barred : HashMap (ℕ × ℕ) (Unit {0}) S) (whole : Rules) (i j a b price : ℕ) → IsSwitching old new pricing froms tos m barred → (old, new, pricing) ≡ whole
     → a ≡ get_or froms i 0 → b ≡ get_or tos j 0 → price ≡ price_between pricing.usual m a b → (x y : List ℕ) → entry_name whole.0 i ≡ Some x → entry_name whole.1 j ≡ Some y → price ≡ price_of whole.2 x y
-price_found old new pricing froms tos m whole i j a b price switching is at_i at_j price_is = λ x y hx hy.
+price_found old new pricing froms tos m barred whole i j a b price switching is at_i at_j price_is = λ x y hx hy.
     let here = ap (λ (w : Rules). entry_name w.0 i) is ∙ hx in
     let there = ap (λ (w : Rules). entry_name w.1 j) is ∙ hy in
-    price_is ∙ ((λ k. price_between pricing.usual m (at_i k) (at_j k)) ∙ (switching.exact i j x y here there ∙ ap (λ (w : Rules). price_of w.2 x y) is))
+    price_is ∙ ((λ k. price_between pricing.usual m (at_i k) (at_j k)) ∙ (switching.priced i j x y here there ∙ ap (λ (w : Rules). price_of w.2 x y) is))
+
+pub bar_found : {S : Type 0} (old new : Entries) (pricing : Pricing) (froms tos : List ℕ) (m : HashMap (ℕ × ℕ) ℕ S) (barred : HashMap (ℕ × ℕ) (Unit {0}) S) (whole : Rules) (i j a b : ℕ) (found : Bool) → IsSwitching old new pricing froms tos m barred
+    → (old, new, pricing) ≡ whole → a ≡ get_or froms i 0 → b ≡ get_or tos j 0 → found ≡ is_barred_between barred a b → (x y : List ℕ) → entry_name whole.0 i ≡ Some x → entry_name whole.1 j ≡ Some y → found ≡ is_forbidden whole.2 x y
+bar_found old new pricing froms tos m barred whole i j a b found switching is at_i at_j found_is = λ x y hx hy.
+    let here = ap (λ (w : Rules). entry_name w.0 i) is ∙ hx in
+    let there = ap (λ (w : Rules). entry_name w.1 j) is ∙ hy in
+    found_is ∙ ((λ k. is_barred_between barred (at_i k) (at_j k)) ∙ (switching.forbids i j x y here there ∙ ap (λ (w : Rules). is_forbidden w.2 x y) is))
 
 -- ---- the entry that an input falls into
 

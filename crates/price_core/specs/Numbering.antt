@@ -1,11 +1,11 @@
 -- Numbers that stand for names, and prices that are looked up by them.
-use Rattle.std.specs.Prelude.{◌≡◌, ℕ, ◌<◌, ◌==◌, Bool, ◌&&◌, List, length, map, if◌then◌else◌, Option, Some, option_map, option_and_then, unwrap_or, slice_get, slice_index}
+use Rattle.std.specs.Prelude.{◌≡◌, ℕ, ◌<◌, ◌==◌, Bool, not, ◌&&◌, List, length, map, if◌then◌else◌, Option, Some, is_some, option_map, option_and_then, unwrap_or, slice_get, slice_index}
 use Rattle.std.specs.HashMap.{HashMap, get_by}
 use Rattle.std.specs.Map.{lookup}
 use Rattle.std.specs.Str.{bytes_eq}
 use denote.Ref.{Bor}
 use Rattle.bucket_core.specs.Rule.{Entries, entry_name}
-use Rattle.price_core.specs.Pricing.{Pair, Pricing, is_same_pair, price_of}
+use Rattle.price_core.specs.Pricing.{Pair, Pricing, is_same_pair, price_of, is_forbidden}
 
 -- names, each with a number
 abbrev pub Numbers : Type 0
@@ -50,15 +50,20 @@ abbrev pub is_between : ℕ → ℕ → ℕ × ℕ → Bool
 is_between a b q = (a == q.0) && (b == q.1)
 
 -- at each pair of numbers what the list has at the two names
-abbrev pub ArePricesBetween : {S : Type 0} → Numbers → List (Pair × ℕ) → HashMap (ℕ × ℕ) ℕ S → Type 0
-ArePricesBetween ns named prices = (x y : List ℕ) (a b : ℕ) → number_of ns x ≡ Some a → number_of ns y ≡ Some b → get_by (is_between a b) prices ≡ lookup (is_same_pair (x, y)) named
+abbrev pub AreBetween : {X S : Type 0} → Numbers → List (Pair × X) → HashMap (ℕ × ℕ) X S → Type 0
+AreBetween ns entries found = (x y : List ℕ) (a b : ℕ) → number_of ns x ≡ Some a → number_of ns y ≡ Some b → get_by (is_between a b) found ≡ lookup (is_same_pair (x, y)) entries
 
 -- the price of a change from one number to another: 0 where they are equal, else its own or the usual one
 abbrev pub price_between : {S : Type 0} → ℕ → HashMap (ℕ × ℕ) ℕ S → ℕ → ℕ → ℕ
 price_between usual prices a b = if a == b then 0 else unwrap_or (get_by (is_between a b) prices) usual
 
--- The numbers of the entries of two rules price each change as their names do.
-pub record IsSwitching {S : Type 0} (old new : Entries) (pricing : Pricing) (froms tos : List ℕ) (prices : HashMap (ℕ × ℕ) ℕ S) : Type 0 where
+-- whether a change from one number to another is forbidden: never where they are equal
+abbrev pub is_barred_between : {S : Type 0} → HashMap (ℕ × ℕ) (Unit {0}) S → ℕ → ℕ → Bool
+is_barred_between barred a b = not (a == b) && is_some (get_by (is_between a b) barred)
+
+-- The numbers of the entries of two rules price and forbid each change as their names do.
+pub record IsSwitching {S : Type 0} (old new : Entries) (pricing : Pricing) (froms tos : List ℕ) (prices : HashMap (ℕ × ℕ) ℕ S) (barred : HashMap (ℕ × ℕ) (Unit {0}) S) : Type 0 where
   pub old_many : length froms ≡ length old
   pub new_many : length tos ≡ length new
-  pub exact : (i j : ℕ) (x y : List ℕ) → entry_name old i ≡ Some x → entry_name new j ≡ Some y → price_between pricing.usual prices (slice_index froms i) (slice_index tos j) ≡ price_of pricing x y
+  pub priced : (i j : ℕ) (x y : List ℕ) → entry_name old i ≡ Some x → entry_name new j ≡ Some y → price_between pricing.usual prices (slice_index froms i) (slice_index tos j) ≡ price_of pricing x y
+  pub forbids : (i j : ℕ) (x y : List ℕ) → entry_name old i ≡ Some x → entry_name new j ≡ Some y → is_barred_between barred (slice_index froms i) (slice_index tos j) ≡ is_forbidden pricing x y

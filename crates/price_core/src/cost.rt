@@ -13,7 +13,8 @@ use std::alloc::{AllocError, Global};
 use std::thread::Threads;
 
 /// The least point whose change is forbidden, of two rules of one total. It goes from run to run of
-/// points with equal old and new names, and takes `O(runs · log entries)` steps.
+/// points with equal old and new names, and takes `O(runs · log entries)` steps and no memory. A
+/// [`Switching`] finds it in `O(entries)` steps.
 pub fn first_forbidden(old: &Rule, new: &Rule, prices: &Prices) -> Option<u32>
     requires { total_weight old.now ≡ total_weight new.now }
     ensures exact { result ≡ first_forbidden_of old.now new.now prices.now }

@@ -20,7 +20,8 @@
 //! Proved, over the definitions of `specs/`: which request a text stands for, with each refusal in its order
 //! (`Request`); which limits the variants of a site have (`Limits`); what a change costs and which are forbidden
 //! (`Pricing`); the least forbidden point of two rules, and the cost of a new rule: over inputs, which is added up by as
-//! many threads as there are processors, and over the numbers of inputs that fall on the points (`Cost`).
+//! many threads as there are processors, and over the numbers of inputs that fall on the points (`Cost`). Where both are
+//! asked of the same rules, a [`Switching`] numbers their names once.
 #![tactic(auto)]
 
 mod change;
@@ -31,12 +32,11 @@ mod numbering;
 mod prices;
 mod request;
 mod switching;
-mod tally;
 mod totals;
 
 pub use cost::{first_forbidden, switch_cost, switch_cost_of};
 pub use fault::PriceFault;
 pub use prices::Prices;
 pub use request::Request;
-pub use tally::tally_cost;
+pub use switching::Switching;
 pub use totals::{Limit, Totals};

@@ -2,12 +2,11 @@
 ghost use Rattle.std.specs.Prelude.{◌≡◌, IfOk, Some};
 ghost use Rattle.std.specs.Map.{lookup};
 ghost use Rattle.std.specs.Str.{bytes_eq};
-ghost use Rattle.bucket_core.specs.Rule.{entries_view};
-ghost use Rattle.price_core.specs.Pricing.{IsPricing, change_view};
-ghost use Rattle.price_core.specs.Numbering.{IsNumbering, Keeps, AreNumbersOf, ArePricesBetween, pair_of_numbers};
+ghost use Rattle.bucket_core.specs.Rule.{entries_view as rule_entries};
+ghost use Rattle.price_core.specs.Pricing.{change_view, entries_view};
+ghost use Rattle.price_core.specs.Numbering.{IsNumbering, Keeps, AreNumbersOf, AreBetween, pair_of_numbers};
 
 use crate::change::Change;
-use crate::prices::Prices;
 use std::alloc::{AllocError, Global};
 use std::collections::HashMap;
 use std::marker::Model;
@@ -72,7 +71,7 @@ impl<'a> Numbering<'a> {
         alloc: Global,
         entries: &'a [(String, u64)],
     ) -> Result<Vec<usize>, AllocError>
-        ensures numbered { IfOk result (λ v. AreNumbersOf self.new (entries_view entries.now) v.items) }
+        ensures numbered { IfOk result (λ v. AreNumbersOf self.new (rule_entries entries.now) v.items) }
         ensures keeps { Keeps self.old self.new }
     {
         let mut numbers = Vec::with_capacity(alloc, entries.len())?;
@@ -82,26 +81,24 @@ impl<'a> Numbering<'a> {
         Ok(numbers)
     }
 
-    /// The prices of their own that changes between these names have, by the names' numbers.
-    pub(crate) fn prices_between(
+    /// What the entries say of changes between these names, by the names' numbers.
+    pub(crate) fn between<X: Copy>(
         &self,
         alloc: Global,
-        prices: &Prices,
-    ) -> Result<HashMap<(usize, usize), u64>, AllocError>
-        ensures priced { IfOk result (λ m. ArePricesBetween self.now prices.now.named m) }
+        entries: &[(Change, X)],
+    ) -> Result<HashMap<(usize, usize), X>, AllocError>
+        ensures found { IfOk result (λ m. AreBetween self.now (entries_view entries.now) m) }
         ensures lawful { IsNumbering self.now }
-        ensures prices_lawful { IsPricing prices.now }
     {
         // A look into the numbering, by which a proof learns what holds of its fields.
         let _ = &self.by_name;
-        let named = prices.named();
         let mut by_numbers = HashMap::new(alloc);
-        let mut left = named.len();
+        let mut left = entries.len();
         while left > 0 {
             left -= 1;
-            let (change, price) = &named[left];
+            let (change, said) = &entries[left];
             if let Some(pair) = self.pair(change) {
-                by_numbers.insert(pair, *price)?;
+                by_numbers.insert(pair, *said)?;
             }
         }
         Ok(by_numbers)

@@ -1,5 +1,5 @@
 //! The check of a plan and its certificate.
-ghost use Rattle.std.specs.Prelude.{◌≡◌, ◌≢◌, ◌<◌, ◌^◌, ℕ, List, length, sum_by, OnOk, IfErr, IsErrOf, MatchResult};
+ghost use Rattle.std.specs.Prelude.{◌≡◌, ◌≢◌, ◌<◌, ◌^◌, ℕ, List, length, sum_by, IfOk, OnOk, IfErr, IsErrOf, MatchResult};
 ghost use Rattle.book_core.specs.Counts.{counts_of};
 ghost use Rattle.bucket_core.specs.Rule.{total_weight};
 ghost use Rattle.transport_instance.specs.Certificate.{IsCertified, certificate_view};
@@ -8,7 +8,7 @@ ghost use Rattle.transport_instance.specs.Refusals.{Refuses, RefusesRule, Checks
 ghost use Rattle.transport_instance.specs.Tally.{IsTally};
 
 use bucket_core::Rule;
-use price_core::{Prices, Totals, first_forbidden, tally_cost};
+use price_core::{Prices, Switching, Totals};
 use std::alloc::Global;
 use transport_instance::{
     Certificate, CheckFault, are_groups, are_names, first_broken, groups, keeps_limits, sums_to,
@@ -39,24 +39,25 @@ pub fn check_plan(
     // Called for what their contracts say: a rule's total is from 1 to 2^31-1, and limits are lawful.
     let _total = old.total();
     let _limits = totals.entries();
-    check_rule(alloc, old, new, totals, prices)?;
+    let switching = check_rule(alloc, old, new, totals, prices)?;
     check_duals(alloc, old, totals, prices, counts, certificate)?;
-    let cost = tally_cost(old, new, counts, prices);
+    let cost = switching.tally_cost(counts);
     if cost != certificate.cost {
         return Err(CheckFault::Cost);
     }
     Ok(())
 }
 
-/// Checks that the new rule fits.
-fn check_rule(
+/// Checks that the new rule fits, and gives the two rules ready for the cost.
+fn check_rule<'a>(
     alloc: Global,
-    old: &Rule,
-    new: &Rule,
+    old: &'a Rule,
+    new: &'a Rule,
     totals: &Totals,
-    prices: &Prices,
-) -> Result<(), CheckFault>
+    prices: &'a Prices,
+) -> Result<Switching<'a>, CheckFault>
     ensures exact { MatchResult result (λ _. Fits old.now new.now totals.now prices.now) (RefusesRule old.now new.now totals.now prices.now) }
+    ensures rules { IfOk result (λ s. s ≡ (old.now, new.now, prices.now)) }
     ensures weight { total_weight new.now ≢ total_weight old.now → IsErrOf result CheckFault.Weight }
 {
     if new.total() != old.total() {
@@ -65,9 +66,10 @@ fn check_rule(
     if !keeps_limits(alloc, new, totals)? {
         return Err(CheckFault::Totals);
     }
-    match first_forbidden(old, new, prices) {
+    let switching = Switching::of(alloc, old, new, prices)?;
+    match switching.first_forbidden() {
         Some(point) => Err(CheckFault::Forbidden(point)),
-        None => Ok(()),
+        None => Ok(switching),
     }
 }
 

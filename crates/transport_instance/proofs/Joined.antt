@@ -24,7 +24,7 @@ joined-other same key n row rows apart = cond-false (same key row.0) (joined_fro
 amount-cons : {K : Type 0} (same : K → K → Bool) (key : K) (row : K × ℕ) (rows : List (K × ℕ)) → amount_of same (row ∷ rows) key ≡ cond (same key row.0) row.1 0 + amount_of same rows key
 amount-cons same key row rows = sum_by-cons (λ r. cond (same key r.0) r.1 0) row rows
 
-both_parts : (b : Bool) (m n : ℕ) → cond b (m + n) 0 ≡ cond b m 0 + cond b n 0
+pub both_parts : (b : Bool) (m n : ℕ) → cond b (m + n) 0 ≡ cond b m 0 + cond b n 0
 both_parts true m n = refl
 both_parts false m n = omega arith
 
@@ -32,7 +32,7 @@ both_parts false m n = omega arith
 abbrev pub passed : {K : Type 0} → (K → Bool) → List (K × ℕ) → ℕ
 passed test rows = sum_by (λ r. cond (test r.0) r.1 0) rows
 
-passed-cons : {K : Type 0} (test : K → Bool) (row : K × ℕ) (rows : List (K × ℕ)) → passed test (row ∷ rows) ≡ cond (test row.0) row.1 0 + passed test rows
+pub passed-cons : {K : Type 0} (test : K → Bool) (row : K × ℕ) (rows : List (K × ℕ)) → passed test (row ∷ rows) ≡ cond (test row.0) row.1 0 + passed test rows
 passed-cons test row rows = sum_by-cons (λ r. cond (test r.0) r.1 0) row rows
 
 passed-joined_from : {K : Type 0} (same : K → K → Bool) (only : (a b : K) → same a b ≡ true → a ≡ b) (test : K → Bool) (row : K × ℕ) (rows : List (K × ℕ)) → passed test (joined_from same row rows) ≡ passed test (row ∷ rows)

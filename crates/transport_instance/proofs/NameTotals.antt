@@ -1,38 +1,37 @@
--- The totals of a rule's names, from its entries, sorted and joined.
-use Rattle.std.proofs.Common.{◌≡◌, inl, inr, ⊎_elim, ℕ, suc, ◌*◌, ◌<◌, ◌≤◌, List, [], ◌∷◌, length, replicate, get_or, Bool, true, false, cond, Option, Some, unwrap_or, sum_by, count_by, String, Global, string_bytes, refl, sym, ap, ◌∙◌, subst, arith}
+-- The totals of a rule's names, from its entries, summed up by name.
+use Rattle.std.proofs.Common.{◌≡◌, inl, inr, ⊎_elim, ℕ, suc, ◌+◌, ◌*◌, ◌<◌, ◌≤◌, List, [], ◌∷◌, length, replicate, get_or, drop, drop-cons, Bool, true, false, cond, Option, Some, None, Ordering, unwrap_or, sum_by, count_by, String, Global, string_bytes, refl, sym, ap, ◌∙◌, add-one, arith}
+use Rattle.std.specs.BTreeMap.{insert_entry, is_at}
 use Rattle.std.specs.Bool.{MatchBool}
 use Rattle.std.specs.Borrow.{Bor}
 use Rattle.std.specs.Cmp.Lexicographic.{slice_cmp}
-use Rattle.std.specs.List.Sorted.{IsPermutation, IsSortedBy, IsStrictlySortedBy}
-use Rattle.std.specs.Map.{keys_of, lookup}
-use Rattle.std.specs.Ordering.{nat_cmp, is_lt, ordering_then}
+use Rattle.std.specs.List.Sorted.{IsStrictlySortedBy}
+use Rattle.std.specs.Map.{keys_of, lookup, set_value}
+use Rattle.std.specs.Ordering.{nat_cmp, is_eq, on, match_ordering}
 use Rattle.std.specs.Str.{bytes_eq}
-use Rattle.std.specs.declared.cmp.Ordering.TheVariants.{Equal}
+use Rattle.std.specs.declared.cmp.Ordering.TheVariants.{Less, Equal, Greater}
 use Rattle.std.proofs.lemmas.Bool.{cases_Bool, cond-true, cond-false}
 use Rattle.std.proofs.lemmas.Bool.Decides.{same_from_decides, Decides-like}
 use Rattle.std.proofs.lemmas.Cmp.{nat_list_cmp_total}
+use Rattle.std.proofs.lemmas.List.{drop_all}
 use Rattle.std.proofs.lemmas.List.Folds.{sum_by-replicate}
-use Rattle.std.proofs.lemmas.List.Sorted.{sum_by-IsPermutation, IsPermutation-map}
 use Rattle.std.proofs.lemmas.List.Sums.{sum_by-cons, sum_by-append, get_or-le-sum_by}
-use Rattle.std.proofs.lemmas.Option.{slice_get_read}
+use Rattle.std.proofs.lemmas.Map.Text.{is_eq-slice_cmp}
+use Rattle.std.proofs.lemmas.Option.{none-some, same_Some, slice_get_read}
 use Rattle.std.proofs.lemmas.Slice.Eq.{bytes_eq-Decides}
 use Rattle.bucket_core.specs.Rule.{Entries, total_weight, points, total_of, entry_view, entries_view}
 use Rattle.price_core.specs.Limits.{Limits, low_of, high_of, limit_view, limits_view}
 use Rattle.price_core.specs.declared.totals.Limit.{Limit}
+use Rattle.price_core.proofs.Inserts.{rise_seen}
 use Rattle.transport_instance.specs.Refusals.{KeepsLimits, BreaksLimit}
-use Rattle.transport_instance.specs.Rows.{whole_amount, joined, AreTotals, total_in, totals_view}
-use Rattle.transport_instance.proofs.Joined.{passed, step, rise-joined, joined-seen, passed-joined, lookup-amount}
+use Rattle.transport_instance.specs.Rows.{whole_amount, AreTotals, total_in, totals_view}
+use Rattle.transport_instance.proofs.Joined.{passed, passed-cons, both_parts, lookup-amount}
 use Rattle.transport_instance.proofs.Keys.{lookup-at, get-map}
-use Rattle.transport_instance.proofs.Placed.{name_ties}
 
 abbrev pub Lent : Type 0
 Lent = Bor (List ℕ) × ℕ
 
 same_text : (a b : List ℕ) → bytes_eq a b ≡ true → a ≡ b
 same_text a b = (bytes_eq-Decides a b).0
-
-text_ties : (a b : List ℕ) → slice_cmp nat_cmp b a ≡ Equal → bytes_eq a b ≡ true
-text_ties a b tie = (bytes_eq-Decides a b).1 (sym (name_ties b a tie))
 
 -- ---- the points whose name passes a test, entry by entry
 
@@ -47,37 +46,99 @@ passed-points test (e ∷ es) =
     let f : List ℕ → ℕ = λ n. cond (test n) 1 0 in
     omega (arith, sum_by-cons (λ (x : List ℕ × ℕ). cond (test x.0) x.1 0) e es, sum_by-append f (replicate e.1 e.0) (points es), sum_by-replicate f e.1 e.0, times (test e.0) e.1, passed-points test es)
 
--- ---- sorted and joined
+-- ---- summed up by name
 
-abbrev pub lent_lt : Lent → Lent → Bool
-lent_lt x y = is_lt (ordering_then (slice_cmp nat_cmp x.0.now y.0.now) (nat_cmp x.1 y.1))
+abbrev pub name_cmp : Bor (List ℕ) → Bor (List ℕ) → Ordering
+name_cmp = on (λ (x : Bor (List ℕ)). x.now) (slice_cmp nat_cmp)
 
-abbrev pub same_name : Bor (List ℕ) → Bor (List ℕ) → Bool
-same_name x y = bytes_eq x.now y.now
+-- whether a row has this name
+abbrev pub has_name : List ℕ → Bor (List ℕ) → Bool
+has_name name = is_at (λ (k : Bor (List ℕ)). slice_cmp nat_cmp name k.now)
 
 abbrev lent_view : Lent → List ℕ × ℕ
 lent_view r = (r.0.now, r.1)
 
-pub totals-joined : (rule : Entries) (weights sorted : List Lent) → totals_view weights ≡ rule → IsPermutation weights sorted → IsSortedBy lent_lt sorted → AreTotals rule (totals_view (joined same_name sorted))
-totals-joined rule weights sorted is moved rises =
-    let f : Bor (List ℕ) → List ℕ = λ k. k.now in
-    let as_seen : totals_view (joined same_name sorted) ≡ joined bytes_eq (totals_view sorted) = joined-seen f same_name bytes_eq (λ a b. refl) sorted in
-    let moved_view : IsPermutation (totals_view weights) (totals_view sorted) = IsPermutation-map lent_view weights sorted moved in
-    let totals : AreTotals rule (joined bytes_eq (totals_view sorted)) = record {
-      rise = rise-joined f bytes_eq same_text (slice_cmp nat_cmp) nat_list_cmp_total lent_lt (λ x y above. step bytes_eq (slice_cmp nat_cmp) nat_list_cmp_total text_ties x.0.now y.0.now (nat_cmp y.1 x.1) above) sorted rises;
-      counts = λ test.
-          passed-joined bytes_eq same_text test (totals_view sorted)
-          ∙ (sum_by-IsPermutation (λ (r : List ℕ × ℕ). cond (test r.0) r.1 0) (totals_view weights) (totals_view sorted) moved_view
-          ∙ (ap (passed test) is ∙ passed-points test rule));
-    } in
-    subst (λ (rs : List (List ℕ × ℕ)). AreTotals rule rs) (sym as_seen) totals
+-- a row is a part of them all
+found-le_by : (b : Bool) (r : Lent) (rs : List Lent) (o : Option ℕ) (total : ℕ) → (o ≡ Some total → total ≤ whole_amount rs) → cond b (Some r.1) o ≡ Some total → total ≤ whole_amount (r ∷ rs)
+found-le_by true r rs o total later here = omega (arith, sum_by-cons (λ (x : Lent). x.1) r rs, same_Some r.1 total here)
+found-le_by false r rs o total later found = omega (arith, sum_by-cons (λ (x : Lent). x.1) r rs, later found)
+
+pub found-le : (name : List ℕ) (rows : List Lent) (total : ℕ) → lookup (has_name name) rows ≡ Some total → total ≤ whole_amount rows
+found-le name [] total found = absurd (none-some total found)
+found-le name (r ∷ rs) total found = found-le_by (has_name name r.0) r rs (lookup (has_name name) rs) total (found-le name rs total) found
+
+-- more points of a name that has a row
+passed-set_by : (test : List ℕ → Bool) (name : List ℕ) (r : Lent) (rs : List Lent) (total more : ℕ) (b : Bool)
+    → (lookup (has_name name) rs ≡ Some total → passed test (totals_view (set_value (has_name name) rs (total + more))) ≡ passed test (totals_view rs) + cond (test name) more 0)
+    → has_name name r.0 ≡ b → cond b (Some r.1) (lookup (has_name name) rs) ≡ Some total
+    → passed test (totals_view (cond b ((r.0, total + more) ∷ rs) (r ∷ set_value (has_name name) rs (total + more)))) ≡ passed test (totals_view (r ∷ rs)) + cond (test name) more 0
+passed-set_by test name r rs total more true later is here =
+    let same : name ≡ r.0.now = same_text name r.0.now (sym (is_eq-slice_cmp name r.0.now) ∙ is) in
+    let amount : cond (test r.0.now) r.1 0 ≡ cond (test r.0.now) total 0 = ap (λ (n : ℕ). let k : ℕ = cond (test r.0.now) n 0 in k) (same_Some r.1 total here) in
+    let moved : cond (test name) more 0 ≡ cond (test r.0.now) more 0 = ap (λ (n : List ℕ). let k : ℕ = cond (test n) more 0 in k) same in
+    omega (arith, passed-cons test (r.0.now, total + more) (totals_view rs), passed-cons test (lent_view r) (totals_view rs), both_parts (test r.0.now) total more, amount, moved)
+passed-set_by test name r rs total more false later is found =
+    omega (arith, passed-cons test (lent_view r) (totals_view rs), passed-cons test (lent_view r) (totals_view (set_value (has_name name) rs (total + more))), later found)
+
+pub passed-set : (test : List ℕ → Bool) (name : List ℕ) (rows : List Lent) (total more : ℕ) → lookup (has_name name) rows ≡ Some total
+    → passed test (totals_view (set_value (has_name name) rows (total + more))) ≡ passed test (totals_view rows) + cond (test name) more 0
+passed-set test name [] total more found = absurd (none-some total found)
+passed-set test name (r ∷ rs) total more found = passed-set_by test name r rs total more (has_name name r.0) (passed-set test name rs total more) refl found
+
+-- points of a name that has none
+passed-insert_by : (test : List ℕ → Bool) (r : Lent) (rs : List Lent) (name : Bor (List ℕ)) (more : ℕ) (o : Ordering)
+    → (lookup (has_name name.now) rs ≡ None → passed test (totals_view (insert_entry name_cmp rs name more)) ≡ passed test (totals_view rs) + cond (test name.now) more 0)
+    → cond (is_eq o) (Some r.1) (lookup (has_name name.now) rs) ≡ None
+    → passed test (totals_view (match_ordering o ((name, more) ∷ r ∷ rs) ((r.0, more) ∷ rs) (r ∷ insert_entry name_cmp rs name more))) ≡ passed test (totals_view (r ∷ rs)) + cond (test name.now) more 0
+passed-insert_by test r rs name more Less later none = omega (arith, passed-cons test (name.now, more) (totals_view (r ∷ rs)))
+passed-insert_by test r rs name more Equal later none = absurd (none-some r.1 (sym none))
+passed-insert_by test r rs name more Greater later none =
+    omega (arith, passed-cons test (lent_view r) (totals_view rs), passed-cons test (lent_view r) (totals_view (insert_entry name_cmp rs name more)), later none)
+
+pub passed-insert : (test : List ℕ → Bool) (rows : List Lent) (name : Bor (List ℕ)) (more : ℕ) → lookup (has_name name.now) rows ≡ None
+    → passed test (totals_view (insert_entry name_cmp rows name more)) ≡ passed test (totals_view rows) + cond (test name.now) more 0
+passed-insert test [] name more none = omega (arith, passed-cons test (name.now, more) [])
+passed-insert test (r ∷ rs) name more none = passed-insert_by test r rs name more (slice_cmp nat_cmp name.now r.0.now) (passed-insert test rs name more) none
 
 whole-lent : (rows : List Lent) → whole_amount (totals_view rows) ≡ whole_amount rows
 whole-lent [] = refl
 whole-lent (r ∷ rs) = omega (arith, sum_by-cons (λ (x : List ℕ × ℕ). x.1) (lent_view r) (totals_view rs), sum_by-cons (λ (x : Lent). x.1) r rs, whole-lent rs)
 
-pub whole-sorted : (rule : Entries) (weights sorted : List Lent) → totals_view weights ≡ rule → IsPermutation weights sorted → whole_amount sorted ≡ total_weight rule
-whole-sorted rule weights sorted is moved = sum_by-IsPermutation (λ (r : Lent). r.1) weights sorted moved ∙ (sym (whole-lent weights) ∙ ap whole_amount is)
+-- the first of the entries that are left
+pub rest_front : (entries : List (String Global × ℕ)) (i : ℕ) (e : String Global × ℕ) → i < length entries → e ≡ get_or entries i e → entries_view (drop i entries) ≡ entry_view e ∷ entries_view (drop (i + 1) entries)
+rest_front entries i e inside is =
+    let front : drop i entries ≡ e ∷ drop (i + 1) entries = rw add-one (drop-cons entries i e inside ∙ ap (λ x. x ∷ drop (suc i) entries) (sym is)) in
+    ap entries_view front
+
+-- what is summed up and what is left are all
+abbrev pub SumsUp : List Lent → List (String Global × ℕ) → List (String Global × ℕ) → Type 0
+SumsUp rows left entries = (test : List ℕ → Bool) → passed test (totals_view rows) + passed test (entries_view left) ≡ passed test (entries_view entries)
+
+pub sums_none : (rows : List Lent) (entries : List (String Global × ℕ)) → rows ≡ [] → SumsUp rows entries entries
+sums_none rows entries none = λ test. let nothing : passed test (totals_view rows) ≡ 0 = ap (λ rs. passed test (totals_view rs)) none in omega (arith, nothing)
+
+-- there is room for the first of the entries that are left
+pub sums_fit : (rows : List Lent) (entries : List (String Global × ℕ)) (i : ℕ) (e : String Global × ℕ) → i < length entries → e ≡ get_or entries i e → SumsUp rows (drop i entries) entries
+    → whole_amount rows + e.1 ≤ total_weight (entries_view entries)
+sums_fit rows entries i e inside is sums =
+    let all = sums (λ name. true) in
+    let front = ap (λ es. passed (λ name. true) es) (rest_front entries i e inside is) ∙ passed-cons (λ name. true) (entry_view e) (entries_view (drop (i + 1) entries)) in
+    omega (arith, all, front, whole-lent rows)
+
+pub sums_more : (rows more : List Lent) (entries : List (String Global × ℕ)) (i : ℕ) (e : String Global × ℕ) (name : List ℕ) → i < length entries → e ≡ get_or entries i e → name ≡ string_bytes e.0 → SumsUp rows (drop i entries) entries
+    → ((test : List ℕ → Bool) → passed test (totals_view more) ≡ passed test (totals_view rows) + cond (test name) e.1 0) → SumsUp more (drop (i + 1) entries) entries
+sums_more rows more entries i e name inside is named sums added = λ test.
+    let here : cond (test name) e.1 0 ≡ cond (test (string_bytes e.0)) e.1 0 = ap (λ (n : List ℕ). let k : ℕ = cond (test n) e.1 0 in k) named in
+    let front = ap (λ es. passed test es) (rest_front entries i e inside is) ∙ passed-cons test (entry_view e) (entries_view (drop (i + 1) entries)) in
+    omega (arith, sums test, added test, here, front)
+
+pub totals_summed : (rule : Entries) (entries : List (String Global × ℕ)) (rows : List Lent) (i : ℕ) → entries_view entries ≡ rule → length entries ≤ i → SumsUp rows (drop i entries) entries → IsStrictlySortedBy name_cmp (keys_of rows) → AreTotals rule (totals_view rows)
+totals_summed rule entries rows i is all sums rise = record {
+  rise = rise_seen (λ (b : Bor (List ℕ)). b.now) (slice_cmp nat_cmp) rows rise;
+  counts = λ test.
+      let none : passed test (entries_view (drop i entries)) ≡ 0 = ap (λ es. passed test (entries_view es)) (drop_all i entries all) in
+      omega (arith, sums test, none) ∙ (ap (passed test) is ∙ passed-points test rule);
+}
 
 -- ---- what is listed of a name
 

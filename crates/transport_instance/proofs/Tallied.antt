@@ -1,12 +1,15 @@
 -- Points whose inputs are counted: rows for the numbers of a run's points, in any order, are the rows of its points.
-use Rattle.std.proofs.Common.{◌≡◌, ℕ, zero, suc, ◌+◌, ◌-◌, ◌<◌, ◌≤◌, List, [], ◌∷◌, ◌++◌, length, get_or, take, drop, Bool, true, false, cond, Some, unwrap_or, count_by, refl, ap, ◌∙◌, add-one, drop-cons, length-drop, arith}
+use Rattle.std.proofs.Common.{◌≡◌, ⊎_elim, ℕ, zero, suc, ◌+◌, ◌-◌, ◌<◌, ◌≤◌, List, [], ◌∷◌, ◌++◌, length, get_or, take, drop, Bool, true, false, cond, Some, unwrap_or, count_by, refl, sym, ap, ◌∙◌, subst, add-one, drop-cons, length-drop, arith}
 use Rattle.std.specs.List.{All, range_with_len, slice_index, slice_range}
 use Rattle.std.specs.List.Sorted.{IsPermutation}
+use Rattle.std.proofs.lemmas.Bool.{cases_lt}
 use Rattle.std.proofs.lemmas.List.{length-take}
 use Rattle.std.proofs.lemmas.List.Elements.{All-push}
 use Rattle.std.proofs.lemmas.List.Sorted.{sum_by-IsPermutation, length_permutation}
 use Rattle.std.proofs.lemmas.List.Sums.{sum_by-cons, sum_by_push}
-use Rattle.bucket_core.specs.Rule.{Entries, at, total_weight, IsRun}
+use Rattle.bucket_core.specs.Rule.{Entries, at, end_of, entry_at, entry_name, total_weight, IsRun}
+use Rattle.bucket_core.proofs.Ends.{at_here, at_run, end_of-entry_at, entry_at-lt}
+use Rattle.price_core.proofs.Cursors.{entry_at-le}
 use Rattle.transport_instance.specs.Groups.{GroupKey, is_same_group, AreSizesBy}
 use Rattle.transport_instance.specs.Rows.{amount_of, whole_amount, AddsCounts, CoversPoints}
 use Rattle.transport_instance.proofs.Ranges.{count-split, count-same}
@@ -119,7 +122,29 @@ covers_counts rule counts from to name old new order inside is run covers adds =
       some = adds.some covers.some;
     }
 
--- loads that agree at all points
+-- ---- entry by entry
+
+-- the first entry that ends after a point holds it
+first_after : (r : Entries) (p i : ℕ) → p < total_weight r → p < end_of r i → ((k : ℕ) → k < i → end_of r k ≤ p) → i ≡ entry_at r p
+first_after r p i inside after before = ⊎_elim (λ (early : entry_at r p < i). absurd (omega (arith, before (entry_at r p) early, end_of-entry_at r p inside))) (λ (late : i ≤ entry_at r p). omega (arith, late, entry_at-le r p i after)) (cases_lt (entry_at r p) i)
+
+pub entry_here : (r : Entries) (p i : ℕ) → p < total_weight r → p < end_of r i → ((k : ℕ) → k < i → end_of r k ≤ p) → at r p ≡ entry_name r i
+entry_here r p i inside after before = at_here r p inside ∙ ap (entry_name r) (sym (first_after r p i inside after before))
+
+pub entry_run : (r : Entries) (p i : ℕ) → p < total_weight r → p < end_of r i → ((k : ℕ) → k < i → end_of r k ≤ p) → IsRun r p (end_of r i)
+entry_run r p i inside after before = subst (λ j. IsRun r p (end_of r j)) (sym (first_after r p i inside after before)) (at_run r p inside)
+
+-- where all entries end at a point or before, it is the total
+pub all_ended : (r : Entries) (p : ℕ) → p ≤ total_weight r → ((k : ℕ) → k < length r → end_of r k ≤ p) → p ≡ total_weight r
+all_ended r p below ended =
+    ⊎_elim (λ (inside : p < total_weight r). absurd (omega (arith, ended (entry_at r p) (entry_at-lt r p inside), end_of-entry_at r p inside))) (λ (past : total_weight r ≤ p). omega (arith, below, past)) (cases_lt p (total_weight r))
+
+-- what ended before the next point, and what ends there
+pub ended_more : (r : Entries) (p q i : ℕ) → p ≤ q → end_of r i ≤ q → ((k : ℕ) → k < i → end_of r k ≤ p) → (k : ℕ) → k < i + 1 → end_of r k ≤ q
+ended_more r p q i order here before k low = ⊎_elim (λ (early : k < i). omega (arith, before k early, order)) (λ (late : i ≤ k). let same : k ≡ i = omega (arith, low, late) in omega (arith, ap (end_of r) same, here)) (cases_lt k i)
+
+-- ---- loads that agree at all points
+
 pub covers_alike : (rule : Entries) (load other : ℕ → ℕ) (upto : ℕ) (rows : List (GroupKey × ℕ)) → ((p : ℕ) → p < upto → load p ≡ other p) → CoversPoints rule load upto rows → CoversPoints rule other upto rows
 covers_alike rule load other upto rows alike covers =
     record {

@@ -20,19 +20,14 @@ pub(crate) fn counted_rows<'a>(
 {
     let mut rows = Vec::new(alloc);
     let mut sorted = Vec::new(alloc);
-    let total = rule.total();
     let mut point = 0;
-    while point < total {
-        let entry = rule.entry_at(point);
+    for entry in 0..rule.entries().len() {
         let end = rule.end_of(entry);
-        let name = rule.entry_name(entry);
-        add_run(
-            &mut rows,
-            name,
-            &counts[point as usize..end as usize],
-            &mut sorted,
-        )?;
-        point = end;
+        if point < end {
+            let run = &counts[point as usize..end as usize];
+            add_run(&mut rows, rule.entry_name(entry), run, &mut sorted)?;
+            point = end;
+        }
     }
     Ok(rows)
 }

@@ -1,21 +1,20 @@
 //! The totals of a rule's names, and whether they are within their limits.
-ghost use Rattle.std.specs.Prelude.{◌≡◌, ◌≤◌, ◌<◌, ◌^◌, List, ℕ, IfOk, MatchBool};
+ghost use Rattle.std.specs.Prelude.{◌≡◌, ◌≤◌, ◌<◌, ◌+◌, ◌^◌, List, ℕ, Bool, IfOk, OnOk, MatchBool, sum_by, if◌then◌else◌};
 ghost use Rattle.std.specs.Cmp.Lexicographic.{slice_cmp};
 ghost use Rattle.std.specs.List.Sorted.{IsStrictlySortedBy};
 ghost use Rattle.std.specs.Map.{keys_of};
 ghost use Rattle.std.specs.Ordering.{nat_cmp};
-ghost use Rattle.bucket_core.specs.Rule.{total_weight, entries_view};
 ghost use Rattle.price_core.specs.Limits.{high_of, limits_view};
 ghost use Rattle.transport_instance.specs.Refusals.{KeepsLimits, BreaksLimit};
-ghost use Rattle.transport_instance.specs.Rows.{AreTotals, BreakHigh, BreakLow, KeepHigh, KeepLow, total_in, totals_view};
+ghost use Rattle.transport_instance.specs.Rows.{AreTotals, BreakHigh, BreakLow, KeepHigh, KeepLow, total_in, totals_view, whole_amount};
 
-use crate::rows::joined;
 use bucket_core::Rule;
 use price_core::{Limit, Totals};
 use std::alloc::{AllocError, Global};
+use std::collections::BTreeMap;
 
-/// Whether the total of each text is within its limits. It takes `O(n log n)` steps at n entries, and `O(k)` for each of
-/// k names.
+/// Whether the total of each text is within its limits. It takes `O(n log k)` steps at n entries of k names, and `O(k)` for
+/// each name.
 pub fn keeps_limits(alloc: Global, rule: &Rule, limits: &Totals) -> Result<bool, AllocError>
     ensures { IfOk result (λ kept. MatchBool kept (KeepsLimits rule.now limits.now) ((name : List ℕ) × BreaksLimit rule.now limits.now name)) }
 {
@@ -27,27 +26,40 @@ pub fn keeps_limits(alloc: Global, rule: &Rule, limits: &Totals) -> Result<bool,
     Ok(keeps_low(totals.as_slice(), limits))
 }
 
-/// The total of each name of a rule, by name.
+/// The total of each name of a rule, by name. It takes `O(n log k)` steps at n entries of k names.
 pub(crate) fn totals<'a>(alloc: Global, rule: &'a Rule) -> Result<Vec<(&'a str, u32)>, AllocError>
     ensures { IfOk result (λ v. AreTotals rule.now (totals_view v.items)) }
 {
     // Called for what its contract says: no sum of a rule's weights is above 2^31-1.
     let _total = rule.total();
-    let mut weights = weights(alloc, rule.entries())?;
-    weights.sort_unstable();
-    joined(alloc, weights.as_slice())
+    let entries = rule.entries();
+    let mut by_name = BTreeMap::new(alloc);
+    for (name, weight) in entries {
+        add_points(&mut by_name, name.as_str(), *weight as u32)?;
+    }
+    let mut totals = Vec::new(alloc);
+    for total in by_name {
+        totals.push(total)?;
+    }
+    Ok(totals)
 }
 
-/// The entries, with their names lent.
-fn weights(alloc: Global, entries: &[(String, u64)]) -> Result<Vec<(&str, u32)>, AllocError>
-    requires { total_weight (entries_view entries.now) < 2 ^ 31 }
-    ensures { IfOk result (λ v. totals_view v.items ≡ entries_view entries.now) }
+/// Adds points to the total of a name.
+fn add_points<'a>(
+    totals: &mut BTreeMap<&'a str, u32>,
+    name: &'a str,
+    points: u32,
+) -> Result<(), AllocError>
+    requires { whole_amount totals.old.entries + points < 2 ^ 32 }
+    ensures { OnOk result ((test : List ℕ → Bool) → sum_by (λ r. if test r.0 then r.1 else 0) (totals_view totals.new.entries)
+        ≡ sum_by (λ r. if test r.0 then r.1 else 0) (totals_view totals.old.entries) + (if test name.now then points else 0)) }
 {
-    let mut weights = Vec::new(alloc);
-    for (name, weight) in entries {
-        weights.push((name.as_str(), *weight as u32))?;
+    if let Some(total) = totals.get_mut(name) {
+        *total += points;
+        return Ok(());
     }
-    Ok(weights)
+    totals.insert(name, points)?;
+    Ok(())
 }
 
 fn keeps_high(totals: &[(&str, u32)], limits: &[Limit]) -> bool

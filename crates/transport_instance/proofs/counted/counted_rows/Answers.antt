@@ -1,21 +1,42 @@
--- the rows of the run of points that begins at the point
-use Rattle.std.proofs.Common.{ℕ, List, ◌∙◌, arith}
-use Rattle.transport_instance.specs.Groups.{GroupKey, rows_view}
-use Rattle.transport_instance.proofs.Tallied.{covers_counts}
+-- the rows of each entry's points
+use Rattle.std.proofs.Common.{◌<◌, ap, ◌∙◌, length, subst, arith}
+use Rattle.std.proofs.lemmas.List.{length-map}
+use Rattle.std.specs.List.{slice_index}
+use Rattle.bucket_core.specs.Rule.{end_of, entry_view, total_weight}
+use Rattle.transport_instance.specs.Groups.{rows_view}
+use Rattle.transport_instance.specs.Rows.{CoversPoints}
+use Rattle.transport_instance.proofs.Tallied.{all_ended, covers_counts, ended_more, entry_here, entry_run}
 use Rattle.transport_instance.proofs.counted.counted_rows.Goals as goal
+use Rattle.transport_instance.proofs.counted.counted_rows.Goals.{then-point-end+in_ok-add_run, else-point-end}
 
-pub loop-point-preserved : goal.loop-point-preserved
-loop-point-preserved c =
+pub loop-entry-preserved : goal.loop-entry-preserved
+loop-entry-preserved c =
     let rule = c.args.rule.now in
-    let loop = c.loop-point in
+    let loop = c.loop-entry in
+    let p = loop.point in
     let end = c.end_of-end.result in
-    let old : List (GroupKey × ℕ) = rows_view loop.rows.items in
-    let new : List (GroupKey × ℕ) = rows_view c.add_run.new.rows.items in
-    let is = c.entry_at-entry.ensures.name ∙ c.entry_name-name.ensures.value in
     let ends = c.end_of-end.ensures in
-    let total = c.total-total.ensures.value in
-    record {
-      below = omega (arith, ends.bound, total);
-      covers = covers_counts rule c.args.counts.now loop.point end c.entry_name-name.result.now old new (omega (arith, c.entry_at-entry.ensures.below, ends.value)) (omega (arith, ends.bound, c.requires)) is
-          (λ q low high. c.entry_at-entry.ensures.run q low (omega (arith, ends.value))) loop.invariant.covers c.in_ok-add_run.ensures;
-    }
+    elim c.if-point-end.branch [
+      | then-point-end+in_ok-add_run w ↦
+          let inside : p < total_weight rule = omega (arith, w.if-point-end.true, ends.bound) in
+          let after : p < end_of rule loop.entry = omega (arith, w.if-point-end.true, ends.value) in
+          rw (w.point-is, w.rows-is) (record {
+            below = ends.bound;
+            ended = ended_more rule p end loop.entry (omega (arith, w.if-point-end.true)) (omega (arith, ends.value)) loop.invariant.ended;
+            covers = covers_counts rule c.args.counts.now p end w.entry_name.result.now (rows_view loop.rows.items) (rows_view w.add_run.new.rows.items) (omega (arith, w.if-point-end.true)) (omega (arith, ends.bound, c.requires)) (entry_here rule p loop.entry inside after loop.invariant.ended ∙ w.entry_name.ensures.value)
+                (λ q low high. entry_run rule p loop.entry inside after loop.invariant.ended q low (omega (arith, high, ends.value))) loop.invariant.covers w.in_ok-add_run.ensures;
+          })
+      | else-point-end w ↦
+          rw (w.point-is, w.rows-is) (record {
+            below = loop.invariant.below;
+            ended = ended_more rule p p loop.entry (omega arith) (omega (arith, w.if-point-end.false, ends.value)) loop.invariant.ended;
+            covers = loop.invariant.covers;
+          })
+    ]
+
+pub returns : goal.returns
+returns c =
+    let rule = c.args.rule.now in
+    let loop = c.loop-entry in
+    let all = all_ended rule loop.point loop.invariant.below (λ k below. loop.invariant.ended k (omega (arith, below, c.loop-entry-test.false, ap length c.entries-entry-end.ensures.value, length-map c.entries-entry-end.result.now entry_view))) in
+    subst (λ n. CoversPoints rule (slice_index c.args.counts.now) n (rows_view loop.rows.items)) all loop.invariant.covers
