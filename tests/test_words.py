@@ -93,6 +93,8 @@ class Words(ProgramTest):
             (["flagops", "plan", "--re"], ["--refine"]),
             (["flagops", "apply", "--ke"], ["--keep"]),
             (["flagops", "check", "--st"], ["--strict"]),
+            (["flagops", "ramp", "--st"], ["--strict"]),
+            (["flagops", "verify-ramp", "--"], ["--refine", "--strict", "--help"]),
             (["flagops", "help", "res"], ["resolve"]),
             (["flagops", "drive", "--a"], ["--add"]),
             (["flagops", "bo"], ["book"]),

@@ -1,6 +1,6 @@
 -- The family of a command, by the first of its words and for some by an option among the others.
-use Rattle.std.specs.Prelude.{Bool, true, false, List, [], ◌∷◌, ◌&&◌, ◌||◌, codes, nat_eq, if◌then◌else◌, Option, Some, None}
-use Rattle.std.specs.List.{starts_with}
+use Rattle.std.specs.Prelude.{Bool, true, false, List, [], ◌∷◌, ◌&&◌, ◌||◌, not, codes, nat_eq, if◌then◌else◌, Option, Some, None}
+use Rattle.std.specs.List.{insert, starts_with}
 use Rattle.std.specs.Str.{bytes_eq}
 use Rattle.clap.specs.Walk.{Text}
 use Rattle.flagops.specs.declared.family.Family.{Family}
@@ -25,6 +25,11 @@ family_named word =
 abbrev pub has_option : Text → List Text → Bool
 has_option option [] = false
 has_option option (word ∷ words) = starts_with nat_eq word option || has_option option words
+
+-- one of the words is this one
+abbrev pub has_word : Text → List Text → Bool
+has_word wanted [] = false
+has_word wanted (word ∷ words) = bytes_eq word wanted || has_word wanted words
 
 -- a command that draws or that goes by steps, where its option is among the words
 abbrev pub family_with : Text → List Text → Family
@@ -69,3 +74,12 @@ helped_by (Some name) words = name ∷ codes "--help" ∷ []
 -- `help NAME` of such a command is `NAME --help`; all other words are as they are
 abbrev pub helped : List Text → List Text
 helped words = helped_by (help_for words) words
+
+-- `plan`, of which words beside the plan are not asked
+abbrev pub is_plan : List Text → Bool
+is_plan [] = false
+is_plan (first ∷ words) = bytes_eq first (codes "plan") && not (has_word (codes "--explain") (first ∷ words))
+
+-- at a terminal `plan` is asked for words beside the plan
+abbrev pub explained : Bool → List Text → List Text
+explained is_terminal words = if is_terminal && is_plan words then insert words 1 (codes "--explain") else words

@@ -1,2 +1,3 @@
 pub mod Comes
 pub mod First
+pub mod Watched

@@ -1,5 +1,9 @@
 //! Which commands someone at a terminal watches, and what is told of them.
-use crate::family::{Family, family_of};
+ghost use Rattle.std.specs.Prelude.{◌≡◌, false, IfErr, IfOk, None, map, option_map, string_bytes};
+ghost use Rattle.flagops.specs.First.{family_of};
+ghost use Rattle.flagops.specs.Watched.{is_filter, read_work, work_in, work_named, work_of};
+
+use crate::family::{Family, family_of, has_word};
 use progress::{Progress, TerminalLine};
 use std::io::{self, Write};
 use std::sync::Wait;
@@ -36,25 +40,68 @@ impl<R: AllocGlobal + Wait + Clock + Sync, W: Write + Send> Watcher for Watch<'_
 
 /// What a command does beside reading and answering, in a word. Of one that runs on purpose, or reads what is typed, nothing is
 /// told.
-pub fn work_of(words: &io::Result<Vec<String>>, is_typed: bool) -> Option<&'static str> {
-    let words = words.as_ref().ok()?.as_slice();
-    if is_typed && words.iter().any(|word| word.as_str() == "-") {
+pub fn work_of(words: &io::Result<Vec<String>>, is_typed: bool) -> Option<&'static str>
+    ensures told { IfOk words.now (λ w. option_map (λ s. s.now) result ≡ work_of is_typed (map string_bytes w.items)) }
+    ensures unread { IfErr words.now (λ _. option_map (λ s. s.now) result ≡ None) }
+{
+    match words {
+        Ok(words) => work_for(words.as_slice(), is_typed),
+        Err(_) => None,
+    }
+}
+
+/// The same of words that were read.
+fn work_for(words: &[String], is_typed: bool) -> Option<&'static str>
+    ensures { option_map (λ s. s.now) result ≡ work_of is_typed (map string_bytes words.now) }
+{
+    let first = words.first()?;
+    if is_typed && has_word(words, "-") {
         return None;
     }
-    match family_of(words) {
+    work_in(is_typed, first.as_str(), family_of(words))
+}
+
+/// What a command does, by its name and its family.
+fn work_in(is_typed: bool, name: &str, family: Family) -> Option<&'static str>
+    ensures { option_map (λ s. s.now) result ≡ work_in is_typed name.now family }
+{
+    match family {
         Family::Serve | Family::Follow | Family::Ofrep => None,
-        Family::Record | Family::Tally if is_typed => None,
-        Family::Record | Family::Tally => Some("reading the standard input"),
+        Family::Record | Family::Tally => read_work(is_typed),
         Family::Ramp | Family::PlanPicture => Some("planning"),
-        _ if words.first()?.as_str() == "plan" => Some("planning"),
-        _ => Some("working"),
+        _ => Some(work_named(name)),
+    }
+}
+
+/// What a filter does, which reads the standard input.
+fn read_work(is_typed: bool) -> Option<&'static str>
+    ensures { option_map (λ s. s.now) result ≡ read_work is_typed }
+{
+    if is_typed {
+        None
+    } else {
+        Some("reading the standard input")
+    }
+}
+
+/// What a command over files does, by its name.
+fn work_named(name: &str) -> &'static str
+    ensures { result.now ≡ work_named name.now }
+{
+    if name == "plan" {
+        "planning"
+    } else {
+        "working"
     }
 }
 
 /// Whether the words ask for the command that writes while it reads.
-pub fn is_filter(words: &io::Result<Vec<String>>) -> bool {
+pub fn is_filter(words: &io::Result<Vec<String>>) -> bool
+    ensures asked { IfOk words.now (λ w. result ≡ is_filter (family_of (map string_bytes w.items))) }
+    ensures unread { IfErr words.now (λ _. result ≡ false) }
+{
     match words {
-        Ok(words) => family_of(words.as_slice()) == Family::Record,
+        Ok(words) => matches!(family_of(words.as_slice()), Family::Record),
         Err(_) => false,
     }
 }

@@ -4,7 +4,7 @@ use Rattle.clap.specs.Kinds.{Kinds}
 use Rattle.clap.specs.Simple.{App, new_app, with_rule}
 use Rattle.clap.specs.Walk.{Row, Text, first_of}
 use Rattle.flagops_books.specs.declared.asked.Uniting as code
-use Rattle.flagops_ramps.specs.Words.{asked_in, faults_in}
+use Rattle.flagops_words.specs.Alone.{asked_in, faults_in}
 use Rattle.flagops_words.specs.Words.{◌>>=◌, flag, flag_in, required, some_words, texts_at}
 
 -- the path of the book that is written, those of the files that are read, and whether lines that are none are passed over

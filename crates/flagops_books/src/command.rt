@@ -1,5 +1,5 @@
 //! The command `book`.
-ghost use Rattle.std.specs.Prelude.{◌≡◌, ◌||◌, false, true, map, IfErr, IfOk, IfSome, Err, Some};
+ghost use Rattle.std.specs.Prelude.{◌≡◌, ◌||◌, false, true, map, IfOk, IfSome};
 ghost use Rattle.flagops_books.specs.Calls.{book_calls, unites_files};
 ghost use Rattle.flagops_books.specs.Ended.{AnswersBook, TellsBook};
 ghost use Rattle.flagops_books.specs.Report.{IsBookReport, IsRunOutcome, IsUnitedFor, LeavesBook, LeavesUnited, remark_of};
@@ -8,8 +8,8 @@ ghost use Rattle.flagops_books.specs.Told.{NamesOneFile, book_subjects};
 ghost use Rattle.flagops_books.specs.Words.{book_by, uniting_view};
 ghost use Rattle.flagops_commands.specs.Drive.{KeepsUnlessDone};
 ghost use Rattle.flagops_commands.specs.Ended.{AnswersStored, AnswersUnread};
-ghost use Rattle.flagops_files.specs.Refusal.{ComesFrom, GivesOne, call_of, is_file_fault, is_want};
-ghost use Rattle.flagops_files.specs.Report.{AnswersOrWants, IsFileRefusal, is_of_file, outcome_view, report_of};
+ghost use Rattle.flagops_files.specs.Refusal.{ComesFrom, GivesOne, is_file_fault};
+ghost use Rattle.flagops_files.specs.Report.{AnswersOrWants, IsFileRefusal, is_of_file, outcome_view};
 ghost use Rattle.flagops_files.specs.Told.{RemarksOrWants, Says, TellsOfOne};
 
 use crate::asked::Uniting;
@@ -17,9 +17,9 @@ use crate::storing::stored;
 use crate::uniting::{Step, united};
 use crate::words::read_uniting;
 use flag_text::Outlet;
-use flagops_commands::explain;
-use flagops_files::{Call, FileSet, Outcome, Refused, Status, check_replaceable, report, want};
-use std::alloc::{AllocError, Global};
+use flagops_commands::{explain, refused};
+use flagops_files::{Call, FileSet, Outcome, Refused, check_replaceable, report, want};
+use std::alloc::Global;
 use std::convert::AsStr;
 
 /// Does what the words after the program's name ask of `book`, which is the first of them, and gives the status to end with: it
@@ -67,26 +67,6 @@ fn answer<F: FileSet>(alloc: Global, files: &mut F, asked: &Uniting<'_>) -> Resu
     match outcome(alloc, files, asked) {
         Ok(outcome) => Ok(outcome),
         Err(it) => refused(alloc, it),
-    }
-}
-
-/// The line of a refusal, or its call where memory ran out there or for the line.
-fn refused(alloc: Global, refused: Refused) -> Result<Outcome, Call>
-    ensures line { IfOk result (λ o. (is_want refused.refusal ≡ false) × (outcome_view o ≡ report_of (Err refused.refusal))) }
-    ensures call { IfErr result (λ c. c ≡ call_of refused.refusal) }
-    ensures remark { IfOk result (λ o. o.remark ≡ Some refused.remark) }
-{
-    let Refused { refusal, remark } = refused;
-    if refusal.is_want() {
-        return Err(refusal.call());
-    }
-    match refusal.line(alloc) {
-        Ok(text) => Ok(Outcome {
-            text: text.into_bytes(),
-            status: Status::Refused,
-            remark: Some(remark),
-        }),
-        Err(AllocError) => Err(refusal.call()),
     }
 }
 

@@ -1,13 +1,14 @@
 //! What the words of `book` ask for, as `clap` reads them.
-ghost use Rattle.std.specs.Prelude.{◌≡◌, ◌<◌, IfErr, IfOk, IfSome, Some, length, map, option_map};
+ghost use Rattle.std.specs.Prelude.{◌≡◌, IfErr, IfOk, Some, map, option_map};
 ghost use Rattle.clap.specs.Words.{found_of, kind_of, rows_of};
-ghost use Rattle.flagops_ramps.specs.Words.{IsToldBy};
-ghost use Rattle.flagops_words.specs.Words.{flag_in, texts_at};
+ghost use Rattle.flagops_words.specs.Alone.{IsToldBy};
 ghost use Rattle.flagops_books.specs.Words.{book_by, book_faults, uniting_in, uniting_view};
 
 use crate::asked::Uniting;
-use crate::usage::{missing_value, usage};
+use crate::usage::usage;
 use clap::{ArgMatches, Error};
+use flagops_words::arguments::missing_value;
+use flagops_words::matches::{flag_in, texts_at};
 use std::alloc::{AllocError, Global};
 use std::convert::AsStr;
 
@@ -47,28 +48,4 @@ fn uniting_in<'a>(
         files: files.to_vec(alloc)?,
         torn: flag_in(matches, "torn"),
     }))
-}
-
-/// Whether an option without a value is given.
-#[tactic(auto, using(flagops_words::proofs::Matched::rows))]
-fn flag_in(matches: &ArgMatches<'_>, name: &str) -> bool
-    ensures { result ≡ flag_in name.now (rows_of (found_of matches.now)) }
-{
-    match matches.get_str(name) {
-        Some(word) => word == "true",
-        None => false,
-    }
-}
-
-/// The texts that are given for an argument, where there are any.
-#[tactic(auto, using(flagops_words::proofs::Matched::rows))]
-fn texts_at<'m, 'a>(matches: &'m ArgMatches<'a>, name: &str) -> Option<&'m [&'a str]>
-    ensures texts { option_map (λ s. map (λ t. t.now) s.now) result ≡ texts_at name.now (rows_of (found_of matches.now)) }
-    ensures some { IfSome result (λ s. 0 < length s.now) }
-{
-    let texts = matches.get_strs(name)?;
-    if texts.is_empty() {
-        return None;
-    }
-    Some(texts)
 }

@@ -1,13 +1,11 @@
 -- What the words of `check` ask for, by what `clap` reads of them.
-use Rattle.std.specs.Prelude.{◌≡◌, ◌⊎◌, Bool, is_some, List, [], ◌∷◌, codes, map, Option, Some, None, if◌then◌else◌}
-use Rattle.clap.specs.Faults.{fault_of}
-use Rattle.clap.specs.Kinds.{Kinds, IsAmong, or_else}
-use Rattle.clap.specs.Simple.{App, matches_of, new_app, with_rule}
+use Rattle.std.specs.Prelude.{Bool, List, codes, map, Option, Some}
+use Rattle.clap.specs.Kinds.{Kinds}
+use Rattle.clap.specs.Simple.{App, new_app, with_rule}
 use Rattle.clap.specs.Walk.{Row, Text}
-use Rattle.clap.specs.declared.error.kind.ErrorKind.{ErrorKind}
-use Rattle.clap.specs.declared.error.kind.ErrorKind.TheVariants.{InvalidValue, OutOfMemory}
 use Rattle.flagops_checks.specs.declared.asked.Checking as code
-use Rattle.flagops_words.specs.Words.{◌>>=◌, if_faultless, is_json, is_strict, json_flag, some_words, strict_flag, texts_at}
+use Rattle.flagops_words.specs.Alone.{asked_in, faults_in}
+use Rattle.flagops_words.specs.Words.{◌>>=◌, is_json, is_strict, json_flag, some_words, strict_flag, texts_at}
 
 -- the paths of the documents, whether a flag that is broken or doubted is no success, and whether the answer is JSON
 pub record Checking : Type 0 where
@@ -27,14 +25,8 @@ checking_in rows = do
   documents ← texts_at (codes "DOC") rows
   Some (record { documents = documents; strict = is_strict rows; json = is_json rows })
 
--- the mistakes of the words: those that `clap` finds, and a value that is not there
 unfoldable pub check_faults : List Text → Kinds
-check_faults words = or_else (fault_of check_app words) (if is_some (checking_in (matches_of check_app words)) then [] else (InvalidValue ∷ []))
+check_faults = faults_in check_app checking_in
 
--- words without a mistake ask for what is read of them
 unfoldable pub check_by : List Text → Option Checking
-check_by words = if_faultless (check_faults words) (checking_in (matches_of check_app words))
-
--- why words ask for nothing: one of their mistakes, unless memory ran out
-abbrev pub IsToldBy : List Text → ErrorKind → Type 0
-IsToldBy words kind = (kind ≡ OutOfMemory) ⊎ ((check_by words ≡ None) × IsAmong kind (check_faults words))
+check_by = asked_in check_app checking_in

@@ -1,5 +1,5 @@
 //! The command `check`.
-ghost use Rattle.std.specs.Prelude.{◌≡◌, ◌||◌, false, is_some, map, true, IfErr, IfOk, IfSome, Err, Some};
+ghost use Rattle.std.specs.Prelude.{◌≡◌, ◌||◌, false, is_some, map, true, IfOk, IfSome};
 ghost use Rattle.flagops_checks.specs.Calls.{check_calls};
 ghost use Rattle.flagops_checks.specs.Ended.{AnswersCheck, TellsCheck};
 ghost use Rattle.flagops_checks.specs.Report.{IsCheckReport, IsRunOutcome, TellsChecked, check_status, remark_of};
@@ -7,8 +7,8 @@ ghost use Rattle.flagops_checks.specs.Step.{Speaks};
 ghost use Rattle.flagops_checks.specs.Told.{check_subjects};
 ghost use Rattle.flagops_checks.specs.Words.{check_by, checking_view};
 ghost use Rattle.flagops_commands.specs.Ended.{AnswersUnread};
-ghost use Rattle.flagops_files.specs.Refusal.{ComesFrom, GivesOne, call_of, is_file_fault, is_want};
-ghost use Rattle.flagops_files.specs.Report.{AnswersOrWants, IsFileRefusal, is_of_file, outcome_view, report_of, status_number};
+ghost use Rattle.flagops_files.specs.Refusal.{ComesFrom, GivesOne, is_file_fault};
+ghost use Rattle.flagops_files.specs.Report.{AnswersOrWants, IsFileRefusal, is_of_file, outcome_view, status_number};
 ghost use Rattle.flagops_files.specs.Told.{RemarksOrWants, Says, TellsOfOne};
 
 use crate::asked::Checking;
@@ -17,9 +17,9 @@ use crate::gathering::{Gathered, gather};
 use crate::told::Told;
 use crate::words::read_checking;
 use flag_text::Outlet;
-use flagops_commands::explain;
+use flagops_commands::{explain, refused};
 use flagops_files::{Call, FileSet, Outcome, Refused, Remark, Status, report, want};
-use std::alloc::{AllocError, Global};
+use std::alloc::Global;
 use std::convert::AsStr;
 
 /// Does what the words after the program's name ask of `check`, which is the first of them, and gives the status to end with: it
@@ -63,26 +63,6 @@ fn answer<F: FileSet>(alloc: Global, files: &mut F, asked: &Checking<'_>) -> Res
     match outcome(alloc, files, asked) {
         Ok(outcome) => Ok(outcome),
         Err(it) => refused(alloc, it),
-    }
-}
-
-/// The line of a refusal, or its call where memory ran out there or for the line.
-fn refused(alloc: Global, refused: Refused) -> Result<Outcome, Call>
-    ensures line { IfOk result (λ o. (is_want refused.refusal ≡ false) × (outcome_view o ≡ report_of (Err refused.refusal))) }
-    ensures call { IfErr result (λ c. c ≡ call_of refused.refusal) }
-    ensures remark { IfOk result (λ o. o.remark ≡ Some refused.remark) }
-{
-    let Refused { refusal, remark } = refused;
-    if refusal.is_want() {
-        return Err(refusal.call());
-    }
-    match refusal.line(alloc) {
-        Ok(text) => Ok(Outcome {
-            text: text.into_bytes(),
-            status: Status::Refused,
-            remark: Some(remark),
-        }),
-        Err(AllocError) => Err(refusal.call()),
     }
 }
 

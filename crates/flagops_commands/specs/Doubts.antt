@@ -1,15 +1,18 @@
 -- What is doubted of an answer to a rollout request, and what becomes of it.
 use Rattle.std.specs.Prelude.{ℕ, Bool, true, false, List, [], ◌∷◌, Option, Some, None, is_some, if◌then◌else◌, Result, Ok, Err}
+use Rattle.book_core.specs.Book.{Contents}
+use Rattle.book_core.specs.Page.{PageName}
 use Rattle.flag_text.specs.Reading.{tree_of}
 use Rattle.flag_text.specs.Shape.{Shape}
 use Rattle.flag_text.specs.declared.fault.TextFault.{TextFault}
 use Rattle.unread_members.specs.Unread.{unread_of}
 use Rattle.unread_members.specs.declared.reader.Reader.TheVariants as reader
-use Rattle.flagops_commands.specs.Foreign.{is_foreign}
-use Rattle.flagops_commands.specs.Unrecorded.{is_unrecorded}
+use Rattle.flagops_commands.specs.Foreign.{is_foreign, is_mixed}
+use Rattle.flagops_commands.specs.Unrecorded.{is_bare, is_unrecorded}
 use Rattle.flagops_files.specs.Loading.{max_text}
 use Rattle.flagops_files.specs.Question.{Question}
 use Rattle.flagops_files.specs.Told.{Subjects, file}
+use Rattle.flagops_files.specs.declared.evidence.Evidence.TheVariants.{Book}
 use Rattle.flagops_files.specs.declared.refusal.Call.{Call}
 use Rattle.flagops_files.specs.declared.refusal.Doubt.{Doubt}
 use Rattle.flagops_files.specs.declared.refusal.Doubt.TheVariants as doubt
@@ -29,6 +32,10 @@ is_unread bytes = has_unread (tree_of bytes max_text)
 -- what is doubted of what was recorded: there is no input, or one is none of the flag
 abbrev pub recorded_doubt : Bool → Bool → Option Doubt
 recorded_doubt unrecorded foreign = if unrecorded then Some doubt.Unrecorded else (if foreign then Some doubt.Foreign else None)
+
+-- what is doubted of what a book has on a page, where there is one: it has no input, or one that is none of the flag
+abbrev pub doubt_in : Contents → Option PageName → Option Doubt
+doubt_in book page = recorded_doubt (is_bare (Book book) page) (is_mixed (Book book) page)
 
 abbrev pub first_doubt : Bool → Option Doubt → Option Doubt
 first_doubt unread recorded = if unread then Some doubt.Unread else recorded

@@ -8,6 +8,7 @@ pub mod Drive
 pub mod Ended
 pub mod Foreign
 pub mod Keep
+pub mod Lines
 pub mod Passed
 pub mod Plan
 pub mod Price

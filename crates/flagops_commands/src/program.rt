@@ -80,7 +80,7 @@ fn answer<R: Threads + Wait + Sync, F: FileSet>(
 }
 
 /// The line of a refusal, or its call where memory ran out there or for the line.
-fn refused(alloc: Global, refused: Refused) -> Result<Outcome, Call>
+pub fn refused(alloc: Global, refused: Refused) -> Result<Outcome, Call>
     ensures line { IfOk result (λ o. (is_want refused.refusal ≡ false) × (outcome_view o ≡ report_of (Err refused.refusal))) }
     ensures call { IfErr result (λ c. c ≡ call_of refused.refusal) }
     ensures remark { IfOk result (λ o. o.remark ≡ Some refused.remark) }

@@ -6,5 +6,5 @@ mod explained;
 pub mod keep;
 mod kept;
 pub mod plan;
-mod recorded;
+pub mod recorded;
 pub mod verify;

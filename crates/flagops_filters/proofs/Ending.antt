@@ -7,7 +7,7 @@ use Rattle.flagops_files.specs.declared.outcome.Outcome.{Outcome}
 use Rattle.clap.specs.Kinds.{Kinds}
 use Rattle.clap.specs.declared.error.kind.ErrorKind.{ErrorKind}
 use Rattle.flagops_commands.specs.Telling.{Tells, Wants}
-use Rattle.flagops_filters.specs.Words.{IsToldBy}
+use Rattle.flagops_words.specs.Alone.{IsToldBy}
 use Rattle.flagops_filters.specs.Report.{Came, Ends, GivesOne, Reports, told_view}
 use Rattle.flagops_filters.specs.declared.reports.Told.{Told}
 

@@ -5,7 +5,6 @@ pub mod Law
 pub mod Place
 pub mod Record
 pub mod Refusal
-pub mod Remarks
 pub mod Report
 pub mod Stopping
 pub mod Tally

@@ -1,13 +1,11 @@
 -- What the words of `record`, `tally` and `join` ask for, by what `clap` reads of them.
-use Rattle.std.specs.Prelude.{◌≡◌, ◌⊎◌, ℕ, nat_le, is_some, List, [], ◌∷◌, codes, map, Option, Some, None, option_map, if◌then◌else◌}
-use Rattle.clap.specs.Faults.{fault_of}
-use Rattle.clap.specs.Kinds.{Kinds, IsAmong, or_else}
-use Rattle.clap.specs.Simple.{App, matches_of, new_app, with_rule}
+use Rattle.std.specs.Prelude.{ℕ, List, ◌∷◌, codes, map, Option, Some, None, option_map}
+use Rattle.clap.specs.Kinds.{Kinds}
+use Rattle.clap.specs.Simple.{App, new_app, with_rule}
 use Rattle.clap.specs.Walk.{Row, Text, first_of}
-use Rattle.clap.specs.declared.error.kind.ErrorKind.{ErrorKind}
-use Rattle.clap.specs.declared.error.kind.ErrorKind.TheVariants.{InvalidValue, OutOfMemory}
-use Rattle.flagops_words.specs.Numbers.{max_32, max_moment, moment_in, number_in}
-use Rattle.flagops_words.specs.Words.{◌>>=◌, if_faultless, number, option_number, refine_in, refine_option, required, some_words, texts_at}
+use Rattle.flagops_words.specs.Alone.{asked_in, faults_in}
+use Rattle.flagops_words.specs.Numbers.{max_32, max_moment, moment_in}
+use Rattle.flagops_words.specs.Words.{◌>>=◌, number, number_at, number_or, option_number, refine_in, refine_option, required, some_words, texts_at}
 use Rattle.flagops_filters.specs.declared.asked.Recording as code_record
 use Rattle.flagops_filters.specs.declared.asked.Tallying as code_tally
 use Rattle.flagops_filters.specs.declared.asked.Joining as code_join
@@ -63,34 +61,19 @@ abbrev pub if_moment : Option Text → Option (Option ℕ)
 if_moment None = Some None
 if_moment (Some word) = option_map Some (moment_in word)
 
--- a number of workers, and 4 where none is given
-abbrev pub workers_in : Option Text → Option ℕ
-workers_in None = Some 4
-workers_in (Some word) = number_in 1 max_workers word
-
 abbrev pub record_in : List Row → Option Recording
 record_in rows = do
   document ← first_of (codes "DOC") rows
   key ← first_of (codes "KEY") rows
   moment ← if_moment (first_of (codes "MOMENT") rows)
-  workers ← workers_in (first_of (codes "WORKERS") rows)
+  workers ← number_or 4 1 max_workers (first_of (codes "WORKERS") rows)
   Some (record { document = document; key = key; moment = moment; workers = workers })
-
--- a number of 32 bits
-abbrev pub of_32 : ℕ → Option ℕ
-of_32 n = if nat_le n max_32 then Some n else None
-
-abbrev pub site_in : Text → Option ℕ
-site_in word = do
-  n ← moment_in word
-  of_32 n
 
 abbrev pub tally_in : List Row → Option Tallying
 tally_in rows = do
   document ← first_of (codes "DOC") rows
   key ← first_of (codes "FLAG") rows
-  word ← first_of (codes "SITE") rows
-  site ← site_in word
+  site ← number_at (codes "SITE") 0 max_32 rows
   factor ← refine_in rows
   Some (record { document = document; key = key; site = site; refine = factor })
 
@@ -98,14 +81,6 @@ abbrev pub join_in : List Row → Option Joining
 join_in rows = do
   tallies ← texts_at (codes "TALLY") rows
   Some (record { tallies = tallies })
-
--- the mistakes of the words of a command: those that `clap` finds, and a value that is not there
-abbrev pub faults_in : {X : Type 0} → App → (List Row → Option X) → List Text → Kinds
-faults_in app read words = or_else (fault_of app words) (if is_some (read (matches_of app words)) then [] else (InvalidValue ∷ []))
-
--- what words without a mistake ask for
-abbrev pub asked_in : {X : Type 0} → App → (List Row → Option X) → List Text → Option X
-asked_in app read words = if_faultless (faults_in app read words) (read (matches_of app words))
 
 unfoldable pub record_faults : List Text → Kinds
 record_faults = faults_in record_app record_in
@@ -124,7 +99,3 @@ join_faults = faults_in join_app join_in
 
 unfoldable pub join_by : List Text → Option Joining
 join_by = asked_in join_app join_in
-
--- why the words ask for nothing: one of their mistakes, unless memory ran out
-abbrev pub IsToldBy : {X : Type 0} → Kinds → Option X → ErrorKind → Type 0
-IsToldBy faults asked kind = (kind ≡ OutOfMemory) ⊎ ((asked ≡ None) × IsAmong kind faults)

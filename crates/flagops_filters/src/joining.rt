@@ -9,11 +9,10 @@ ghost use Rattle.flagops_filters.specs.declared.refusal.FilterRefusal.TheVariant
 ghost use Rattle.flagops_files.specs.declared.refusal.Refusal.TheVariants.{ReadTally};
 
 use crate::refusal::FilterRefusal;
-use crate::remarks::{file_line, whole_line};
 use crate::reports::{Told, finish};
 use crate::words::read_join;
 use flag_text::Outlet;
-use flagops_commands::explain;
+use flagops_commands::{explain, file_line, whole_line};
 use flagops_files::{FileSet, Outcome, Refusal, Remark, Status, load};
 use flagops_remarks::{Ends, of_tally};
 use std::alloc::{AllocError, Global};

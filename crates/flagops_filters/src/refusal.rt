@@ -6,6 +6,7 @@ ghost use Rattle.tally_filters.specs.Fault as filters;
 ghost use Rattle.flagops_filters.specs.Refusal.{filter_items, filter_name, is_want, join_name, join_number, line_of, number_of, record_name};
 ghost use Rattle.flagops_filters.specs.declared.refusal.FilterRefusal.TheVariants.{Record, Tally};
 
+use flagops_commands::fault_line;
 use flagops_files::Refusal;
 use note_streams::{RecordStop, TallyStop};
 use std::alloc::{AllocError, Global};
@@ -148,17 +149,4 @@ fn number_item(alloc: Global, n: u64) -> Result<String, AllocError>
     ensures { IfOk result (λ s. string_bytes s ≡ number_item n) }
 {
     format!(in alloc; " {n}")
-}
-
-fn fault_line(
-    alloc: Global,
-    call: &str,
-    number: u32,
-    name: &str,
-    items: &str,
-) -> Result<Vec<u8>, AllocError>
-    ensures { IfOk result (λ v. v.items ≡ line_with call.now (decimal number) name.now items.now) }
-{
-    let line = format!(in alloc; "refused {call} {number} {name}{items}\n")?;
-    Ok(line.into_bytes())
 }

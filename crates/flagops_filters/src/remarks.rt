@@ -1,26 +1,10 @@
 //! What a person is told of a filter.
 ghost use Rattle.std.specs.Prelude.{IfOk, string_bytes};
-ghost use Rattle.flagops_filters.specs.Remarks.{NamesFile};
+ghost use Rattle.flagops_commands.specs.Lines.{NamesFile};
 
 use flagops_files::quoted;
 use note_streams::Counted;
 use std::alloc::{AllocError, Global};
-
-/// A line that names a file and what is the matter with it.
-pub fn file_line(alloc: Global, path: &str, reason: &str) -> Result<String, AllocError>
-    ensures { IfOk result (λ s. NamesFile path.now (string_bytes s)) }
-{
-    let name = quoted(alloc, path)?;
-    format!(in alloc; "error: {name}: {reason}\n")
-}
-
-/// A line that says of a file as a whole what it is.
-pub fn whole_line(alloc: Global, path: &str, words: &str) -> Result<String, AllocError>
-    ensures { IfOk result (λ s. NamesFile path.now (string_bytes s)) }
-{
-    let name = quoted(alloc, path)?;
-    format!(in alloc; "error: {name} {words}\n")
-}
 
 /// A line on the flag of a document that is refused.
 pub fn flag_line(alloc: Global, path: &str, key: &str, reason: &str) -> Result<String, AllocError>

@@ -1,5 +1,5 @@
 //! The command `tally`.
-ghost use Rattle.std.specs.Prelude.{◌≡◌, ◌<◌, ◌≤◌, unwrap_or, false, map, option_map, IfOk, IfSome, Ok};
+ghost use Rattle.std.specs.Prelude.{◌≡◌, ◌<◌, ◌≤◌, false, map, option_map, IfOk, IfSome, Ok};
 ghost use Rattle.flag_defs.specs.Flags.{flags_view};
 ghost use Rattle.flag_text.specs.Outcome.{GivesUnless};
 ghost use Rattle.rollout_checks.specs.Lawful.{place_of};
@@ -25,7 +25,7 @@ use flag_text::Outlet;
 use flagops_commands::explain;
 use flagops_files::{FileSet, Outcome, Refusal, Remark, Status, load_flags};
 use flagops_remarks::Ends as FileEnds;
-use flagops_words::Factor;
+use flagops_words::factor_of;
 use line_batches::Inlet;
 use logic_ast::{Site, site};
 use note_streams::{StreamTally, TallyStop, tally_stream};
@@ -240,15 +240,4 @@ fn place_of(alloc: Global, flags: &Flags, key: &str, number: u32) -> Result<Plac
     let Site { entries, .. } = site(alloc, targeting, number)?;
     let page = Page::of(alloc, key, targeting, number)?;
     Ok(Place { entries, page })
-}
-
-/// What the weights of the site are multiplied by.
-fn factor_of(refine: Option<Factor>) -> u32
-    ensures some { 0 < result }
-    ensures value { result ≡ unwrap_or (option_map (λ m. m.number) refine) 1 }
-{
-    match refine {
-        Some(m) => m.number,
-        None => 1,
-    }
 }

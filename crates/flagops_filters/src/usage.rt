@@ -1,20 +1,15 @@
 //! What the filters take, in the terms of `clap`.
 ghost use Rattle.std.specs.Prelude.{◌≡◌, IfOk, codes, false};
 ghost use Rattle.clap.specs.Simple.{new_app, with_rule};
-ghost use Rattle.clap.specs.Words.{app_of, kind_of, rule_of};
-ghost use Rattle.clap.specs.declared.error.kind.ErrorKind.TheVariants.{InvalidValue};
-ghost use Rattle.flagops_words.specs.Numbers.{max_32, max_moment};
-ghost use Rattle.flagops_words.specs.Words.{number, option_number, refine_option, required, some_words};
+ghost use Rattle.clap.specs.Words.{app_of, rule_of};
+ghost use Rattle.flagops_words.specs.Numbers.{max_moment};
+ghost use Rattle.flagops_words.specs.Words.{option_number, required};
 ghost use Rattle.flagops_filters.specs.Words.{join_app, max_workers, record_app, tally_app};
 
-use clap::builder::ValueParser;
-use clap::error::ErrorKind;
-use clap::{Arg, Command, Error};
+use clap::{Arg, Command};
+use flagops_words::arguments::{option_number, refine, required, site, some_words};
 use limits::LATEST_MOMENT;
 use std::alloc::{AllocError, Global};
-
-/// The largest factor, and the largest number of a site.
-const LARGEST_32: u64 = 4_294_967_295;
 
 /// The most workers.
 pub const MOST_WORKERS: u64 = limits::SEATS as u64;
@@ -50,7 +45,10 @@ pub fn tally<'a>(alloc: Global) -> Result<Command<'a>, AllocError>
     ensures { IfOk result (λ c. app_of c ≡ tally_app) }
 {
     let site = site(alloc);
-    let factor = refine(alloc);
+    let factor = refine(
+        alloc,
+        "Tally in finer points: multiply each weight of the rule by M first",
+    );
     tally_begun(alloc)?.arg(site)?.arg(factor)
 }
 
@@ -77,38 +75,12 @@ pub fn join<'a>(alloc: Global) -> Result<Command<'a>, AllocError>
     let command = Command::new(alloc, "join").bin_name("flagops join")?.about(
         "Prints the tally of the lines of several tallies, which follow one another",
     );
-    let tallies = tallies(alloc);
+    let tallies = some_words(
+        alloc,
+        "TALLY",
+        "The files of tallies, in the order of their lines",
+    );
     command.arg(tallies)
-}
-
-/// The mistake of a value that is not there.
-pub fn missing_value(alloc: Global, command: Command<'_>) -> Result<Error, AllocError>
-    ensures { IfOk result (λ e. kind_of e ≡ InvalidValue) }
-{
-    let mut command = command;
-    command.error(
-        ErrorKind::InvalidValue,
-        "a value is missing or out of its range",
-    )
-}
-
-/// A word that has to be there.
-fn required<'a>(alloc: Global, name: &'a str, help: &'a str) -> Arg<'a>
-    ensures rule { rule_of result ≡ required name.entry.now }
-    ensures local { result.global ≡ false }
-{
-    Arg::new(alloc, name).required(true).help(help)
-}
-
-/// The number of a site.
-fn site<'a>(alloc: Global) -> Arg<'a>
-    ensures rule { rule_of result ≡ number (codes "SITE") max_32 }
-    ensures local { result.global ≡ false }
-{
-    Arg::new(alloc, "SITE")
-        .required(true)
-        .help("The number of the fractional operation, from 0")
-        .value_parser(ValueParser::Unsigned(0, LARGEST_32))
 }
 
 /// The moment of an evaluation.
@@ -116,10 +88,14 @@ fn moment<'a>(alloc: Global) -> Arg<'a>
     ensures rule { rule_of result ≡ option_number (codes "MOMENT") (codes "moment") 0 max_moment }
     ensures local { result.global ≡ false }
 {
-    Arg::new(alloc, "MOMENT")
-        .long("moment")
-        .help("The time of the evaluations, in seconds since 1970; 0 where it is left out")
-        .value_parser(ValueParser::Unsigned(0, LATEST_MOMENT))
+    option_number(
+        alloc,
+        "MOMENT",
+        "moment",
+        "The time of the evaluations, in seconds since 1970; 0 where it is left out",
+        0,
+        LATEST_MOMENT,
+    )
 }
 
 /// The workers that evaluate the contexts.
@@ -127,32 +103,12 @@ fn workers<'a>(alloc: Global) -> Arg<'a>
     ensures rule { rule_of result ≡ option_number (codes "WORKERS") (codes "workers") 1 max_workers }
     ensures local { result.global ≡ false }
 {
-    Arg::new(alloc, "WORKERS")
-        .long("workers")
-        .help(
-            "The most threads that evaluate the contexts, from 1 to 64, else 4; the output is the same for any number",
-        )
-        .value_parser(ValueParser::Unsigned(1, MOST_WORKERS))
-}
-
-/// What the weights of the site are multiplied by.
-fn refine<'a>(alloc: Global) -> Arg<'a>
-    ensures rule { rule_of result ≡ refine_option }
-    ensures local { result.global ≡ false }
-{
-    Arg::new(alloc, "M")
-        .long("refine")
-        .help("Tally in finer points: multiply each weight of the rule by M first")
-        .value_parser(ValueParser::Unsigned(1, LARGEST_32))
-}
-
-/// The files of tallies.
-fn tallies<'a>(alloc: Global) -> Arg<'a>
-    ensures rule { rule_of result ≡ some_words (codes "TALLY") }
-    ensures local { result.global ≡ false }
-{
-    Arg::new(alloc, "TALLY")
-        .required(true)
-        .help("The files of tallies, in the order of their lines")
-        .num_args(1..)
+    option_number(
+        alloc,
+        "WORKERS",
+        "workers",
+        "The most threads that evaluate the contexts, from 1 to 64, else 4; the output is the same for any number",
+        1,
+        MOST_WORKERS,
+    )
 }

@@ -1,23 +1,22 @@
 //! What the words of `record`, `tally` and `join` ask for, as `clap` reads them.
-ghost use Rattle.std.specs.Prelude.{◌≡◌, ◌&&◌, ◌∷◌, nat_le, None, if◌then◌else◌, IfErr, IfOk, Some, codes, map, option_map};
+ghost use Rattle.std.specs.Prelude.{◌≡◌, ◌∷◌, IfErr, IfOk, Some, codes, map, option_map};
 ghost use Rattle.clap.specs.Walk.{first_of};
 ghost use Rattle.clap.specs.Words.{found_of, kind_of, rows_of};
-ghost use Rattle.flagops_words.specs.Numbers.{number_in};
-ghost use Rattle.flagops_words.specs.Words.{refine_in, texts_at};
-ghost use Rattle.flagops_filters.specs.Words.{IsToldBy, if_moment, join_by, join_faults, join_in, joining_view, max_workers, of_32, record_by, record_faults, record_in, recording_view, site_in, tally_by, tally_faults, tally_in, tallying_view, workers_in};
+ghost use Rattle.flagops_words.specs.Alone.{IsToldBy};
+ghost use Rattle.flagops_words.specs.Words.{texts_at};
+ghost use Rattle.flagops_filters.specs.Words.{if_moment, join_by, join_faults, join_in, joining_view, record_by, record_faults, record_in, recording_view, tally_by, tally_faults, tally_in, tallying_view};
 
 use crate::asked::{Joining, Recording, Tallying};
-use crate::usage::{MOST_WORKERS, join, missing_value, record, tally};
+use crate::usage::{MOST_WORKERS, join, record, tally};
 use clap::{ArgMatches, Error};
-use flagops_words::{Factor, Moment};
+use flagops_words::Moment;
+use flagops_words::arguments::missing_value;
+use flagops_words::matches::{number_or, refine_in, site_in, texts_at};
 use std::alloc::{AllocError, Global};
 use std::convert::AsStr;
 
-/// The largest number of a site.
-const LARGEST_32: u64 = 4_294_967_295;
-
 /// The workers where their number is left out.
-const WORKERS: usize = 4;
+const WORKERS: u64 = 4;
 
 /// What the words after the program's name ask of `record`, which is the first of them.
 #[tactic(auto, unfolding(crate::specs::Words::record_by, crate::specs::Words::record_faults))]
@@ -46,24 +45,24 @@ pub fn read_tally<'a, S: AsStr>(alloc: Global, words: &'a [S]) -> Result<Tallyin
     }
 }
 
-#[tactic(auto, using(crate::proofs::Matched::values))]
+#[tactic(auto, using(flagops_words::proofs::Matched::rows))]
 fn recording_in<'a>(matches: &ArgMatches<'a>) -> Option<Recording<'a>>
     ensures { option_map recording_view result ≡ record_in (rows_of (found_of matches.now)) }
 {
     let document = matches.get_str("DOC")?;
     let key = matches.get_str("KEY")?;
     let moment = moment_in(matches)?;
-    let workers = workers_in(matches)?;
+    let workers = number_or(matches, "WORKERS", WORKERS, 1, MOST_WORKERS)?;
     Some(Recording {
         document,
         key,
         moment,
-        workers,
+        workers: workers as usize,
     })
 }
 
 /// The moment of the evaluations, if one is given; `None` where the word is no moment.
-#[tactic(auto, using(crate::proofs::Matched::values))]
+#[tactic(auto, using(flagops_words::proofs::Matched::rows))]
 fn moment_in(matches: &ArgMatches<'_>) -> Option<Option<Moment>>
     ensures { option_map (λ o. option_map (λ m. m.number) o) result ≡ if_moment (first_of (codes "MOMENT") (rows_of (found_of matches.now))) }
 {
@@ -73,45 +72,13 @@ fn moment_in(matches: &ArgMatches<'_>) -> Option<Option<Moment>>
     }
 }
 
-/// The number of workers, 4 where it is left out; `None` where the word is no such number.
-#[tactic(auto, using(crate::proofs::Matched::values))]
-fn workers_in(matches: &ArgMatches<'_>) -> Option<usize>
-    ensures { result ≡ workers_in (first_of (codes "WORKERS") (rows_of (found_of matches.now))) }
-{
-    match matches.get_str("WORKERS") {
-        Some(word) => number_of_workers(word),
-        None => Some(WORKERS),
-    }
-}
-
-/// The number from 1 to 64 that a word spells in decimal digits, perhaps after a plus.
-fn number_of_workers(word: &str) -> Option<usize>
-    ensures { result ≡ number_in 1 max_workers word.now }
-{
-    match word.parse::<u64>() {
-        Ok(number) => within(number),
-        Err(_) => None,
-    }
-}
-
-fn within(number: u64) -> Option<usize>
-    ensures { result ≡ (if nat_le 1 number && nat_le number max_workers then Some number else None) }
-{
-    if 1 <= number && number <= MOST_WORKERS {
-        Some(number as usize)
-    } else {
-        None
-    }
-}
-
-#[tactic(auto, using(crate::proofs::Matched::values))]
+#[tactic(auto, using(flagops_words::proofs::Matched::rows))]
 fn tallying_in<'a>(matches: &ArgMatches<'a>) -> Option<Tallying<'a>>
     ensures { option_map tallying_view result ≡ tally_in (rows_of (found_of matches.now)) }
 {
     let document = matches.get_str("DOC")?;
     let key = matches.get_str("FLAG")?;
-    let word = matches.get_str("SITE")?;
-    let site = site_in(word)?;
+    let site = site_in(matches)?;
     let refine = refine_in(matches)?;
     Some(Tallying {
         document,
@@ -119,36 +86,6 @@ fn tallying_in<'a>(matches: &ArgMatches<'a>) -> Option<Tallying<'a>>
         site,
         refine,
     })
-}
-
-/// The number of a site that a word spells.
-fn site_in(word: &str) -> Option<u32>
-    ensures { result ≡ site_in word.now }
-{
-    let moment = Moment::spelled(word)?;
-    of_32(moment.number)
-}
-
-/// A number, where it has 32 bits.
-fn of_32(number: u64) -> Option<u32>
-    ensures { result ≡ of_32 number }
-{
-    if number <= LARGEST_32 {
-        Some(number as u32)
-    } else {
-        None
-    }
-}
-
-/// The factor of a refinement, if one is given; `None` where the word is no factor.
-#[tactic(auto, using(crate::proofs::Matched::values))]
-fn refine_in(matches: &ArgMatches<'_>) -> Option<Option<Factor>>
-    ensures { option_map (λ o. option_map (λ m. m.number) o) result ≡ refine_in (rows_of (found_of matches.now)) }
-{
-    match matches.get_str("M") {
-        Some(word) => Some(Some(Factor::spelled(word)?)),
-        None => Some(None),
-    }
 }
 
 /// What the words after the program's name ask of `join`, which is the first of them.
@@ -171,7 +108,7 @@ fn joining_in<'a>(
 ) -> Result<Option<Joining<'a>>, AllocError>
     ensures { IfOk result (λ o. option_map joining_view o ≡ join_in (rows_of (found_of matches.now))) }
 {
-    let Some((first, others)) = texts_at(matches, "TALLY") else {
+    let Some((first, others)) = first_and_others(matches, "TALLY") else {
         return Ok(None);
     };
     Ok(Some(Joining {
@@ -181,11 +118,13 @@ fn joining_in<'a>(
 }
 
 /// The first of the texts that are given for an argument, and those behind it, where there are any.
-#[tactic(auto, using(crate::proofs::Matched::values))]
-fn texts_at<'m, 'a>(matches: &'m ArgMatches<'a>, name: &str) -> Option<(&'a str, &'m [&'a str])>
+fn first_and_others<'m, 'a>(
+    matches: &'m ArgMatches<'a>,
+    name: &str,
+) -> Option<(&'a str, &'m [&'a str])>
     ensures { option_map (λ s. s.0.now ∷ map (λ t. t.now) s.1.now) result ≡ texts_at name.now (rows_of (found_of matches.now)) }
 {
-    let texts = matches.get_strs(name)?;
+    let texts = texts_at(matches, name)?;
     match texts.split_first() {
         Some((first, others)) => Some((*first, others)),
         None => None,

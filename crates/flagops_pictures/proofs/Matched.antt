@@ -1,10 +1,7 @@
--- What `clap` is proved to read of the words of a command that draws.
+-- The commands that draw are such as `clap` is proved for.
 use Rattle.std.proofs.Common.{◌≡◌, true, refl}
-use Rattle.clap.proofs.WalkLemmas.{first_value-rows, raw_values-rows}
 use Rattle.clap.specs.Words.{is_simple, is_simple_and_free}
 use Rattle.flagops_pictures.specs.Words.{picture_app, plan_app, ramp_app}
-
-pub ruleset rows = (first_value-rows, raw_values-rows)
 
 pub picture_plain : is_simple picture_app ≡ true
 unfolding picture_app

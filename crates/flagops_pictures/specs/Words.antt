@@ -3,7 +3,8 @@ use Rattle.std.specs.Prelude.{ℕ, Bool, List, codes, Option, Some, option_map}
 use Rattle.clap.specs.Kinds.{Kinds}
 use Rattle.clap.specs.Simple.{App, new_app, with_rule}
 use Rattle.clap.specs.Walk.{Row, Rule, Text, first_of}
-use Rattle.flagops_ramps.specs.Words.{Verifying, asked_in, faults_in, verify_in, with_steps}
+use Rattle.flagops_ramps.specs.Words.{Verifying, verify_in, with_steps}
+use Rattle.flagops_words.specs.Alone.{asked_in, faults_in}
 use Rattle.flagops_words.specs.Words.{◌>>=◌, flag, flag_in, is_strict, refine_in, refine_option, required, strict_flag, with_rollout}
 use Rattle.flagops_pictures.specs.declared.asked.Asked as code
 use Rattle.flagops_pictures.specs.declared.asked.Planning as code_planning

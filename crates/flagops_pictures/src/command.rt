@@ -1,9 +1,9 @@
 //! The command `picture`.
-ghost use Rattle.std.specs.Prelude.{◌≡◌, ◌<◌, false, is_some, map, IfErr, IfOk, IfSome, Err, Ok, option_map, string_bytes, unwrap_or};
+ghost use Rattle.std.specs.Prelude.{◌≡◌, false, is_some, map, IfSome, Ok, option_map, string_bytes};
 ghost use Rattle.flagops_commands.specs.Doubts.{doubt_of};
-ghost use Rattle.flagops_files.specs.Refusal.{ComesFrom, GivesOne, GivesUnlessWant, call_of, is_want};
+ghost use Rattle.flagops_files.specs.Refusal.{ComesFrom, GivesOne, GivesUnlessWant};
 ghost use Rattle.flagops_files.specs.Question.{book_question_view};
-ghost use Rattle.flagops_files.specs.Report.{AnswersOrWants, beside, outcome_view, report_of};
+ghost use Rattle.flagops_files.specs.Report.{AnswersOrWants, beside, outcome_view};
 ghost use Rattle.flagops_pictures.specs.Ended.{AnswersPicture, TellsPicture};
 ghost use Rattle.flagops_pictures.specs.Pictured.{IsPictureReport, IsPictured, as_question, drawn_report, picture_calls};
 ghost use Rattle.flagops_pictures.specs.Words.{asked_view};
@@ -14,13 +14,13 @@ use crate::checking::checked_picture;
 use crate::doubts::noted;
 use crate::words::read_picture;
 use flag_text::Outlet;
-use flagops_commands::explain;
+use flagops_commands::{explain, refused};
 use flagops_files::{
     BookQuestion, Call, FileSet, Outcome, Refusal, Refused, Remark, Status, load_book_question,
     load_planned, report, want,
 };
 use flagops_remarks::{of_check, of_rollout};
-use flagops_words::Factor;
+use flagops_words::factor_of;
 use plan_text::Planned;
 use rollout_checks::VerifyFault;
 use std::alloc::{AllocError, Global};
@@ -66,25 +66,6 @@ fn answer<R: Threads + Sync, F: FileSet>(
     match outcome(rt, alloc, files, asked) {
         Ok(outcome) => Ok(outcome),
         Err(it) => refused(alloc, it),
-    }
-}
-
-/// The line of a refusal, or its call where memory ran out there or for the line.
-pub(crate) fn refused(alloc: Global, refused: Refused) -> Result<Outcome, Call>
-    ensures line { IfOk result (λ o. (is_want refused.refusal ≡ false) × (outcome_view o ≡ report_of (Err refused.refusal))) }
-    ensures call { IfErr result (λ c. c ≡ call_of refused.refusal) }
-{
-    let Refused { refusal, remark } = refused;
-    if refusal.is_want() {
-        return Err(refusal.call());
-    }
-    match refusal.line(alloc) {
-        Ok(text) => Ok(Outcome {
-            text: text.into_bytes(),
-            status: Status::Refused,
-            remark: Some(remark),
-        }),
-        Err(AllocError) => Err(refusal.call()),
     }
 }
 
@@ -180,16 +161,5 @@ fn lines_on(
             *fault,
         ),
         VerifyFault::Check(fault) => of_check(alloc, asked.plan, flags, bytes, planned, fault),
-    }
-}
-
-/// The number that the weights of the site are multiplied by: 1 where no factor is given.
-pub(crate) fn factor_of(refine: Option<Factor>) -> u32
-    ensures some { 0 < result }
-    ensures value { result ≡ unwrap_or (option_map (λ m. m.number) refine) 1 }
-{
-    match refine {
-        Some(m) => m.number,
-        None => 1,
     }
 }

@@ -11,15 +11,15 @@ ghost use Rattle.flagops_pictures.specs.Planning.{IsOfBook, IsPictureOf, IsPlanP
 ghost use Rattle.flagops_pictures.specs.Words.{plan_by, planning_view};
 
 use crate::asked::Planning;
-use crate::command::{factor_of, refused};
 use crate::drawing::{Asked, drawn};
 use crate::words::read_plan;
 use flag_text::Outlet;
-use flagops_commands::{explain, plan_answer};
+use flagops_commands::{explain, plan_answer, refused};
 use flagops_files::{
     BookQuestion, Call, Evidence, FileSet, Outcome, Question, Refusal, Refused, Remark,
     load_book_question, report, store, want,
 };
+use flagops_words::factor_of;
 use page_tally::BookFile;
 use plan_text::{PlanFileFault, read_planned};
 use std::alloc::{AllocError, Global};

@@ -13,7 +13,6 @@ ghost use Rattle.plan_text.specs.Answer.{planned_view};
 ghost use Rattle.ramp.specs.Right.{AreRight};
 ghost use Rattle.ramp_steps.specs.Steps.{most_steps, requests_view};
 
-use crate::command::factor_of;
 use crate::drawing::{Asked, add_picture};
 use crate::words::read_ramp;
 use flag_defs::Flags;
@@ -24,6 +23,7 @@ use flagops_ramps::{
     Paths, RampRefusal, Sources, StepCall, Told, Verifying, counted, finish, load_ramp, of_steps,
     of_steps_in, out_of_memory, settled, wrong,
 };
+use flagops_words::{factor_number, factor_of};
 use page_tally::BookFile;
 use picture::{draw_step, page};
 use plan_text::Planned;
@@ -168,7 +168,7 @@ fn checked<R: Threads + Sync>(
     requires same { book.now ≡ question.now.book }
     ensures { GivesOne result (IsRampPictureOver (option_map (λ m. m.number) asked.now.refine) (book_question_view question.now) (map planned_view answers.now) (Ok (requests_view steps.now))) }
 {
-    let refine = number_of(asked);
+    let refine = factor_number(asked.refine);
     match verify_steps(rt, alloc, &question.flags, steps, book, refine, answers) {
         Ok(()) => right(rt, alloc, asked, question, book, steps, answers),
         Err(fault) => {
@@ -212,21 +212,10 @@ fn right<R: Threads + Sync>(
         false,
     ) {
         Ok(remark) => {
-            let (flags, refine) = (&question.flags, number_of(asked));
+            let (flags, refine) = (&question.flags, factor_number(asked.refine));
             drawn(rt, alloc, flags, book, refine, steps, answers, remark)
         }
         Err(told) => Err(told),
-    }
-}
-
-/// The factor of the first step, where one is given.
-fn number_of(asked: &Verifying<'_>) -> Option<u32>
-    ensures value { result ≡ option_map (λ m. m.number) asked.now.refine }
-    ensures some { IfSome result (λ m. 0 < m) }
-{
-    match asked.refine {
-        Some(m) => Some(m.number),
-        None => None,
     }
 }
 

@@ -1,15 +1,16 @@
 //! What the words of `picture` and `plan --picture` ask for, as `clap` reads them.
 ghost use Rattle.std.specs.Prelude.{◌≡◌, IfErr, IfOk, Some, map, option_map};
 ghost use Rattle.clap.specs.Words.{found_of, kind_of, rows_of};
-ghost use Rattle.flagops_words.specs.Words.{flag_in, refine_in};
+ghost use Rattle.flagops_words.specs.Alone.{IsToldBy};
 ghost use Rattle.flagops_pictures.specs.Words.{asked_view, picture_by, picture_faults, picture_in, plan_by, plan_faults, planning_in, planning_view, ramp_by, ramp_faults};
-ghost use Rattle.flagops_ramps.specs.Words.{IsToldBy, verify_in, verifying_view};
+ghost use Rattle.flagops_ramps.specs.Words.{verify_in, verifying_view};
 
 use crate::asked::{Asked, Planning};
-use crate::usage::{missing_value, plan, ramp, usage};
+use crate::usage::{plan, ramp, usage};
 use clap::{ArgMatches, Error};
 use flagops_ramps::Verifying;
-use flagops_words::Factor;
+use flagops_words::arguments::missing_value;
+use flagops_words::matches::{flag_in, is_strict, refine_in};
 use std::alloc::Global;
 use std::convert::AsStr;
 
@@ -53,7 +54,7 @@ pub(crate) fn read_plan<'a, S: AsStr>(alloc: Global, words: &'a [S]) -> Result<P
     }
 }
 
-#[tactic(auto, using(crate::proofs::Matched::rows))]
+#[tactic(auto, using(flagops_words::proofs::Matched::rows))]
 fn verifying_in<'a>(matches: &ArgMatches<'a>) -> Option<Verifying<'a>>
     ensures { option_map verifying_view result ≡ verify_in (rows_of (found_of matches.now)) }
 {
@@ -68,11 +69,11 @@ fn verifying_in<'a>(matches: &ArgMatches<'a>) -> Option<Verifying<'a>>
         book,
         ramp,
         refine,
-        strict: flag_in(matches, "strict"),
+        strict: is_strict(matches),
     })
 }
 
-#[tactic(auto, using(crate::proofs::Matched::rows))]
+#[tactic(auto, using(flagops_words::proofs::Matched::rows))]
 fn planning_in<'a>(matches: &ArgMatches<'a>) -> Option<Planning<'a>>
     ensures { option_map planning_view result ≡ planning_in (rows_of (found_of matches.now)) }
 {
@@ -87,12 +88,12 @@ fn planning_in<'a>(matches: &ArgMatches<'a>) -> Option<Planning<'a>>
         book,
         picture,
         refine,
-        strict: flag_in(matches, "strict"),
+        strict: is_strict(matches),
         explain: flag_in(matches, "explain"),
     })
 }
 
-#[tactic(auto, using(crate::proofs::Matched::rows))]
+#[tactic(auto, using(flagops_words::proofs::Matched::rows))]
 fn asked_in<'a>(matches: &ArgMatches<'a>) -> Option<Asked<'a>>
     ensures { option_map asked_view result ≡ picture_in (rows_of (found_of matches.now)) }
 {
@@ -108,26 +109,4 @@ fn asked_in<'a>(matches: &ArgMatches<'a>) -> Option<Asked<'a>>
         plan,
         refine,
     })
-}
-
-/// Whether an option without a value is given.
-#[tactic(auto, using(crate::proofs::Matched::rows))]
-fn flag_in(matches: &ArgMatches<'_>, name: &str) -> bool
-    ensures { result ≡ flag_in name.now (rows_of (found_of matches.now)) }
-{
-    match matches.get_str(name) {
-        Some(word) => word == "true",
-        None => false,
-    }
-}
-
-/// The factor of a refinement, if one is given; `None` where the word is no factor.
-#[tactic(auto, using(crate::proofs::Matched::rows))]
-fn refine_in(matches: &ArgMatches<'_>) -> Option<Option<Factor>>
-    ensures { option_map (λ o. option_map (λ m. m.number) o) result ≡ refine_in (rows_of (found_of matches.now)) }
-{
-    match matches.get_str("M") {
-        Some(word) => Some(Some(Factor::spelled(word)?)),
-        None => Some(None),
-    }
 }

@@ -1,16 +1,14 @@
 -- What is doubted of the answers to the steps of a rollout, and what becomes of it.
 use Rattle.std.specs.Prelude.{◌≡◌, ◌||◌, ℕ, Bool, true, false, List, [], ◌∷◌, codes, Option, Some, None, is_some, if◌then◌else◌, Result, Ok, Err}
 use Rattle.std.specs.Str.{bytes_eq}
-use Rattle.book_core.specs.Book.{Contents}
-use Rattle.book_core.specs.Page.{PageName}
 use Rattle.flag_text.specs.Reading.{tree_of}
 use Rattle.flag_text.specs.Shape.{Shape, object, Members, no_members, member}
 use Rattle.flag_text.specs.declared.fault.TextFault.{TextFault}
 use Rattle.unread_members.specs.Unread.{reads}
 use Rattle.unread_members.specs.declared.reader.Reader.TheVariants as reader
 use Rattle.flagops_commands.specs.Doubts.{first_doubt, recorded_doubt}
-use Rattle.flagops_commands.specs.Foreign.{is_foreign, is_mixed}
-use Rattle.flagops_commands.specs.Unrecorded.{is_bare, is_unrecorded}
+use Rattle.flagops_commands.specs.Foreign.{is_foreign}
+use Rattle.flagops_commands.specs.Unrecorded.{is_unrecorded}
 use Rattle.flagops_files.specs.Loading.{max_text}
 use Rattle.flagops_files.specs.Question.{BookQuestion, Question}
 use Rattle.flagops_files.specs.declared.evidence.Evidence.TheVariants.{Book}
@@ -51,10 +49,6 @@ first_request (request ∷ requests) = request
 -- what the first step asks: every other step asks of the same site, and so of the same page
 abbrev pub first_question : BookQuestion → List (List ℕ) → Question
 first_question q requests = record { flags = q.flags; request = first_request requests; evidence = Book q.book }
-
--- what is doubted of what a book has on a page, where there is one: it has no input, or one that is none of the flag
-abbrev pub doubt_in : Contents → Option PageName → Option Doubt
-doubt_in book page = recorded_doubt (is_bare (Book book) page) (is_mixed (Book book) page)
 
 -- the first that is doubted of steps with these requests: a member of their file is not read, no recorded input counts, or one that does is none of the flag
 abbrev pub doubt_of_steps : BookQuestion → List (List ℕ) → Option Doubt

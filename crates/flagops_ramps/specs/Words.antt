@@ -1,13 +1,11 @@
 -- What the words of `ramp`, `verify-ramp` and `apply --step` ask for, by what `clap` reads of them.
-use Rattle.std.specs.Prelude.{◌≡◌, ◌⊎◌, ℕ, Bool, true, is_some, List, [], ◌∷◌, codes, Option, Some, None, option_map, if◌then◌else◌}
-use Rattle.clap.specs.Faults.{fault_of}
-use Rattle.clap.specs.Kinds.{Kinds, IsAmong, or_else}
-use Rattle.clap.specs.Simple.{App, matches_of, new_app, with_rule}
+use Rattle.std.specs.Prelude.{ℕ, Bool, true, List, codes, Option, Some, option_map}
+use Rattle.clap.specs.Kinds.{Kinds}
+use Rattle.clap.specs.Simple.{App, new_app, with_rule}
 use Rattle.clap.specs.Walk.{Row, Rule, Text, first_of}
-use Rattle.clap.specs.declared.error.kind.ErrorKind.{ErrorKind}
-use Rattle.clap.specs.declared.error.kind.ErrorKind.TheVariants.{InvalidValue, OutOfMemory}
-use Rattle.flagops_words.specs.Numbers.{factor_in, max_32, number_in}
-use Rattle.flagops_words.specs.Words.{◌>>=◌, if_faultless, is_strict, number, option_number, refine_in, refine_option, required, strict_flag}
+use Rattle.flagops_words.specs.Alone.{asked_in, faults_in}
+use Rattle.flagops_words.specs.Numbers.{factor_in, max_32}
+use Rattle.flagops_words.specs.Words.{◌>>=◌, is_strict, number, number_at, option_number, refine_in, refine_option, required, strict_flag}
 use Rattle.flagops_ramps.specs.declared.asked.Applying as code_apply
 use Rattle.flagops_ramps.specs.declared.asked.Ramping as code_ramp
 use Rattle.flagops_ramps.specs.declared.asked.Verifying as code_verify
@@ -86,12 +84,6 @@ verify_in rows = do
   factor ← refine_in rows
   Some (record { document = document; steps = steps; book = book; ramp = ramp; refine = factor; strict = is_strict rows })
 
--- a number of an argument
-abbrev pub site_in : List Row → Option ℕ
-site_in rows = do
-  word ← first_of (codes "SITE") rows
-  number_in 0 max_32 word
-
 abbrev pub number_of_step : List Row → Option ℕ
 number_of_step rows = do
   word ← first_of (codes "N") rows
@@ -102,17 +94,9 @@ step_in rows = do
   document ← first_of (codes "DOC") rows
   ramp ← first_of (codes "RAMP") rows
   key ← first_of (codes "FLAG") rows
-  site ← site_in rows
+  site ← number_at (codes "SITE") 0 max_32 rows
   step ← number_of_step rows
   Some (record { document = document; ramp = ramp; key = key; site = site; step = step })
-
--- the mistakes of the words of a command: those that `clap` finds, and a value that is not there
-abbrev pub faults_in : {X : Type 0} → App → (List Row → Option X) → List Text → Kinds
-faults_in app read words = or_else (fault_of app words) (if is_some (read (matches_of app words)) then [] else (InvalidValue ∷ []))
-
--- what words without a mistake ask for
-abbrev pub asked_in : {X : Type 0} → App → (List Row → Option X) → List Text → Option X
-asked_in app read words = if_faultless (faults_in app read words) (read (matches_of app words))
 
 unfoldable pub ramp_faults : List Text → Kinds
 ramp_faults = faults_in ramp_app ramp_in
@@ -131,7 +115,3 @@ step_faults = faults_in step_app step_in
 
 unfoldable pub step_by : List Text → Option Applying
 step_by = asked_in step_app step_in
-
--- why the words ask for nothing: one of their mistakes, unless memory ran out
-abbrev pub IsToldBy : {X : Type 0} → Kinds → Option X → ErrorKind → Type 0
-IsToldBy faults asked kind = (kind ≡ OutOfMemory) ⊎ ((asked ≡ None) × IsAmong kind faults)

@@ -6,11 +6,11 @@ ghost use Rattle.flagops_files.specs.Question.{book_question_view};
 ghost use Rattle.flagops_ramps.specs.Doubts.{Settles, doubt_of_steps, first_request, has_unread, has_unread_member, is_read, is_unread, settle};
 ghost use Rattle.ramp_steps.specs.Steps.{requests_view};
 
-use crate::recorded::doubt_in_book;
 use crate::refusal::{RampRefusal, StepCall};
 use crate::reports::Told;
 use crate::verifying::out_of_memory;
 use flag_text::{TextFault, Tree, read_tree};
+use flagops_commands::{NotedDoubt, doubt_in_book, remark_in};
 use flagops_files::{BookQuestion, Doubt, Remark, TEXT_LIMIT};
 use flagops_remarks::of_unread;
 use page_tally::BookFile;
@@ -23,13 +23,6 @@ use unread_members::Reader;
 pub struct Sources<'a> {
     pub steps: &'a str,
     pub book: &'a str,
-}
-
-/// What is doubted, with what a person is told of it.
-#[derive(Drop)]
-pub struct NotedDoubt {
-    pub doubt: Doubt,
-    pub remark: Remark,
 }
 
 /// What a person is told beside the answers to steps, whose file and book were loaded from these paths; or that the call
@@ -98,16 +91,6 @@ pub fn first_of(unread: Option<Remark>, recorded: Option<NotedDoubt>) -> Option<
             remark: joined(remark, remark_in(recorded)),
         }),
         None => recorded,
-    }
-}
-
-/// What a person is told of a doubt, where there is one.
-pub fn remark_in(noted: Option<NotedDoubt>) -> Option<Remark>
-    ensures { is_some result ≡ is_some (option_map (λ d. d.doubt) noted) }
-{
-    match noted {
-        Some(NotedDoubt { remark, .. }) => Some(remark),
-        None => None,
     }
 }
 

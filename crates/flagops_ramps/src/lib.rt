@@ -26,7 +26,6 @@ mod applying;
 mod asked;
 mod doubts;
 mod ramping;
-mod recorded;
 mod refusal;
 mod remarks;
 mod reports;
@@ -36,9 +35,8 @@ mod words;
 
 pub use applying::apply_step;
 pub use asked::Verifying;
-pub use doubts::{NotedDoubt, Sources, first_of, remark_in, settled};
+pub use doubts::{Sources, first_of, settled};
 pub use ramping::{counted, of_steps, ramp};
-pub use recorded::doubt_in_book;
 pub use refusal::{RampRefusal, StepCall};
 pub use remarks::of_steps_in;
 pub use reports::{Told, finish};

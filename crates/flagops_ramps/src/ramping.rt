@@ -1,5 +1,5 @@
 //! The command `ramp`.
-ghost use Rattle.std.specs.Prelude.{◌≡◌, ◌<◌, ◌≤◌, unwrap_or, false, is_some, length, map, option_map, IfSome, Ok};
+ghost use Rattle.std.specs.Prelude.{◌≡◌, ◌<◌, ◌≤◌, false, is_some, length, map, option_map, IfSome, Ok};
 ghost use Rattle.std.specs.List.{All};
 ghost use Rattle.flag_text.specs.Outcome.{GivesUnless};
 ghost use Rattle.flagops_files.specs.Question.{book_question_view};
@@ -23,7 +23,7 @@ use flag_text::Outlet;
 use flagops_commands::explain;
 use flagops_files::{BookQuestion, FileSet, Outcome, Remark, Status, load_book_question};
 use flagops_remarks::of_large_plan;
-use flagops_words::Factor;
+use flagops_words::factor_of;
 use page_tally::BookFile;
 use plan_text::Planned;
 use price_core::PriceFault;
@@ -250,15 +250,4 @@ fn status_of(answers: &[Planned]) -> Status
         }
     }
     Status::Done
-}
-
-/// What the weights of the site are multiplied by before the first step.
-pub fn factor_of(refine: Option<Factor>) -> u32
-    ensures some { 0 < result }
-    ensures value { result ≡ unwrap_or (option_map (λ m. m.number) refine) 1 }
-{
-    match refine {
-        Some(m) => m.number,
-        None => 1,
-    }
 }

@@ -1,10 +1,10 @@
 //! Why the commands on steps refuse.
-ghost use Rattle.std.specs.Prelude.{◌≡◌, ◌≤◌, ◌++◌, IfOk, codes, decimal, drop, length, string_bytes};
+ghost use Rattle.std.specs.Prelude.{◌≡◌, ◌≤◌, ◌++◌, IfOk, codes, drop, length, string_bytes};
 ghost use Rattle.flagops_files.specs.Payload.{fault_items};
-ghost use Rattle.flagops_files.specs.Refusal.{line_with};
 ghost use Rattle.flagops_ramps.specs.Refusal.{call_name, is_want, line_of, number_of};
 ghost use Rattle.flagops_ramps.specs.declared.refusal.RampRefusal.TheVariants.{Ramp, Read, Verify};
 
+use flagops_commands::fault_line;
 use flagops_files::{Doubt, Refusal};
 use plan_text::PlanFileFault;
 use ramp_steps::RampFileFault;
@@ -153,17 +153,4 @@ fn items(alloc: Global, number: u32, name: &str) -> Result<String, AllocError>
     ensures { IfOk result (λ s. string_bytes s ≡ fault_items number name.now) }
 {
     format!(in alloc; " {number} {name}")
-}
-
-fn fault_line(
-    alloc: Global,
-    call: &str,
-    number: u32,
-    name: &str,
-    items: &str,
-) -> Result<Vec<u8>, AllocError>
-    ensures { IfOk result (λ v. v.items ≡ line_with call.now (decimal number) name.now items.now) }
-{
-    let line = format!(in alloc; "refused {call} {number} {name}{items}\n")?;
-    Ok(line.into_bytes())
 }

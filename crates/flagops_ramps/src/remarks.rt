@@ -1,9 +1,11 @@
 //! What a person is told of steps that are refused.
 ghost use Rattle.std.specs.Prelude.{◌⊎◌, IfOk, string_bytes};
-ghost use Rattle.flagops_ramps.specs.Remarks.{NamesFile, NamesStep};
+ghost use Rattle.flagops_commands.specs.Lines.{NamesFile};
+ghost use Rattle.flagops_ramps.specs.Remarks.{NamesStep};
 ghost use Rattle.flagops_remarks.specs.Named.{Names};
 
 use flag_text::read_tree;
+use flagops_commands::file_line;
 use flagops_files::{BookQuestion, TEXT_LIMIT, quoted};
 use flagops_remarks::of_text;
 use ramp::StepFault;
@@ -46,20 +48,4 @@ pub fn step_line(alloc: Global, path: &str, step: u32, reason: &str) -> Result<S
 {
     let name = quoted(alloc, path)?;
     format!(in alloc; "error: {name}, step {step}: {reason}\n")
-}
-
-/// A line that says of a file as a whole what it is.
-pub fn whole_line(alloc: Global, path: &str, words: &str) -> Result<String, AllocError>
-    ensures { IfOk result (λ s. NamesFile path.now (string_bytes s)) }
-{
-    let name = quoted(alloc, path)?;
-    format!(in alloc; "error: {name} {words}\n")
-}
-
-/// A line that names a file and what is the matter with it.
-pub fn file_line(alloc: Global, path: &str, reason: &str) -> Result<String, AllocError>
-    ensures { IfOk result (λ s. NamesFile path.now (string_bytes s)) }
-{
-    let name = quoted(alloc, path)?;
-    format!(in alloc; "error: {name}: {reason}\n")
 }

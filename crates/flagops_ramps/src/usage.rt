@@ -1,19 +1,19 @@
 //! What `ramp`, `verify-ramp` and `apply --step` take, in the terms of `clap`.
 ghost use Rattle.std.specs.Prelude.{◌≡◌, IfOk, codes, false};
 ghost use Rattle.clap.specs.Simple.{new_app, with_rule};
-ghost use Rattle.clap.specs.Words.{app_of, kind_of, rule_of};
-ghost use Rattle.clap.specs.declared.error.kind.ErrorKind.TheVariants.{InvalidValue};
-ghost use Rattle.flagops_words.specs.Numbers.{max_32};
-ghost use Rattle.flagops_words.specs.Words.{number, refine_option, required, strict_flag};
+ghost use Rattle.clap.specs.Words.{app_of, rule_of};
+ghost use Rattle.flagops_words.specs.Words.{required};
 ghost use Rattle.flagops_ramps.specs.Words.{ramp_app, step_app, step_option, verify_app, with_steps};
 
 use clap::builder::ValueParser;
-use clap::error::ErrorKind;
-use clap::{Arg, ArgAction, Command, Error};
+use clap::{Arg, Command};
+use flagops_words::LARGEST_32;
+use flagops_words::arguments::{refine, required, site, strict};
 use std::alloc::{AllocError, Global};
 
-/// The largest factor.
-const LARGEST_FACTOR: u64 = 4_294_967_295;
+/// What `--refine` does to a rollout in steps.
+const REFINED: &str =
+    "Plan in finer points: multiply each weight of the rule by M before the first step";
 
 /// The command `ramp`. Its name is the first of the words, as a program's.
 #[tactic(auto, unfolding(crate::specs::Words::ramp_app))]
@@ -23,7 +23,7 @@ pub fn ramp<'a>(alloc: Global) -> Result<Command<'a>, AllocError>
     let command = Command::new(alloc, "ramp").bin_name("flagops ramp")?.about(
         "Plans a rollout in steps, each on the rule that the step before left",
     );
-    let factor = refine(alloc);
+    let factor = refine(alloc, REFINED);
     let strict = strict(alloc);
     with_steps(alloc, command)?.arg(factor)?.arg(strict)
 }
@@ -33,7 +33,7 @@ pub fn ramp<'a>(alloc: Global) -> Result<Command<'a>, AllocError>
 pub fn verify<'a>(alloc: Global) -> Result<Command<'a>, AllocError>
     ensures { IfOk result (λ c. app_of c ≡ verify_app) }
 {
-    let factor = refine(alloc);
+    let factor = refine(alloc, REFINED);
     let strict = strict(alloc);
     verified(alloc)?.arg(factor)?.arg(strict)
 }
@@ -92,36 +92,6 @@ fn with_steps<'a>(alloc: Global, command: Command<'a>) -> Result<Command<'a>, Al
     command.arg(document)?.arg(steps)?.arg(book)
 }
 
-/// The mistake of a value that is not there.
-pub fn missing_value(alloc: Global, command: Command<'_>) -> Result<Error, AllocError>
-    ensures { IfOk result (λ e. kind_of e ≡ InvalidValue) }
-{
-    let mut command = command;
-    command.error(
-        ErrorKind::InvalidValue,
-        "a value is missing or out of its range",
-    )
-}
-
-/// A word that has to be there.
-fn required<'a>(alloc: Global, name: &'a str, help: &'a str) -> Arg<'a>
-    ensures rule { rule_of result ≡ required name.entry.now }
-    ensures local { result.global ≡ false }
-{
-    Arg::new(alloc, name).required(true).help(help)
-}
-
-/// The number of a site.
-fn site<'a>(alloc: Global) -> Arg<'a>
-    ensures rule { rule_of result ≡ number (codes "SITE") max_32 }
-    ensures local { result.global ≡ false }
-{
-    Arg::new(alloc, "SITE")
-        .required(true)
-        .help("The number of the fractional operation, from 0")
-        .value_parser(ValueParser::Unsigned(0, LARGEST_FACTOR))
-}
-
 /// The number of a step.
 fn step_number<'a>(alloc: Global) -> Arg<'a>
     ensures rule { rule_of result ≡ step_option }
@@ -131,27 +101,5 @@ fn step_number<'a>(alloc: Global) -> Arg<'a>
         .long("step")
         .required(true)
         .help("The number of the step whose rule is put into the document, from 1")
-        .value_parser(ValueParser::Unsigned(1, LARGEST_FACTOR))
-}
-
-/// What the weights of the site are multiplied by before the first step.
-fn refine<'a>(alloc: Global) -> Arg<'a>
-    ensures rule { rule_of result ≡ refine_option }
-    ensures local { result.global ≡ false }
-{
-    Arg::new(alloc, "M")
-        .long("refine")
-        .help("Plan in finer points: multiply each weight of the rule by M before the first step")
-        .value_parser(ValueParser::Unsigned(1, LARGEST_FACTOR))
-}
-
-/// `--strict`.
-fn strict<'a>(alloc: Global) -> Arg<'a>
-    ensures rule { rule_of result ≡ strict_flag }
-    ensures local { result.global ≡ false }
-{
-    Arg::new(alloc, "strict")
-        .long("strict")
-        .action(ArgAction::SetTrue)
-        .help("End with status 1 where something is else only told: docs/REFUSALS.md has the table")
+        .value_parser(ValueParser::Unsigned(1, LARGEST_32))
 }

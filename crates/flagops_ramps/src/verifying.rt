@@ -1,9 +1,10 @@
 //! The command `verify-ramp`.
-ghost use Rattle.std.specs.Prelude.{◌≡◌, ◌<◌, ◌≤◌, ◌⊎◌, true, false, is_some, length, map, option_map, string_bytes, IfOk, IfSome, Ok};
+ghost use Rattle.std.specs.Prelude.{◌≡◌, ◌≤◌, ◌⊎◌, true, false, is_some, length, map, option_map, string_bytes, IfOk, IfSome, Ok};
 ghost use Rattle.flagops_files.specs.Question.{book_question_view};
 ghost use Rattle.flagops_ramps.specs.Doubts.{beside, doubt_of_steps, settle};
 ghost use Rattle.flagops_ramps.specs.Ended.{AnswersVerify, TellsVerify};
-ghost use Rattle.flagops_ramps.specs.Remarks.{NamesFile, NamesStep};
+ghost use Rattle.flagops_commands.specs.Lines.{NamesFile};
+ghost use Rattle.flagops_ramps.specs.Remarks.{NamesStep};
 ghost use Rattle.flagops_ramps.specs.Report.{GivesOne, GivesUnlessWant, LoadsTo};
 ghost use Rattle.flagops_ramps.specs.Refusal.{is_want};
 ghost use Rattle.flagops_ramps.specs.Verify.{IsVerdictOf, IsVerdictOver, IsVerdictReport, answers_at, cost_item, read_as, refused_as, report_valid, valid_ramp};
@@ -13,16 +14,16 @@ ghost use Rattle.ramp_steps.specs.Steps.{most_steps, requests_view};
 
 use crate::asked::Verifying;
 use crate::doubts::{Sources, settled};
-use crate::ramping::{counted, factor_of, of_steps};
+use crate::ramping::{counted, of_steps};
 use crate::refusal::{RampRefusal, StepCall};
-use crate::remarks::{file_line, of_steps_in, step_line, whole_line};
+use crate::remarks::{of_steps_in, step_line};
 use crate::reports::{Told, finish};
 use crate::words::read_verify;
 use flag_text::Outlet;
-use flagops_commands::explain;
+use flagops_commands::{explain, file_line, whole_line};
 use flagops_files::{BookQuestion, FileSet, Outcome, Remark, Status, load, load_book_question};
 use flagops_remarks::Ends;
-use flagops_words::Factor;
+use flagops_words::{factor_number, factor_of};
 use page_tally::BookFile;
 use plan_text::Planned;
 use ramp::{RampFault, verify_steps};
@@ -200,7 +201,7 @@ fn checked<R: Threads + Sync>(
     requires same { book.now ≡ question.now.book }
     ensures { GivesOne result (IsVerdictOver asked.now.strict (option_map (λ m. m.number) asked.now.refine) (book_question_view question.now) (map planned_view answers.now) (Ok (requests_view steps.now))) }
 {
-    let factor = number_of(asked.refine);
+    let factor = factor_number(asked.refine);
     match verify_steps(rt, alloc, &question.flags, steps, book, factor, answers) {
         Ok(()) => right(rt, alloc, asked, question, book, steps, answers),
         Err(fault) => Err(wrong(alloc, paths_of(asked), fault)),
@@ -302,17 +303,6 @@ fn of_ramp(
             "begins with a byte order mark, and has no answers to steps\n  save it as UTF-8 without the mark",
         ),
         _ => file_line(alloc, path, reason.as_str()),
-    }
-}
-
-/// The factor of the first step, where one is given.
-fn number_of(refine: Option<Factor>) -> Option<u32>
-    ensures value { result ≡ option_map (λ m. m.number) refine }
-    ensures some { IfSome result (λ m. 0 < m) }
-{
-    match refine {
-        Some(m) => Some(m.number),
-        None => None,
     }
 }
 

@@ -1,20 +1,15 @@
 //! What `ofrep` takes, in the terms of `clap`.
 ghost use Rattle.std.specs.Prelude.{◌≡◌, IfOk, false};
-ghost use Rattle.clap.specs.Words.{app_of, kind_of, rule_of};
-ghost use Rattle.clap.specs.declared.error.kind.ErrorKind.TheVariants.{InvalidValue};
-ghost use Rattle.flagops_words.specs.Words.{option_number};
-ghost use Rattle.flagops_service.specs.Words.{ofrep_app, ofrep_begun, option_text, some_words};
+ghost use Rattle.clap.specs.Words.{app_of, rule_of};
+ghost use Rattle.flagops_service.specs.Words.{ofrep_app, ofrep_begun, option_text};
 
-use clap::builder::ValueParser;
-use clap::error::ErrorKind;
-use clap::{Arg, Command, Error};
+use clap::{Arg, Command};
+use flagops_words::LARGEST_PORT;
+use flagops_words::arguments::{option_number, some_words};
 use std::alloc::{AllocError, Global};
 
 /// The most workers.
 pub const MOST_WORKERS: u64 = 32;
-
-/// The largest port.
-pub const LARGEST_PORT: u64 = 65_535;
 
 /// The most seconds between two readings of the documents.
 pub const LONGEST_POLL: u64 = 3_600;
@@ -24,7 +19,7 @@ pub const LONGEST_POLL: u64 = 3_600;
 pub fn command<'a>(alloc: Global) -> Result<Command<'a>, AllocError>
     ensures { IfOk result (λ c. app_of c ≡ ofrep_app) }
 {
-    let stream = number(
+    let stream = option_number(
         alloc,
         "PORT",
         "stream",
@@ -32,7 +27,7 @@ pub fn command<'a>(alloc: Global) -> Result<Command<'a>, AllocError>
         1,
         LARGEST_PORT,
     );
-    let workers = number(
+    let workers = option_number(
         alloc,
         "N",
         "workers",
@@ -40,7 +35,7 @@ pub fn command<'a>(alloc: Global) -> Result<Command<'a>, AllocError>
         1,
         MOST_WORKERS,
     );
-    let poll = number(
+    let poll = option_number(
         alloc,
         "SECONDS",
         "poll",
@@ -81,50 +76,10 @@ fn begun<'a>(alloc: Global) -> Result<Command<'a>, AllocError>
         .arg(log)
 }
 
-/// The mistake of a value that is not there.
-pub fn missing_value(alloc: Global, command: Command<'_>) -> Result<Error, AllocError>
-    ensures { IfOk result (λ e. kind_of e ≡ InvalidValue) }
-{
-    let mut command = command;
-    command.error(
-        ErrorKind::InvalidValue,
-        "a value is missing or out of its range",
-    )
-}
-
-/// An option with a number within bounds, which may be left out.
-fn number<'a>(
-    alloc: Global,
-    name: &'a str,
-    long: &'a str,
-    help: &'a str,
-    least: u64,
-    most: u64,
-) -> Arg<'a>
-    ensures rule { rule_of result ≡ option_number name.entry.now long.entry.now least most }
-    ensures local { result.global ≡ false }
-{
-    Arg::new(alloc, name)
-        .long(long)
-        .help(help)
-        .value_parser(ValueParser::Unsigned(least, most))
-}
-
 /// An option with a text, which may be left out.
 fn text<'a>(alloc: Global, name: &'a str, long: &'a str, help: &'a str) -> Arg<'a>
     ensures rule { rule_of result ≡ option_text name.entry.now long.entry.now }
     ensures local { result.global ≡ false }
 {
     Arg::new(alloc, name).long(long).help(help)
-}
-
-/// One word or more.
-fn some_words<'a>(alloc: Global, name: &'a str, help: &'a str) -> Arg<'a>
-    ensures rule { rule_of result ≡ some_words name.entry.now }
-    ensures local { result.global ≡ false }
-{
-    Arg::new(alloc, name)
-        .required(true)
-        .help(help)
-        .num_args(1..)
 }

@@ -1,13 +1,17 @@
 //! What the words of `ofrep` ask for, as `clap` reads them.
-ghost use Rattle.std.specs.Prelude.{◌≡◌, ◌≤◌, ◌<◌, ◌&&◌, nat_le, None, if◌then◌else◌, IfErr, IfOk, IfSome, Some, length, map, option_map, option_copied};
+ghost use Rattle.std.specs.Prelude.{◌≡◌, ◌≤◌, IfErr, IfOk, IfSome, Some, map, option_map, option_copied};
 ghost use Rattle.clap.specs.Walk.{first_of};
 ghost use Rattle.clap.specs.Words.{found_of, kind_of, rows_of};
-ghost use Rattle.flagops_words.specs.Numbers.{number_in};
-ghost use Rattle.flagops_service.specs.Words.{IsToldBy, answering_in, answering_view, max_port, number_or, ofrep_by, ofrep_faults, port_in, texts_at};
+ghost use Rattle.flagops_words.specs.Alone.{IsToldBy};
+ghost use Rattle.flagops_words.specs.Numbers.{max_port};
+ghost use Rattle.flagops_service.specs.Words.{answering_in, answering_view, ofrep_by, ofrep_faults, port_in};
 
 use crate::asked::Answering;
-use crate::usage::{LARGEST_PORT, LONGEST_POLL, MOST_WORKERS, command, missing_value};
+use crate::usage::{LONGEST_POLL, MOST_WORKERS, command};
 use clap::{ArgMatches, Error};
+use flagops_words::arguments::missing_value;
+use flagops_words::matches::{number_or, texts_at};
+use flagops_words::{LARGEST_PORT, spelled};
 use std::alloc::{AllocError, Global};
 use std::convert::AsStr;
 
@@ -61,28 +65,15 @@ fn answering_in<'a>(
 }
 
 /// The text that is given for an argument, where there is one.
-#[tactic(auto, using(crate::proofs::Matched::values))]
+#[tactic(auto, using(flagops_words::proofs::Matched::rows))]
 fn text_at<'a>(matches: &ArgMatches<'a>, name: &str) -> Option<&'a str>
     ensures { option_copied result ≡ first_of name.now (rows_of (found_of matches.now)) }
 {
     matches.get_str(name)
 }
 
-/// The texts that are given for an argument, where there are any.
-#[tactic(auto, using(crate::proofs::Matched::values))]
-fn texts_at<'m, 'a>(matches: &'m ArgMatches<'a>, name: &str) -> Option<&'m [&'a str]>
-    ensures texts { option_map (λ s. map (λ t. t.now) s.now) result ≡ texts_at name.now (rows_of (found_of matches.now)) }
-    ensures some { IfSome result (λ s. 0 < length s.now) }
-{
-    let texts = matches.get_strs(name)?;
-    if texts.is_empty() {
-        return None;
-    }
-    Some(texts)
-}
-
 /// The port of the stream, where one is given.
-#[tactic(auto, using(crate::proofs::Matched::values))]
+#[tactic(auto, using(flagops_words::proofs::Matched::rows))]
 fn port_in(matches: &ArgMatches<'_>) -> Option<Option<u16>>
     ensures { result ≡ port_in (rows_of (found_of matches.now)) }
 {
@@ -99,44 +90,5 @@ fn as_port(number: Option<u64>) -> Option<Option<u16>>
     match number {
         Some(number) => Some(Some(number as u16)),
         None => None,
-    }
-}
-
-/// The number within bounds that is given for an argument, or another where it is left out.
-#[tactic(auto, using(crate::proofs::Matched::values))]
-fn number_or(
-    matches: &ArgMatches<'_>,
-    name: &str,
-    otherwise: u64,
-    least: u64,
-    most: u64,
-) -> Option<u64>
-    ensures { result ≡ number_or otherwise least most (first_of name.now (rows_of (found_of matches.now))) }
-{
-    match matches.get_str(name) {
-        Some(word) => spelled(word, least, most),
-        None => Some(otherwise),
-    }
-}
-
-/// The number within bounds that a word spells in decimal digits, perhaps after a plus.
-fn spelled(word: &str, least: u64, most: u64) -> Option<u64>
-    ensures number { result ≡ number_in least most word.now }
-    ensures bounds { IfSome result (λ n. (least ≤ n) × (n ≤ most)) }
-{
-    match word.parse::<u64>() {
-        Ok(number) => within(number, least, most),
-        Err(_) => None,
-    }
-}
-
-fn within(number: u64, least: u64, most: u64) -> Option<u64>
-    ensures number { result ≡ (if nat_le least number && nat_le number most then Some number else None) }
-    ensures bounds { IfSome result (λ n. (least ≤ n) × (n ≤ most)) }
-{
-    if least <= number && number <= most {
-        Some(number)
-    } else {
-        None
     }
 }

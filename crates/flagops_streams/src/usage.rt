@@ -1,16 +1,12 @@
 //! What `serve` and `follow` take, in the terms of `clap`.
 ghost use Rattle.std.specs.Prelude.{◌≡◌, IfOk, false};
-ghost use Rattle.clap.specs.Words.{app_of, kind_of, rule_of};
-ghost use Rattle.clap.specs.declared.error.kind.ErrorKind.TheVariants.{InvalidValue};
-ghost use Rattle.flagops_streams.specs.Words.{follow_app, number, serve_app, serve_begun, some_words, wait_option};
+ghost use Rattle.clap.specs.Words.{app_of, rule_of};
+ghost use Rattle.flagops_streams.specs.Words.{follow_app, serve_app, serve_begun, wait_option};
 
-use clap::builder::ValueParser;
-use clap::error::ErrorKind;
-use clap::{Arg, Command, Error};
+use clap::{Arg, Command};
+use flagops_words::LARGEST_PORT;
+use flagops_words::arguments::{number, option_number, some_words};
 use std::alloc::{AllocError, Global};
-
-/// The largest port.
-pub const LARGEST_PORT: u64 = 65_535;
 
 /// The most subscribers.
 pub const MOST_SUBSCRIBERS: u64 = limits::SEATS as u64;
@@ -41,12 +37,14 @@ fn serve_begun<'a>(alloc: Global) -> Result<Command<'a>, AllocError>
         alloc,
         "PORT",
         "The port on 127.0.0.1, from 1 to 65535",
+        1,
         LARGEST_PORT,
     );
     let subscribers = number(
         alloc,
         "SUBSCRIBERS",
         "How many subscribers are waited for, from 1 to 64",
+        1,
         MOST_SUBSCRIBERS,
     );
     let documents = some_words(
@@ -71,12 +69,14 @@ pub fn follow<'a>(alloc: Global) -> Result<Command<'a>, AllocError>
         alloc,
         "PORT",
         "The port on 127.0.0.1, from 1 to 65535",
+        1,
         LARGEST_PORT,
     );
     let turns = number(
         alloc,
         "TURNS",
         "How often the stream is read at most, from 1 to 1000000",
+        1,
         MOST_TURNS,
     );
     Command::new(alloc, "follow")
@@ -90,46 +90,10 @@ pub fn follow<'a>(alloc: Global) -> Result<Command<'a>, AllocError>
         ))
 }
 
-/// The mistake of a value that is not there.
-pub fn missing_value(alloc: Global, command: Command<'_>) -> Result<Error, AllocError>
-    ensures { IfOk result (λ e. kind_of e ≡ InvalidValue) }
-{
-    let mut command = command;
-    command.error(
-        ErrorKind::InvalidValue,
-        "a value is missing or out of its range",
-    )
-}
-
-/// A number from 1 to a bound that has to be there.
-fn number<'a>(alloc: Global, name: &'a str, help: &'a str, most: u64) -> Arg<'a>
-    ensures rule { rule_of result ≡ number name.entry.now most }
-    ensures local { result.global ≡ false }
-{
-    Arg::new(alloc, name)
-        .required(true)
-        .help(help)
-        .value_parser(ValueParser::Unsigned(1, most))
-}
-
 /// `--wait SECONDS`, which may be left out.
 fn wait<'a>(alloc: Global, help: &'a str) -> Arg<'a>
     ensures rule { rule_of result ≡ wait_option }
     ensures local { result.global ≡ false }
 {
-    Arg::new(alloc, "SECONDS")
-        .long("wait")
-        .help(help)
-        .value_parser(ValueParser::Unsigned(0, LONGEST_WAIT))
-}
-
-/// One word or more.
-fn some_words<'a>(alloc: Global, name: &'a str, help: &'a str) -> Arg<'a>
-    ensures rule { rule_of result ≡ some_words name.entry.now }
-    ensures local { result.global ≡ false }
-{
-    Arg::new(alloc, name)
-        .required(true)
-        .help(help)
-        .num_args(1..)
+    option_number(alloc, "SECONDS", "wait", help, 0, LONGEST_WAIT)
 }

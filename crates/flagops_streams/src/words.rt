@@ -1,14 +1,15 @@
 //! What the words of `serve` and `follow` ask for, as `clap` reads them.
-ghost use Rattle.std.specs.Prelude.{◌≡◌, ◌≤◌, ◌<◌, ◌&&◌, nat_le, None, if◌then◌else◌, IfErr, IfOk, IfSome, Some, length, map, option_map};
+ghost use Rattle.std.specs.Prelude.{◌≡◌, IfErr, IfOk, Some, map, option_map};
 ghost use Rattle.clap.specs.Words.{found_of, kind_of, rows_of};
-ghost use Rattle.flagops_words.specs.Numbers.{number_in};
-ghost use Rattle.flagops_streams.specs.Words.{IsToldBy, follow_by, follow_faults, following_in, following_view, number_at, serve_by, serve_faults, serving_in, serving_view, texts_at, wait_in};
+ghost use Rattle.flagops_words.specs.Alone.{IsToldBy};
+ghost use Rattle.flagops_streams.specs.Words.{follow_by, follow_faults, following_in, following_view, serve_by, serve_faults, serving_in, serving_view, wait_in};
 
 use crate::asked::{Following, Serving};
-use crate::usage::{
-    LARGEST_PORT, LONGEST_WAIT, MOST_SUBSCRIBERS, MOST_TURNS, follow, missing_value, serve,
-};
+use crate::usage::{LONGEST_WAIT, MOST_SUBSCRIBERS, MOST_TURNS, follow, serve};
 use clap::{ArgMatches, Error};
+use flagops_words::LARGEST_PORT;
+use flagops_words::arguments::missing_value;
+use flagops_words::matches::{number_at, number_or, texts_at};
 use std::alloc::{AllocError, Global};
 use std::convert::AsStr;
 
@@ -46,10 +47,10 @@ fn serving_in<'a>(
 ) -> Result<Option<Serving<'a>>, AllocError>
     ensures { IfOk result (λ o. option_map serving_view o ≡ serving_in (rows_of (found_of matches.now))) }
 {
-    let Some(port) = number_at(matches, "PORT", LARGEST_PORT) else {
+    let Some(port) = number_at(matches, "PORT", 1, LARGEST_PORT) else {
         return Ok(None);
     };
-    let Some(subscribers) = number_at(matches, "SUBSCRIBERS", MOST_SUBSCRIBERS) else {
+    let Some(subscribers) = number_at(matches, "SUBSCRIBERS", 1, MOST_SUBSCRIBERS) else {
         return Ok(None);
     };
     let Some(wait) = wait_in(matches) else {
@@ -66,24 +67,11 @@ fn serving_in<'a>(
     }))
 }
 
-/// The texts that are given for an argument, where there are any.
-#[tactic(auto, using(crate::proofs::Matched::values))]
-fn texts_at<'m, 'a>(matches: &'m ArgMatches<'a>, name: &str) -> Option<&'m [&'a str]>
-    ensures texts { option_map (λ s. map (λ t. t.now) s.now) result ≡ texts_at name.now (rows_of (found_of matches.now)) }
-    ensures some { IfSome result (λ s. 0 < length s.now) }
-{
-    let texts = matches.get_strs(name)?;
-    if texts.is_empty() {
-        return None;
-    }
-    Some(texts)
-}
-
 fn following_in(matches: &ArgMatches<'_>) -> Option<Following>
     ensures { option_map following_view result ≡ following_in (rows_of (found_of matches.now)) }
 {
-    let port = number_at(matches, "PORT", LARGEST_PORT)?;
-    let turns = number_at(matches, "TURNS", MOST_TURNS)?;
+    let port = number_at(matches, "PORT", 1, LARGEST_PORT)?;
+    let turns = number_at(matches, "TURNS", 1, MOST_TURNS)?;
     let wait = wait_in(matches)?;
     Some(Following {
         port: port as u16,
@@ -93,44 +81,8 @@ fn following_in(matches: &ArgMatches<'_>) -> Option<Following>
 }
 
 /// The seconds that are given for `--wait`, 0 where it is left out.
-#[tactic(auto, using(crate::proofs::Matched::values))]
 fn wait_in(matches: &ArgMatches<'_>) -> Option<u64>
     ensures { result ≡ wait_in (rows_of (found_of matches.now)) }
 {
-    match matches.get_str("SECONDS") {
-        Some(word) => spelled(word, 0, LONGEST_WAIT),
-        None => Some(0),
-    }
-}
-
-/// The number from 1 to a bound that is given for an argument.
-#[tactic(auto, using(crate::proofs::Matched::values))]
-fn number_at(matches: &ArgMatches<'_>, name: &str, most: u64) -> Option<u64>
-    ensures number { result ≡ number_at name.now most (rows_of (found_of matches.now)) }
-    ensures bounds { IfSome result (λ n. (1 ≤ n) × (n ≤ most)) }
-{
-    let word = matches.get_str(name)?;
-    spelled(word, 1, most)
-}
-
-/// The number within bounds that a word spells in decimal digits, perhaps after a plus.
-fn spelled(word: &str, least: u64, most: u64) -> Option<u64>
-    ensures number { result ≡ number_in least most word.now }
-    ensures bounds { IfSome result (λ n. (least ≤ n) × (n ≤ most)) }
-{
-    match word.parse::<u64>() {
-        Ok(number) => within(number, least, most),
-        Err(_) => None,
-    }
-}
-
-fn within(number: u64, least: u64, most: u64) -> Option<u64>
-    ensures number { result ≡ (if nat_le least number && nat_le number most then Some number else None) }
-    ensures bounds { IfSome result (λ n. (least ≤ n) × (n ≤ most)) }
-{
-    if least <= number && number <= most {
-        Some(number)
-    } else {
-        None
-    }
+    number_or(matches, "SECONDS", 0, 0, LONGEST_WAIT)
 }

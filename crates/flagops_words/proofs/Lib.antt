@@ -1,6 +1,7 @@
+pub mod Alone
 pub mod Filled
 pub mod Matched
 pub mod Named
-pub mod Spelled
+pub mod Numerals
 pub mod Tabled
 pub mod Unhelped

@@ -15,6 +15,10 @@ max_32 = 4294967295
 abbrev pub max_16 : ℕ
 max_16 = 65535
 
+-- the largest port
+abbrev pub max_port : ℕ
+max_port = 65535
+
 -- the latest moment, 2^53-1
 abbrev pub max_moment : ℕ
 max_moment = 9007199254740991

@@ -44,9 +44,13 @@ price_app =
 abbrev pub strict_flag : Rule
 strict_flag = flag (codes "strict")
 
+-- a number within bounds that has to be there
+abbrev pub number_within : Text → ℕ → ℕ → Rule
+number_within id least most = record (required id) { parser = Some (Unsigned least most) }
+
 -- a number up to a bound that has to be there
 abbrev pub number : Text → ℕ → Rule
-number id most = record (required id) { parser = Some (Unsigned 0 most) }
+number id most = number_within id 0 most
 
 -- `resolve DOC KEY KIND ..`: the first words, which name a flag and the kind of its value
 abbrev pub resolve_begun : App
@@ -177,6 +181,17 @@ if_given (Some word) = option_map Some (factor_in word)
 abbrev pub refine_in : List Row → Option (Option ℕ)
 refine_in rows = if_given (first_of (codes "M") rows)
 
+-- the number within bounds that is given for an argument
+abbrev pub number_at : Text → ℕ → ℕ → List Row → Option ℕ
+number_at id least most rows = do
+  word ← first_of id rows
+  number_in least most word
+
+-- a number within bounds, or another where none is given
+abbrev pub number_or : ℕ → ℕ → ℕ → Option Text → Option ℕ
+number_or otherwise least most None = Some otherwise
+number_or otherwise least most (Some word) = number_in least most word
+
 abbrev pub verify_in : List Row → Option Asked
 verify_in rows = do
   document ← first_of (codes "DOC") rows
@@ -199,9 +214,7 @@ abbrev pub is_stray : List Row → Bool
 is_stray rows = flag_in (codes "write") rows || (is_strict rows || is_some (first_of (codes "M") rows))
 
 abbrev pub site_in : List Row → Option ℕ
-site_in rows = do
-  word ← first_of (codes "SITE|BOOK") rows
-  number_in 0 max_32 word
+site_in rows = number_at (codes "SITE|BOOK") 0 max_32 rows
 
 abbrev pub applied_in : List Row → Option Asked
 applied_in rows = do

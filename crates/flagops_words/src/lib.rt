@@ -14,13 +14,18 @@
 //! assert!(rt; rule == "rule.json" && key == "test");
 //! ```
 //!
+//! A command that reads its words apart from the program tells `clap` of its [`arguments`], and reads by [`matches`] what
+//! is given for them; `specs/Alone.antt` says what the words then ask for.
+//!
 //! Proved, over the definitions of `specs/`: the command is the one of `Words.asked_by`, which is stated in terms of what
 //! `clap` is proved to read; an error has the kind of one of the words' faults, or memory ran out. Words without a fault ask
 //! for a command.
 #![tactic(auto)]
 
+pub mod arguments;
 mod asked;
 mod kinds;
+pub mod matches;
 mod numbers;
 mod shell;
 mod table;
@@ -28,6 +33,6 @@ mod usage;
 mod words;
 
 pub use asked::Asked;
-pub use numbers::{Factor, Moment};
+pub use numbers::{Factor, LARGEST_32, LARGEST_PORT, Moment, factor_number, factor_of, spelled};
 pub use shell::Shell;
 pub use words::read_words;

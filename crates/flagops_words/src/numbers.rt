@@ -1,5 +1,5 @@
 //! Numbers, as words of the command line.
-ghost use Rattle.std.specs.Prelude.{◌≡◌, ◌≤◌, ◌<◌, ◌^◌, ◌&&◌, nat_le, if◌then◌else◌, IfSome, Some, None, option_map};
+ghost use Rattle.std.specs.Prelude.{◌≡◌, ◌≤◌, ◌<◌, ◌^◌, ◌&&◌, nat_le, if◌then◌else◌, IfSome, Some, None, option_map, unwrap_or};
 ghost use Rattle.flagops_words.specs.Numbers.{factor_in, max_16, max_32, moment_in, number_in};
 
 /// The latest moment, 2^53-1.
@@ -10,6 +10,9 @@ pub const LARGEST_16: u64 = 65_535;
 
 /// The largest number of 32 bits.
 pub const LARGEST_32: u64 = 4_294_967_295;
+
+/// The largest port.
+pub const LARGEST_PORT: u64 = LARGEST_16;
 
 /// A moment, as a number of at most 2^53-1.
 #[derive(Clone, Copy, Debug, PartialEq, Eq)]
@@ -47,6 +50,28 @@ impl Factor {
     }
 }
 
+/// What the weights of a site's rule are multiplied by: 1 where no factor is given.
+pub fn factor_of(refine: Option<Factor>) -> u32
+    ensures some { 0 < result }
+    ensures value { result ≡ unwrap_or (option_map (λ m. m.number) refine) 1 }
+{
+    match refine {
+        Some(m) => m.number,
+        None => 1,
+    }
+}
+
+/// The same, where a factor is given.
+pub fn factor_number(refine: Option<Factor>) -> Option<u32>
+    ensures value { result ≡ option_map (λ m. m.number) refine }
+    ensures some { IfSome result (λ m. 0 < m) }
+{
+    match refine {
+        Some(m) => Some(m.number),
+        None => None,
+    }
+}
+
 /// The number of 16 bits that a word spells.
 pub fn spelled_16(word: &str) -> Option<u16>
     ensures { result ≡ number_in 0 max_16 word.now }
@@ -64,7 +89,7 @@ pub fn spelled_32(word: &str) -> Option<u32>
 }
 
 /// The number within the bounds that a word spells in decimal digits, perhaps after a plus.
-fn spelled(word: &str, least: u64, most: u64) -> Option<u64>
+pub fn spelled(word: &str, least: u64, most: u64) -> Option<u64>
     ensures number { result ≡ number_in least most word.now }
     ensures bounds { IfSome result (λ n. (least ≤ n) × (n ≤ most)) }
 {

@@ -50,7 +50,8 @@ _flagops() {
         plan:-*) COMPREPLY=($(compgen -W "--refine --strict --explain --picture --help" -- "$word")) ;;
         picture:-*) COMPREPLY=($(compgen -W "--refine --ramp --help" -- "$word")) ;;
         verify:-*) COMPREPLY=($(compgen -W "--refine --strict --json --help" -- "$word")) ;;
-        ramp:-* | verify-ramp:-* | tally:-*) COMPREPLY=($(compgen -W "--refine --help" -- "$word")) ;;
+        ramp:-* | verify-ramp:-*) COMPREPLY=($(compgen -W "--refine --strict --help" -- "$word")) ;;
+        tally:-*) COMPREPLY=($(compgen -W "--refine --help" -- "$word")) ;;
         record:-*) COMPREPLY=($(compgen -W "--moment --workers --help" -- "$word")) ;;
         apply:-*) COMPREPLY=($(compgen -W "--keep --write --refine --strict --step --help" -- "$word")) ;;
         book:-*) COMPREPLY=($(compgen -W "--torn --help" -- "$word")) ;;
@@ -97,7 +98,7 @@ complete -c flagops -n __fish_use_subcommand -f -a follow -d 'Print the snapshot
 complete -c flagops -n __fish_use_subcommand -f -a completions -d 'Print the completion of a shell'
 complete -c flagops -n __fish_use_subcommand -f -a help -d 'Print the help of a command'
 complete -c flagops -n '__fish_seen_subcommand_from bucket price check verify drive' -l json -d 'Print the answer as JSON'
-complete -c flagops -n '__fish_seen_subcommand_from check plan verify apply drive' -l strict -d 'Refuse what is else only told'
+complete -c flagops -n '__fish_seen_subcommand_from check plan verify apply drive ramp verify-ramp' -l strict -d 'Refuse what is else only told'
 complete -c flagops -n '__fish_seen_subcommand_from plan' -l explain -d 'Tell the plan in words'
 complete -c flagops -n '__fish_seen_subcommand_from plan verify ramp verify-ramp picture tally' -l refine -x -d 'Plan in finer points'
 complete -c flagops -n '__fish_seen_subcommand_from plan' -l picture -r -d 'Write the picture of the plan'
@@ -164,7 +165,10 @@ _flagops() {
             _arguments '--refine[plan in finer points]:M:' '--strict[refuse what is else only told]' '--json[print the answer as JSON]' \
                 '--help[print help]' '*:file:_files'
             ;;
-        ramp | verify-ramp | tally) _arguments '--refine[plan in finer points]:M:' '--help[print help]' '*:file:_files' ;;
+        ramp | verify-ramp)
+            _arguments '--refine[plan in finer points]:M:' '--strict[refuse what is else only told]' '--help[print help]' '*:file:_files'
+            ;;
+        tally) _arguments '--refine[plan in finer points]:M:' '--help[print help]' '*:file:_files' ;;
         record)
             _arguments '--moment[the time of the evaluations]:MOMENT:' '--workers[the most threads that evaluate]:WORKERS:' \
                 '--help[print help]' '*:file:_files'

@@ -28,10 +28,11 @@ const REQUEST: Word = Word::Text("REQUEST", "The file of the rollout request");
 
 const BOOK: Word = Word::Text("BOOK", "The book of the hash inputs that were recorded");
 
-const STRICT: Word = Word::Flag(
-    "strict",
-    "End with status 1 where something is else only told: docs/REFUSALS.md has the table",
-);
+/// What `--strict` does to a command that tells what it doubts.
+pub const STRICT_HELP: &str =
+    "End with status 1 where something is else only told: docs/REFUSALS.md has the table";
+
+const STRICT: Word = Word::Flag("strict", STRICT_HELP);
 
 const JSON: Word = Word::Flag("json", "Print the answer as JSON, a text a line");
 

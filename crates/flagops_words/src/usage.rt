@@ -5,12 +5,12 @@ ghost use Rattle.clap.specs.Words.{app_of, kind_of, rule_of};
 ghost use Rattle.clap.specs.declared.builder.command.Command.TheViews.{out-Command};
 ghost use Rattle.clap.specs.declared.error.kind.ErrorKind.TheVariants.{InvalidValue, MissingRequiredArgument, ValueValidation};
 ghost use Rattle.flagops_words.specs.Usage.{app_for, rule_for, with_commands};
-ghost use Rattle.flagops_words.specs.Words.{flag, flagops_app, required, takes_commands};
+ghost use Rattle.flagops_words.specs.Words.{flagops_app, takes_commands};
 
+use crate::arguments::{flag, number, option_number, required};
 use crate::table::{APPLY_ALONE, COMMANDS, COMPLETIONS_ALONE, RESOLVE_ALONE, Usage, Word};
-use clap::builder::ValueParser;
 use clap::error::ErrorKind;
-use clap::{Arg, ArgAction, Command, Error};
+use clap::{Arg, Command, Error};
 use std::alloc::{AllocError, Global};
 
 /// The program with its commands.
@@ -122,32 +122,10 @@ fn argument<'a>(alloc: Global, word: &Word) -> Arg<'a>
 {
     match *word {
         Word::Text(name, help) => required(alloc, name, help),
-        Word::Number(name, help, most) => {
-            required(alloc, name, help).value_parser(ValueParser::Unsigned(0, most))
+        Word::Number(name, help, most) => number(alloc, name, help, 0, most),
+        Word::Option(name, help, long, least, most) => {
+            option_number(alloc, name, long, help, least, most)
         }
-        Word::Option(name, help, long, least, most) => Arg::new(alloc, name)
-            .long(long)
-            .help(help)
-            .value_parser(ValueParser::Unsigned(least, most)),
         Word::Flag(name, help) => flag(alloc, name, help),
     }
-}
-
-/// A word that has to be there.
-fn required<'a>(alloc: Global, name: &'a str, help: &'a str) -> Arg<'a>
-    ensures rule { rule_of result ≡ required name.entry.now }
-    ensures local { result.global ≡ false }
-{
-    Arg::new(alloc, name).required(true).help(help)
-}
-
-/// A word that may be left out, by its long name.
-fn flag<'a>(alloc: Global, name: &'a str, help: &'a str) -> Arg<'a>
-    ensures rule { rule_of result ≡ flag name.entry.now }
-    ensures local { result.global ≡ false }
-{
-    Arg::new(alloc, name)
-        .long(name)
-        .action(ArgAction::SetTrue)
-        .help(help)
 }

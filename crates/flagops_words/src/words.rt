@@ -2,11 +2,12 @@
 ghost use Rattle.std.specs.Prelude.{◌≡◌, Some, IfOk, IfErr, map, option_map};
 ghost use Rattle.clap.specs.Words.{found_of, kind_of, rows_of, subcommand_rows_of};
 ghost use Rattle.flagops_words.specs.Asked.{asked_view};
-ghost use Rattle.flagops_words.specs.Words.{IsToldBy, applied_in, apply_in, asked_by, asked_in, asked_of, bucket_in, completions_in, drive_in, flag_in, is_json, is_stray, is_strict, keep_in, mistake_of, plan_in, price_in, refine_in, resolve_in, rollout_in, verify_in};
+ghost use Rattle.flagops_words.specs.Words.{IsToldBy, applied_in, apply_in, asked_by, asked_in, asked_of, bucket_in, completions_in, drive_in, is_stray, keep_in, mistake_of, plan_in, price_in, resolve_in, rollout_in, verify_in};
 
 use crate::asked::Asked;
 use crate::kinds::kind_spelled;
-use crate::numbers::{Factor, Moment, spelled_16, spelled_32};
+use crate::matches::{flag_in, is_json, is_strict, refine_in};
+use crate::numbers::{Moment, spelled_16, spelled_32};
 use crate::shell::Shell;
 use crate::usage::{flagops, missing_keep, unknown_kind, unknown_shell, unknown_site};
 use clap::{ArgMatches, Error};
@@ -182,31 +183,6 @@ fn is_stray(words: &ArgMatches<'_>) -> bool
     flag_in(words, "write") || is_strict(words) || words.get_str("M").is_some()
 }
 
-/// Whether what is doubted is to be refused.
-fn is_strict(words: &ArgMatches<'_>) -> bool
-    ensures { result ≡ is_strict (rows_of (found_of words.now)) }
-{
-    flag_in(words, "strict")
-}
-
-/// Whether the answer is to be printed as JSON.
-fn is_json(words: &ArgMatches<'_>) -> bool
-    ensures { result ≡ is_json (rows_of (found_of words.now)) }
-{
-    flag_in(words, "json")
-}
-
-/// Whether an option without a value is given.
-#[tactic(auto, using(crate::proofs::Matched::rows))]
-fn flag_in(words: &ArgMatches<'_>, name: &str) -> bool
-    ensures { result ≡ flag_in name.now (rows_of (found_of words.now)) }
-{
-    match words.get_str(name) {
-        Some(word) => word == "true",
-        None => false,
-    }
-}
-
 #[tactic(auto, using(crate::proofs::Matched::rows))]
 fn applied_in<'a>(words: &ArgMatches<'a>) -> Option<Asked<'a>>
     ensures { option_map asked_view result ≡ applied_in (rows_of (found_of words.now)) }
@@ -268,15 +244,4 @@ fn completions_in<'a>(words: &ArgMatches<'a>) -> Option<Asked<'a>>
 {
     let shell = Shell::named(words.get_str("SHELL")?)?;
     Some(Asked::Completions { shell })
-}
-
-/// The factor of a refinement, if one is given; `None` where the word is no factor.
-#[tactic(auto, using(crate::proofs::Matched::rows))]
-fn refine_in(words: &ArgMatches<'_>) -> Option<Option<Factor>>
-    ensures { option_map (λ o. option_map (λ m. m.number) o) result ≡ refine_in (rows_of (found_of words.now)) }
-{
-    match words.get_str("M") {
-        Some(word) => Some(Some(Factor::spelled(word)?)),
-        None => Some(None),
-    }
 }

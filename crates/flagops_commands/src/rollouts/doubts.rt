@@ -113,7 +113,10 @@ fn first_of(
     }
 }
 
-fn remark_in(noted: Option<NotedDoubt>) -> Option<Remark> {
+/// What a person is told of a doubt, where there is one.
+pub fn remark_in(noted: Option<NotedDoubt>) -> Option<Remark>
+    ensures { is_some result ≡ is_some (option_map (λ d. d.doubt) noted) }
+{
     match noted {
         Some(NotedDoubt { remark, .. }) => Some(remark),
         None => None,
@@ -139,7 +142,7 @@ pub(crate) fn joined(name: &str, remark: Remark, more: Option<Remark>) -> Remark
 
 /// What is told of members of a request that are not read, where there are any.
 #[tactic(auto, using(flagops_files::proofs::Told::says))]
-pub(crate) fn unread(alloc: Global, path: &str, bytes: &[u8]) -> Result<Option<Remark>, AllocError>
+pub fn unread(alloc: Global, path: &str, bytes: &[u8]) -> Result<Option<Remark>, AllocError>
     ensures told { IfOk result (λ r. is_some r ≡ is_unread bytes.now) }
     ensures notes { IfOk result (λ r. IfSome r (Says (Names path.now))) }
 {

@@ -6,11 +6,10 @@ ghost use Rattle.flagops_files.specs.Told.{Says};
 ghost use Rattle.flagops_remarks.specs.Named.{Names};
 
 use crate::rollouts::doubts::joined;
-use crate::rollouts::plan::factor_of;
 use crate::rollouts::recorded::page_asked;
 use flagops_files::{Evidence, Question, Remark};
 use flagops_remarks::of_planned;
-use flagops_words::Factor;
+use flagops_words::{Factor, factor_of};
 use page_tally::{BookFile, Recorded};
 use plan_text::Planned;
 use price_core::{PriceFault, Request};

@@ -17,13 +17,12 @@ ghost use Rattle.flagops_files.specs.declared.refusal.Refusal.TheVariants.{WantO
 
 use crate::rollouts::doubts::settled;
 use crate::rollouts::kept::kept;
-use crate::rollouts::plan::factor_of;
 use crate::rollouts::verify::Paths;
 use flagops_files::{
     Call, FileSet, Outcome, Question, Refusal, Refused, Remark, Status, load_planned,
     load_question, store,
 };
-use flagops_words::Factor;
+use flagops_words::{Factor, factor_of};
 use plan_text::Planned;
 use std::alloc::{AllocError, Global};
 use std::thread::Threads;

@@ -1,5 +1,5 @@
 //! The command `plan`: the answer of the planner to a rollout request.
-ghost use Rattle.std.specs.Prelude.{◌≡◌, ◌<◌, ◌||◌, [], ◌∷◌, false, true, is_some, Ok, IfOk, IfSome, option_map, string_bytes, unwrap_or};
+ghost use Rattle.std.specs.Prelude.{◌≡◌, ◌<◌, ◌||◌, [], ◌∷◌, false, true, is_some, Ok, IfOk, IfSome, option_map, string_bytes};
 ghost use Rattle.plan_text.specs.Answer.{IsOrdered, planned_view};
 ghost use Rattle.plan_text.specs.PlanFile.{IsWhole};
 ghost use Rattle.flagops_commands.specs.Plan.{Holds, IsPlanOf, IsPlanReport, IsPlannedOn, MayBePlanned, plan_report, plan_status};
@@ -20,7 +20,7 @@ use flagops_files::{
     Call, Evidence, FileSet, Outcome, Question, Refusal, Refused, Remark, Status, load_question,
 };
 use flagops_remarks::{of_large_plan, of_other_tally, of_rollout};
-use flagops_words::Factor;
+use flagops_words::{Factor, factor_of};
 use plan_text::{Planned, print_planned_line};
 use rollout::{RolloutFault, plan_refined, plan_tally};
 use std::alloc::{AllocError, Global};
@@ -178,16 +178,5 @@ fn status_of(planned: &Planned) -> Status
     match planned {
         Planned::Emit(_, _) => Status::Done,
         Planned::NoneExists(_) => Status::NoneExists,
-    }
-}
-
-/// What the weights of the site are multiplied by.
-pub(crate) fn factor_of(refine: Option<Factor>) -> u32
-    ensures some { 0 < result }
-    ensures value { result ≡ unwrap_or (option_map (λ m. m.number) refine) 1 }
-{
-    match refine {
-        Some(m) => m.number,
-        None => 1,
     }
 }

@@ -1,12 +1,14 @@
 //! What is doubted of what was recorded for a request: that there is no input, or one that is none of its flag.
 ghost use Rattle.std.specs.Prelude.{◌≡◌, List, ℕ, Some, false, nat_eq, option_map, IfOk, IfSome, string_bytes};
+ghost use Rattle.std.specs.Result.{result_ok};
 ghost use Rattle.logic_ast.specs.Expr.{view};
 ghost use Rattle.flag_defs.specs.Flag.{flag_view};
 ghost use Rattle.flag_defs.specs.Flags.{flags_view};
 ghost use Rattle.book_core.specs.Book.{inputs_on};
 ghost use Rattle.book_core.specs.Listing.{has_none};
 ghost use Rattle.page_tally.specs.Foreign.{has_foreign};
-ghost use Rattle.flagops_commands.specs.Doubts.{NamesDoubt, recorded_doubt};
+ghost use Rattle.price_core.specs.Request.{asked_of};
+ghost use Rattle.flagops_commands.specs.Doubts.{NamesDoubt, doubt_in, recorded_doubt};
 ghost use Rattle.flagops_commands.specs.Foreign.{has_foreign_input, is_foreign};
 ghost use Rattle.flagops_commands.specs.Unrecorded.{has_no_input, is_unrecorded, page_asked, page_in};
 ghost use Rattle.flagops_files.specs.Question.{question_view};
@@ -39,6 +41,28 @@ pub fn doubt_of_recorded<R: Threads>(
     match Request::read(alloc, question.request.as_slice()) {
         Ok(request) => match page_asked(alloc, &question.flags, &request)? {
             Some(page) => noted(rt, alloc, path, &question.evidence, &page),
+            None => Ok(None),
+        },
+        Err(PriceFault::WantOfMemory) => Err(AllocError),
+        Err(_) => Ok(None),
+    }
+}
+
+/// What is doubted of what a book, which was loaded from this path, has for a request: its page has no input, or one that is
+/// none of its flag. Nothing is doubted of a request that is refused, or whose flag has no such site.
+pub fn doubt_in_book<R: Threads>(
+    rt: &R,
+    alloc: Global,
+    path: &str,
+    flags: &Flags,
+    request: &[u8],
+    book: &BookFile,
+) -> Result<Option<NotedDoubt>, AllocError>
+    ensures { IfOk result (λ o. option_map (λ d. d.doubt) o ≡ doubt_in book.now (page_asked (flags_view flags.now) (result_ok (asked_of request.now)))) }
+{
+    match Request::read(alloc, request) {
+        Ok(request) => match page_asked(alloc, flags, &request)? {
+            Some(page) => noted_in_book(rt, alloc, path, book, &page),
             None => Ok(None),
         },
         Err(PriceFault::WantOfMemory) => Err(AllocError),

@@ -14,14 +14,14 @@ ghost use Rattle.flagops_commands.specs.Subjects.{NamesVerified, is_of_answer, i
 ghost use Rattle.flagops_commands.specs.Doubts.{NamesDoubted, doubt_subjects};
 
 use crate::rollouts::doubts::settled;
-use crate::rollouts::plan::{factor_of, lines_on_request};
+use crate::rollouts::plan::lines_on_request;
 use flag_defs::Flags;
 use flagops_files::{
     Call, Evidence, FileSet, Outcome, Question, Refusal, Refused, Remark, Status, load_planned,
     load_question,
 };
 use flagops_remarks::of_check;
-use flagops_words::Factor;
+use flagops_words::{Factor, factor_of};
 use page_tally::BookFile;
 use plan_text::Planned;
 use rollout::{PageTally, VerifyFault, verify_refined, verify_tally, verify_tally_refined};

@@ -1,7 +1,7 @@
 use Rattle.std.proofs.Common.{rules, ap, map, option_map, subst, sym, ◌∙◌}
 use Rattle.clap.specs.declared.error.kind.ErrorKind.{ErrorKind}
-use Rattle.flagops_ramps.specs.Words.{IsToldBy}
-use Rattle.flagops_ramps.proofs.Matched.{asked_of, missed_in, told_of}
+use Rattle.flagops_words.specs.Alone.{IsToldBy}
+use Rattle.flagops_words.proofs.Alone.{asked_of, missed_in, told_of}
 use Rattle.flagops_books.specs.Words.{book_app, book_by, book_faults, uniting_in, uniting_view}
 use Rattle.flagops_books.proofs.Matched.{book_free, book_plain}
 use Rattle.flagops_books.proofs.words.read_uniting.Goals as goal

@@ -1,7 +1,9 @@
 use Rattle.std.proofs.Common.{rules, ap, map, option_map, subst, sym, ◌∙◌}
 use Rattle.clap.specs.declared.error.kind.ErrorKind.{ErrorKind}
-use Rattle.flagops_filters.specs.Words.{IsToldBy, join_by, join_faults, join_app, join_in, joining_view}
-use Rattle.flagops_filters.proofs.Matched.{asked_of, missed_in, told_of, join_plain, join_free}
+use Rattle.flagops_words.specs.Alone.{IsToldBy}
+use Rattle.flagops_words.proofs.Alone.{asked_of, missed_in, told_of}
+use Rattle.flagops_filters.specs.Words.{join_by, join_faults, join_app, join_in, joining_view}
+use Rattle.flagops_filters.proofs.Matched.{join_plain, join_free}
 use Rattle.flagops_filters.proofs.words.read_join.Goals as goal
 
 pub returns-in_err-matches-clause-err : goal.returns-in_err-matches-clause-err

@@ -1,7 +1,9 @@
 use Rattle.std.proofs.Common.{rules, map, subst, sym}
 use Rattle.clap.specs.declared.error.kind.ErrorKind.{ErrorKind}
-use Rattle.flagops_filters.specs.Words.{IsToldBy, tally_by, tally_faults, tally_app, tally_in}
-use Rattle.flagops_filters.proofs.Matched.{asked_of, missed_in, told_of, tally_plain, tally_free}
+use Rattle.flagops_words.specs.Alone.{IsToldBy}
+use Rattle.flagops_words.proofs.Alone.{asked_of, missed_in, told_of}
+use Rattle.flagops_filters.specs.Words.{tally_by, tally_faults, tally_app, tally_in}
+use Rattle.flagops_filters.proofs.Matched.{tally_plain, tally_free}
 use Rattle.flagops_filters.proofs.words.read_tally.Goals as goal
 
 pub returns-in_err-matches-clause-err : goal.returns-in_err-matches-clause-err

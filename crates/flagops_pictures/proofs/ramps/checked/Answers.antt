@@ -16,7 +16,7 @@ returns-in-Ok g c =
     let requests = requests_view c.args.steps.now in
     let answers = map planned_view c.args.answers.now in
     let told = subst (λ (b : Contents). IsTold (Ok q.flags) refine requests b answers (Ok tt)) c.requires.same
-    (subst (λ (f : Option ℕ). IsTold (Ok q.flags) f requests c.args.book.now answers (Ok tt)) c.number_of-refine.ensures.value c.in-Ok.ensures) in
+    (subst (λ (f : Option ℕ). IsTold (Ok q.flags) f requests c.args.book.now answers (Ok tt)) c.factor_number-refine.ensures.value c.in-Ok.ensures) in
     let doubt = is_some (doubt_of_steps q requests) in
     let draws = subst (λ (b : Contents). DrawsOr doubt c.right.result (IsRampDrawn (Ok q.flags) refine requests b answers)) c.requires.same c.right.ensures in
     drawn_report refine q requests answers c.right.result told draws
@@ -28,5 +28,5 @@ returns-in-Err g c =
     let requests = requests_view c.args.steps.now in
     let answers = map planned_view c.args.answers.now in
     let told = subst (λ (b : Contents). IsTold (Ok q.flags) refine requests b answers (Err c.in-Err.fault)) c.requires.same
-    (subst (λ (f : Option ℕ). IsTold (Ok q.flags) f requests c.args.book.now answers (Err c.in-Err.fault)) c.number_of-refine.ensures.value c.in-Err.ensures) in
+    (subst (λ (f : Option ℕ). IsTold (Ok q.flags) f requests c.args.book.now answers (Err c.in-Err.fault)) c.factor_number-refine.ensures.value c.in-Err.ensures) in
     wrong_report refine q requests answers c.in-Err.fault c.wrong.result told c.wrong.ensures

@@ -15,7 +15,7 @@ returns-in-Ok g c =
     let requests = requests_view c.args.steps.now in
     let answers = map planned_view c.args.answers.now in
     let doubt = doubt_of_steps (book_question_view c.args.question.now) requests in
-    let drawn = subst (λ (f : Option ℕ). DrawsOr (is_some c.in-Ok.remark) c.drawn.result (IsRampDrawn (Ok flags) f requests c.args.book.now answers)) c.number_of-refine.ensures.value c.drawn.ensures in
+    let drawn = subst (λ (f : Option ℕ). DrawsOr (is_some c.in-Ok.remark) c.drawn.result (IsRampDrawn (Ok flags) f requests c.args.book.now answers)) c.factor_number-refine.ensures.value c.drawn.ensures in
     subst (λ (b : Bool). DrawsOr b c.drawn.result (IsRampDrawn (Ok flags) (option_map (λ m. m.number) c.args.asked.now.refine) requests c.args.book.now answers)) (told_alone call.VerifyRamp doubt c.in-Ok.remark c.in-Ok.ensures) drawn
 
 pub returns-in-Err : goal.returns-in-Err

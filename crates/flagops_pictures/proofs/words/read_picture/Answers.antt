@@ -1,7 +1,7 @@
 use Rattle.std.proofs.Common.{rules, map, subst, sym}
 use Rattle.clap.specs.declared.error.kind.ErrorKind.{ErrorKind}
-use Rattle.flagops_ramps.specs.Words.{IsToldBy}
-use Rattle.flagops_ramps.proofs.Matched.{asked_of, missed_in, told_of}
+use Rattle.flagops_words.specs.Alone.{IsToldBy}
+use Rattle.flagops_words.proofs.Alone.{asked_of, missed_in, told_of}
 use Rattle.flagops_pictures.specs.Words.{picture_app, picture_by, picture_faults, picture_in}
 use Rattle.flagops_pictures.proofs.Matched.{picture_free, picture_plain}
 use Rattle.flagops_pictures.proofs.words.read_picture.Goals as goal

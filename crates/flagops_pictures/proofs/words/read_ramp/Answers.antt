@@ -1,7 +1,8 @@
 use Rattle.std.proofs.Common.{rules, map, subst, sym}
 use Rattle.clap.specs.declared.error.kind.ErrorKind.{ErrorKind}
-use Rattle.flagops_ramps.specs.Words.{IsToldBy, verify_in}
-use Rattle.flagops_ramps.proofs.Matched.{asked_of, missed_in, told_of}
+use Rattle.flagops_ramps.specs.Words.{verify_in}
+use Rattle.flagops_words.specs.Alone.{IsToldBy}
+use Rattle.flagops_words.proofs.Alone.{asked_of, missed_in, told_of}
 use Rattle.flagops_pictures.specs.Words.{ramp_app, ramp_by, ramp_faults}
 use Rattle.flagops_pictures.proofs.Matched.{ramp_free, ramp_plain}
 use Rattle.flagops_pictures.proofs.words.read_ramp.Goals as goal

@@ -14,7 +14,7 @@ returns-in-Ok g c =
     let requests = requests_view c.args.steps.now in
     let answers = map planned_view c.args.answers.now in
     let told = subst (λ (b : Contents). IsTold (Ok q.flags) refine requests b answers (Ok tt)) c.requires.same
-    (subst (λ (f : Option ℕ). IsTold (Ok q.flags) f requests c.args.book.now answers (Ok tt)) c.number_of-factor.ensures.value c.in-Ok.ensures) in
+    (subst (λ (f : Option ℕ). IsTold (Ok q.flags) f requests c.args.book.now answers (Ok tt)) c.factor_number-factor.ensures.value c.in-Ok.ensures) in
     told_report c.args.asked.now.strict refine q requests answers (Ok tt) c.right.result told c.right.ensures
 
 pub returns-in-Err : goal.returns-in-Err
@@ -24,5 +24,5 @@ returns-in-Err g c =
     let requests = requests_view c.args.steps.now in
     let answers = map planned_view c.args.answers.now in
     let told = subst (λ (b : Contents). IsTold (Ok q.flags) refine requests b answers (Err c.in-Err.fault)) c.requires.same
-    (subst (λ (f : Option ℕ). IsTold (Ok q.flags) f requests c.args.book.now answers (Err c.in-Err.fault)) c.number_of-factor.ensures.value c.in-Err.ensures) in
+    (subst (λ (f : Option ℕ). IsTold (Ok q.flags) f requests c.args.book.now answers (Err c.in-Err.fault)) c.factor_number-factor.ensures.value c.in-Err.ensures) in
     wrong_report c.args.asked.now.strict refine q requests answers c.in-Err.fault c.wrong.result told c.wrong.ensures

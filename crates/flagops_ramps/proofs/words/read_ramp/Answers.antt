@@ -1,7 +1,9 @@
 use Rattle.std.proofs.Common.{rules, map, subst, sym}
 use Rattle.clap.specs.declared.error.kind.ErrorKind.{ErrorKind}
-use Rattle.flagops_ramps.specs.Words.{IsToldBy, ramp_by, ramp_faults, ramp_app, ramp_in}
-use Rattle.flagops_ramps.proofs.Matched.{asked_of, missed_in, told_of, ramp_plain, ramp_free}
+use Rattle.flagops_words.specs.Alone.{IsToldBy}
+use Rattle.flagops_words.proofs.Alone.{asked_of, missed_in, told_of}
+use Rattle.flagops_ramps.specs.Words.{ramp_by, ramp_faults, ramp_app, ramp_in}
+use Rattle.flagops_ramps.proofs.Matched.{ramp_plain, ramp_free}
 use Rattle.flagops_ramps.proofs.words.read_ramp.Goals as goal
 
 pub returns-in_err-matches-clause-err : goal.returns-in_err-matches-clause-err

@@ -1,7 +1,9 @@
 use Rattle.std.proofs.Common.{rules, map, subst, sym}
 use Rattle.clap.specs.declared.error.kind.ErrorKind.{ErrorKind}
-use Rattle.flagops_ramps.specs.Words.{IsToldBy, step_by, step_faults, step_app, step_in}
-use Rattle.flagops_ramps.proofs.Matched.{asked_of, missed_in, told_of, step_plain, step_free}
+use Rattle.flagops_words.specs.Alone.{IsToldBy}
+use Rattle.flagops_words.proofs.Alone.{asked_of, missed_in, told_of}
+use Rattle.flagops_ramps.specs.Words.{step_by, step_faults, step_app, step_in}
+use Rattle.flagops_ramps.proofs.Matched.{step_plain, step_free}
 use Rattle.flagops_ramps.proofs.words.read_step.Goals as goal
 
 pub returns-in_err-matches-clause-err : goal.returns-in_err-matches-clause-err

@@ -1,7 +1,9 @@
 use Rattle.std.proofs.Common.{rules, ap, map, option_map, subst, sym, ◌∙◌}
 use Rattle.clap.specs.declared.error.kind.ErrorKind.{ErrorKind}
-use Rattle.flagops_service.specs.Words.{IsToldBy, ofrep_by, ofrep_faults, ofrep_app, answering_in, answering_view}
-use Rattle.flagops_service.proofs.Matched.{asked_of, missed_in, told_of, ofrep_plain, ofrep_free}
+use Rattle.flagops_words.specs.Alone.{IsToldBy}
+use Rattle.flagops_words.proofs.Alone.{asked_of, missed_in, told_of}
+use Rattle.flagops_service.specs.Words.{ofrep_by, ofrep_faults, ofrep_app, answering_in, answering_view}
+use Rattle.flagops_service.proofs.Matched.{ofrep_plain, ofrep_free}
 use Rattle.flagops_service.proofs.words.read_ofrep.Goals as goal
 
 pub returns-in_err-matches-clause-err : goal.returns-in_err-matches-clause-err

@@ -1,7 +1,9 @@
 use Rattle.std.proofs.Common.{rules, map, subst, sym}
 use Rattle.clap.specs.declared.error.kind.ErrorKind.{ErrorKind}
-use Rattle.flagops_streams.specs.Words.{IsToldBy, follow_by, follow_faults, follow_app, following_in}
-use Rattle.flagops_streams.proofs.Matched.{asked_of, missed_in, told_of, follow_plain, follow_free}
+use Rattle.flagops_words.specs.Alone.{IsToldBy}
+use Rattle.flagops_words.proofs.Alone.{asked_of, missed_in, told_of}
+use Rattle.flagops_streams.specs.Words.{follow_by, follow_faults, follow_app, following_in}
+use Rattle.flagops_streams.proofs.Matched.{follow_plain, follow_free}
 use Rattle.flagops_streams.proofs.words.read_follow.Goals as goal
 
 pub returns-in_err-matches-clause-err : goal.returns-in_err-matches-clause-err

@@ -1,7 +1,9 @@
 use Rattle.std.proofs.Common.{rules, ap, map, option_map, subst, sym, ◌∙◌}
 use Rattle.clap.specs.declared.error.kind.ErrorKind.{ErrorKind}
-use Rattle.flagops_streams.specs.Words.{IsToldBy, serve_by, serve_faults, serve_app, serving_in, serving_view}
-use Rattle.flagops_streams.proofs.Matched.{asked_of, missed_in, told_of, serve_plain, serve_free}
+use Rattle.flagops_words.specs.Alone.{IsToldBy}
+use Rattle.flagops_words.proofs.Alone.{asked_of, missed_in, told_of}
+use Rattle.flagops_streams.specs.Words.{serve_by, serve_faults, serve_app, serving_in, serving_view}
+use Rattle.flagops_streams.proofs.Matched.{serve_plain, serve_free}
 use Rattle.flagops_streams.proofs.words.read_serve.Goals as goal
 
 pub returns-in_err-matches-clause-err : goal.returns-in_err-matches-clause-err

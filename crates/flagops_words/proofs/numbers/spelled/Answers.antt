@@ -1,5 +1,5 @@
 use Rattle.std.proofs.Common.{◌∙◌}
-use Rattle.flagops_words.proofs.Spelled.{read, unread}
+use Rattle.flagops_words.proofs.Numerals.{read, unread}
 use Rattle.flagops_words.proofs.numbers.spelled.Goals as goal
 
 pub returns-in-Err-clause-number : goal.returns-in-Err-clause-number

@@ -1,7 +1,7 @@
 use Rattle.std.proofs.Common.{◌≡◌, sym, ◌∙◌, subst, map}
 use Rattle.flagops.specs.Comes.{Comes}
 use Rattle.flagops.specs.declared.family.Family.{Family}
-use Rattle.flagops.proofs.status_of.Goals as goal
+use Rattle.flagops.proofs.dispatch.status_of.Goals as goal
 
 -- a command over files comes to what `run` says
 pub returns-in-Files : goal.returns-in-Files

@@ -2,7 +2,7 @@ use Rattle.std.proofs.Common.{◌≡◌, ℕ, map, List}
 use Rattle.flagops.specs.Comes.{Comes}
 use Rattle.flagops.specs.First.{family_of}
 use Rattle.flagops.proofs.Carried.{carried}
-use Rattle.flagops.proofs.flagops.Goals as goal
+use Rattle.flagops.proofs.dispatch.flagops.Goals as goal
 
 pub returns-in-Ok-clause-comes : goal.returns-in-Ok-clause-comes
 returns-in-Ok-clause-comes g c =

@@ -1,4 +1,4 @@
--- What a person is told of a filter.
+-- What a person is told of a file, in a line.
 use Rattle.std.specs.Prelude.{◌≡◌, ◌++◌, ℕ, List, codes}
 use Rattle.flag_text.specs.Printing.{text_of}
 use Rattle.flag_text.specs.Shape.{text}
