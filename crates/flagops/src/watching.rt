@@ -101,7 +101,13 @@ pub fn is_filter(words: &io::Result<Vec<String>>) -> bool
     ensures unread { IfErr words.now (λ _. result ≡ false) }
 {
     match words {
-        Ok(words) => matches!(family_of(words.as_slice()), Family::Record),
+        Ok(words) => writes_while_it_reads(family_of(words.as_slice())),
         Err(_) => false,
     }
+}
+
+fn writes_while_it_reads(family: Family) -> bool
+    ensures { result ≡ is_filter family }
+{
+    matches!(family, Family::Record)
 }
