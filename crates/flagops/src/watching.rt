@@ -101,9 +101,16 @@ pub fn is_filter(words: &io::Result<Vec<String>>) -> bool
     ensures unread { IfErr words.now (λ _. result ≡ false) }
 {
     match words {
-        Ok(words) => writes_while_it_reads(family_of(words.as_slice())),
+        Ok(words) => asks_for_filter(words.as_slice()),
         Err(_) => false,
     }
+}
+
+/// The same of words that were read.
+fn asks_for_filter(words: &[String]) -> bool
+    ensures { result ≡ is_filter (family_of (map string_bytes words.now)) }
+{
+    writes_while_it_reads(family_of(words))
 }
 
 fn writes_while_it_reads(family: Family) -> bool
