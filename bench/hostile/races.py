@@ -31,7 +31,7 @@ BEHIND = {
     "the words of the two copies of a snapshot": [
         "left_right::rounds::gather", "snap_share::publisher::show", "snap_share::seat::ReadSeatCurrent::current", "snap_share::stamp::Stamp::becomes",
     ],
-    "a Mutex, or the word of a thread's end": ["flagops_streams::board::Board::leave", "flagops_streams::serve_command::serve", "core::scope::entry"],
+    "a Mutex, or the word of a thread's end": ["flagops_streams::board::Board::leave", "flagops_streams::serve_command::serve", "progress::terminal::TerminalLine::end", "core::scope::entry"],
 }  # fmt: skip
 KNOWN = {place: word for word, places in BEHIND.items() for place in places}
 
