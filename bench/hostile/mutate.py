@@ -11,6 +11,7 @@ A run is bad where it is ended by a signal, takes more than 2 seconds of a proce
 to one, refuses without a name, changes or leaves a file that it should not, or where what it prints does not read back: a plan is
 to verify, a new document to be good, a book or a tally to be read, a picture to be XML. The same seed gives the same runs, all of
 a few starts of the program (`forks.c`). The last line is 'N cases, M bad'; ends with 1 where M is not 0."""
+import functools
 import json
 import os
 import random
@@ -306,10 +307,24 @@ def is_picture(text):
     return ElementTree.fromstring(text).tag == "{http://www.w3.org/2000/svg}svg"
 
 
+@functools.lru_cache(maxsize=64)
+def spans(text):
+    """The places of the tokens of a text."""
+    return [found.span() for found in TOKEN.finditer(text)] or [(0, len(text))]
+
+
+def places_in(text, draw):
+    """Places of tokens: all, or in a text of more than 16 KB those of 4 KB of it."""
+    if len(text) <= 16_384:
+        return spans(text)
+    start = draw.randrange(len(text) - 4_096)
+    return [(start + one, start + other) for one, other in spans(text[start : start + 4_096])]
+
+
 def mutated(text, draw):
     """A file with one to three mutations."""
     for _ in range(draw.choice([1, 1, 2, 3])):
-        places = [found.span() for found in TOKEN.finditer(text)] or [(0, len(text))]
+        places = places_in(text, draw)
         start, end = draw.choice(places)
         kind = draw.randrange(9)
         if kind == 0:
