@@ -25,6 +25,7 @@
 mod applying;
 mod asked;
 mod doubts;
+mod judging;
 mod ramping;
 mod refusal;
 mod remarks;
@@ -34,10 +35,12 @@ mod verifying;
 mod words;
 
 pub use applying::apply_step;
-pub use asked::Verifying;
-pub use doubts::{Sources, first_of, settled};
-pub use ramping::{counted, of_steps, ramp};
+pub use asked::{Ramping, Verifying};
+pub use doubts::{doubted, first_of};
+pub use judging::{RightAnswers, load_answers, out_of_memory};
+pub use ramping::ramp;
 pub use refusal::{RampRefusal, StepCall};
-pub use remarks::of_steps_in;
 pub use reports::{Told, finish};
-pub use verifying::{Paths, load_ramp, out_of_memory, verify_ramp, wrong};
+pub use usage::with_steps;
+pub use verifying::verify_ramp;
+pub use words::verifying_in;

@@ -7,12 +7,12 @@ use Rattle.flagops_ramps.proofs.ramping.answer.Goals as goal
 
 pub returns-in-Ok : goal.returns-in-Ok
 returns-in-Ok g c =
-    let q = book_question_view c.args.question.now in
+    let q = book_question_view c.args.question in
     let a = c.args.asked.now in
-    steps_report a.strict (option_map (λ m. m.number) a.refine) q (requests_view c.as_slice-in-Ok.result.now) c.answers.result
-    (ap steps_of (sym c.as_slice.ensures.value) ∙ c.in-Ok.ensures.exact ∙ ap Ok (ap requests_view (sym c.as_slice-in-Ok.ensures.value))) c.answers.ensures
+    steps_report a.strict (option_map (λ m. m.number) a.refine) q (requests_view c.as_slice-in-Ok.result.now) c.over.result
+    (ap steps_of (sym c.as_slice.ensures.value) ∙ c.in-Ok.ensures.exact ∙ ap Ok (ap requests_view (sym c.as_slice-in-Ok.ensures.value))) c.over.ensures
 
 pub returns-in-Err : goal.returns-in-Err
 returns-in-Err g c =
-    steps_refused c.args.asked.now.strict (option_map (λ m. m.number) c.args.asked.now.refine) (book_question_view c.args.question.now) c.in-Err.fault c.refused.result (c.refused.ensures ∙ ap Ramp c.of_steps.ensures)
+    steps_refused c.args.asked.now.strict (option_map (λ m. m.number) c.args.asked.now.refine) (book_question_view c.args.question) c.in-Err.fault c.refused.result (c.refused.ensures ∙ ap Ramp c.of_steps.ensures)
     (λ other. ap steps_of (sym c.as_slice.ensures.value) ∙ c.in-Err.ensures.exact other)
