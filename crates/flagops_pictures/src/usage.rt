@@ -1,14 +1,17 @@
 //! What `picture` and `plan --picture` take, in the terms of `clap`.
 ghost use Rattle.std.specs.Prelude.{◌≡◌, IfOk, codes, false};
-ghost use Rattle.clap.specs.Simple.{new_app, with_rule};
+ghost use Rattle.clap.specs.Simple.{with_rule};
 ghost use Rattle.clap.specs.Words.{app_of, rule_of};
 ghost use Rattle.flagops_pictures.specs.Words.{picture_app, picture_option, plan_app, ramp_app};
-ghost use Rattle.flagops_ramps.specs.Words.{with_steps};
 ghost use Rattle.flagops_words.specs.Words.{flag, strict_flag, with_rollout};
 
 use clap::{Arg, Command};
+use flagops_ramps::with_steps;
 use flagops_words::arguments::{flag, refine, required, strict};
 use std::alloc::{AllocError, Global};
+
+/// What the book of a rollout is.
+const BOOK: &str = "The book of recorded inputs";
 
 /// What `--refine` says of a plan that is drawn.
 const REFINED: &str = "The factor that the plan was made with";
@@ -40,7 +43,12 @@ pub(crate) fn ramp<'a>(alloc: Global) -> Result<Command<'a>, AllocError>
         "ramp",
         "Draw each step of a rollout, one below the other",
     );
-    steps(alloc)?
+    let command = Command::new(alloc, "picture")
+        .bin_name("flagops picture")?
+        .about(
+            "Prints the pictures of a rollout in steps as SVG: what each moves, and what it costs",
+        );
+    with_steps(alloc, command, BOOK)?
         .arg(answers)?
         .arg(ramp)?
         .arg(refine(alloc, REFINED))
@@ -84,33 +92,12 @@ fn picture_file<'a>(alloc: Global) -> Arg<'a>
         .help("The file that the picture of the plan is written to")
 }
 
-/// The command `picture` with the files of a rollout in steps.
-fn steps<'a>(alloc: Global) -> Result<Command<'a>, AllocError>
-    ensures app { IfOk result (λ c. app_of c ≡ with_steps (new_app (codes "picture"))) }
-{
-    let document = required(alloc, "DOC", "The flag document");
-    let request = required(
-        alloc,
-        "STEPS",
-        "The file of the rollout request, with \"steps\", a list of totals, for \"totals\"",
-    );
-    let book = required(alloc, "BOOK", "The book of recorded inputs");
-    Command::new(alloc, "picture")
-        .bin_name("flagops picture")?
-        .about(
-            "Prints the pictures of a rollout in steps as SVG: what each moves, and what it costs",
-        )
-        .arg(document)?
-        .arg(request)?
-        .arg(book)
-}
-
 /// A command with the files of a rollout.
 fn rollout<'a>(alloc: Global, command: Command<'a>) -> Result<Command<'a>, AllocError>
     ensures app { IfOk result (λ c. app_of c ≡ with_rollout (app_of command.entry)) }
 {
     let document = required(alloc, "DOC", "The flag document");
     let request = required(alloc, "REQUEST", "The file of the rollout request");
-    let book = required(alloc, "BOOK", "The book of recorded inputs");
+    let book = required(alloc, "BOOK", BOOK);
     command.arg(document)?.arg(request)?.arg(book)
 }
