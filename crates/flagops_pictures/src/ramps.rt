@@ -18,9 +18,7 @@ use flag_defs::Flags;
 use flag_text::Outlet;
 use flagops_commands::{explain, remark_in};
 use flagops_files::{FileSet, Outcome, Status};
-use flagops_ramps::{
-    RightAnswers, Told, Verifying, doubted, finish, load_answers, out_of_memory,
-};
+use flagops_ramps::{RightAnswers, Told, Verifying, doubted, finish, load_answers, out_of_memory};
 use flagops_words::factor_number;
 use page_tally::BookFile;
 use picture::{draw_step, page};

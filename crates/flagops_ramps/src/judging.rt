@@ -120,7 +120,13 @@ fn over<R: Threads + Sync>(
 {
     let mut question = question;
     let refine = asked.rollout.refine;
-    let Ok(()) = count(rt, alloc, &mut question, steps.as_slice(), factor_of(refine)) else {
+    let Ok(()) = count(
+        rt,
+        alloc,
+        &mut question,
+        steps.as_slice(),
+        factor_of(refine),
+    ) else {
         return Err(out_of_memory());
     };
     match verify_steps(
