@@ -120,13 +120,8 @@ fn over<R: Threads + Sync>(
 {
     let mut question = question;
     let refine = asked.rollout.refine;
-    let Ok(()) = count(
-        rt,
-        alloc,
-        &mut question,
-        steps.as_slice(),
-        factor_of(refine),
-    ) else {
+    let factor = factor_of(refine);
+    let Ok(()) = count(rt, alloc, &mut question, steps.as_slice(), factor) else {
         return Err(out_of_memory());
     };
     match verify_steps(

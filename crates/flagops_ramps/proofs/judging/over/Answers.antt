@@ -5,16 +5,16 @@ use Rattle.ramp_steps.specs.Steps.{requests_view}
 use Rattle.flagops_ramps.proofs.Stepped.{found_right, found_wrong}
 use Rattle.flagops_ramps.proofs.judging.over.Goals as goal
 
-pub returns-in-Ok-clause-exact : goal.returns-in-Ok-clause-exact
-returns-in-Ok-clause-exact g c =
+pub returns-in-Ok-verify_steps-clause-exact : goal.returns-in-Ok-verify_steps-clause-exact
+returns-in-Ok-verify_steps-clause-exact g c =
     let a = c.args.asked.now.rollout in
     found_right (option_map (λ m. m.number) a.refine) (book_question_view c.args.question) c.count.new.question (requests_view c.args.steps.items) (map planned_view c.args.answers.items) c.count.ensures.kept
-    (rw (c.as_slice-2.ensures.value, c.as_slice-3.ensures.value, c.factor_number.ensures.value) at c.in-Ok.ensures)
+    (rw (c.as_slice-2.ensures.value, c.as_slice-3.ensures.value, c.factor_number.ensures.value) at c.in-Ok-verify_steps.ensures)
 
-pub returns-in-Ok-clause-right : goal.returns-in-Ok-clause-right
-returns-in-Ok-clause-right g c = record {
+pub returns-in-Ok-verify_steps-clause-right : goal.returns-in-Ok-verify_steps-clause-right
+returns-in-Ok-verify_steps-clause-right g c = record {
   few = c.requires;
-  right = rw (c.as_slice-2.ensures.value, c.as_slice-3.ensures.value, c.factor_number.ensures.value) at c.in-Ok.ensures;
+  right = rw (c.as_slice-2.ensures.value, c.as_slice-3.ensures.value, c.factor_number.ensures.value) at c.in-Ok-verify_steps.ensures;
 }
 
 pub returns-in-Err-clause-exact : goal.returns-in-Err-clause-exact
