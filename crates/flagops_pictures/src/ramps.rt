@@ -96,8 +96,8 @@ fn drawn<R: Threads + Sync>(
     requires { AreRightAnswers (option_map (λ m. m.number) asked.now.rollout.refine) right.now }
     ensures { IfOk result (λ o. IsRampPictureOf (option_map (λ m. m.number) asked.now.rollout.refine) (Ok (answered_view right.now)) (Ok (outcome_view o))) }
 {
-    let (question, steps) = (&right.question, right.steps.as_slice());
-    let doubted = doubted(rt, alloc, &asked.rollout, question, steps)?;
+    let steps = right.steps.as_slice();
+    let doubted = doubted(rt, alloc, &asked.rollout, &right.question, steps)?;
     let text = sheet(rt, alloc, factor_number(asked.rollout.refine), right)?;
     Ok(Outcome {
         text: text.into_bytes(),

@@ -12,7 +12,7 @@ pub returns-in-Ok : goal.returns-in-Ok
 returns-in-Ok g c =
     let a = c.args.right.now in
     let doubt = doubt_of_steps (book_question_view a.question) (requests_view a.steps.items) in
-    told_so (settle call.VerifyRamp c.args.asked.now.rollout.strict doubt) (is_some c.in-Ok.remark) (report_valid (map planned_view a.answers.items)) c.valid.result (rw c.as_slice-steps.ensures.value at c.in-Ok.ensures) (rw c.as_slice-in-Ok.ensures.value at c.valid.ensures)
+    told_so (settle call.VerifyRamp c.args.asked.now.rollout.strict doubt) (is_some c.in-Ok.remark) (report_valid (map planned_view a.answers.items)) c.valid.result (rw c.as_slice-steps.ensures.value at c.in-Ok.ensures) (rw c.as_slice.ensures.value at c.valid.ensures)
 
 pub returns-in-Err : goal.returns-in-Err
 returns-in-Err g c =
