@@ -76,23 +76,7 @@ fn against<R: Threads + Sync, F: FileSet>(
     ensures right { IfOk result (AreRightAnswers (option_map (λ m. m.number) asked.now.rollout.refine)) }
     ensures kept { F.holding files.new ≡ F.holding files.old }
 {
-    match load_ramp(alloc, files, asked.ramp) {
-        Ok(answers) => judged(rt, alloc, asked, question, answers),
-        Err(told) => Err(told),
-    }
-}
-
-/// The same of answers that were loaded.
-fn judged<R: Threads + Sync>(
-    rt: &R,
-    alloc: Global,
-    asked: &Verifying<'_>,
-    question: BookQuestion,
-    answers: Vec<Planned>,
-) -> Result<RightAnswers, Told>
-    ensures exact { GivesOne answered_view result (IsFoundOf (option_map (λ m. m.number) asked.now.rollout.refine) (Ok (book_question_view question)) (Ok (map planned_view answers.items))) }
-    ensures right { IfOk result (AreRightAnswers (option_map (λ m. m.number) asked.now.rollout.refine)) }
-{
+    let answers = load_ramp(alloc, files, asked.ramp)?;
     match read_steps(alloc, question.request.as_slice()) {
         Ok(steps) => over(rt, alloc, asked, question, steps, answers),
         Err(fault) => {

@@ -1,17 +1,17 @@
 //! The command `ramp`.
-ghost use Rattle.std.specs.Prelude.{◌≡◌, ◌<◌, ◌≤◌, false, is_some, length, map, option_map, IfSome, Ok};
+ghost use Rattle.std.specs.Prelude.{◌≡◌, ◌<◌, false, is_some, map, option_map, IfSome, Ok};
 ghost use Rattle.std.specs.List.{All};
 ghost use Rattle.flag_text.specs.Outcome.{GivesUnless};
 ghost use Rattle.flagops_files.specs.Question.{book_question_view};
 ghost use Rattle.flagops_files.specs.Report.{outcome_view, status_number};
 ghost use Rattle.flagops_ramps.specs.Doubts.{beside, doubt_of_steps, settle};
 ghost use Rattle.flagops_ramps.specs.Ended.{AnswersRamp, TellsRamp};
-ghost use Rattle.flagops_ramps.specs.Ramp.{IsRampOf, IsRampOver, IsRampReport, of_steps, ramp_status, report_ramp};
+ghost use Rattle.flagops_ramps.specs.Ramp.{IsRampOf, IsRampReport, of_steps, ramp_status, report_ramp};
 ghost use Rattle.flagops_ramps.specs.Report.{GivesOne, GivesUnlessWant};
 ghost use Rattle.flagops_ramps.specs.Words.{ramping_view};
 ghost use Rattle.plan_text.specs.Answer.{planned_view};
 ghost use Rattle.plan_text.specs.PlanFile.{IsWhole};
-ghost use Rattle.ramp_steps.specs.Steps.{most_steps, requests_view};
+ghost use Rattle.ramp_steps.specs.Steps.{requests_view};
 
 use crate::asked::Ramping;
 use crate::doubts::{first_request, settled};
@@ -95,30 +95,18 @@ fn answer<R: Threads + Sync>(
 ) -> Result<Outcome, Told>
     ensures { GivesOne outcome_view result (IsRampOf asked.now.strict (option_map (λ m. m.number) asked.now.refine) (Ok (book_question_view question))) }
 {
-    match read_steps(alloc, question.request.as_slice()) {
-        Ok(steps) => over(rt, alloc, asked, question, steps.as_slice()),
-        Err(fault) => Err(refused(alloc, asked.steps, &question, of_steps(fault))),
-    }
-}
-
-/// The report on steps.
-fn over<R: Threads + Sync>(
-    rt: &R,
-    alloc: Global,
-    asked: &Ramping<'_>,
-    question: BookQuestion,
-    steps: &[Vec<u8>],
-) -> Result<Outcome, Told>
-    requires { length steps.now ≤ most_steps }
-    ensures { GivesOne outcome_view result (IsRampOver asked.now.strict (option_map (λ m. m.number) asked.now.refine) (book_question_view question) (Ok (requests_view steps.now))) }
-{
+    let steps = match read_steps(alloc, question.request.as_slice()) {
+        Ok(steps) => steps,
+        Err(fault) => return Err(refused(alloc, asked.steps, &question, of_steps(fault))),
+    };
     let mut question = question;
+    let requests = steps.as_slice();
     let factor = factor_of(asked.refine);
-    let Ok(()) = count(rt, alloc, &mut question, steps, factor) else {
+    let Ok(()) = count(rt, alloc, &mut question, requests, factor) else {
         return Err(out_of_memory());
     };
-    match plan_steps(rt, alloc, &question.flags, steps, &question.book, factor) {
-        Ok(answers) => told(rt, alloc, asked, &question, steps, answers.as_slice()),
+    match plan_steps(rt, alloc, &question.flags, requests, &question.book, factor) {
+        Ok(answers) => told(rt, alloc, asked, &question, requests, answers.as_slice()),
         Err(fault) => Err(refused(alloc, asked.steps, &question, fault)),
     }
 }
