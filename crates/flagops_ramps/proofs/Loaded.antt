@@ -104,6 +104,12 @@ pub read_so : (holding : Option Holding) (path : List ℕ) (refine : Option ℕ)
 read_so None path refine q answers r is gives = tt
 read_so (Some at) path refine q answers r is gives = subst (λ (x : Result (List Answer) RampRefusal). GivesOne answered_view r (IsFoundOf refine (Ok (book_question_view q)) x)) (sym is) gives
 
+-- and whose steps are refused
+pub read_unfound : (holding : Option Holding) (path : List ℕ) (refine : Option ℕ) (q : BookQuestion) (answers : List Answer) (e : RampRefusal) → IfSome holding (λ at. answers_at at path ≡ Ok answers) → (is_want e ≡ false → IsFoundOf refine (Ok (book_question_view q)) (Ok answers) (Err e))
+    → IfSome holding (λ at. is_want e ≡ false → IsFoundOf refine (Ok (book_question_view q)) (answers_at at path) (Err e))
+read_unfound None path refine q answers e is unfound = tt
+read_unfound (Some at) path refine q answers e is unfound = λ no_want. subst (λ (x : Result (List Answer) RampRefusal). IsFoundOf refine (Ok (book_question_view q)) x (Err e)) (sym is) (unfound no_want)
+
 -- ---- the bytes of answers
 
 abbrev pub seen : Vec Planned Global → List Answer
