@@ -55,13 +55,8 @@ where
     match read_ramp(alloc, words) {
         Ok(asked) => {
             let came = pictured(rt, alloc, files, &asked);
-            finish(
-                alloc,
-                came,
-                b"refused verify-ramp 0 WantOfMemory\n",
-                out,
-                err,
-            )
+            let line = b"refused verify-ramp 0 WantOfMemory\n";
+            finish(alloc, came, line, out, err)
         }
         Err(error) => explain(alloc, &error, out, err),
     }
