@@ -9,6 +9,5 @@ pub mod Noting
 pub mod Ordered
 pub mod Paged
 pub mod Printed
-mod Quoted
 pub mod Taken
 pub mod United

@@ -6,7 +6,6 @@ pub mod Lines
 pub mod Listing
 pub mod Page
 pub mod PageOrder
-pub mod Plain
 pub mod Printing
 pub mod Reading
 pub mod Site

@@ -11,16 +11,18 @@ ghost use Rattle.book_core.specs.Reading.{is_feed, is_header, is_book_shape, is_
 
 use crate::fault::BookFileFault;
 use crate::page::Page;
-use crate::plain::plain_text;
-use flag_text::{TextFault, Tree, read_tree};
+use flag_text::{TextFault, Tree, plain_text, read_tree};
 use limits::SITES;
 use std::alloc::{AllocError, Global};
 
-/// What a line stands for.
+/// What a line of a book file stands for.
 #[derive(Drop)]
-pub(crate) enum Line {
+pub enum Line {
+    /// The page that the lines behind it are of.
     Page(Page),
+    /// An input of that page.
     Input(String),
+    /// What no book has.
     Other,
 }
 
@@ -48,7 +50,7 @@ impl<'a> Lines<'a> {
             return Ok(None);
         }
         self.taken += 1;
-        match cut(bytes) {
+        match cut_line(bytes) {
             Some((line, rest)) => {
                 self.rest = rest;
                 Ok(Some(read_line(alloc, line)?))
@@ -61,8 +63,8 @@ impl<'a> Lines<'a> {
     }
 }
 
-/// The bytes before the first line feed, and those after it.
-pub(crate) fn cut(bytes: &[u8]) -> Option<(&[u8], &[u8])>
+/// The bytes before the first line feed, and those after it; None where there is no line feed.
+pub fn cut_line(bytes: &[u8]) -> Option<(&[u8], &[u8])>
     ensures parts { MatchOption result (slice_split is_feed bytes.now ≡ bytes.now ∷ [])
         (λ r. slice_split is_feed bytes.now ≡ r.0.now ∷ slice_split is_feed r.1.now) }
     ensures lengths { IfSome result (λ r. length r.0.now + length r.1.now + 1 ≡ length bytes.now) }
@@ -73,7 +75,8 @@ pub(crate) fn cut(bytes: &[u8]) -> Option<(&[u8], &[u8])>
     }
 }
 
-fn feed_at(bytes: &[u8]) -> Option<usize>
+/// Where the first line feed stands.
+pub fn feed_at(bytes: &[u8]) -> Option<usize>
     ensures { result ≡ position is_feed bytes.now }
 {
     bytes.iter().position(|b| *b == b'\n')
@@ -90,9 +93,9 @@ fn read_line(alloc: Global, bytes: &[u8]) -> Result<Line, BookFileFault>
     }
 }
 
-/// What a line stands for, by its tree.
+/// What a line stands for, by its tree. It fails only where memory runs out.
 #[tactic(auto, unfolding(crate::specs::Reading::line_of))]
-fn read_as_tree(alloc: Global, bytes: &[u8]) -> Result<Line, BookFileFault>
+pub fn read_as_tree(alloc: Global, bytes: &[u8]) -> Result<Line, BookFileFault>
     ensures { GivesUnless BookFileFault.WantOfMemory line_view result (Ok (line_of bytes.now)) }
 {
     match read_tree(alloc, bytes, bytes.len()) {
@@ -168,8 +171,8 @@ fn by_in(tree: &Tree) -> Option<Option<&str>>
     }
 }
 
-/// Whether a line is the first one of a book.
-pub(crate) fn is_header(alloc: Global, bytes: &[u8]) -> Result<bool, BookFileFault>
+/// Whether a line is the first one of a book. It fails only where memory runs out.
+pub fn is_header(alloc: Global, bytes: &[u8]) -> Result<bool, BookFileFault>
     ensures { GivesUnless BookFileFault.WantOfMemory (λ b. b) result (Ok (is_header (tree_of bytes.now (length bytes.now)))) }
 {
     match read_tree(alloc, bytes, bytes.len()) {

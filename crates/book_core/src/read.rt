@@ -13,7 +13,7 @@ ghost use Rattle.book_core.specs.Reading.{FileLine, book_of, comes_after, ends_p
 use crate::book::Book;
 use crate::fault::BookFileFault;
 use crate::inputs::{PageInputs, is_above};
-use crate::line::{Line, Lines, cut, is_header};
+use crate::line::{Line, Lines, cut_line, is_header};
 use crate::page::Page;
 use limits::{INPUT_BYTES, PAGE_INPUTS};
 use std::alloc::Global;
@@ -28,7 +28,7 @@ use std::collections::BTreeMap;
 pub fn read_book(alloc: Global, bytes: &[u8]) -> Result<Book, BookFileFault>
     ensures { GivesUnless BookFileFault.WantOfMemory (λ book. book) result (book_of bytes.now) }
 {
-    match cut(bytes) {
+    match cut_line(bytes) {
         None => Err(unended(is_header(alloc, bytes)?)),
         Some((first, rest)) => {
             if !is_header(alloc, first)? {

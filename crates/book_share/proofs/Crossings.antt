@@ -74,8 +74,10 @@ Flags-sync = search (sendable, crosses, Flag-sync) depth 40
 Kind-sync : IsSync Kind.the_row
 Kind-sync = search (sendable, crosses) depth 40
 
-pub Ask-sync : IsSync Ask.the_row
-Ask-sync = declared_sync Ask.the_type (search (sendable, crosses) depth 40, (Kind-sync, (Tree-sync, (Tree-sync, (search (sendable, crosses) depth 40, tt)))))
+pub Ask-sync : (κ : NamedLft) → IsSync (Ask.the_row κ)
+Ask-sync κ =
+    declared_sync (Ask.the_type κ)
+    (search (sendable, crosses) depth 40, (Kind-sync, (search (sendable, crosses, Tree-sync) depth 40, (search (sendable, crosses, Tree-sync) depth 40, (search (sendable, crosses) depth 40, tt)))))
 
 pub Book-send : IsSend Book.the_row
 Book-send = search (sendable, crosses, maps) depth 60
@@ -100,14 +102,14 @@ module _ (T : RattleType) (g : BookName.Ghosts T.Denot) (send : IsSend T) (sync 
   pub SharedBook-sync : IsSync (SharedBook.the_row T g)
   SharedBook-sync = declared_sync (SharedBook.the_type T g) (BookLock-sync, (search (sendable, crosses) depth 40, (search (sendable, crosses) depth 40, tt)))
 
-  module _ (κ : NamedLft) (G : RattleType) (h : Gate.Ghosts G.Denot) (gate : IsSync G) where
-    pub round_sync : IsSync (Round.the_row κ T G g h)
+  module _ (κ μ : NamedLft) (G : RattleType) (h : Gate.Ghosts G.Denot) (gate : IsSync G) where
+    pub round_sync : IsSync (Round.the_row κ μ T G g h)
     round_sync =
-        declared_sync (Round.the_type κ T G g h)
+        declared_sync (Round.the_type κ μ T G g h)
         (search (sendable, crosses, SharedBook-sync) depth 40, (search (sendable, crosses, Flags-sync) depth 40, (search (sendable, crosses, Ask-sync) depth 40, (search (sendable, crosses) depth 40, (search (sendable, crosses) depth 40, (search (sendable, crosses, maps, Page-sync) depth 60, tt))))))
 
     -- the captures of a worker's closure: the handle, the allocator and the round
-    pub worker_sync : (ν : Sym) (r a w : NamedLft) (R : RattleType) → IsSync R → IsSync (TupleAt ν (ShrRef r.mir r.lft R ∷ ShrRef a.mir a.lft Global.the_row ∷ ShrRef w.mir w.lft (Round.the_row κ T G g h) ∷ []))
+    pub worker_sync : (ν : Sym) (r a w : NamedLft) (R : RattleType) → IsSync R → IsSync (TupleAt ν (ShrRef r.mir r.lft R ∷ ShrRef a.mir a.lft Global.the_row ∷ ShrRef w.mir w.lft (Round.the_row κ μ T G g h) ∷ []))
     worker_sync ν r a w R s =
-        captured_sync ν (ShrRef r.mir r.lft R) (ShrRef a.mir a.lft Global.the_row) (ShrRef w.mir w.lft (Round.the_row κ T G g h))
-        (shr_sync r.mir r.lft R s) (shr_sync a.mir a.lft Global.the_row Global-sync) (shr_sync w.mir w.lft (Round.the_row κ T G g h) round_sync)
+        captured_sync ν (ShrRef r.mir r.lft R) (ShrRef a.mir a.lft Global.the_row) (ShrRef w.mir w.lft (Round.the_row κ μ T G g h))
+        (shr_sync r.mir r.lft R s) (shr_sync a.mir a.lft Global.the_row Global-sync) (shr_sync w.mir w.lft (Round.the_row κ μ T G g h) round_sync)

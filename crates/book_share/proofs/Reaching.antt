@@ -6,7 +6,7 @@ use Rattle.std.proofs.lemmas.List.{map-append}
 use Rattle.std.proofs.lemmas.List.Elements.{All-push}
 use Rattle.std.proofs.lemmas.List.Sums.{sum_by-append}
 use Rattle.std.proofs.lemmas.Option.{slice_get-get_or}
-use Rattle.std.specs.Prelude.{string_bytes, All, count_by, slice_get, Result, Ok, Err, IfOk}
+use Rattle.std.specs.Prelude.{All, count_by, slice_get, Result, Ok, Err, IfOk}
 use Rattle.flag_defs.specs.Document.{Definitions}
 use Rattle.logic_ast.specs.Expression.{Expression}
 use Rattle.logic_evaluator.specs.Run.{Reach}
@@ -116,13 +116,13 @@ one_as key t site page input text old new page_is text_is notes =
     (subst (λ s. Notes (cond (nat_lt most_bytes (length s)) [] (mention page s ∷ [])) old new) text_is notes)
 
 -- what was reached is what the resolution tells
-pub noted_as : (flags : Definitions) (a : Ask) (key : List ℕ) (rs : List Reached) (r : Resolution) (old new : List Mention) → key ≡ string_bytes a.key → rs ≡ r.reached.items → resolution_view r ≡ resolved flags a
+pub noted_as : (flags : Definitions) (a : Ask) (key : List ℕ) (rs : List Reached) (r : Resolution) (old new : List Mention) → key ≡ a.key.now → rs ≡ r.reached.items → resolution_view r ≡ resolved flags a
     → Notes (mentions_in key (targeting_of flags key) (map reach_view rs)) old new → Notes (mentions_of flags a) old new
 unfolding mentions_of
 noted_as flags a key rs r old new key_is rs_is r_is notes =
     subst (λ l. Notes l old new)
     (ap (λ k. mentions_in k (targeting_of flags k) (map reach_view rs)) key_is
-    ∙ ap (mentions_in (string_bytes a.key) (targeting_of flags (string_bytes a.key))) (ap (map reach_view) rs_is ∙ ap (λ x. x.reached) r_is)) notes
+    ∙ ap (mentions_in a.key.now (targeting_of flags a.key.now)) (ap (map reach_view) rs_is ∙ ap (λ x. x.reached) r_is)) notes
 
 found_at : (asks : List Ask) (n : ℕ) (x : Ask) → n < length asks → x ≡ get_or asks n x → slice_get asks n ≡ Some x
 found_at asks n x within at = slice_get-get_or asks n x within ∙ ap Some (sym at)

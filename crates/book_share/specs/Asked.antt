@@ -1,5 +1,5 @@
 -- What asks are answered, and what they reach.
-use Rattle.std.specs.Prelude.{ℕ, zero, suc, ◌-◌, List, [], ◌∷◌, ◌++◌, length, count_by, sum_by, Bool, ◌&&◌, nat_lt, if◌then◌else◌, Option, Some, None, Result, Ok, Err, option_and_then, string_bytes}
+use Rattle.std.specs.Prelude.{ℕ, zero, suc, ◌-◌, List, [], ◌∷◌, ◌++◌, length, count_by, sum_by, Bool, ◌&&◌, nat_lt, if◌then◌else◌, Option, Some, None, Result, Ok, Err, option_and_then}
 use Rattle.std.specs.Map.{lookup}
 use Rattle.std.specs.Str.{bytes_eq}
 use Rattle.flag_text.specs.View.{view}
@@ -18,8 +18,8 @@ use Rattle.book_share.specs.declared.ask.Ask.{Ask}
 -- what the flags resolve an ask to
 unfoldable pub resolved : Definitions → Ask → Resolved
 resolved flags a =
-    resolution_of (Some flags) (record { want = a.want; default = view a.default })
-    (record { context = view a.context; flag = string_bytes a.key; moment = a.moment })
+    resolution_of (Some flags) (record { want = a.want; default = view a.default.now })
+    (record { context = view a.context.now; flag = a.key.now; moment = a.moment })
 
 -- an input that is to be noted on a page
 pub record Mention : Type 0 where
@@ -59,7 +59,7 @@ mentions_in key targeting (r ∷ rs) =
 
 -- those of an ask
 unfoldable pub mentions_of : Definitions → Ask → List Mention
-mentions_of flags a = mentions_in (string_bytes a.key) (targeting_of flags (string_bytes a.key)) (resolved flags a).reached
+mentions_of flags a = mentions_in a.key.now (targeting_of flags a.key.now) (resolved flags a).reached
 
 -- those of all asks, in the order of the asks
 abbrev pub mentions : Definitions → List Ask → List Mention

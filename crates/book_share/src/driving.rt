@@ -53,11 +53,11 @@ pub struct Driven {
 /// It is refused with NoWorkers and TooManyWorkers (more than 64), then with Stalled where the gate refuses an ask
 /// 1000000 times. A refusal comes after all workers have ended, and drops the book. The gate is told of each ask that was
 /// answered. The condition is fewer than 2^32 asks.
-pub fn drive<G: Gate, R: Threads + Wait + Sync>(
+pub fn drive<'x, G: Gate, R: Threads + Wait + Sync>(
     rt: &R,
     alloc: Global,
     flags: &Flags,
-    asks: &[Ask],
+    asks: &'x [Ask<'x>],
     workers: usize,
     gate: &G,
 ) -> Result<Driven, DriveFault>
@@ -91,13 +91,13 @@ fn blanks_of(alloc: Global, workers: usize) -> Result<Blanks, DriveFault>
 }
 
 /// Drives with a worker for each seat of the blanks.
-fn driven_by<L: BookName + Send + Sync, G: Gate, R: Threads + Wait + Sync>(
+fn driven_by<'x, L: BookName + Send + Sync, G: Gate, R: Threads + Wait + Sync>(
     rt: &R,
     alloc: Global,
     blanks: Blanks,
     workers: usize,
     flags: &Flags,
-    asks: &[Ask],
+    asks: &'x [Ask<'x>],
     gate: &G,
 ) -> Result<Driven, DriveFault>
     requires name { (blanks.table ≡ L.table) × (blanks.seats ≡ L.seats) }

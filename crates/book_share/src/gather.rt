@@ -55,7 +55,7 @@ fn jobs_of<L: BookName>(
 pub(crate) fn parts_of<L: BookName + Send + Sync, G: Gate, R: Threads + Wait + Sync>(
     rt: &R,
     alloc: Global,
-    round: &Round<'_, L, G>,
+    round: &Round<'_, '_, L, G>,
     seats: Vec<Seat<L>>,
 ) -> Result<Vec<Result<Part<L>, DriveFault>>, AllocError>
     requires fresh { seats.items ≡ unseen round.now.step }
@@ -81,7 +81,7 @@ pub(crate) fn parts_of<L: BookName + Send + Sync, G: Gate, R: Threads + Wait + S
 /// What the workers made, put together; or the refusal of one of them.
 pub(crate) fn gathered<L: BookName, G: Gate>(
     alloc: Global,
-    round: &Round<'_, L, G>,
+    round: &Round<'_, '_, L, G>,
     parts: Vec<Result<Part<L>, DriveFault>>,
 ) -> Result<Harvest<L>, DriveFault>
     ensures len { IfOk result (λ h. length h.seats.items ≡ length parts.items) }

@@ -18,13 +18,13 @@ use std::collections::BTreeMap;
 pub(crate) fn known_pages(
     alloc: Global,
     flags: &Flags,
-    asks: &[Ask],
+    asks: &[Ask<'_>],
 ) -> Result<BTreeMap<String, Vec<Page>>, AllocError>
     ensures { IfOk result (λ known. AreKnown (flags_view flags.now) known.entries) }
 {
     let mut known = BTreeMap::new(alloc);
     for ask in asks {
-        let key = ask.key.as_str();
+        let key = ask.key;
         if !known.contains_key(key) {
             add_pages(alloc, flags, key, &mut known)?;
         }
@@ -50,7 +50,7 @@ fn add_pages(
 }
 
 /// The targeting of the flag of a key.
-pub(crate) fn targeting_of<'a>(flags: &'a Flags, key: &str) -> Option<&'a Expr>
+pub fn targeting_of<'a>(flags: &'a Flags, key: &str) -> Option<&'a Expr>
     ensures { option_map (λ e. view e.now) result ≡ targeting_named (flags_view flags.now) key.now }
 {
     flags.get(key)?.targeting()

@@ -4,7 +4,7 @@
 //! use book_share::{Ask, Driven, OpenGate, drive};
 //! use flag_defs::Flags;
 //!
-//! fn driven<R: Threads + Wait + Sync>(rt: &R, alloc: Global, flags: &Flags, asks: &[Ask]) -> Result<Driven, Fail> {
+//! fn driven<R: Threads + Wait + Sync>(rt: &R, alloc: Global, flags: &Flags, asks: &[Ask<'_>]) -> Result<Driven, Fail> {
 //!     Ok(drive(rt, alloc, flags, asks, 8, &OpenGate)?)    // by 8 workers, each in a thread where one can be made
 //! }
 //! ```
@@ -30,3 +30,5 @@ pub use book_lock::{Blanks, BookName, SealFault, SealRefused, Seat, SeatsFault, 
 pub use drive_fault::DriveFault;
 pub use driving::{Driven, drive};
 pub use gate::{Attempt, Gate, OpenGate};
+pub use known::targeting_of;
+pub use reach::page_at;

@@ -17,7 +17,7 @@ use std::collections::VecDeque;
 pub(crate) fn in_order(
     alloc: Global,
     flags: &Flags,
-    asks: &[Ask],
+    asks: &[Ask<'_>],
     answers: VecDeque<VecDeque<Resolution>>,
 ) -> Result<Vec<Resolution>, AllocError>
     requires some { 0 < length answers.items }

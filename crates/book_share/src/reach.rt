@@ -98,8 +98,9 @@ fn note_unknown<L: BookName, R: Wait>(
     note_one(rt, alloc, book, seat, refused, &page, reach.input.as_str())
 }
 
-/// The page of a site of a targeting. A site that an evaluation reached is one of the targeting.
-fn page_at(
+/// The page of a site of the flag of a key with this targeting: that of the site's bucketing expression, where the targeting
+/// has such a site with one. It fails only where memory runs out.
+pub fn page_at(
     alloc: Global,
     key: &str,
     targeting: Option<&Expr>,

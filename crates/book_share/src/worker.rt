@@ -30,10 +30,10 @@ const MOST_ATTEMPTS: u32 = 1_000_000;
 
 /// What all workers share.
 #[derive(Drop)]
-pub(crate) struct Round<'a, L: BookName, G: Gate> {
+pub(crate) struct Round<'a, 'b, L: BookName, G: Gate> {
     pub(crate) book: &'a SharedBook<L>,
     pub(crate) flags: &'a Flags,
-    pub(crate) asks: &'a [Ask],
+    pub(crate) asks: &'b [Ask<'b>],
     pub(crate) gate: &'a G,
     pub(crate) step: usize,
     pub(crate) known: &'a BTreeMap<String, Vec<Page>>,
@@ -60,7 +60,7 @@ pub(crate) struct Part<L: BookName> {
 pub(crate) fn work<L: BookName, G: Gate, R: Wait>(
     rt: &R,
     alloc: Global,
-    round: &Round<'_, L, G>,
+    round: &Round<'_, '_, L, G>,
     job: Job<L>,
 ) -> Result<Part<L>, DriveFault>
     requires fresh { own job.seat ≡ [] }
@@ -90,7 +90,7 @@ pub(crate) fn work<L: BookName, G: Gate, R: Wait>(
 fn answered<L: BookName, G: Gate, R: Wait>(
     rt: &R,
     alloc: Global,
-    round: &Round<'_, L, G>,
+    round: &Round<'_, '_, L, G>,
     seat: &mut Seat<L>,
     refused: &mut Vec<Refusal>,
     ask: usize,
@@ -118,10 +118,10 @@ fn answered<L: BookName, G: Gate, R: Wait>(
 fn resolved<L: BookName, G: Gate, R: Wait>(
     rt: &R,
     alloc: Global,
-    round: &Round<'_, L, G>,
+    round: &Round<'_, '_, L, G>,
     seat: &mut Seat<L>,
     refused: &mut Vec<Refusal>,
-    ask: &Ask,
+    ask: &Ask<'_>,
 ) -> Result<Resolution, AllocError>
     requires room { length (own seat.old) ≤ 2 ^ 32 * most_units }
     ensures resolution { IfOk result (λ r. resolution_view r ≡ resolution_of_ask (flags_view round.now.flags.now) ask.now) }
@@ -130,7 +130,7 @@ fn resolved<L: BookName, G: Gate, R: Wait>(
     ensures grown { IfOk result (λ _. length (own seat.new) ≤ length (own seat.old) + most_units) }
 {
     let resolution = resolution(alloc, round.flags, ask)?;
-    let key = ask.key.as_str();
+    let key = ask.key;
     let sites = Sites {
         flags: round.flags,
         key,
@@ -149,16 +149,16 @@ fn resolved<L: BookName, G: Gate, R: Wait>(
 }
 
 #[tactic(auto, unfolding(crate::specs::Asked::resolved))]
-fn resolution(alloc: Global, flags: &Flags, ask: &Ask) -> Result<Resolution, AllocError>
+fn resolution(alloc: Global, flags: &Flags, ask: &Ask<'_>) -> Result<Resolution, AllocError>
     ensures { IfOk result (λ r. resolution_view r ≡ resolution_of_ask (flags_view flags.now) ask.now) }
 {
     resolve(
         alloc,
         Some(flags),
-        ask.key.as_str(),
+        ask.key,
         ask.want,
-        &ask.default,
-        &ask.context,
+        ask.default,
+        ask.context,
         ask.moment,
     )
 }

@@ -1,5 +1,5 @@
 -- A resolution looks at a scalar alone: of any other value it knows that it names no variant.
-use Rattle.std.proofs.Common.{◌≡◌, List, Bool, true, false, Result, Ok, Err, refl}
+use Rattle.std.proofs.Common.{◌≡◌, List, true, false, Result, Ok, Err, refl}
 use Rattle.flag_text.specs.Shape.{Shape, null, boolean, whole, other, text, list, object}
 use Rattle.flag_defs.specs.Definition.{Definition}
 use Rattle.flag_resolve.specs.Resolution.{Asked, evaluated, targeted}

@@ -31,10 +31,6 @@ resolution_shape r =
 unfoldable pub resolution_text : Resolved → List ℕ
 resolution_text r = text_of (resolution_shape r)
 
--- The text piece by piece: up to the list of what was reached, that list, and what follows it.
-abbrev pub front : Shape → List ℕ
-front code = codes "{\"code\":" ++ (text_of code ++ codes ",\"reached\":")
-
 -- what follows the first item in the text of a list
 abbrev pub others_text : List Shape → List ℕ
 others_text [] = codes "]"
@@ -43,7 +39,3 @@ others_text (t ∷ ts) = codes "," ++ (text_of t ++ others_text ts)
 abbrev pub list_text : List Shape → List ℕ
 list_text [] = codes "[]"
 list_text (t ∷ ts) = codes "[" ++ (text_of t ++ others_text ts)
-
-abbrev pub back : Shape → Shape → Shape → List ℕ
-back reason value variant =
-    codes ",\"reason\":" ++ (text_of reason ++ (codes ",\"value\":" ++ (text_of value ++ (codes ",\"variant\":" ++ (text_of variant ++ codes "}")))))

@@ -38,6 +38,6 @@ pub use cases::resolve;
 pub use code::Code;
 pub use flag_defs::Kind;
 pub use laws::the_same_value_resolves_alike;
-pub use print::print_resolution;
+pub use print::{print_resolution, push_resolution};
 pub use reason::Reason;
 pub use resolution::Resolution;

@@ -5,6 +5,7 @@ pub mod Halving
 mod Placed
 pub mod Printed
 pub mod Pushed
+pub mod Quoted
 pub mod Readings
 pub mod Rising
 mod Trees

@@ -2,6 +2,7 @@ pub mod Fault
 pub mod Grammar
 pub mod Outcome
 pub mod Outlet
+pub mod Plain
 pub mod Printing
 pub mod Readers
 pub mod Reading

@@ -17,7 +17,8 @@
 //!   give of the bytes, each refusal at its place in the order, unless memory runs out. The
 //!   definitions stand over `serde_json`'s own definition of a JSON text (RFC 8259).
 //! - [`print_tree`] gives `text_of` of `specs/Printing.antt`, which reads back as the same tree;
-//!   [`push_text`] adds that of one text to bytes.
+//!   [`push_text`] adds that of one text to bytes, [`push_string`] and [`push_tree`] add to a text. [`plain_text`] reads a
+//!   quoted text without an escape.
 //! - The readers of a tree, its test for whole numbers, its levels, its copy and its comparison are
 //!   what `specs/Readers.antt` and `specs/Shape.antt` say of its shape.
 //! - An [`Outlet`] shows its bytes and whether a write has failed; [`write_whole`] writes all of the
@@ -30,6 +31,7 @@ mod members;
 mod named;
 mod number;
 mod outlet;
+mod plain;
 mod print;
 mod push;
 mod read;
@@ -41,7 +43,8 @@ mod whole;
 pub use fault::TextFault;
 pub use named::{member_by_halving, position_of};
 pub use outlet::{Outlet, WriteOutlet, write_whole};
+pub use plain::plain_text;
 pub use print::print_tree;
-pub use push::push_text;
+pub use push::{push_string, push_text, push_tree};
 pub use read::{read_doc, read_tree, whole_tree};
 pub use tree::{MAX_WHOLE, Tree, is_in_range};

@@ -1,5 +1,5 @@
 -- What an asks file asks: a list of `{"key":text,"want":kind,"default":value,"context":object,"moment":n}`, each member required.
-use Rattle.std.specs.Prelude.{ℕ, ◌^◌, nat_lt, pos, List, [], ◌∷◌, length, codes, if◌then◌else◌, Option, Some, None, option_map, option_and_then, Result, Ok, Err, string_bytes}
+use Rattle.std.specs.Prelude.{ℕ, ◌^◌, nat_lt, pos, List, [], ◌∷◌, length, codes, if◌then◌else◌, Option, Some, None, option_map, option_and_then, Result, Ok, Err}
 use Rattle.flag_text.specs.Readers.{as_list, as_text, member_of}
 use Rattle.flag_text.specs.Shape.{Shape, whole, object, Items, no_items, item}
 use Rattle.flag_text.specs.View.{view}
@@ -8,7 +8,6 @@ use Rattle.flag_defs.specs.declared.kind.Kind.{Kind}
 use Rattle.book_share.specs.declared.ask.Ask as program
 use Rattle.flagops_drive.specs.declared.fault.DriveRefusal.{DriveRefusal}
 use Rattle.flagops_drive.specs.declared.fault.DriveRefusal.TheVariants.{BadAsks}
-use Rattle.flagops_drive.specs.declared.parts.Parts.{Parts}
 
 -- what is asked of a flag: its key, the kind of value that is wanted, the default, the evaluation context, and the moment
 pub record Ask : Type 0 where
@@ -20,11 +19,7 @@ pub record Ask : Type 0 where
 
 -- an ask of the program, without where its parts lie in memory
 abbrev pub ask_view : program.Ask → Ask
-ask_view a = record { key = string_bytes a.key; want = a.want; default = view a.default; context = view a.context; moment = a.moment }
-
--- the same of the parts of an object
-abbrev pub parts_view : Parts → Ask
-parts_view p = record { key = p.key.now; want = p.want; default = view p.default.now; context = view p.context.now; moment = p.moment }
+ask_view a = record { key = a.key.now; want = a.want; default = view a.default.now; context = view a.context.now; moment = a.moment }
 
 -- ---- members
 

@@ -3,22 +3,21 @@ ghost use Rattle.std.specs.Prelude.{◌≡◌, ◌<◌, ◌^◌, true, None, IfO
 ghost use Rattle.flag_text.specs.Outcome.{GivesUnless};
 ghost use Rattle.flag_text.specs.Shape.{is_whole, items_are_whole};
 ghost use Rattle.flag_text.specs.View.{items_view, view};
-ghost use Rattle.flagops_drive.specs.Asks.{ask_in, ask_view, asks_in, asks_of as asks_of_shape, if_asks, parts_view};
+ghost use Rattle.flagops_drive.specs.Asks.{ask_view, asks_in, asks_of as asks_of_shape, if_asks};
 ghost use Rattle.flagops_drive.specs.Fault.{want};
 
 use crate::fault::DriveRefusal;
-use crate::parts::Parts;
-use crate::reading::parts_in;
+use crate::reading::ask_in;
 use book_share::Ask;
 use flag_text::Tree;
-use std::alloc::{AllocError, Global};
+use std::alloc::Global;
 
 /// The most asks.
 const MOST_ASKS: usize = 4_294_967_295;
 
-/// The asks that the tree of a file is. It is refused with BadAsks where the tree is no list of asks, or has 2^32 or more,
-/// before anything is copied.
-pub fn asks_of(alloc: Global, tree: &Tree) -> Result<Vec<Ask>, DriveRefusal>
+/// The asks that the tree of a file is, which they borrow. It is refused with BadAsks where the tree is no list of asks, or
+/// has 2^32 or more, before memory is taken.
+pub fn asks_of<'a>(alloc: Global, tree: &'a Tree) -> Result<Vec<Ask<'a>>, DriveRefusal>
     requires { is_whole (view tree.now) ≡ true }
     ensures exact { GivesUnless want (λ v. map ask_view v.items) result (if_asks (asks_of_shape (view tree.now))) }
     ensures few { IfOk result (λ v. length v.items < 2 ^ 32) }
@@ -57,48 +56,25 @@ fn are_asks(items: &[Tree]) -> bool
     ensures { result ≡ is_some (asks_in (items_view items.now)) }
 {
     for item in items {
-        if parts_in(item).is_none() {
+        if ask_in(item).is_none() {
             return false;
         }
     }
     true
 }
 
-/// The asks of items, in memory of their own.
-pub(crate) fn asks_in(alloc: Global, items: &[Tree]) -> Result<Vec<Ask>, DriveRefusal>
+/// The asks of items, which they borrow.
+pub(crate) fn asks_in<'a>(alloc: Global, items: &'a [Tree]) -> Result<Vec<Ask<'a>>, DriveRefusal>
     requires { items_are_whole (items_view items.now) ≡ true }
     ensures exact { GivesUnless want (λ v. map ask_view v.items) result (if_asks (asks_in (items_view items.now))) }
     ensures each { IfOk result (λ v. length v.items ≡ length items.now) }
 {
-    let mut asks = Vec::new(alloc);
+    let mut asks = Vec::with_capacity(alloc, items.len())?;
     for item in items {
-        asks.push(ask_in(alloc, item)?)?;
+        let Some(ask) = ask_in(item) else {
+            return Err(DriveRefusal::BadAsks);
+        };
+        asks.push(ask)?;
     }
     Ok(asks)
-}
-
-fn ask_in(alloc: Global, tree: &Tree) -> Result<Ask, DriveRefusal>
-    requires { is_whole (view tree.now) ≡ true }
-    ensures { GivesUnless want ask_view result (if_asks (ask_in (view tree.now))) }
-{
-    let Some(parts) = parts_in(tree) else {
-        return Err(DriveRefusal::BadAsks);
-    };
-    Ok(owned(alloc, &parts)?)
-}
-
-/// The ask of these parts, in memory of its own.
-fn owned(alloc: Global, parts: &Parts<'_>) -> Result<Ask, AllocError>
-    ensures { IfOk result (λ a. ask_view a ≡ parts_view parts.now) }
-{
-    let key = String::from_str(alloc, parts.key)?;
-    let default = parts.default.copy(alloc)?;
-    let context = parts.context.copy(alloc)?;
-    Ok(Ask {
-        key,
-        want: parts.want,
-        default,
-        context,
-        moment: parts.moment,
-    })
 }

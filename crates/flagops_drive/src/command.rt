@@ -21,6 +21,7 @@ use flag_text::Tree;
 use limits::SEATS;
 use progress::Meter;
 use std::alloc::Global;
+use std::mem;
 use std::sync::Wait;
 use std::thread::Threads;
 
@@ -154,8 +155,14 @@ fn output_of(
         reached: news,
         inputs: counts.inputs,
     };
-    let book = print_book(alloc, &book)?;
-    Ok(Drove { text, book, tally })
+    let file = print_book(alloc, &book)?;
+    // The program ends soon, and its memory with it.
+    mem::forget((answers, book));
+    Ok(Drove {
+        text,
+        book: file,
+        tally,
+    })
 }
 
 /// The book of what was reached, and of what a book had before.

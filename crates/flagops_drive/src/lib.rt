@@ -28,7 +28,6 @@ mod command;
 mod fault;
 mod gate;
 mod lines;
-mod parts;
 mod reading;
 mod tally;
 mod unread;

@@ -3,7 +3,7 @@ ghost use Rattle.std.specs.Prelude.{◌≡◌, IfOk, map, string_bytes};
 ghost use Rattle.flag_resolve.specs.Views.{resolution_view};
 ghost use Rattle.flagops_drive.specs.Lines.{count_lines, drive_text, resolution_lines};
 
-use flag_resolve::{Resolution, print_resolution};
+use flag_resolve::{Resolution, push_resolution};
 use std::alloc::{AllocError, Global};
 
 /// How many inputs the book that is written has, and the counts of the notes.
@@ -37,7 +37,7 @@ fn resolution_lines(alloc: Global, answers: &[Resolution]) -> Result<String, All
 {
     let mut lines = String::new(alloc);
     for answer in answers {
-        lines.push_str(print_resolution(alloc, answer)?.as_str())?;
+        push_resolution(alloc, &mut lines, answer)?;
         lines.push_str("\n")?;
     }
     Ok(lines)

@@ -1,28 +1,28 @@
-//! From an object of an asks file to the parts of an ask.
+//! From an object of an asks file to an ask.
 ghost use Rattle.std.specs.Prelude.{◌≡◌, ◌<◌, ◌^◌, true, IfSome, option_copied, option_map};
 ghost use Rattle.flag_text.specs.Shape.{is_whole};
 ghost use Rattle.flag_text.specs.View.{view};
-ghost use Rattle.flagops_drive.specs.Asks.{ask_in, context_in, key_in, moment_in, parts_view, want_in};
+ghost use Rattle.flagops_drive.specs.Asks.{ask_in, ask_view, context_in, key_in, moment_in, want_in};
 
-use crate::parts::Parts;
+use book_share::Ask;
 use flag_resolve::Kind;
 use flag_text::Tree;
 
 /// The first moment that is too late, 2^53 seconds after 1970.
 const MOMENTS: i64 = 1 << 53;
 
-/// The parts of the ask that an object is. Each of its members is required; others are passed over.
+/// The ask that an object is. Each of its members is required; others are passed over.
 #[tactic(auto, unfolding(crate::specs::Asks::ask_in))]
-pub(crate) fn parts_in<'a>(tree: &'a Tree) -> Option<Parts<'a>>
+pub(crate) fn ask_in<'a>(tree: &'a Tree) -> Option<Ask<'a>>
     requires { is_whole (view tree.now) ≡ true }
-    ensures { option_map parts_view result ≡ ask_in (view tree.now) }
+    ensures { option_map ask_view result ≡ ask_in (view tree.now) }
 {
     let key = key_in(tree)?;
     let want = want_in(tree)?;
     let default = tree.member("default")?;
     let context = context_in(tree)?;
     let moment = moment_in(tree)?;
-    Some(Parts {
+    Some(Ask {
         key,
         want,
         default,

@@ -42,6 +42,8 @@ impl<I: Inlet> Inlet for OpenedInlet<I> {
 
     ghost is_broken = { λ o. I.is_broken o.inlet };
 
+    ghost was_read = { λ old new. I.was_read old.inlet new.inlet };
+
     fn read(&mut self, buf: &mut [u8]) -> io::Result<usize> {
         let outcome = self.inlet.read(buf);
         if let Ok(count) = &outcome {

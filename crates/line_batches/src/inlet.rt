@@ -1,4 +1,4 @@
-//! Where lines are read from, and whether a read has failed.
+//! Where bytes are read from, and whether a read has failed.
 ghost use Rattle.std.specs.Prelude.{◌≡◌, ℕ, List, Option, Bool, true, false, ◌||◌, is_err};
 ghost use Rattle.std.specs.Io.{ReadsAtMost};
 ghost use Rattle.std.specs.Io.KnownBytes.{ReadConsumes};
@@ -6,8 +6,8 @@ ghost use Rattle.std.specs.Io.KnownBytes.{ReadConsumes};
 use std::io;
 use std::io::Read;
 
-/// A place that lines are read from, as `std::io::Read`. Contracts see the bytes that are left in it, and whether it is broken:
-/// a read has failed. A function that is handed an inlet asks for one that is not broken.
+/// A place that bytes are read from, as `std::io::Read`. Contracts see the bytes that are left in it, what a read makes of
+/// it, and whether it is broken: a read has failed. A function that is handed an inlet asks for one that is not broken.
 pub trait Inlet {
     // The bytes that reads will give from here on, where they are known.
     ghost bytes: { Self → Option (List ℕ) };
@@ -15,11 +15,15 @@ pub trait Inlet {
     // A read has failed.
     ghost is_broken: { Self → Bool };
 
+    // What it was before a read, and what it then is.
+    ghost was_read: { Self → Self → Type 0 };
+
     /// Reads into a front of `buf`, and says how many bytes. Of a buffer with room, 0 is the end.
     fn read(&mut self, buf: &mut [u8]) -> io::Result<usize>
         ensures bound { ReadsAtMost result buf.new }
         ensures bytes { ReadConsumes (bytes self.old) (bytes self.new) result buf.new }
-        ensures broken { is_broken self.new ≡ (is_broken self.old || is_err result) };
+        ensures broken { is_broken self.new ≡ (is_broken self.old || is_err result) }
+        ensures read { was_read self.old self.new };
 }
 
 /// The inlet of a reader.
@@ -46,6 +50,8 @@ impl<R: Read> Inlet for ReadInlet<R> {
     ghost bytes = { λ i. R.remaining i.reader };
 
     ghost is_broken = { λ i. i.broken };
+
+    ghost was_read = { λ old new. Unit {0} };
 
     fn read(&mut self, buf: &mut [u8]) -> io::Result<usize> {
         let outcome = self.reader.read(buf);

@@ -1,7 +1,8 @@
 //! Lines of a stream, in batches of bounded size.
 //!
-//! A stream is an [`Inlet`]: a reader, and whether a read of it has failed. [`fill`] reads on until a batch is full or the stream ends, and [`cut_lines`] cuts the lines that ended, and the bytes
-//! behind them; [`cut_line`] the first of them. So a filter holds one batch, however long its input is.
+//! A stream is an [`Inlet`]: a reader, and whether a read of it has failed. [`fill`] reads on until a batch is full or the
+//! stream ends, and [`cut_lines`] cuts the lines that ended, and the bytes behind them; [`cut_line`] the first of them. So
+//! a filter holds one batch, however long its input is.
 //!
 //! Proved, over the definitions of `specs/`: a batch grows by the bytes that the stream gives, and stops short of its size
 //! only where the stream ends (`Fill`); what is cut are the lines before each line feed, whatever follows (`Lines`).

@@ -1,3 +1,4 @@
+pub mod Bodies
 pub mod Loops
 pub mod Matching
 pub mod Places

@@ -1,5 +1,5 @@
 //! The text of a flag's evaluation, written straight from its parts.
-ghost use Rattle.std.specs.Prelude.{◌≡◌, ◌++◌, true, IfOk, OnOk};
+ghost use Rattle.std.specs.Prelude.{◌≡◌, true, IfOk};
 ghost use Rattle.flag_resolve.specs.Views.{resolution_view};
 ghost use Rattle.flag_text.specs.Printing.{text_of};
 ghost use Rattle.flag_text.specs.Shape.{is_whole};
@@ -9,7 +9,7 @@ ghost use Rattle.ofrep_bodies.specs.Evaluation.{body_of};
 
 use crate::failure::{code_of, details_of, failure_body};
 use flag_resolve::{Reason, Resolution};
-use flag_text::{Tree, print_tree, push_text};
+use flag_text::{Tree, print_tree, push_string, push_tree};
 use std::alloc::{AllocError, Global};
 
 /// The room that most texts need no more than.
@@ -47,26 +47,15 @@ fn success_text(
     requires { is_whole (view value.now) ≡ true }
     ensures { IfOk result (λ text. text.items ≡ text_of (success key.now reason (view value.now) variant.now)) }
 {
-    let mut text = Vec::with_capacity(alloc, ROOM)?;
-    text.extend_from_slice(br#"{"key":"#)?;
-    push_text(alloc, &mut text, key)?;
-    text.extend_from_slice(br#","metadata":{},"reason":"#)?;
-    push_text(alloc, &mut text, reason.as_str())?;
-    text.extend_from_slice(br#","value":"#)?;
-    push_value(alloc, &mut text, value)?;
-    text.extend_from_slice(br#","variant":"#)?;
-    push_text(alloc, &mut text, variant)?;
-    text.extend_from_slice(b"}")?;
-    Ok(text)
-}
-
-/// Adds the text of a value.
-fn push_value(alloc: Global, text: &mut Vec<u8>, value: &Tree) -> Result<(), AllocError>
-    requires { is_whole (view value.now) ≡ true }
-    ensures { OnOk result (text.new.items ≡ text.old.items ++ text_of (view value.now)) }
-{
-    match value {
-        Tree::Text(content) => push_text(alloc, text, content.as_str()),
-        _ => text.extend_from_slice(print_tree(alloc, value)?.as_bytes()),
-    }
+    let mut text = String::with_capacity(alloc, ROOM)?;
+    text.push_str("{\"key\":")?;
+    push_string(alloc, &mut text, key)?;
+    text.push_str(",\"metadata\":{},\"reason\":")?;
+    push_string(alloc, &mut text, reason.as_str())?;
+    text.push_str(",\"value\":")?;
+    push_tree(alloc, &mut text, value)?;
+    text.push_str(",\"variant\":")?;
+    push_string(alloc, &mut text, variant)?;
+    text.push_str("}")?;
+    Ok(text.into_bytes())
 }

@@ -1,16 +1,15 @@
 //! The notes of what an answer reached.
-ghost use Rattle.std.specs.Prelude.{◌≡◌, ◌==◌, ◌||◌, ◌++◌, Some, IfOk, OnOk, map, option_map, string_bytes};
+ghost use Rattle.std.specs.Prelude.{◌≡◌, ◌==◌, ◌||◌, ◌++◌, IfOk, OnOk, map, option_map};
 ghost use Rattle.flag_defs.specs.Flags.{flags_view};
 ghost use Rattle.logic_ast.specs.Expr.{view};
 ghost use Rattle.logic_evaluator.specs.Views.{reach_view};
-ghost use Rattle.book_share.specs.Asked.{by_at, page_of, targeting_of};
 ghost use Rattle.ofrep_answers.specs.Answer.{answer_view, reached_view};
 ghost use Rattle.ofrep_worker.specs.Notes.{note_at, notes_at, notes_by, notes_in, notes_of};
 
-use book_core::Page;
+use book_share::{page_at, targeting_of};
 use flag_defs::Flags;
 use http::StatusCode;
-use logic_ast::{Expr, LogicFault, by_text};
+use logic_ast::Expr;
 use logic_evaluator::Reached;
 use note_lines::Note;
 use ofrep_answers::{Answer, FlagReached};
@@ -93,39 +92,4 @@ fn note_at(
     let page = page_at(alloc, key, targeting, reach.site)?;
     let input = String::from_str(alloc, reach.input.as_str())?;
     Ok(Note { page, input })
-}
-
-/// The targeting of the flag of a key.
-fn targeting_of<'a>(flags: &'a Flags, key: &str) -> Option<&'a Expr>
-    ensures { option_map (λ e. view e.now) result ≡ targeting_of (flags_view flags.now) key.now }
-{
-    flags.get(key)?.targeting()
-}
-
-/// The page of a site of a targeting. A site that an evaluation reached is one of the targeting.
-fn page_at(
-    alloc: Global,
-    key: &str,
-    targeting: Option<&Expr>,
-    site: u32,
-) -> Result<Page, AllocError>
-    ensures { IfOk result (λ page. page ≡ page_of key.now (option_map (λ e. view e.now) targeting.entry) site) }
-{
-    let by = match targeting {
-        Some(targeting) => text_at(alloc, targeting, site)?,
-        None => None,
-    };
-    let flag = String::from_str(alloc, key)?;
-    Ok(Page { flag, site, by })
-}
-
-/// The text of the bucketing expression at a site, where it has one.
-fn text_at(alloc: Global, targeting: &Expr, site: u32) -> Result<Option<String>, AllocError>
-    ensures { IfOk result (λ by. option_map string_bytes by ≡ by_at (Some (view targeting.now)) site) }
-{
-    match by_text(alloc, targeting, site) {
-        Ok(by) => Ok(by),
-        Err(LogicFault::WantOfMemory) => Err(AllocError),
-        Err(_) => Ok(None),
-    }
 }

@@ -1,5 +1,4 @@
 mod Odd
-mod Quoted
 mod Plainly
 mod Running
 mod Parted

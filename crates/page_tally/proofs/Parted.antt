@@ -1,6 +1,6 @@
 -- Parts of a page: one line, a line more, a part more, and the run that a part is.
 use Rattle.std.proofs.Common.{◌≡◌, ◌<◌, ◌≤◌, ◌+◌, ◌++◌, ℕ, zero, suc, true, List, [], ◌∷◌, length, drop, Option, Some, None, refl, sym, ap, ap₂, ◌∙◌, subst, arith, length-append, length-drop}
-use Rattle.std.proofs.lemmas.List.{drop-drop, drop_all, map-append, append_assoc}
+use Rattle.std.proofs.lemmas.List.{drop-drop, drop_all, map-append}
 use Rattle.std.specs.Ordering.{is_lt}
 use Rattle.bucket_core.specs.Point.{point_of}
 use Rattle.book_core.specs.Book.{Inputs, most_inputs, most_bytes}

@@ -12,8 +12,9 @@ use Rattle.std.proofs.lemmas.List.Sums.{prefix_len_passes, prefix_len-le-length}
 use Rattle.std.proofs.lemmas.List.Splits.{slice_split-cons_no}
 use Rattle.book_core.specs.Reading.{adds, is_feed, line_of, lines_of, read_line}
 use Rattle.book_core.proofs.Cut.{lines_of-cut}
-use Rattle.page_tally.specs.Plain.{is_plain, is_plain_ascii}
-use Rattle.page_tally.proofs.Quoted.{tree_of-plain}
+use Rattle.flag_text.specs.Plain.{is_plain}
+use Rattle.page_tally.specs.Plain.{is_plain_ascii}
+use Rattle.flag_text.proofs.Quoted.{tree_of-plain}
 
 plain_from_ascii : (s : List ℕ) → list_all is_plain_ascii s ≡ true → list_all is_plain s ≡ true
 plain_from_ascii [] all = refl

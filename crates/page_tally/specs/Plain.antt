@@ -1,11 +1,7 @@
--- The bytes that stand for themselves in a quoted JSON text (RFC 8259, section 7).
-use Rattle.std.specs.Prelude.{ℕ, Bool, not, ◌&&◌, ◌||◌, ◌==◌, nat_le, nat_lt}
+-- The characters of ASCII that stand for themselves in a quoted JSON text (RFC 8259, section 7).
+use Rattle.std.specs.Prelude.{ℕ, Bool, ◌&&◌, ◌||◌, ◌==◌, nat_lt}
+use Rattle.flag_text.specs.Plain.{is_plain}
 
--- no control character, no quotation mark and no reverse solidus
-abbrev pub is_plain : ℕ → Bool
-is_plain b = nat_le 32 b && not (b == 34) && not (b == 92)
-
--- such a character of ASCII
 abbrev pub is_plain_ascii : ℕ → Bool
 is_plain_ascii b = is_plain b && nat_lt b 128
 

@@ -8,9 +8,9 @@ ghost use Rattle.page_tally.specs.Lines.{line_view};
 
 use crate::file::BookFile;
 use crate::line::Line;
-use crate::lines::{Lines, cut};
+use crate::lines::Lines;
 use crate::stretch::plain_stretch;
-use book_core::{BookFileFault, Page};
+use book_core::{BookFileFault, Page, cut_line};
 use std::alloc::{AllocError, Global};
 use std::thread::Threads;
 
@@ -43,7 +43,7 @@ fn lack_key<R: Threads>(
 ) -> Result<bool, AllocError>
     ensures { IfOk result (λ lack. (book : Contents) → book_of bytes.now ≡ Ok book → lack ≡ list_any (lacks page.now.flag) (inputs_on book page.now)) }
 {
-    let Some((_, lines)) = cut(bytes) else {
+    let Some((_, lines)) = cut_line(bytes) else {
         return Ok(false);
     };
     match behind_page(rt, alloc, lines, page)? {

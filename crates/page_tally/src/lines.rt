@@ -1,17 +1,15 @@
 //! The lines of a book file, one at a time.
 ghost use Rattle.std.specs.Prelude.{◌≡◌, ◌+◌, ◌<◌, ◌≤◌, ◌^◌, true, [], ◌∷◌, length, MatchOption, IfSome, IfOk, IfErr};
-ghost use Rattle.std.specs.List.{slice_split};
 ghost use Rattle.std.specs.Ordering.{is_lt};
 ghost use Rattle.book_core.specs.Book.{most_bytes};
 ghost use Rattle.book_core.specs.Page.{bytes_cmp};
-ghost use Rattle.book_core.specs.Reading.{adds, is_feed, lines_of};
-ghost use Rattle.std.specs.List.{position};
+ghost use Rattle.book_core.specs.Reading.{adds, lines_of};
 ghost use Rattle.page_tally.specs.Lines.{line_view};
 
 use crate::input::is_below;
 use crate::line::{Line, read_line};
 use crate::plain::short_line;
-use book_core::BookFileFault;
+use book_core::{BookFileFault, cut_line};
 use limits::INPUT_BYTES;
 use std::alloc::Global;
 
@@ -39,7 +37,7 @@ impl<'a> Lines<'a> {
             return Ok(None);
         }
         self.taken += 1;
-        match cut(bytes) {
+        match cut_line(bytes) {
             Some((line, rest)) => {
                 self.rest = rest;
                 Ok(Some(read_line(alloc, line)?))
@@ -68,23 +66,4 @@ impl<'a> Lines<'a> {
         self.taken += 1;
         Some(input)
     }
-}
-
-/// The bytes before the first line feed, and those after it.
-pub(crate) fn cut(bytes: &[u8]) -> Option<(&[u8], &[u8])>
-    ensures parts { MatchOption result (slice_split is_feed bytes.now ≡ bytes.now ∷ [])
-        (λ r. slice_split is_feed bytes.now ≡ r.0.now ∷ slice_split is_feed r.1.now) }
-    ensures lengths { IfSome result (λ r. length r.0.now + length r.1.now + 1 ≡ length bytes.now) }
-{
-    match feed_at(bytes) {
-        None => None,
-        Some(at) => Some((&bytes[..at], &bytes[at + 1..])),
-    }
-}
-
-/// Where the first line feed stands.
-pub(crate) fn feed_at(bytes: &[u8]) -> Option<usize>
-    ensures { result ≡ position is_feed bytes.now }
-{
-    bytes.iter().position(|b| *b == b'\n')
 }

@@ -3,8 +3,8 @@ ghost use Rattle.std.specs.Prelude.{◌<◌, IfOk, IfSome};
 ghost use Rattle.bucket_core.specs.Rule.{IsRuleTotal};
 ghost use Rattle.page_tally.specs.Parts.{IsEndOf, IsPartOf};
 
-use crate::lines::feed_at;
 use crate::part::{Part, read_part};
+use book_core::feed_at;
 use std::alloc::{AllocError, Global};
 use std::thread::{Threads, join};
 

@@ -1,49 +1,10 @@
 //! Lines that need no reader of JSON.
-ghost use Rattle.std.specs.Prelude.{◌≡◌, ◌+◌, ◌<◌, ◌≤◌, ◌++◌, [], ◌∷◌, length, drop, Ok, IfSome};
-ghost use Rattle.std.specs.List.{list_all};
-ghost use Rattle.flag_text.specs.Reading.{tree_of};
-ghost use Rattle.flag_text.specs.Shape.{text};
+ghost use Rattle.std.specs.Prelude.{◌≡◌, ◌+◌, ◌<◌, ◌≤◌, ◌++◌, [], ◌∷◌, length, drop, IfSome};
 ghost use Rattle.book_core.specs.Book.{most_bytes};
 ghost use Rattle.book_core.specs.Reading.{adds, lines_of};
-ghost use Rattle.page_tally.specs.Plain.{is_plain};
 
 use crate::ascii::plain_end;
 use limits::INPUT_BYTES;
-use std::str;
-
-/// The text that a line stands for, where it is a quoted text without an escape and nothing stands around it. `None`
-/// says nothing of the line: its reading as a tree decides. Cost: a pass over the bytes, and no memory.
-pub(crate) fn plain_text(bytes: &[u8]) -> Option<&[u8]>
-    ensures { IfSome result (λ s. tree_of bytes.now (length bytes.now) ≡ Ok (text s.now)) }
-{
-    let inner = unquoted(bytes)?;
-    if !is_all_plain(inner) {
-        return None;
-    }
-    match str::from_utf8(inner) {
-        Ok(_) => Some(inner),
-        Err(_) => None,
-    }
-}
-
-/// What stands between two quotes.
-fn unquoted(bytes: &[u8]) -> Option<&[u8]>
-    ensures { IfSome result (λ inner. bytes.now ≡ 34 ∷ (inner.now ++ 34 ∷ [])) }
-{
-    match bytes {
-        [b'"', inner @ .., b'"'] => Some(inner),
-        _ => None,
-    }
-}
-
-/// Whether each byte stands for itself in a quoted text.
-fn is_all_plain(bytes: &[u8]) -> bool
-    ensures { result ≡ list_all is_plain bytes.now }
-{
-    bytes
-        .iter()
-        .all(|b| *b >= b' ' && *b != b'"' && *b != b'\\')
-}
 
 /// The input of the first line and the bytes after that line, where the line is a quoted text of ASCII without an
 /// escape, no longer than an input may be. `None` says nothing of the line. Cost: a pass over the line, and no memory.

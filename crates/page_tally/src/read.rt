@@ -11,10 +11,10 @@ ghost use Rattle.page_tally.specs.Tally.{tally_of};
 
 use crate::counter::Counter;
 use crate::input::{Input, is_above};
-use crate::line::{Line, is_header};
-use crate::lines::{Lines, cut};
+use crate::line::Line;
+use crate::lines::Lines;
 use crate::run::read_run;
-use book_core::{BookFileFault, Page};
+use book_core::{BookFileFault, Page, cut_line, is_header};
 use limits::INPUT_BYTES;
 use std::alloc::Global;
 use std::thread::Threads;
@@ -34,7 +34,7 @@ pub fn read_tally<R: Threads>(
     requires { IsRuleTotal total }
     ensures { GivesUnless BookFileFault.WantOfMemory (λ counts. counts.items) result (tally_of bytes.now page.now total) }
 {
-    match cut(bytes) {
+    match cut_line(bytes) {
         None => Err(unended(is_header(alloc, bytes)?)),
         Some((first, rest)) => {
             if !is_header(alloc, first)? {

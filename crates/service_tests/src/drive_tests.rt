@@ -1,13 +1,13 @@
 //! Asks that workers answer through one book: workers who wait for one another, a gate that never lets an ask start, and a
 //! page that is full. What the command `drive` prints is tested on the built program.
-ghost use Rattle.std.specs.Prelude.{◌<◌, ◌^◌, length, IfOk};
+ghost use Rattle.std.specs.Prelude.{◌<◌, ◌^◌, length};
 
 use book_core::{Book, print_book};
 use book_share::{Ask, Attempt, Driven, Gate, OpenGate, drive};
 use flag_defs::{Flags, read_flags};
 use flag_resolve::{Code, Reason, Resolution};
 use flag_text::read_tree;
-use flagops_drive::{DriveRefusal, asks_of};
+use flagops_drive::asks_of;
 use std::alloc::{AllocError, Global};
 use std::sync::Wait;
 use std::sync::atomic::{AtomicBool, Ordering};
@@ -41,16 +41,6 @@ const BOOK: &[u8] = b"{\"book\":1}
 \"The quick brown fox jumps over the lazy dog\"
 \"test\"
 ";
-
-/// The asks of a text.
-fn asks(alloc: Global, text: &str) -> Result<Vec<Ask>, DriveRefusal>
-    ensures { IfOk result (λ asks. length asks.items < 2 ^ 32) }
-{
-    match read_tree(alloc, text.as_bytes(), 67_108_864) {
-        Ok(tree) => asks_of(alloc, &tree),
-        Err(_) => Err(DriveRefusal::BadAsks),
-    }
-}
 
 /// Whether each answer has this reason and this code, and reached so many sites.
 fn are(answers: &[Resolution], reason: Reason, code: Option<Code>, reached: usize) -> bool {
@@ -105,7 +95,7 @@ fn outcome<G: Gate, R: Threads + Wait + Sync>(
     rt: &R,
     alloc: Global,
     flags: &Flags,
-    asks: &[Ask],
+    asks: &[Ask<'_>],
     workers: usize,
     gate: &G,
 ) -> &'static str
@@ -126,11 +116,28 @@ fn is_outcome<G: Gate, R: Threads + Wait + Sync>(
     gate: &G,
     want: &str,
 ) -> bool {
-    match read_flags(alloc, FLAGS) {
-        Ok(flags) => match asks(alloc, text) {
-            Ok(asks) => outcome(rt, alloc, &flags, asks.as_slice(), workers, gate) == want,
+    match read_tree(alloc, text.as_bytes(), 67_108_864) {
+        Ok(tree) => match asks_of(alloc, &tree) {
+            Ok(asks) => is_outcome_of(rt, alloc, asks.as_slice(), workers, gate, want),
             Err(_) => false,
         },
+        Err(_) => false,
+    }
+}
+
+/// The same of the asks.
+fn is_outcome_of<G: Gate, R: Threads + Wait + Sync>(
+    rt: &R,
+    alloc: Global,
+    asks: &[Ask<'_>],
+    workers: usize,
+    gate: &G,
+    want: &str,
+) -> bool
+    requires { length asks.now < 2 ^ 32 }
+{
+    match read_flags(alloc, FLAGS) {
+        Ok(flags) => outcome(rt, alloc, &flags, asks, workers, gate) == want,
         Err(_) => false,
     }
 }

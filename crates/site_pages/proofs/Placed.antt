@@ -1,12 +1,12 @@
 -- The page of each site, from the sites that a walk found.
-use Rattle.std.proofs.Common.{◌≡◌, ℕ, zero, suc, ◌<◌, true, not, List, [], ◌∷◌, ◌++◌, map, length, get_or, Option, Some, None, option_map, Ok, refl, sym, ap, ◌∙◌, subst, arith}
+use Rattle.std.proofs.Common.{◌≡◌, ℕ, zero, suc, true, not, List, [], ◌∷◌, ◌++◌, map, get_or, Option, Some, None, option_map, Ok, refl, sym, ap, ◌∙◌, arith}
 use Rattle.std.proofs.lemmas.Option.{slice_get-get_or}
 use Rattle.std.specs.Prelude.{All, IfSome, slice_get}
 use Rattle.logic_ast.specs.Expression.{Expression, By, no_by, by}
 use Rattle.logic_ast.specs.Formed.{is_list, is_formed, by_is_formed, is_well_formed}
 use Rattle.logic_ast.specs.Parts.{site_parts}
 use Rattle.logic_ast.specs.Sites.{Site, preorder, site_at, if_site}
-use Rattle.logic_ast.specs.Writing.{written, by_text}
+use Rattle.logic_ast.specs.Writing.{by_text}
 use Rattle.logic_ast.proofs.Inner.{by-formed}
 use Rattle.logic_ast.proofs.Numbered.{number-at, numbered-preorder}
 use Rattle.logic_ast.proofs.Places.{found-at}

@@ -10,12 +10,13 @@ ghost use Rattle.logic_ast.specs.View.{node_view, nodes_view, boxed_view, bucket
 ghost use Rattle.logic_ast.specs.Writing.{written, all_written, bucket_written, buckets_written};
 ghost use Rattle.site_pages.specs.Text.{by_is_whole, by_piece, opened};
 
-use flag_text::{Tree, print_tree};
+use flag_text::{push_string, push_tree};
 use logic_ast::{Bucket, Node};
 use std::alloc::{AllocError, Global};
 
 /// Adds the text that a node is written with.
 #[cycle(push)]
+#[tactic(auto, unfolding(flag_text::specs::Printing::text_of))]
 pub(crate) fn push_node(alloc: Global, text: &mut String, node: &Node) -> Result<(), AllocError>
     requires { is_whole (written (node_view node.now)) ≡ true }
     ensures { OnOk result (string_bytes text.new ≡ string_bytes text.old ++ compact_text (data_of (written (node_view node.now)))) }
@@ -97,20 +98,22 @@ fn push_buckets(
 }
 
 /// Adds the text of a bucket that has a name and a weight.
+#[tactic(auto, unfolding(flag_text::specs::Printing::text_of))]
 fn push_pair(alloc: Global, text: &mut String, name: &str, weight: u32) -> Result<(), AllocError>
     ensures { OnOk result (string_bytes text.new ≡ string_bytes text.old ++ compact_text (data_of (bucket_written (literal_bucket name.now weight)))) }
 {
     text.push_str("[")?;
-    push_text(alloc, text, name)?;
+    push_string(alloc, text, name)?;
     write!(text, ",{weight}]")
 }
 
 /// Adds what stands in front of the arguments of an operation of this name.
+#[tactic(auto, unfolding(flag_text::specs::Printing::text_of))]
 fn push_opening(alloc: Global, text: &mut String, name: &str) -> Result<(), AllocError>
     ensures { OnOk result (string_bytes text.new ≡ string_bytes text.old ++ opened name.now) }
 {
     text.push_str("{")?;
-    push_text(alloc, text, name)?;
+    push_string(alloc, text, name)?;
     text.push_str(":[")
 }
 
@@ -122,22 +125,4 @@ fn push_comma(text: &mut String, later: bool) -> Result<(), AllocError>
         text.push_str(",")?;
     }
     Ok(())
-}
-
-/// Adds the text of a literal.
-#[tactic(auto, unfolding(flag_text::specs::Printing::text_of))]
-fn push_tree(alloc: Global, text: &mut String, tree: &Tree) -> Result<(), AllocError>
-    requires { is_whole (view tree.now) ≡ true }
-    ensures { OnOk result (string_bytes text.new ≡ string_bytes text.old ++ compact_text (data_of (view tree.now))) }
-{
-    text.push_str(print_tree(alloc, tree)?.as_str())
-}
-
-/// Adds a text in quotes.
-#[tactic(auto, unfolding(flag_text::specs::Printing::text_of))]
-fn push_text(alloc: Global, text: &mut String, content: &str) -> Result<(), AllocError>
-    ensures { OnOk result (string_bytes text.new ≡ string_bytes text.old ++ quoted content.now) }
-{
-    let tree = Tree::Text(String::from_str(alloc, content)?);
-    push_tree(alloc, text, &tree)
 }

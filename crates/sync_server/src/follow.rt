@@ -8,8 +8,8 @@ ghost use Rattle.sync_server.specs.Handed.{Handed, NoneLeftIf};
 ghost use Rattle.sync_server.specs.Reads.{ReadWithin};
 
 use crate::end::{ReadEnd, end_by};
-use crate::inlet::Inlet;
 use crate::sink::Sink;
+use line_batches::Inlet;
 use snap_core::Snapshot;
 use std::alloc::Global;
 use sync_frames::Feed;

@@ -1,7 +1,7 @@
 //! The engines of a stream of snapshots.
 //!
 //! [`serve_stream`] writes frames of the current snapshot to an [`flag_text::Outlet`] as numbers come; [`follow_stream`]
-//! reads frames from an [`Inlet`] and hands each snapshot to a [`Sink`] when its last byte has come; [`read_stream`] is the
+//! reads frames from an [`Inlet`], that of `line_batches`, and hands each snapshot to a [`Sink`] when its last byte has come; [`read_stream`] is the
 //! case with a list. None of them knows of sockets or threads.
 //!
 //! ```rust
@@ -22,7 +22,6 @@
 
 mod end;
 mod follow;
-mod inlet;
 mod next;
 mod read;
 mod serve;
@@ -30,7 +29,7 @@ mod sink;
 
 pub use end::{ReadEnd, StreamEnd};
 pub use follow::follow_stream;
-pub use inlet::{Inlet, ReadInlet};
+pub use line_batches::{Inlet, ReadInlet};
 pub use next::NextNumber;
 pub use read::read_stream;
 pub use serve::serve_stream;

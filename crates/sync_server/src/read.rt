@@ -6,8 +6,8 @@ ghost use Rattle.sync_server.specs.Reads.{ReadWithin};
 
 use crate::end::ReadEnd;
 use crate::follow::follow_stream;
-use crate::inlet::Inlet;
 use crate::sink::Sink;
+use line_batches::Inlet;
 use snap_core::Snapshot;
 use std::alloc::Global;
 

@@ -19,6 +19,7 @@ use flagops_files::{
     load_flags, load_tree, store,
 };
 use std::alloc::Global;
+use std::mem;
 use std::sync::Wait;
 use std::thread::Threads;
 
@@ -67,6 +68,8 @@ pub fn drive<R: Threads + Wait + Sync, F: FileSet>(
         files.meter(),
     )?;
     let remark = remark_on(alloc, asks, &tree, drove.tally);
+    // The program ends soon, and its memory with it.
+    mem::forget((flags, tree));
     written(alloc, files, book, drove, remark)
 }
 

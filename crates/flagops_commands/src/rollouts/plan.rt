@@ -24,6 +24,7 @@ use flagops_words::{Factor, factor_of};
 use plan_text::{Planned, print_planned_line};
 use rollout::{RolloutFault, plan_refined, plan_tally};
 use std::alloc::{AllocError, Global};
+use std::mem;
 use std::thread::Threads;
 
 /// The plan file of the rule that meets a request and costs the recorded inputs the least, or of a set of names which
@@ -49,7 +50,10 @@ pub fn plan<R: Threads + Sync, F: FileSet>(
     ensures notes { IfOk result (λ o. IfSome o.remark (Says (NamesDoubted request.now book.now))) }
 {
     let question = load_question(rt, alloc, files, document, request, book, factor_of(refine))?;
-    answer(rt, alloc, request, book, &question, refine, strict, explain)
+    let outcome = answer(rt, alloc, request, book, &question, refine, strict, explain);
+    // The program ends soon, and its memory with it.
+    mem::forget(question);
+    outcome
 }
 
 /// The report on a question, which was loaded from these paths.
@@ -84,7 +88,10 @@ pub fn answer(
     let remark = told(
         rt, alloc, request, book, question, &planned, refine, explain, noted,
     );
-    printed(alloc, &planned, remark)
+    let outcome = printed(alloc, &planned, remark);
+    // The program ends soon, and its memory with it.
+    mem::forget(planned);
+    outcome
 }
 
 /// What is planned, on the site's rule refined by the factor where one is given.

@@ -26,6 +26,7 @@ use page_tally::BookFile;
 use plan_text::Planned;
 use rollout::{PageTally, VerifyFault, verify_refined, verify_tally, verify_tally_refined};
 use std::alloc::{AllocError, Global};
+use std::mem;
 use std::thread::Threads;
 
 /// What the answer of a plan file proves, where it is right for the request: a line, or with `json` a JSON text.
@@ -56,7 +57,10 @@ pub fn verify<R: Threads + Sync, F: FileSet>(
         book,
         plan,
     };
-    verdict(rt, alloc, paths, &question, &planned, refine, strict, json)
+    let outcome = verdict(rt, alloc, paths, &question, &planned, refine, strict, json);
+    // The program ends soon, and its memory with it.
+    mem::forget((question, planned));
+    outcome
 }
 
 /// Where what is verified was loaded from.

@@ -11,6 +11,7 @@ use bucket_core::{Rule, point};
 use flagops_files::{Call, FileSet, Outcome, Refusal, Refused, Remark, Status, load_rule, quoted};
 use murmur_core::hash;
 use std::alloc::{AllocError, Global};
+use std::mem;
 
 /// The hash of the key, its point on the rule and its variant, a line each or with `json` as one JSON text.
 #[tactic(auto, unfolding(crate::specs::Bucket::bucket_report))]
@@ -28,7 +29,10 @@ pub fn bucket<F: FileSet>(
     ensures names { TellsOfOne (bucket_subjects rule.now) result }
 {
     let rule = load_rule(alloc, files, rule)?;
-    match answer(alloc, &rule, key, json) {
+    let text = answer(alloc, &rule, key, json);
+    // The program ends soon, and its memory with it.
+    mem::forget(rule);
+    match text {
         Ok(text) => Ok(Outcome::plain(text.into_bytes(), Status::Done)),
         Err(AllocError) => Err(Refused {
             refusal: Refusal::WantOfMemory(Call::Bucket),

@@ -27,7 +27,9 @@ use flagops_files::{
 use flagops_remarks::{of_keys, of_noted, of_request, of_weights};
 use limits::{INPUT_BYTES, PAGE_INPUTS};
 use price_core::{Prices, Request, first_forbidden, switch_cost_of};
+use rayon::prelude::par_sort_unstable;
 use std::alloc::{AllocError, AllocFailed, Global};
+use std::mem;
 use std::thread::Threads;
 
 /// A request, with what a person is told of members that are not read.
@@ -199,9 +201,12 @@ fn weigh_keys<R: Threads + Sync>(
     ensures names { TellsOfOne ((file path.now, is_of_keys) ∷ (word old_weights, is_of_rules) ∷ []) result }
 {
     if are_taken(keys.as_slice()) {
-        keys.sort_unstable();
+        par_sort_unstable(rt, keys.as_mut_slice());
         keys.dedup();
-        return priced(rt, alloc, old, new, prices, keys.as_slice(), json);
+        let outcome = priced(rt, alloc, old, new, prices, keys.as_slice(), json);
+        // The program ends soon, and its memory with it.
+        mem::forget(keys);
+        return outcome;
     }
     let exposure = noted(alloc, path, keys.as_slice())?;
     priced(rt, alloc, old, new, prices, exposure.inputs(), json)

@@ -21,7 +21,7 @@ pub map_vec-requires-sync-F : goal.map_vec-requires-sync-F
 map_vec-requires-sync-F g c = λ κs within.
     let bounds = c.type_bounds in
     record {
-      shared = (worker_sync (param 0 g.row.L) g.L.BookName bounds.send-L bounds.sync-L (at_life κs.1.1.1.1.1.1.1.1.1.1.0) (param 1 g.row.G) g.G.Gate bounds.sync-G [] (at_life κs.1.1.1.1.1.1.1.0) (at_life κs.1.1.1.1.1.1.1.1.0) (at_life κs.1.1.1.1.1.1.1.1.1.0) (param 2 g.row.R) bounds.sync-R).shared;
+      shared = (worker_sync (param 0 g.row.L) g.L.BookName bounds.send-L bounds.sync-L (at_life κs.1.1.1.1.1.1.1.1.1.1.0) (at_life κs.1.1.1.1.1.1.1.1.1.1.1.0) (param 1 g.row.G) g.G.Gate bounds.sync-G [] (at_life κs.1.1.1.1.1.1.1.0) (at_life κs.1.1.1.1.1.1.1.1.0) (at_life κs.1.1.1.1.1.1.1.1.1.0) (param 2 g.row.R) bounds.sync-R).shared;
     }
 
 pub jobs_of-requires : goal.jobs_of-requires

@@ -1,4 +1,4 @@
-use Rattle.std.proofs.Common.{◌≡◌, List, Option, Some, Bor, option_map, ap, sym, ◌∙◌, subst}
+use Rattle.std.proofs.Common.{◌≡◌, List, Some, Bor, option_map, ap, sym, ◌∙◌, subst}
 use Rattle.flag_defs.specs.Flags.{flags_view}
 use Rattle.logic_ast.specs.Expr.{view}
 use Rattle.logic_ast.specs.declared.expr.Expr.{Expr}

@@ -1,4 +1,4 @@
-use Rattle.std.proofs.Common.{◌≡◌, ◌+◌, ◌≤◌, length, map, take}
+use Rattle.std.proofs.Common.{◌+◌, ◌≤◌, length, map, take}
 use Rattle.flag_defs.specs.Flags.{flags_view}
 use Rattle.logic_evaluator.specs.Views.{reach_view}
 use Rattle.book_lock.specs.Counts.{own}

@@ -1,31 +1,10 @@
-use Rattle.std.proofs.Common.{◌≡◌, ◌++◌, [], ◌∷◌, append-nil, ap, ◌∙◌, subst}
-use Rattle.std.specs.Str.{IsUtf8}
-use Rattle.std.proofs.lemmas.Result.{on_ok_weaker, on_err_weaker}
-use Rattle.json.specs.Lex.{tokens}
-use Rattle.json.specs.Print.{print, print_from}
-use Rattle.json.specs.Token as Token
-use Rattle.flag_text.proofs.Pushed.{print-string, string_reads, Strings}
+-- whichever way it was written
+use Rattle.std.proofs.lemmas.Result.{on_ok_weaker}
+use Rattle.flag_text.proofs.Quoted.{read-quoted}
 use Rattle.flag_text.proofs.push.push_text.Goals as goal
 
-pub returns-clause-ok : goal.returns-clause-ok
-returns-clause-ok c =
-    let string = c.string-written in
-    let kept = string.ensures.room.0 ∙ (c.new-writer.ensures.before ∙ ap (λ v. v.items) c.replace.ensures.value) in
-    on_ok_weaker string.result
-    (λ e. let one : string.new.self.tokens ≡ Token.string c.args.content.now ∷ [] = e ∙ ap (λ (ts : Strings). ts ++ Token.string c.args.content.now ∷ []) c.new-writer.ensures.tokens in
-    c.into_inner.ensures.items ∙ (λ i. kept i ++ (ap print one ∙ print-string c.args.content.now) i)) string.ensures.ok
+pub returns-then-is_all_plain-clause-reads_back : goal.returns-then-is_all_plain-clause-reads_back
+returns-then-is_all_plain-clause-reads_back c = on_ok_weaker c.push_plain.result (λ e limit fits. read-quoted c.args.content.now limit c.utf8.content fits) c.push_plain.ensures.ok
 
-pub returns-clause-reads_back : goal.returns-clause-reads_back
-returns-clause-reads_back c =
-    let string = c.string-written in
-    on_ok_weaker string.result
-    (λ e limit fits. let one : string.new.self.tokens ≡ Token.string c.args.content.now ∷ [] = e ∙ ap (λ (ts : Strings). ts ++ Token.string c.args.content.now ∷ []) c.new-writer.ensures.tokens in
-    string_reads c.args.content.now limit (subst (λ ts. tokens (print ts) ≡ ts) one c.into_inner.ensures.reads_back) (subst (λ ts. IsUtf8 (print ts)) one c.into_inner.ensures.utf8) fits) string.ensures.ok
-
-pub returns-clause-err : goal.returns-clause-err
-unfolding print_from
-returns-clause-err c =
-    let string = c.string-written in
-    let old = c.args.out.now.items in
-    let kept = string.ensures.room.0 ∙ (c.new-writer.ensures.before ∙ ap (λ v. v.items) c.replace.ensures.value) in
-    on_err_weaker string.result (λ e. c.into_inner.ensures.items ∙ (λ i. kept i ++ print ((e ∙ c.new-writer.ensures.tokens) i)) ∙ append-nil old) string.ensures.err
+pub returns-else-is_all_plain-clause-reads_back : goal.returns-else-is_all_plain-clause-reads_back
+returns-else-is_all_plain-clause-reads_back c = on_ok_weaker c.push_escaped.result (λ e limit fits. read-quoted c.args.content.now limit c.utf8.content fits) c.push_escaped.ensures.ok

@@ -1,9 +1,8 @@
-use Rattle.std.proofs.Common.{◌≡◌, List, map, ap, sym, ◌∙◌}
+use Rattle.std.proofs.Common.{map, ap, ◌∙◌}
 use Rattle.std.proofs.lemmas.Result.{IfOk-weaker}
 use Rattle.logic_ast.specs.Expr.{view}
-use Rattle.logic_ast.specs.Sites.{preorder}
 use Rattle.logic_ast.specs.View.{node_view}
-use Rattle.site_pages.specs.Sites.{place_of, place_view}
+use Rattle.site_pages.specs.Sites.{place_view}
 use Rattle.site_pages.proofs.Placed.{all_found, are_pages, formed_of, places_are_whole}
 use Rattle.site_pages.proofs.pages.pages_of.Goals as goal
 

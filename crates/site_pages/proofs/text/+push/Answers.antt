@@ -1,4 +1,4 @@
-use Rattle.std.proofs.Common.{string_bytes, ap, ◌∙◌, rules}
+use Rattle.std.proofs.Common.{ap, ◌∙◌, rules}
 use Rattle.logic_ast.specs.View.{node_view, nodes_view, boxed_view, buckets_view}
 use Rattle.logic_ast.specs.declared.node.Node.{the_lemmas}
 use Rattle.logic_ast.proofs.Views.{node_view-fractional}

@@ -7,4 +7,4 @@ use Rattle.flagops_commands.proofs.rollouts.verify.verify.Goals as goal
 pub returns-clause-exact : goal.returns-clause-exact
 returns-clause-exact g c =
     verified c.args.document.now c.args.request.now c.args.book.now c.args.plan.now (option_map (λ m. m.number) c.args.refine) c.args.strict c.args.json (question_view c.in_ok-question.question)
-    (planned_view c.in_ok-planned.planned) _ _ c.verdict.result c.load_question.ensures.kept c.in_ok-question.ensures.exact c.in_ok-planned.ensures.exact c.verdict.ensures.exact
+    (planned_view c.in_ok-planned.planned) _ _ c.verdict-outcome.result c.load_question.ensures.kept c.in_ok-question.ensures.exact c.in_ok-planned.ensures.exact c.verdict-outcome.ensures.exact

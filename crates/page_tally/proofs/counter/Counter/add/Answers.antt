@@ -1,4 +1,4 @@
-use Rattle.std.proofs.Common.{◌≡◌, ◌<◌, length, get_or, false, sym, ap, ◌∙◌, subst, arith}
+use Rattle.std.proofs.Common.{◌≡◌, ◌<◌, length, get_or, sym, ap, ◌∙◌, subst, arith}
 use Rattle.page_tally.specs.Folding.{Kept, IsKept, with_inputs}
 use Rattle.page_tally.specs.Points.{points_if, with_points}
 use Rattle.page_tally.proofs.Pointed.{added, kept_all, none_of, points_inside}

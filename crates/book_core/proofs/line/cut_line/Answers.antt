@@ -3,7 +3,7 @@ use Rattle.std.specs.List.{slice_split}
 use Rattle.std.proofs.lemmas.List.{take_all}
 use Rattle.book_core.specs.Reading.{is_feed}
 use Rattle.book_core.proofs.Cut.{cut_none, cut_some}
-use Rattle.page_tally.proofs.lines.cut.Goals as goal
+use Rattle.book_core.proofs.line.cut_line.Goals as goal
 
 pub returns-in-None-clause-parts : goal.returns-in-None-clause-parts
 returns-in-None-clause-parts c = cut_none is_feed c.args.bytes.now c.in-None.ensures

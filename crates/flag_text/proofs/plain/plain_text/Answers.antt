@@ -1,8 +1,8 @@
 -- what stands between the quotes is what the line reads as
 use Rattle.std.proofs.Common.{Ok, length, ap, sym, ◌∙◌, arith}
 use Rattle.flag_text.specs.Shape.{text}
-use Rattle.book_core.proofs.Quoted.{tree_of-plain}
-use Rattle.book_core.proofs.plain.plain_text.Goals as goal
+use Rattle.flag_text.proofs.Quoted.{tree_of-plain}
+use Rattle.flag_text.proofs.plain.plain_text.Goals as goal
 
 pub returns-in-Ok : goal.returns-in-Ok
 returns-in-Ok c =

@@ -1,15 +1,15 @@
-//! Lines that need no reader of JSON.
+//! Texts that stand for themselves between two quotes.
 ghost use Rattle.std.specs.Prelude.{◌≡◌, ◌++◌, [], ◌∷◌, length, Ok, IfSome};
 ghost use Rattle.std.specs.List.{list_all};
+ghost use Rattle.flag_text.specs.Plain.{is_plain};
 ghost use Rattle.flag_text.specs.Reading.{tree_of};
 ghost use Rattle.flag_text.specs.Shape.{text};
-ghost use Rattle.book_core.specs.Plain.{is_plain};
 
 use std::str;
 
-/// The text that a line stands for, where it is a quoted text without an escape and nothing stands around it. `None`
-/// says nothing of the line: its reading as a tree decides. Cost: a pass over the bytes, and no memory.
-pub(crate) fn plain_text(bytes: &[u8]) -> Option<&str>
+/// The text that the bytes stand for, where they are a quoted text without an escape and nothing stands around it. `None`
+/// says nothing of them: their reading as a tree decides. Cost: a pass over the bytes, and no memory.
+pub fn plain_text(bytes: &[u8]) -> Option<&str>
     ensures { IfSome result (λ s. tree_of bytes.now (length bytes.now) ≡ Ok (text s.now)) }
 {
     let inner = unquoted(bytes)?;
@@ -33,7 +33,7 @@ fn unquoted(bytes: &[u8]) -> Option<&[u8]>
 }
 
 /// Whether each byte stands for itself in a quoted text.
-fn is_all_plain(bytes: &[u8]) -> bool
+pub(crate) fn is_all_plain(bytes: &[u8]) -> bool
     ensures { result ≡ list_all is_plain bytes.now }
 {
     bytes

@@ -1,7 +1,7 @@
 use Rattle.std.specs.Prelude.{codes}
 use Rattle.flag_text.specs.View.{view}
 use Rattle.flagops_drive.proofs.Asked.{whole_context, whole_member}
-use Rattle.flagops_drive.proofs.reading.parts_in.Goals as goal
+use Rattle.flagops_drive.proofs.reading.ask_in.Goals as goal
 
 pub invariant_of-result : goal.invariant_of-result
 invariant_of-result c = record {

@@ -1,5 +1,5 @@
 -- A quoted text without an escape reads as the text.
-use Rattle.std.proofs.Common.{◌≡◌, ◌≤◌, ℕ, List, [], ◌∷◌, ◌++◌, length, true, Ok, refl, sym, ap, ap₂, ◌∙◌, subst, arith}
+use Rattle.std.proofs.Common.{◌≡◌, ◌≤◌, ℕ, List, [], ◌∷◌, ◌++◌, length, true, Ok, append_assoc, refl, sym, ap, ap₂, ◌∙◌, subst, arith}
 use Rattle.std.proofs.lemmas.Bool.{and_parts}
 use Rattle.std.specs.List.{list_all}
 use Rattle.std.specs.Str.{IsUtf8}
@@ -8,7 +8,7 @@ use Rattle.json.specs.Token as Token
 use Rattle.json.proofs.Printed.Strings.{escape_byte_plain}
 use Rattle.json.proofs.Printed.Tokens.{tokens-print}
 use Rattle.json.proofs.Printed.Utf8.{IsUtf8-quoted}
-use Rattle.book_core.specs.Plain.{is_plain}
+use Rattle.flag_text.specs.Plain.{is_plain}
 use Rattle.flag_text.specs.Printing.{text_of}
 use Rattle.flag_text.specs.Reading.{tree_of}
 use Rattle.flag_text.specs.Shape.{text}
@@ -23,11 +23,11 @@ escape-plain (x ∷ s) h =
     let p = and_parts (is_plain x) (list_all is_plain s) h in
     ap₂ (λ (a b : List ℕ). a ++ b) (escape-is_plain x p.0) (escape-plain s p.1)
 
-quoted-plain : (s : List ℕ) → list_all is_plain s ≡ true → text_of (text s) ≡ 34 ∷ (s ++ 34 ∷ [])
+pub quoted-plain : (s : List ℕ) → list_all is_plain s ≡ true → text_of (text s) ≡ 34 ∷ (s ++ 34 ∷ [])
 unfolding text_of
 quoted-plain s h = ap (λ l. 34 ∷ (l ++ 34 ∷ [])) (escape-plain s h)
 
-read-quoted : (s : List ℕ) (limit : ℕ) → IsUtf8 s → length (text_of (text s)) ≤ limit → tree_of (text_of (text s)) limit ≡ Ok (text s)
+pub read-quoted : (s : List ℕ) (limit : ℕ) → IsUtf8 s → length (text_of (text s)) ≤ limit → tree_of (text_of (text s)) limit ≡ Ok (text s)
 unfolding text_of ArePrintable
 read-quoted s limit u fits = string_reads s limit (tokens-print (Token.string s ∷ []) (tt, tt)) (subst IsUtf8 (sym (print-string s)) (IsUtf8-quoted s u)) fits
 
@@ -36,3 +36,7 @@ at_bytes bytes text_bytes s limit same h = subst (λ b. length b ≤ limit → t
 
 pub tree_of-plain : (bytes s : List ℕ) (limit : ℕ) → bytes ≡ 34 ∷ (s ++ 34 ∷ []) → list_all is_plain s ≡ true → IsUtf8 s → length bytes ≤ limit → tree_of bytes limit ≡ Ok (text s)
 tree_of-plain bytes s limit is h u = at_bytes bytes (text_of (text s)) s limit (quoted-plain s h ∙ sym is) (read-quoted s limit u)
+
+-- what is added piece by piece is the whole text
+pub pieces : (old s : List ℕ) → list_all is_plain s ≡ true → ((old ++ 34 ∷ []) ++ s) ++ 34 ∷ [] ≡ old ++ text_of (text s)
+pieces old s h = append_assoc (old ++ 34 ∷ []) s (34 ∷ []) ∙ append_assoc old (34 ∷ []) (s ++ 34 ∷ []) ∙ ap (λ l. old ++ l) (sym (quoted-plain s h))
