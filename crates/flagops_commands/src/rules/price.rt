@@ -1,5 +1,6 @@
 //! The command `price`: what a new rule costs the keys of a file.
 ghost use Rattle.std.specs.Prelude.{◌≡◌, ◌<◌, ◌≤◌, ◌^◌, ◌++◌, ◌||◌, [], ◌∷◌, false, true, is_some, length, pos, if◌then◌else◌, IfOk, IfSome, codes, decimal, map, string_bytes};
+ghost use Rattle.std.specs.List.Sorted.{IsPermutation, IsSorted};
 ghost use Rattle.bucket_core.specs.Rule.{total_weight};
 ghost use Rattle.flag_text.specs.Shape.{members_are_whole, object, whole};
 ghost use Rattle.flag_text.specs.View.{view, items_view};
@@ -201,7 +202,7 @@ fn weigh_keys<R: Threads + Sync>(
     ensures names { TellsOfOne ((file path.now, is_of_keys) ∷ (word old_weights, is_of_rules) ∷ []) result }
 {
     if are_taken(keys.as_slice()) {
-        par_sort_unstable(rt, keys.as_mut_slice());
+        sort_keys(rt, &mut keys);
         keys.dedup();
         let outcome = priced(rt, alloc, old, new, prices, keys.as_slice(), json);
         // The program ends soon, and its memory with it.
@@ -210,6 +211,15 @@ fn weigh_keys<R: Threads + Sync>(
     }
     let exposure = noted(alloc, path, keys.as_slice())?;
     priced(rt, alloc, old, new, prices, exposure.inputs(), json)
+}
+
+/// Sorts the keys by their bytes, by as many threads as there are processors.
+fn sort_keys(rt: &(impl Threads + Sync), keys: &mut Vec<String>)
+    ensures permutation { IsPermutation keys.old.items keys.new.items }
+    ensures len { length keys.new.items ≡ length keys.old.items }
+    ensures sorted { IsSorted ⟦<String as Ord>⟧.cmp keys.new.items }
+{
+    par_sort_unstable(rt, keys.as_mut_slice());
 }
 
 /// Whether a page takes all these keys in whatever order they are noted.

@@ -15,17 +15,17 @@ use Rattle.flagops_commands.proofs.rules.price.weigh_keys.Goals as goal
 
 pub returns-then-are_taken-clause-exact : goal.returns-then-are_taken-clause-exact
 returns-then-are_taken-clause-exact g c =
-    let sorted = c.par_sort_unstable.new.s in
+    let sorted = c.sort_keys.new.keys.items in
     let distinct = c.dedup.new.self.items in
     let once = dedup_is (λ x y. bytes_eq (string_bytes x) (string_bytes y)) sorted distinct c.dedup.ensures.filtered in
-    let same = exposed-apart c.args.keys.items sorted distinct (ap are_taken (sym c.as_slice.ensures.value) ∙ sym c.if-are_taken.ensures) c.par_sort_unstable.ensures.permutation c.par_sort_unstable.ensures.sorted once in
+    let same = exposed-apart c.args.keys.items sorted distinct (ap are_taken (sym c.as_slice.ensures.value) ∙ sym c.if-are_taken.ensures) c.sort_keys.ensures.permutation c.sort_keys.ensures.sorted once in
     let weigh = weighed c.args.json c.args.old.now c.args.new.now c.args.prices.now in
     subst (λ wanted. GivesUnlessWant outcome_view c.priced-outcome.result wanted) (ap (λ xs. weigh (map string_bytes xs)) c.as_slice-then-are_taken.ensures.value ∙ sym (ap (λ r. r >>= weigh) same)) c.priced-outcome.ensures.exact
 
-pub priced-requires-clause-few : goal.priced-requires-clause-few
-priced-requires-clause-few g c =
+pub priced-outcome-requires-clause-few : goal.priced-outcome-requires-clause-few
+priced-outcome-requires-clause-few g c =
     let few = few_taken c.args.keys.items (ap are_taken (sym c.as_slice.ensures.value) ∙ sym c.if-are_taken.ensures) in
-    omega (arith, few, c.dedup.ensures.bound, c.par_sort_unstable.ensures.len, c.as_slice-then-are_taken.ensures.len)
+    omega (arith, few, c.dedup.ensures.bound, c.sort_keys.ensures.len, c.as_slice-then-are_taken.ensures.len)
 
 pub returns-in_err-exposure-clause-names : goal.returns-in_err-exposure-clause-names
 returns-in_err-exposure-clause-names g c =
