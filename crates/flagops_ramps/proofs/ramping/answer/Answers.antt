@@ -25,8 +25,8 @@ returns-in-Ok-plan_steps g c =
     steps_report strict refine (book_question_view c.args.question) requests c.told.result (ap steps_of (sym c.as_slice.ensures.value) ∙ c.in-Ok.ensures.exact)
     (subst (λ (q : BookQuestion). GivesOne outcome_view c.told.result (IsRampOver strict refine q (Ok requests))) c.count.ensures.kept over)
 
-pub returns-in-Err-plan_steps : goal.returns-in-Err-plan_steps
-returns-in-Err-plan_steps g c =
+pub returns : goal.returns
+returns g c =
     let strict = c.args.asked.now.strict in
     let refine = option_map (λ m. m.number) c.args.asked.now.refine in
     let requests = requests_view c.in-Ok.steps.items in
