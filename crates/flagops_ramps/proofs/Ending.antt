@@ -1,5 +1,5 @@
 -- What a command came to, as its outlets show it.
-use Rattle.std.proofs.Common.{◌≡◌, ◌⊎◌, false, ℕ, List, Bool, Option, None, Some, Result, Ok, Err, refl, inl, inr, subst}
+use Rattle.std.proofs.Common.{◌≡◌, ◌⊎◌, ℕ, List, Bool, Option, None, Some, Result, Ok, Err, inl, inr}
 use Rattle.std.specs.Prelude.{IfSome}
 use Rattle.flagops_files.specs.Files.{Holding}
 use Rattle.flagops_files.specs.Report.{outcome_view}

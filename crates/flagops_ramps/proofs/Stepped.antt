@@ -13,7 +13,6 @@ use Rattle.ramp.specs.declared.fault.StepFault.{StepFault}
 use Rattle.ramp_steps.specs.Steps.{steps_of}
 use Rattle.ramp_steps.specs.declared.fault.StepsFault.{StepsFault}
 use Rattle.ramp_steps.specs.declared.fault.StepsFault.TheVariants as steps
-use Rattle.rollout_checks.specs.Fault as rollouts
 use Rattle.rollout_checks.specs.declared.fault.RolloutFault.{RolloutFault}
 use Rattle.rollout_checks.specs.declared.fault.RolloutFault.TheVariants.{WantOfMemory}
 use Rattle.rollout_checks.specs.declared.verify_fault.VerifyFault.TheVariants.{Request}

@@ -1,9 +1,8 @@
-use Rattle.std.proofs.Common.{List, ℕ, Result, Ok, Err, Vec, Global, map, option_map, sym, ap, ◌∙◌, subst}
+use Rattle.std.proofs.Common.{Result, Ok, Err, map, option_map, sym, ap, ◌∙◌, subst}
 use Rattle.flagops_files.specs.Question.{BookQuestion, book_question_view}
 use Rattle.flagops_files.specs.Report.{outcome_view}
 use Rattle.flagops_files.specs.declared.outcome.Outcome.{Outcome}
 use Rattle.plan_text.specs.Answer.{planned_view}
-use Rattle.ramp.specs.Ramp.{ArePlans, IsRefused}
 use Rattle.ramp_steps.specs.Steps.{requests_view, steps_of}
 use Rattle.flagops_ramps.specs.Ramp.{IsRampOver}
 use Rattle.flagops_ramps.specs.Report.{GivesOne}
