@@ -1,8 +1,9 @@
 //! What `picture` and `plan --picture` take, in the terms of `clap`.
 ghost use Rattle.std.specs.Prelude.{◌≡◌, IfOk, codes, false};
-ghost use Rattle.clap.specs.Simple.{with_rule};
+ghost use Rattle.clap.specs.Simple.{new_app, with_rule};
 ghost use Rattle.clap.specs.Words.{app_of, rule_of};
 ghost use Rattle.flagops_pictures.specs.Words.{picture_app, picture_option, plan_app, ramp_app};
+ghost use Rattle.flagops_ramps.specs.Words.{with_steps};
 ghost use Rattle.flagops_words.specs.Words.{flag, strict_flag, with_rollout};
 
 use clap::{Arg, Command};
@@ -43,12 +44,7 @@ pub(crate) fn ramp<'a>(alloc: Global) -> Result<Command<'a>, AllocError>
         "ramp",
         "Draw each step of a rollout, one below the other",
     );
-    let command = Command::new(alloc, "picture")
-        .bin_name("flagops picture")?
-        .about(
-            "Prints the pictures of a rollout in steps as SVG: what each moves, and what it costs",
-        );
-    with_steps(alloc, command, BOOK)?
+    steps(alloc)?
         .arg(answers)?
         .arg(ramp)?
         .arg(refine(alloc, REFINED))
@@ -90,6 +86,18 @@ fn picture_file<'a>(alloc: Global) -> Arg<'a>
         .long("picture")
         .required(true)
         .help("The file that the picture of the plan is written to")
+}
+
+/// The command `picture` with the files of a rollout in steps.
+fn steps<'a>(alloc: Global) -> Result<Command<'a>, AllocError>
+    ensures app { IfOk result (λ c. app_of c ≡ with_steps (new_app (codes "picture"))) }
+{
+    let command = Command::new(alloc, "picture")
+        .bin_name("flagops picture")?
+        .about(
+            "Prints the pictures of a rollout in steps as SVG: what each moves, and what it costs",
+        );
+    with_steps(alloc, command, BOOK)
 }
 
 /// A command with the files of a rollout.

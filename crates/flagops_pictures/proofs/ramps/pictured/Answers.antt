@@ -5,8 +5,8 @@ use Rattle.flagops_pictures.proofs.ramps.pictured.Goals as goal
 pub returns-in-Ok-drawn-clause-exact : goal.returns-in-Ok-drawn-clause-exact
 returns-in-Ok-drawn-clause-exact g c = pictured (verifying_view c.args.asked.now) (g.F.FileSet.holding c.args.files.now) c.in-Ok.right c.in-Ok-drawn.outcome c.in-Ok.ensures.exact c.in-Ok-drawn.ensures
 
-pub returns-in-Err-drawn-clause-exact : goal.returns-in-Err-drawn-clause-exact
-returns-in-Err-drawn-clause-exact g c = wanting (verifying_view c.args.asked.now) (g.F.FileSet.holding c.args.files.now) c.out_of_memory.result c.out_of_memory.ensures
+pub returns-in-Ok-clause-exact : goal.returns-in-Ok-clause-exact
+returns-in-Ok-clause-exact g c = wanting (verifying_view c.args.asked.now) (g.F.FileSet.holding c.args.files.now) c.out_of_memory.result c.out_of_memory.ensures
 
-pub returns-in-Err-clause-exact : goal.returns-in-Err-clause-exact
-returns-in-Err-clause-exact g c = refused (verifying_view c.args.asked.now) (g.F.FileSet.holding c.args.files.now) c.in-Err.told c.in-Err.ensures.exact
+pub returns-clause-exact : goal.returns-clause-exact
+returns-clause-exact g c = refused (verifying_view c.args.asked.now) (g.F.FileSet.holding c.args.files.now) c.in-Err.told c.in-Err.ensures.exact

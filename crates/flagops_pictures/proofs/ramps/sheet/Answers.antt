@@ -3,11 +3,11 @@ use Rattle.picture.specs.Spelling.{IsBody}
 use Rattle.picture.proofs.Bodies.{none_yet}
 use Rattle.flagops_pictures.proofs.ramps.sheet.Goals as goal
 
-pub add_steps-height-requires-clause-few : goal.add_steps-height-requires-clause-few
-add_steps-height-requires-clause-few g c = λ κs within. omega (arith, ap length c.as_slice.ensures.value, c.requires.right.few)
+pub add_steps-requires-clause-few : goal.add_steps-requires-clause-few
+add_steps-requires-clause-few g c = λ κs within. omega (arith, ap length c.as_slice.ensures.value, c.requires.right.few)
 
-pub add_steps-height-requires-clause-right : goal.add_steps-height-requires-clause-right
-add_steps-height-requires-clause-right g c = λ κs within. rw (c.as_slice.ensures.value, c.as_slice-2.ensures.value) c.requires.right.right
+pub add_steps-requires-clause-right : goal.add_steps-requires-clause-right
+add_steps-requires-clause-right g c = λ κs within. rw (c.as_slice.ensures.value, c.as_slice-2.ensures.value) c.requires.right.right
 
 pub returns : goal.returns
 returns g c =
