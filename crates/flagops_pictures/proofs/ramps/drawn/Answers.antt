@@ -1,4 +1,4 @@
-use Rattle.std.proofs.Common.{◌≡◌, Bool, ℕ, List, Option, Ok, Vec, Global, ap, ap₂, is_some, option_map, string_bytes, subst, sym, ◌∙◌}
+use Rattle.std.proofs.Common.{◌≡◌, Bool, ℕ, List, Option, Ok, Vec, Global, ap, ap₂, is_some, string_bytes, subst, sym, ◌∙◌}
 use Rattle.flagops_ramps.specs.Judging.{AreRightAnswers, answered_view}
 use Rattle.flagops_ramps.specs.Report.{Came}
 use Rattle.flagops_pictures.specs.Ramps.{IsRampDrawn}
