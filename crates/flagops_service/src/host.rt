@@ -8,19 +8,17 @@ use std::thread::Threads;
 use std::time::Clock;
 
 /// Memory, files, sockets, the time, random numbers, and threads that may wait: all that the service takes of the system.
-pub trait Host:
-    AllocGlobal
+pub trait Host: AllocGlobal
     + Files<File = File>
     + Net<Listener = TcpListener, Stream = TcpStream>
     + Clock
     + RandomSource
     + Threads
     + Wait
-    + Sync
-{
-}
+    + Sync {}
 
-impl<R> Host for R where
+impl<R> Host for R
+where
     R: AllocGlobal
         + Files<File = File>
         + Net<Listener = TcpListener, Stream = TcpStream>
@@ -28,6 +26,5 @@ impl<R> Host for R where
         + RandomSource
         + Threads
         + Wait
-        + Sync
-{
-}
+        + Sync,
+{}
