@@ -1,10 +1,7 @@
 -- What the commands that draw come to, by what the two outlets show before and after, what the files show, and the status.
 use Rattle.std.specs.Prelude.{◌≡◌, ◌⊎◌, ℕ, Bool, List, Option, None, IfSome}
 use Rattle.clap.specs.Walk.{Text}
-use Rattle.clap.specs.Kinds.{IsAmong}
-use Rattle.clap.specs.declared.error.kind.ErrorKind.{ErrorKind}
 use Rattle.flagops_commands.specs.Ended.{AnswersAt, WantsAt}
-use Rattle.flagops_commands.specs.Telling.{Tells}
 use Rattle.flagops_files.specs.Files.{Holding}
 use Rattle.flagops_pictures.specs.Pictured.{IsPictureReport, picture_calls}
 use Rattle.flagops_pictures.specs.Planning.{IsPlanPicture, plan_calls}
@@ -23,9 +20,7 @@ module _ {O E : Type 0} (bytes : O → Option (List ℕ)) (is_broken : O → Boo
 
   -- words with a mistake are told by one of their mistakes
   abbrev pub TellsPicture : List Text → Type 0
-  TellsPicture words = picture_by words ≡ None
-      → WantsAt bytes is_broken out out' told is_mute err err' status
-      ⊎ ((kind : ErrorKind) × IsAmong kind (picture_faults words) × Tells (bytes out) (bytes out') (is_broken out') (told err) (told err') (is_mute err') status kind)
+  TellsPicture words = picture_by words ≡ None → TellsOne (bytes out) (bytes out') (is_broken out') (told err) (told err') (is_mute err') status (picture_faults words)
 
   -- the same of `picture --ramp`
   abbrev pub AnswersRamp : {F : Type 0} → (F → Option Holding) → F → List Text → Type 0

@@ -7,8 +7,12 @@ ghost use Rattle.flagops_ramps.specs.Words.{with_steps};
 ghost use Rattle.flagops_words.specs.Words.{flag, strict_flag, with_rollout};
 
 use clap::{Arg, Command};
+use flagops_ramps::with_steps;
 use flagops_words::arguments::{flag, refine, required, strict};
 use std::alloc::{AllocError, Global};
+
+/// What the book of a rollout is.
+const BOOK: &str = "The book of recorded inputs";
 
 /// What `--refine` says of a plan that is drawn.
 const REFINED: &str = "The factor that the plan was made with";
@@ -88,21 +92,12 @@ fn picture_file<'a>(alloc: Global) -> Arg<'a>
 fn steps<'a>(alloc: Global) -> Result<Command<'a>, AllocError>
     ensures app { IfOk result (λ c. app_of c ≡ with_steps (new_app (codes "picture"))) }
 {
-    let document = required(alloc, "DOC", "The flag document");
-    let request = required(
-        alloc,
-        "STEPS",
-        "The file of the rollout request, with \"steps\", a list of totals, for \"totals\"",
-    );
-    let book = required(alloc, "BOOK", "The book of recorded inputs");
-    Command::new(alloc, "picture")
+    let command = Command::new(alloc, "picture")
         .bin_name("flagops picture")?
         .about(
             "Prints the pictures of a rollout in steps as SVG: what each moves, and what it costs",
-        )
-        .arg(document)?
-        .arg(request)?
-        .arg(book)
+        );
+    with_steps(alloc, command, BOOK)
 }
 
 /// A command with the files of a rollout.
@@ -111,6 +106,6 @@ fn rollout<'a>(alloc: Global, command: Command<'a>) -> Result<Command<'a>, Alloc
 {
     let document = required(alloc, "DOC", "The flag document");
     let request = required(alloc, "REQUEST", "The file of the rollout request");
-    let book = required(alloc, "BOOK", "The book of recorded inputs");
+    let book = required(alloc, "BOOK", BOOK);
     command.arg(document)?.arg(request)?.arg(book)
 }

@@ -3,12 +3,12 @@ ghost use Rattle.std.specs.Prelude.{◌≡◌, IfErr, IfOk, Some, map, option_ma
 ghost use Rattle.clap.specs.Words.{found_of, kind_of, rows_of};
 ghost use Rattle.flagops_words.specs.Alone.{IsToldBy};
 ghost use Rattle.flagops_pictures.specs.Words.{asked_view, picture_by, picture_faults, picture_in, plan_by, plan_faults, planning_in, planning_view, ramp_by, ramp_faults};
-ghost use Rattle.flagops_ramps.specs.Words.{verify_in, verifying_view};
+ghost use Rattle.flagops_ramps.specs.Words.{verifying_view};
 
 use crate::asked::{Asked, Planning};
 use crate::usage::{plan, ramp, usage};
 use clap::{ArgMatches, Error};
-use flagops_ramps::Verifying;
+use flagops_ramps::{Verifying, verifying_in};
 use flagops_words::arguments::missing_value;
 use flagops_words::matches::{flag_in, is_strict, refine_in};
 use std::alloc::Global;
@@ -52,25 +52,6 @@ pub(crate) fn read_plan<'a, S: AsStr>(alloc: Global, words: &'a [S]) -> Result<P
         Some(planning) => Ok(planning),
         None => Err(missing_value(alloc, plan(alloc)?)?),
     }
-}
-
-#[tactic(auto, using(flagops_words::proofs::Matched::rows))]
-fn verifying_in<'a>(matches: &ArgMatches<'a>) -> Option<Verifying<'a>>
-    ensures { option_map verifying_view result ≡ verify_in (rows_of (found_of matches.now)) }
-{
-    let document = matches.get_str("DOC")?;
-    let steps = matches.get_str("STEPS")?;
-    let book = matches.get_str("BOOK")?;
-    let ramp = matches.get_str("RAMP")?;
-    let refine = refine_in(matches)?;
-    Some(Verifying {
-        document,
-        steps,
-        book,
-        ramp,
-        refine,
-        strict: is_strict(matches),
-    })
 }
 
 #[tactic(auto, using(flagops_words::proofs::Matched::rows))]

@@ -8,7 +8,7 @@ use Rattle.flagops_files.specs.Files.{Holding}
 use Rattle.flagops_files.specs.Report.{Report}
 use Rattle.flagops_files.specs.declared.refusal.Refusal.{Refusal}
 use Rattle.flagops_ramps.specs.Report.{Came}
-use Rattle.flagops_ramps.specs.Verify.{answers_at}
+use Rattle.flagops_ramps.specs.Judging.{answers_at}
 use Rattle.flagops_ramps.specs.declared.refusal.RampRefusal.{RampRefusal}
 use Rattle.flagops_ramps.specs.declared.refusal.RampRefusal.TheVariants.{Load, NoStep}
 

@@ -1,5 +1,5 @@
 -- What is doubted of the answers to the steps of a rollout, and what becomes of it.
-use Rattle.std.specs.Prelude.{◌≡◌, ◌||◌, ℕ, Bool, true, false, List, [], ◌∷◌, codes, Option, Some, None, is_some, if◌then◌else◌, Result, Ok, Err}
+use Rattle.std.specs.Prelude.{◌||◌, ℕ, Bool, true, false, List, [], ◌∷◌, codes, Option, Some, None, is_some, if◌then◌else◌, Result, Ok, Err}
 use Rattle.std.specs.Str.{bytes_eq}
 use Rattle.flag_text.specs.Reading.{tree_of}
 use Rattle.flag_text.specs.Shape.{Shape, object, Members, no_members, member}
@@ -13,13 +13,10 @@ use Rattle.flagops_files.specs.Loading.{max_text}
 use Rattle.flagops_files.specs.Question.{BookQuestion, Question}
 use Rattle.flagops_files.specs.declared.evidence.Evidence.TheVariants.{Book}
 use Rattle.flagops_files.specs.declared.refusal.Doubt.{Doubt}
-use Rattle.flagops_files.specs.declared.refused.Remark.{Remark}
-use Rattle.flagops_ramps.specs.Refusal.{is_want}
 use Rattle.flagops_ramps.specs.Report.{Came}
 use Rattle.flagops_ramps.specs.declared.refusal.RampRefusal.{RampRefusal}
 use Rattle.flagops_ramps.specs.declared.refusal.RampRefusal.TheVariants.{Doubted}
 use Rattle.flagops_ramps.specs.declared.refusal.StepCall.{StepCall}
-use Rattle.flagops_ramps.specs.declared.reports.Told.{Told}
 
 -- a member of this name is read of a file of steps: `steps`, and what is read of a request
 abbrev pub is_read : List ℕ → Bool
@@ -65,8 +62,3 @@ abbrev pub beside : Result Bool RampRefusal → Came → Came
 beside (Err e) r = Err e
 beside (Ok told) (Ok r) = Ok (record r { is_told = told })
 beside (Ok told) (Err e) = Err e
-
--- a doubt was settled as the definition gives, unless memory ran out
-abbrev pub Settles : Result (Option Remark) Told → Result Bool RampRefusal → Type 0
-Settles (Ok r) wanted = wanted ≡ Ok (is_some r)
-Settles (Err t) wanted = is_want t.refusal ≡ false → wanted ≡ Err t.refusal

@@ -1,5 +1,5 @@
 -- What `ramp`, `verify-ramp` and `apply --step` come to, by what the two outlets show before and after, what the files show, and the status.
-use Rattle.std.specs.Prelude.{◌≡◌, ◌⊎◌, ℕ, Bool, true, false, List, Option, None, IfSome, codes}
+use Rattle.std.specs.Prelude.{◌≡◌, ◌⊎◌, ℕ, Bool, List, Option, None, IfSome, codes}
 use Rattle.clap.specs.Kinds.{Kinds, IsAmong}
 use Rattle.clap.specs.Walk.{Text}
 use Rattle.clap.specs.declared.error.kind.ErrorKind.{ErrorKind}
@@ -31,12 +31,12 @@ module _ {O E : Type 0} (bytes : O → Option (List ℕ)) (is_broken : O → Boo
   -- over files whose bytes are known, the report of what the files at the paths make
   abbrev pub AnswersRamp : {F : Type 0} → (F → Option Holding) → F → List Text → Type 0
   AnswersRamp holding files words = IfSome (ramp_by words) (λ a. IfSome (holding files) (λ at.
-      Reports (bytes out) (bytes out') (is_broken out') (told err) (told err') (is_mute err') status ramp_want (IsRampReport at a.document a.steps a.book a.refine a.strict)
+      Reports (bytes out) (bytes out') (is_broken out') (told err) (told err') (is_mute err') status ramp_want (IsRampReport at a)
       ⊎ Wants (bytes out) (bytes out') (is_broken out') (told err) (told err') (is_mute err') status))
 
   abbrev pub AnswersVerify : {F : Type 0} → (F → Option Holding) → F → List Text → Type 0
   AnswersVerify holding files words = IfSome (verify_by words) (λ a. IfSome (holding files) (λ at.
-      Reports (bytes out) (bytes out') (is_broken out') (told err) (told err') (is_mute err') status verify_want (IsVerdictReport at a.document a.steps a.book a.ramp a.refine a.strict)
+      Reports (bytes out) (bytes out') (is_broken out') (told err) (told err') (is_mute err') status verify_want (IsVerdictReport at a)
       ⊎ Wants (bytes out) (bytes out') (is_broken out') (told err) (told err') (is_mute err') status))
 
   abbrev pub AnswersStep : {F : Type 0} → (F → Option Holding) → F → List Text → Type 0

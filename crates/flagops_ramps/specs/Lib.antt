@@ -1,6 +1,7 @@
 pub mod Apply
 pub mod Doubts
 pub mod Ended
+pub mod Judging
 pub mod Ramp
 pub mod Refusal
 pub mod Remarks

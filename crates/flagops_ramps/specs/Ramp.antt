@@ -17,6 +17,7 @@ use Rattle.rollout_checks.specs.declared.fault.RolloutFault.{RolloutFault}
 use Rattle.rollout_checks.specs.declared.fault.RolloutFault.TheVariants.{WantOfMemory, Request}
 use Rattle.flagops_ramps.specs.Doubts.{beside, doubt_of_steps, settle}
 use Rattle.flagops_ramps.specs.Report.{Came}
+use Rattle.flagops_ramps.specs.Words.{Ramping}
 use Rattle.flagops_ramps.specs.declared.refusal.RampRefusal.TheVariants.{Load, Ramp, Print}
 use Rattle.flagops_ramps.specs.declared.refusal.StepCall.TheVariants as call
 
@@ -51,6 +52,6 @@ abbrev pub IsRampOf : Bool → Option ℕ → Result BookQuestion Refusal → Ca
 IsRampOf strict refine (Err e) r = r ≡ Err (Load e)
 IsRampOf strict refine (Ok q) r = IsRampOver strict refine q (steps_of q.request) r
 
--- what the files at these paths make
-unfoldable pub IsRampReport : Holding → List ℕ → List ℕ → List ℕ → Option ℕ → Bool → Came → Type 0
-IsRampReport at document steps book refine strict r = (question : Result BookQuestion Refusal) × IsBookQuestionAt at document steps book question × IsRampOf strict refine question r
+-- what the files at the paths make
+unfoldable pub IsRampReport : Holding → Ramping → Came → Type 0
+IsRampReport at a r = (question : Result BookQuestion Refusal) × IsBookQuestionAt at a.document a.steps a.book question × IsRampOf a.strict a.refine question r

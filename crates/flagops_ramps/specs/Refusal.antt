@@ -1,5 +1,5 @@
 -- The line that a refusal of a command on steps is written as.
-use Rattle.std.specs.Prelude.{ℕ, Bool, List, [], ◌++◌, codes, decimal, nat_eq}
+use Rattle.std.specs.Prelude.{ℕ, Bool, List, [], codes, decimal, nat_eq}
 use Rattle.flagops_files.specs.Payload.{number_item, rollout_items, verify_items}
 use Rattle.flagops_files.specs.Refusal as files
 use Rattle.flagops_files.specs.Refusal.{line_with}

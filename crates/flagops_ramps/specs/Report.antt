@@ -1,8 +1,5 @@
 -- What a command on steps writes and ends with.
-use Rattle.std.specs.Prelude.{◌≡◌, ◌⊎◌, ℕ, Bool, true, false, List, map, Vec, Option, Result, Ok, Err}
-use Rattle.std.specs.declared.alloc.Global.{Global}
-use Rattle.plan_text.specs.Answer.{Answer, planned_view}
-use Rattle.plan_text.specs.declared.planned.Planned.{Planned}
+use Rattle.std.specs.Prelude.{◌≡◌, ◌⊎◌, ℕ, Bool, true, false, List, Option, Result, Ok, Err}
 use Rattle.flagops_files.specs.Report.{Report, ReportsAll, outcome_view}
 use Rattle.flagops_files.specs.declared.outcome.Outcome.{Outcome}
 use Rattle.flagops_ramps.specs.Refusal.{is_want, line_of}
@@ -34,10 +31,10 @@ Ends out out_after is_broken err err_after is_err_broken status line (Err e) =
     ((is_want e ≡ false) × ReportsAll out out_after is_broken err err_after is_err_broken status (report_of (Err e)))
     ⊎ ReportsAll out out_after is_broken err err_after is_err_broken status (want_report line)
 
--- what was returned is one of these, unless memory ran out
-abbrev pub GivesOne : Result Outcome Told → (Came → Type 0) → Type 0
-GivesOne (Ok o) Wanted = Wanted (Ok (outcome_view o))
-GivesOne (Err t) Wanted = is_want t.refusal ≡ false → Wanted (Err t.refusal)
+-- what was returned, seen by `seen`, is one of these, unless memory ran out
+abbrev pub GivesOne : {X Y : Type 0} → (X → Y) → Result X Told → (Result Y RampRefusal → Type 0) → Type 0
+GivesOne seen (Ok x) Wanted = Wanted (Ok (seen x))
+GivesOne seen (Err t) Wanted = is_want t.refusal ≡ false → Wanted (Err t.refusal)
 
 -- the report of one of these, or memory ran out
 abbrev pub Reports : Option (List ℕ) → Option (List ℕ) → Bool → Option (List ℕ) → Option (List ℕ) → Bool → ℕ → List ℕ → (Came → Type 0) → Type 0
@@ -45,12 +42,7 @@ Reports out out_after is_broken err err_after is_err_broken status line Wanted =
     ((r : Came) × Wanted r × ReportsAll out out_after is_broken err err_after is_err_broken status (report_of r))
     ⊎ ReportsAll out out_after is_broken err err_after is_err_broken status (want_report line)
 
--- what was returned is what the definition gives, unless memory ran out
-abbrev pub GivesUnlessWant : Result Outcome Told → Came → Type 0
-GivesUnlessWant (Ok o) wanted = wanted ≡ Ok (outcome_view o)
-GivesUnlessWant (Err t) wanted = is_want t.refusal ≡ false → wanted ≡ Err t.refusal
-
--- answers that were loaded are what the definition gives, unless memory ran out
-abbrev pub LoadsTo : Result (Vec Planned Global) Told → Result (List Answer) RampRefusal → Type 0
-LoadsTo (Ok v) wanted = wanted ≡ Ok (map planned_view v.items)
-LoadsTo (Err t) wanted = is_want t.refusal ≡ false → wanted ≡ Err t.refusal
+-- what was returned, seen by `seen`, is what the definition gives, unless memory ran out
+abbrev pub GivesUnlessWant : {X Y : Type 0} → (X → Y) → Result X Told → Result Y RampRefusal → Type 0
+GivesUnlessWant seen (Ok x) wanted = wanted ≡ Ok (seen x)
+GivesUnlessWant seen (Err t) wanted = is_want t.refusal ≡ false → wanted ≡ Err t.refusal

@@ -20,12 +20,8 @@ pub record Ramping : Type 0 where
 
 -- the same, and the path of the answers
 pub record Verifying : Type 0 where
-  pub document : Text
-  pub steps : Text
-  pub book : Text
+  pub rollout : Ramping
   pub ramp : Text
-  pub refine : Option ℕ
-  pub strict : Bool
 
 -- the paths of a document and of answers, a flag with its site, and the number of a step, from 1
 pub record Applying : Type 0 where
@@ -42,7 +38,7 @@ abbrev pub ramping_view : code_ramp.Ramping → Ramping
 ramping_view r = record { document = r.document.now; steps = r.steps.now; book = r.book.now; refine = option_map (λ m. m.number) r.refine; strict = r.strict }
 
 abbrev pub verifying_view : code_verify.Verifying → Verifying
-verifying_view v = record { document = v.document.now; steps = v.steps.now; book = v.book.now; ramp = v.ramp.now; refine = option_map (λ m. m.number) v.refine; strict = v.strict }
+verifying_view v = record { rollout = ramping_view v.rollout; ramp = v.ramp.now }
 
 -- `DOC STEPS BOOK`
 abbrev pub with_steps : App → App
@@ -77,12 +73,9 @@ ramp_in rows = do
 
 abbrev pub verify_in : List Row → Option Verifying
 verify_in rows = do
-  document ← first_of (codes "DOC") rows
-  steps ← first_of (codes "STEPS") rows
-  book ← first_of (codes "BOOK") rows
+  rollout ← ramp_in rows
   ramp ← first_of (codes "RAMP") rows
-  factor ← refine_in rows
-  Some (record { document = document; steps = steps; book = book; ramp = ramp; refine = factor; strict = is_strict rows })
+  Some (record { rollout = rollout; ramp = ramp })
 
 abbrev pub number_of_step : List Row → Option ℕ
 number_of_step rows = do

@@ -7,14 +7,14 @@ ghost use Rattle.flagops_ramps.specs.Apply.{IsStepApplied, IsStepReport, answer_
 ghost use Rattle.flagops_ramps.specs.Ended.{AnswersStep, TellsStep};
 ghost use Rattle.flagops_ramps.specs.Remarks.{NamesStep};
 ghost use Rattle.flagops_ramps.specs.Report.{GivesOne, GivesUnlessWant};
-ghost use Rattle.flagops_ramps.specs.Verify.{answers_at};
+ghost use Rattle.flagops_ramps.specs.Judging.{answers_at};
 ghost use Rattle.plan_text.specs.Answer.{planned_view};
 
 use crate::asked::Applying;
+use crate::judging::{load_ramp, out_of_memory};
 use crate::refusal::RampRefusal;
 use crate::remarks::step_line;
 use crate::reports::{Told, finish};
-use crate::verifying::{load_ramp, out_of_memory};
 use crate::words::read_step;
 use flag_defs::{Flags, print_flags};
 use flag_text::Outlet;
@@ -54,7 +54,7 @@ where
 
 /// The report of the files that are asked for.
 fn applied<F: FileSet>(alloc: Global, files: &mut F, asked: &Applying<'_>) -> Result<Outcome, Told>
-    ensures exact { IfSome (F.holding files.old) (λ at. GivesOne result (IsStepReport at asked.now.document.now asked.now.ramp.now asked.now.key.now asked.now.site asked.now.step)) }
+    ensures exact { IfSome (F.holding files.old) (λ at. GivesOne outcome_view result (IsStepReport at asked.now.document.now asked.now.ramp.now asked.now.key.now asked.now.site asked.now.step)) }
     ensures kept { F.holding files.new ≡ F.holding files.old }
 {
     match load_flags(alloc, files, asked.document) {
@@ -70,7 +70,7 @@ fn against<F: FileSet>(
     asked: &Applying<'_>,
     flags: &Flags,
 ) -> Result<Outcome, Told>
-    ensures exact { IfSome (F.holding files.old) (λ at. GivesOne result (IsStepApplied asked.now.key.now asked.now.site asked.now.step (Ok (flags_view flags.now)) (answers_at at asked.now.ramp.now))) }
+    ensures exact { IfSome (F.holding files.old) (λ at. GivesOne outcome_view result (IsStepApplied asked.now.key.now asked.now.site asked.now.step (Ok (flags_view flags.now)) (answers_at at asked.now.ramp.now))) }
     ensures kept { F.holding files.new ≡ F.holding files.old }
 {
     match load_ramp(alloc, files, asked.ramp) {
@@ -86,7 +86,7 @@ fn put(
     flags: &Flags,
     answers: &[Planned],
 ) -> Result<Outcome, Told>
-    ensures { GivesOne result (IsStepApplied asked.now.key.now asked.now.site asked.now.step (Ok (flags_view flags.now)) (Ok (map planned_view answers.now))) }
+    ensures { GivesOne outcome_view result (IsStepApplied asked.now.key.now asked.now.site asked.now.step (Ok (flags_view flags.now)) (Ok (map planned_view answers.now))) }
 {
     match answer_to(answers, asked.step) {
         Some(planned) => answer_put(alloc, asked, flags, planned),
@@ -124,7 +124,7 @@ fn answer_put(
     flags: &Flags,
     planned: &Planned,
 ) -> Result<Outcome, Told>
-    ensures exact { GivesUnlessWant result (as_came (applied_report (flags_view flags.now) asked.now.key.now asked.now.site (planned_view planned.now))) }
+    ensures exact { GivesUnlessWant outcome_view result (as_came (applied_report (flags_view flags.now) asked.now.key.now asked.now.site (planned_view planned.now))) }
     ensures local { IfOk result (λ o. IsLocalReport (flags_view flags.now) asked.now.key.now asked.now.site (planned_view planned.now) (outcome_view o)) }
 {
     match planned {
@@ -147,7 +147,7 @@ fn answer_put(
 
 /// The report of the changed document.
 fn document(alloc: Global, flags: &Flags) -> Result<Outcome, Told>
-    ensures { GivesUnlessWant result (as_came (done (document_line (flags_view flags.now)))) }
+    ensures { GivesUnlessWant outcome_view result (as_came (done (document_line (flags_view flags.now)))) }
 {
     match document_line(alloc, flags) {
         Ok(text) => Ok(Outcome::plain(text, Status::Done)),
@@ -157,7 +157,7 @@ fn document(alloc: Global, flags: &Flags) -> Result<Outcome, Told>
 
 /// The report of an answer without a rule.
 fn none(alloc: Global) -> Result<Outcome, Told>
-    ensures { GivesUnlessWant result (Ok none_report) }
+    ensures { GivesUnlessWant outcome_view result (Ok none_report) }
 {
     match Vec::from_slice(alloc, b"none\n") {
         Ok(text) => Ok(Outcome::plain(text, Status::NoneExists)),

@@ -1,7 +1,7 @@
 //! The commands on steps with their words.
 use flagops_words::Factor;
 
-/// What `ramp` is asked for: the answers to steps.
+/// What `ramp` is asked for: the answers to the steps of a rollout.
 #[derive(Clone, Copy, Debug)]
 pub struct Ramping<'a> {
     pub document: &'a str,
@@ -22,14 +22,9 @@ pub struct Applying<'a> {
     pub step: u32,
 }
 
-/// What `verify-ramp` is asked for: whether answers to steps are right.
+/// What `verify-ramp` is asked for: whether the answers of a file are right for a rollout in steps.
 #[derive(Clone, Copy, Debug)]
 pub struct Verifying<'a> {
-    pub document: &'a str,
-    pub steps: &'a str,
-    pub book: &'a str,
+    pub rollout: Ramping<'a>,
     pub ramp: &'a str,
-    pub refine: Option<Factor>,
-    /// Whether what is doubted is refused, and not only told.
-    pub strict: bool,
 }

@@ -3,52 +3,43 @@ ghost use Rattle.std.specs.Prelude.{◌≡◌, is_some, option_map, IfOk};
 ghost use Rattle.flag_text.specs.View.{members_view, view};
 ghost use Rattle.flagops_commands.specs.Doubts.{first_doubt};
 ghost use Rattle.flagops_files.specs.Question.{book_question_view};
-ghost use Rattle.flagops_ramps.specs.Doubts.{Settles, doubt_of_steps, first_request, has_unread, has_unread_member, is_read, is_unread, settle};
+ghost use Rattle.flagops_ramps.specs.Doubts.{doubt_of_steps, first_request, has_unread, has_unread_member, is_read, is_unread, settle};
+ghost use Rattle.flagops_ramps.specs.Report.{GivesUnlessWant};
 ghost use Rattle.ramp_steps.specs.Steps.{requests_view};
 
+use crate::asked::Ramping;
+use crate::judging::out_of_memory;
 use crate::refusal::{RampRefusal, StepCall};
 use crate::reports::Told;
-use crate::verifying::out_of_memory;
 use flag_text::{TextFault, Tree, read_tree};
 use flagops_commands::{NotedDoubt, doubt_in_book, remark_in};
 use flagops_files::{BookQuestion, Doubt, Remark, TEXT_LIMIT};
 use flagops_remarks::of_unread;
-use page_tally::BookFile;
 use std::alloc::{AllocError, Global};
 use std::thread::Threads;
 use unread_members::Reader;
 
-/// Where the steps and the book were loaded from.
-#[derive(Clone, Copy)]
-pub struct Sources<'a> {
-    pub steps: &'a str,
-    pub book: &'a str,
-}
-
-/// What a person is told beside the answers to steps, whose file and book were loaded from these paths; or that the call
+/// What a person is told beside the answers to the steps of a question, which was loaded for what is asked; or that the call
 /// refuses them, where they are doubted and that is to be refused.
-pub fn settled<R: Threads>(
+pub(crate) fn settled<R: Threads>(
     rt: &R,
     alloc: Global,
     call: StepCall,
-    paths: Sources<'_>,
+    asked: &Ramping<'_>,
     question: &BookQuestion,
-    book: &BookFile,
     steps: &[Vec<u8>],
-    strict: bool,
 ) -> Result<Option<Remark>, Told>
-    requires { book.now ≡ question.now.book }
-    ensures { Settles result (settle call strict (doubt_of_steps (book_question_view question.now) (requests_view steps.now))) }
+    ensures { GivesUnlessWant (λ r. is_some r) result (settle call asked.now.strict (doubt_of_steps (book_question_view question.now) (requests_view steps.now))) }
 {
-    match doubted(rt, alloc, paths, question, book, steps) {
-        Ok(doubted) => settle(call, doubted, strict),
+    match doubted(rt, alloc, asked, question, steps) {
+        Ok(doubted) => settle(call, doubted, asked.strict),
         Err(AllocError) => Err(out_of_memory()),
     }
 }
 
 /// The remark on a doubt, or its refusal.
 fn settle(call: StepCall, doubted: Option<NotedDoubt>, strict: bool) -> Result<Option<Remark>, Told>
-    ensures { Settles result (settle call strict (option_map (λ d. d.doubt) doubted)) }
+    ensures { GivesUnlessWant (λ r. is_some r) result (settle call strict (option_map (λ d. d.doubt) doubted)) }
 {
     match doubted {
         Some(NotedDoubt { doubt, remark }) => if strict {
@@ -64,20 +55,18 @@ fn settle(call: StepCall, doubted: Option<NotedDoubt>, strict: bool) -> Result<O
 }
 
 /// The first that is doubted of the answers to steps; all that is doubted is told.
-fn doubted<R: Threads>(
+pub fn doubted<R: Threads>(
     rt: &R,
     alloc: Global,
-    paths: Sources<'_>,
+    asked: &Ramping<'_>,
     question: &BookQuestion,
-    book: &BookFile,
     steps: &[Vec<u8>],
 ) -> Result<Option<NotedDoubt>, AllocError>
-    requires { book.now ≡ question.now.book }
     ensures { IfOk result (λ o. option_map (λ d. d.doubt) o ≡ doubt_of_steps (book_question_view question.now) (requests_view steps.now)) }
 {
-    let unread = unread(alloc, paths.steps, question.request.as_slice())?;
-    let request = first_request(steps);
-    let recorded = doubt_in_book(rt, alloc, paths.book, &question.flags, request, book)?;
+    let unread = unread(alloc, asked.steps, question.request.as_slice())?;
+    let (flags, request) = (&question.flags, first_request(steps));
+    let recorded = doubt_in_book(rt, alloc, asked.book, flags, request, &question.book)?;
     Ok(first_of(unread, recorded))
 }
 

@@ -3,7 +3,8 @@
 //!
 //! [`ramp()`], [`verify_ramp`] and [`apply_step`] take the words after the program's name, of which their own name is the first, the files and
 //! two outlets, as `flagops_commands::run` does for every other command. They read the words by `clap` and load the files; what
-//! they then do is `ramp_steps` and `ramp`.
+//! they then do is `ramp_steps` and `ramp`. [`load_answers`] loads and judges the answers that a command takes; what draws them
+//! uses it too.
 //!
 //! ```rust
 //! use flag_text::WriteOutlet;
@@ -17,7 +18,7 @@
 //! ```
 //!
 //! Proved, over the definitions in `specs/`: of words with a mistake, that it is told; else, over files whose bytes are known,
-//! that the output is the report that the files at the paths make (`Ramp`, `Verify`, `Apply`), or that memory ran out, with its
+//! that the output is the report that the files at the paths make (`Ramp`, `Judging`, `Verify`, `Apply`), or that memory ran out, with its
 //! status; that the error outlet gets a text exactly beside a refusal and where the answers to steps are doubted (`Doubts`); and
 //! that files are only read.
 #![tactic(auto)]
@@ -25,6 +26,7 @@
 mod applying;
 mod asked;
 mod doubts;
+mod judging;
 mod ramping;
 mod refusal;
 mod remarks;
@@ -34,10 +36,12 @@ mod verifying;
 mod words;
 
 pub use applying::apply_step;
-pub use asked::Verifying;
-pub use doubts::{Sources, first_of, settled};
-pub use ramping::{counted, of_steps, ramp};
+pub use asked::{Ramping, Verifying};
+pub use doubts::{doubted, first_of};
+pub use judging::{RightAnswers, load_answers, out_of_memory};
+pub use ramping::ramp;
 pub use refusal::{RampRefusal, StepCall};
-pub use remarks::of_steps_in;
 pub use reports::{Told, finish};
-pub use verifying::{Paths, load_ramp, out_of_memory, verify_ramp, wrong};
+pub use usage::with_steps;
+pub use verifying::verify_ramp;
+pub use words::verifying_in;

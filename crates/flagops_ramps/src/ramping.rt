@@ -1,19 +1,21 @@
 //! The command `ramp`.
-ghost use Rattle.std.specs.Prelude.{◌≡◌, ◌<◌, ◌≤◌, false, is_some, length, map, option_map, IfSome, Ok};
+ghost use Rattle.std.specs.Prelude.{◌≡◌, ◌<◌, false, is_some, map, option_map, IfSome, Ok};
 ghost use Rattle.std.specs.List.{All};
 ghost use Rattle.flag_text.specs.Outcome.{GivesUnless};
 ghost use Rattle.flagops_files.specs.Question.{book_question_view};
-ghost use Rattle.flagops_files.specs.Report.{status_number};
+ghost use Rattle.flagops_files.specs.Report.{outcome_view, status_number};
 ghost use Rattle.flagops_ramps.specs.Doubts.{beside, doubt_of_steps, settle};
 ghost use Rattle.flagops_ramps.specs.Ended.{AnswersRamp, TellsRamp};
-ghost use Rattle.flagops_ramps.specs.Ramp.{IsRampOf, IsRampOver, IsRampReport, of_steps, ramp_status, report_ramp};
+ghost use Rattle.flagops_ramps.specs.Ramp.{IsRampOf, IsRampReport, of_steps, ramp_status, report_ramp};
 ghost use Rattle.flagops_ramps.specs.Report.{GivesOne, GivesUnlessWant};
+ghost use Rattle.flagops_ramps.specs.Words.{ramping_view};
 ghost use Rattle.plan_text.specs.Answer.{planned_view};
 ghost use Rattle.plan_text.specs.PlanFile.{IsWhole};
-ghost use Rattle.ramp_steps.specs.Steps.{most_steps, requests_view};
+ghost use Rattle.ramp_steps.specs.Steps.{requests_view};
 
 use crate::asked::Ramping;
-use crate::doubts::{Sources, first_request, settled};
+use crate::doubts::{first_request, settled};
+use crate::judging::out_of_memory;
 use crate::refusal::{RampRefusal, StepCall};
 use crate::remarks::of_steps_in;
 use crate::reports::{Told, finish};
@@ -24,7 +26,6 @@ use flagops_commands::explain;
 use flagops_files::{BookQuestion, FileSet, Outcome, Remark, Status, load_book_question};
 use flagops_remarks::of_large_plan;
 use flagops_words::factor_of;
-use page_tally::BookFile;
 use plan_text::Planned;
 use price_core::PriceFault;
 use ramp::{StepFault, plan_steps};
@@ -68,10 +69,9 @@ fn planned<R: Threads + Sync, F: FileSet>(
     files: &mut F,
     asked: &Ramping<'_>,
 ) -> Result<Outcome, Told>
-    ensures exact { IfSome (F.holding files.old) (λ at. GivesOne result (IsRampReport at asked.now.document.now asked.now.steps.now asked.now.book.now (option_map (λ m. m.number) asked.now.refine) asked.now.strict)) }
+    ensures exact { IfSome (F.holding files.old) (λ at. GivesOne outcome_view result (IsRampReport at (ramping_view asked.now))) }
     ensures kept { F.holding files.new ≡ F.holding files.old }
 {
-    let factor = factor_of(asked.refine);
     match load_book_question(
         rt,
         alloc,
@@ -79,9 +79,9 @@ fn planned<R: Threads + Sync, F: FileSet>(
         asked.document,
         asked.steps,
         asked.book,
-        factor,
+        factor_of(asked.refine),
     ) {
-        Ok(question) => answer(rt, alloc, asked, &question),
+        Ok(question) => answer(rt, alloc, asked, question),
         Err(refused) => Err(Told::of(refused)),
     }
 }
@@ -91,50 +91,23 @@ fn answer<R: Threads + Sync>(
     rt: &R,
     alloc: Global,
     asked: &Ramping<'_>,
-    question: &BookQuestion,
+    question: BookQuestion,
 ) -> Result<Outcome, Told>
-    ensures { GivesOne result (IsRampOf asked.now.strict (option_map (λ m. m.number) asked.now.refine) (Ok (book_question_view question.now))) }
+    ensures { GivesOne outcome_view result (IsRampOf asked.now.strict (option_map (λ m. m.number) asked.now.refine) (Ok (book_question_view question))) }
 {
-    match read_steps(alloc, question.request.as_slice()) {
-        Ok(steps) => answers(rt, alloc, asked, question, steps.as_slice()),
-        Err(fault) => Err(refused(alloc, asked.steps, question, of_steps(fault))),
-    }
-}
-
-/// The report on steps.
-fn answers<R: Threads + Sync>(
-    rt: &R,
-    alloc: Global,
-    asked: &Ramping<'_>,
-    question: &BookQuestion,
-    steps: &[Vec<u8>],
-) -> Result<Outcome, Told>
-    requires { length steps.now ≤ most_steps }
-    ensures { GivesOne result (IsRampOver asked.now.strict (option_map (λ m. m.number) asked.now.refine) (book_question_view question.now) (Ok (requests_view steps.now))) }
-{
-    let Ok(book) = counted(rt, alloc, question, steps, factor_of(asked.refine)) else {
-        return Err(refused(alloc, asked.steps, question, out_of_memory()));
+    let steps = match read_steps(alloc, question.request.as_slice()) {
+        Ok(steps) => steps,
+        Err(fault) => return Err(refused(alloc, asked.steps, &question, of_steps(fault))),
     };
-    over(rt, alloc, asked, question, &book, steps)
-}
-
-/// The same, by a book that has counted what the steps ask of it.
-fn over<R: Threads + Sync>(
-    rt: &R,
-    alloc: Global,
-    asked: &Ramping<'_>,
-    question: &BookQuestion,
-    book: &BookFile,
-    steps: &[Vec<u8>],
-) -> Result<Outcome, Told>
-    requires few { length steps.now ≤ most_steps }
-    requires same { book.now ≡ question.now.book }
-    ensures { GivesOne result (IsRampOver asked.now.strict (option_map (λ m. m.number) asked.now.refine) (book_question_view question.now) (Ok (requests_view steps.now))) }
-{
+    let mut question = question;
+    let requests = steps.as_slice();
     let factor = factor_of(asked.refine);
-    match plan_steps(rt, alloc, &question.flags, steps, book, factor) {
-        Ok(answers) => told(rt, alloc, asked, question, book, steps, answers.as_slice()),
-        Err(fault) => Err(refused(alloc, asked.steps, question, fault)),
+    let Ok(()) = count(rt, alloc, &mut question, requests, factor) else {
+        return Err(out_of_memory());
+    };
+    match plan_steps(rt, alloc, &question.flags, requests, &question.book, factor) {
+        Ok(answers) => told(rt, alloc, asked, &question, requests, answers.as_slice()),
+        Err(fault) => Err(refused(alloc, asked.steps, &question, fault)),
     }
 }
 
@@ -144,20 +117,13 @@ fn told<R: Threads>(
     alloc: Global,
     asked: &Ramping<'_>,
     question: &BookQuestion,
-    book: &BookFile,
     steps: &[Vec<u8>],
     answers: &[Planned],
 ) -> Result<Outcome, Told>
-    requires same { book.now ≡ question.now.book }
-    requires whole { All (λ p. IsWhole (planned_view p)) answers.now }
-    ensures { GivesUnlessWant result (beside (settle StepCall.Ramp asked.now.strict (doubt_of_steps (book_question_view question.now) (requests_view steps.now))) (report_ramp (map planned_view answers.now))) }
+    requires { All (λ p. IsWhole (planned_view p)) answers.now }
+    ensures { GivesUnlessWant outcome_view result (beside (settle StepCall.Ramp asked.now.strict (doubt_of_steps (book_question_view question.now) (requests_view steps.now))) (report_ramp (map planned_view answers.now))) }
 {
-    let (call, strict) = (StepCall::Ramp, asked.strict);
-    let paths = Sources {
-        steps: asked.steps,
-        book: asked.book,
-    };
-    match settled(rt, alloc, call, paths, question, book, steps, strict) {
+    match settled(rt, alloc, StepCall::Ramp, asked, question, steps) {
         Ok(remark) => printed(alloc, answers, remark),
         Err(told) => Err(told),
     }
@@ -173,60 +139,41 @@ fn refused(alloc: Global, path: &str, question: &BookQuestion, fault: StepFault)
     }
 }
 
-fn out_of_memory() -> StepFault
-    ensures { result.fault ≡ RolloutFault.WantOfMemory }
-{
-    StepFault {
-        step: 0,
-        fault: RolloutFault::WantOfMemory,
-    }
-}
-
 /// Steps that are refused, as a refused step: number 0 where none of them is.
-pub fn of_steps(fault: StepsFault) -> StepFault
+pub(crate) fn of_steps(fault: StepsFault) -> StepFault
     ensures { result.fault ≡ of_steps fault }
 {
-    match fault {
-        StepsFault::WantOfMemory => out_of_memory(),
-        StepsFault::Shape => StepFault {
-            step: 0,
-            fault: RolloutFault::from(PriceFault::BadRequest),
-        },
-        StepsFault::Step(step, fault) => StepFault {
-            step,
-            fault: RolloutFault::from(fault),
-        },
-    }
+    let (step, fault) = match fault {
+        StepsFault::WantOfMemory => (0, RolloutFault::WantOfMemory),
+        StepsFault::Shape => (0, RolloutFault::from(PriceFault::BadRequest)),
+        StepsFault::Step(step, fault) => (step, RolloutFault::from(fault)),
+    };
+    StepFault { step, fault }
 }
 
-/// The book of a question, which has counted what the steps ask of it: of one page at one total, as all of them do.
-pub fn counted<R: Threads>(
+/// Has the book of a question count what the steps ask of it: of one page at one total, as all of them do.
+pub(crate) fn count<R: Threads>(
     rt: &R,
     alloc: Global,
-    question: &BookQuestion,
+    question: &mut BookQuestion,
     steps: &[Vec<u8>],
     factor: u32,
-) -> Result<BookFile, BookFileFault>
+) -> Result<(), BookFileFault>
     requires { 0 < factor }
-    ensures { GivesUnless BookFileFault.WantOfMemory (λ b. b) result (Ok question.now.book) }
+    ensures kept { book_question_view question.new ≡ book_question_view question.old }
+    ensures wants { GivesUnless BookFileFault.WantOfMemory (λ _. question.old.book) result (Ok question.old.book) }
 {
+    let refining = Refining::Times(factor);
     let request = first_request(steps);
-    let bytes = question.book.bytes();
-    let copy = bytes.to_vec(alloc)?;
-    read_book_for(
-        rt,
-        alloc,
-        Refining::Times(factor),
-        &question.flags,
-        request,
-        copy,
-    )
+    let copy = question.book.bytes().to_vec(alloc)?;
+    question.book = read_book_for(rt, alloc, refining, &question.flags, request, copy)?;
+    Ok(())
 }
 
 /// The lines of the answers, with what a person is told beside them.
 fn printed(alloc: Global, answers: &[Planned], remark: Option<Remark>) -> Result<Outcome, Told>
     requires { All (λ p. IsWhole (planned_view p)) answers.now }
-    ensures { GivesUnlessWant result (beside (Ok (is_some remark)) (report_ramp (map planned_view answers.now))) }
+    ensures { GivesUnlessWant outcome_view result (beside (Ok (is_some remark)) (report_ramp (map planned_view answers.now))) }
 {
     match print_ramp(alloc, answers) {
         Ok(text) => Ok(Outcome {

@@ -17,7 +17,7 @@ const LOOK: &str =
 
 /// Of the steps of a file, by its text: what is wrong with one that is no tree, what steps look like where there are none, and
 /// else the step that is refused.
-pub fn of_steps_in(
+pub(crate) fn of_steps_in(
     alloc: Global,
     path: &str,
     question: &BookQuestion,

@@ -11,6 +11,9 @@ use flagops_words::LARGEST_32;
 use flagops_words::arguments::{refine, required, site, strict};
 use std::alloc::{AllocError, Global};
 
+/// What the book of a rollout is.
+const BOOK: &str = "The book of the hash inputs that were recorded";
+
 /// What `--refine` does to a rollout in steps.
 const REFINED: &str =
     "Plan in finer points: multiply each weight of the rule by M before the first step";
@@ -25,7 +28,7 @@ pub fn ramp<'a>(alloc: Global) -> Result<Command<'a>, AllocError>
     );
     let factor = refine(alloc, REFINED);
     let strict = strict(alloc);
-    with_steps(alloc, command)?.arg(factor)?.arg(strict)
+    with_steps(alloc, command, BOOK)?.arg(factor)?.arg(strict)
 }
 
 /// The command `verify-ramp`. Its name is the first of the words, as a program's.
@@ -46,7 +49,7 @@ fn verified<'a>(alloc: Global) -> Result<Command<'a>, AllocError>
         .bin_name("flagops verify-ramp")?
         .about("Checks the answers to the steps of a rollout apart from the planner");
     let answers = required(alloc, "RAMP", "The file that ramp printed");
-    with_steps(alloc, command)?.arg(answers)
+    with_steps(alloc, command, BOOK)?.arg(answers)
 }
 
 /// `apply --step`. Its name is the first of the words, as a program's.
@@ -74,8 +77,12 @@ fn applied<'a>(alloc: Global) -> Result<Command<'a>, AllocError>
         .arg(flag)
 }
 
-/// The words that `ramp` and `verify-ramp` begin with.
-fn with_steps<'a>(alloc: Global, command: Command<'a>) -> Result<Command<'a>, AllocError>
+/// The words that a command on the steps of a rollout begins with. `book` says what the book is.
+pub fn with_steps<'a>(
+    alloc: Global,
+    command: Command<'a>,
+    book: &'a str,
+) -> Result<Command<'a>, AllocError>
     ensures { IfOk result (λ c. app_of c ≡ with_steps (app_of command.entry)) }
 {
     let document = required(alloc, "DOC", "The flag document");
@@ -84,11 +91,7 @@ fn with_steps<'a>(alloc: Global, command: Command<'a>) -> Result<Command<'a>, Al
         "STEPS",
         "The file of the rollout request, with \"steps\", a list of totals, for \"totals\"",
     );
-    let book = required(
-        alloc,
-        "BOOK",
-        "The book of the hash inputs that were recorded",
-    );
+    let book = required(alloc, "BOOK", book);
     command.arg(document)?.arg(steps)?.arg(book)
 }
 

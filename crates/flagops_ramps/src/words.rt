@@ -57,23 +57,14 @@ fn ramping_in<'a>(matches: &ArgMatches<'a>) -> Option<Ramping<'a>>
     })
 }
 
+/// What a command that takes answers to steps is asked for; `None` where a value is missing.
 #[tactic(auto, using(flagops_words::proofs::Matched::rows))]
-fn verifying_in<'a>(matches: &ArgMatches<'a>) -> Option<Verifying<'a>>
+pub fn verifying_in<'a>(matches: &ArgMatches<'a>) -> Option<Verifying<'a>>
     ensures { option_map verifying_view result ≡ verify_in (rows_of (found_of matches.now)) }
 {
-    let document = matches.get_str("DOC")?;
-    let steps = matches.get_str("STEPS")?;
-    let book = matches.get_str("BOOK")?;
+    let rollout = ramping_in(matches)?;
     let ramp = matches.get_str("RAMP")?;
-    let refine = refine_in(matches)?;
-    Some(Verifying {
-        document,
-        steps,
-        book,
-        ramp,
-        refine,
-        strict: is_strict(matches),
-    })
+    Some(Verifying { rollout, ramp })
 }
 
 /// What the words after the program's name ask of `apply --step`, whose name `apply` is the first of them.

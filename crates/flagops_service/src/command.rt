@@ -9,6 +9,7 @@ ghost use Rattle.flagops_service.specs.Starting.{StartsOn};
 ghost use Rattle.flagops_service.specs.Words.{answering_view, seats_of, subscribers_of};
 
 use crate::asked::Answering;
+use crate::host::Host;
 use crate::merging::merge_all;
 use crate::preparing::{Prepared, Unready, prepare};
 use crate::reporting::{
@@ -26,32 +27,18 @@ use ofrep_service::{Board, work_beside};
 use snap_share::{History, Publisher, ReadSeat, ShareName, share};
 use std::alloc::AllocError;
 use std::convert::AsStr;
-use std::fs::File;
 use std::marker::Brand;
-use std::net::{Net, TcpListener, TcpStream};
-use std::random::RandomSource;
-use std::rt::Files;
-use std::sync::Wait;
-use std::thread::Threads;
-use std::time::Clock;
 
 /// Does what the words after the program's name ask of `ofrep`, which is the first of them. It loads the documents, opens the
 /// logs, listens, prints how many documents it answers from, and answers until it is ended from outside; or it prints the line
 /// of a refusal, with status 1.
-pub fn ofrep<R, S, F, O, E>(rt: &R, words: &[S], files: &mut F, out: &mut O, err: &mut E) -> u8
-where
-    R: AllocGlobal
-        + Files<File = File>
-        + Net<Listener = TcpListener, Stream = TcpStream>
-        + Clock
-        + RandomSource
-        + Threads
-        + Wait
-        + Sync,
-    S: AsStr,
-    F: FileSet,
-    O: Outlet,
-    E: Outlet,
+pub fn ofrep<R: Host, S: AsStr, F: FileSet, O: Outlet, E: Outlet>(
+    rt: &R,
+    words: &[S],
+    files: &mut F,
+    out: &mut O,
+    err: &mut E,
+) -> u8
     requires out_whole { O.is_broken out.old ≡ false }
     requires err_whole { E.is_broken err.old ≡ false }
     ensures answers { AnswersOfrep O.bytes O.is_broken out.old out.new E.bytes E.is_broken err.old err.new result F.holding files.old (map S.text words.now) }
@@ -78,7 +65,7 @@ where
 }
 
 /// Answers from documents, of which there is one at least.
-fn answer_documents<R, F, O, E>(
+fn answer_documents<R: Host, F: FileSet, O: Outlet, E: Outlet>(
     rt: &R,
     answering: &Answering<'_>,
     documents: Documents,
@@ -86,18 +73,6 @@ fn answer_documents<R, F, O, E>(
     out: &mut O,
     err: &mut E,
 ) -> u8
-where
-    R: AllocGlobal
-        + Files<File = File>
-        + Net<Listener = TcpListener, Stream = TcpStream>
-        + Clock
-        + RandomSource
-        + Threads
-        + Wait
-        + Sync,
-    F: FileSet,
-    O: Outlet,
-    E: Outlet,
     requires some { 0 < documents_in documents }
     requires out_whole { O.is_broken out.old ≡ false }
     requires err_whole { E.is_broken err.old ≡ false }
@@ -124,7 +99,7 @@ where
 }
 
 /// Answers from the flags of documents, once the logs are opened and it listens.
-fn answer_flags<R, F, O, E>(
+fn answer_flags<R: Host, F: FileSet, O: Outlet, E: Outlet>(
     rt: &R,
     answering: &Answering<'_>,
     flags: Flags,
@@ -133,18 +108,6 @@ fn answer_flags<R, F, O, E>(
     out: &mut O,
     err: &mut E,
 ) -> u8
-where
-    R: AllocGlobal
-        + Files<File = File>
-        + Net<Listener = TcpListener, Stream = TcpStream>
-        + Clock
-        + RandomSource
-        + Threads
-        + Wait
-        + Sync,
-    F: FileSet,
-    O: Outlet,
-    E: Outlet,
     requires merged { AreMerged (sources_view watched.sources) flags }
     requires out_whole { O.is_broken out.old ≡ false }
     requires err_whole { E.is_broken err.old ≡ false }
@@ -178,12 +141,7 @@ fn answer_prepared<J, R, F, O, E>(
 ) -> u8
 where
     J: ShareName + Send + Sync,
-    R: AllocGlobal
-        + Net<Listener = TcpListener, Stream = TcpStream>
-        + Clock
-        + Threads
-        + Wait
-        + Sync,
+    R: Host,
     F: FileSet,
     O: Outlet,
     E: Outlet,
@@ -233,12 +191,7 @@ fn answer_shared<J, R, F, O, E>(
 ) -> u8
 where
     J: ShareName + Send + Sync,
-    R: AllocGlobal
-        + Net<Listener = TcpListener, Stream = TcpStream>
-        + Clock
-        + Threads
-        + Wait
-        + Sync,
+    R: Host,
     F: FileSet,
     O: Outlet,
     E: Outlet,

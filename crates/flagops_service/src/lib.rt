@@ -22,6 +22,7 @@
 
 mod asked;
 mod command;
+mod host;
 mod merging;
 mod preparing;
 mod reporting;
@@ -31,3 +32,4 @@ mod watching;
 mod words;
 
 pub use command::ofrep;
+pub use host::Host;

@@ -1,4 +1,4 @@
-use Rattle.std.proofs.Common.{◌≡◌, Err, List, ℕ, option_map, refl, rules, string_bytes, subst}
+use Rattle.std.proofs.Common.{◌≡◌, Err, List, ℕ, refl, rules, string_bytes, subst}
 use Rattle.flagops_files.specs.Files.{Stores}
 use Rattle.flagops_files.specs.Question.{question_view}
 use Rattle.flagops_files.specs.declared.refusal.Call.TheVariants as call

@@ -1,13 +1,16 @@
-use Rattle.std.proofs.Common.{◌≡◌, ℕ, List, Ok, Vec, Global, ap, map, refl, string_bytes, subst, sym}
-use Rattle.flag_defs.specs.Flags.{flags_view}
-use Rattle.plan_text.specs.Answer.{planned_view}
-use Rattle.ramp_steps.specs.Steps.{requests_view}
+use Rattle.std.proofs.Common.{◌≡◌, Bool, ℕ, List, Option, Ok, Vec, Global, ap, ap₂, is_some, string_bytes, subst, sym, ◌∙◌}
+use Rattle.flagops_ramps.specs.Judging.{AreRightAnswers, answered_view}
+use Rattle.flagops_ramps.specs.Report.{Came}
 use Rattle.flagops_pictures.specs.Ramps.{IsRampDrawn}
 use Rattle.flagops_pictures.proofs.ramps.drawn.Goals as goal
 
-pub returns-in-Ok : goal.returns-in-Ok
-returns-in-Ok g c =
-    let bytes : c.into_bytes.result.items ≡ string_bytes c.in-Ok.text = ap (λ (v : Vec ℕ Global). v.items) c.into_bytes.ensures.value in (
-      subst (λ (b : List ℕ). IsRampDrawn (Ok (flags_view c.args.flags.now)) c.args.refine (requests_view c.args.steps.now) c.args.book.now (map planned_view c.args.answers.now) b) (sym bytes) c.in-Ok.ensures,
-      refl,
-    )
+pub sheet-requires-clause-right : goal.sheet-requires-clause-right
+sheet-requires-clause-right g c = λ κs within. subst (λ (f : Option ℕ). AreRightAnswers f c.args.right.now) (sym c.factor_number.ensures.value) c.requires
+
+pub returns : goal.returns
+returns g c =
+    let made : List ℕ → Bool → Came = λ t b. Ok (record { text = t; status = 0; is_told = b }) in
+    let bytes : c.into_bytes.result.items ≡ string_bytes c.in_ok-text.text = ap (λ (v : Vec ℕ Global). v.items) c.into_bytes.ensures.value in
+    let told = c.remark_in.ensures ∙ ap is_some (rw c.as_slice-steps.ensures.value at c.in_ok-doubted.ensures) in
+    let drawn = subst (λ (f : Option ℕ). IsRampDrawn f (answered_view c.args.right.now) (string_bytes c.in_ok-text.text)) c.factor_number.ensures.value c.in_ok-text.ensures in
+    (string_bytes c.in_ok-text.text, drawn, ap₂ made bytes told)

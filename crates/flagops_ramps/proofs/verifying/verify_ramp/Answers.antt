@@ -9,6 +9,6 @@ use Rattle.flagops_ramps.proofs.verifying.verify_ramp.Goals as goal
 pub returns-in-Ok-clause-answers : goal.returns-in-Ok-clause-answers
 returns-in-Ok-clause-answers g c =
     answered (g.O.Outlet.bytes c.args.out.now) (g.O.Outlet.bytes c.finish.new.out) (g.O.Outlet.is_broken c.finish.new.out) (g.E.Outlet.bytes c.args.err.now) (g.E.Outlet.bytes c.finish.new.err) (g.E.Outlet.is_broken c.finish.new.err)
-    c.finish.result verify_want (verify_by (map g.S.AsStr.text c.args.words.now)) (verifying_view c.in-Ok.asked) (g.F.FileSet.holding c.args.files.now) (λ a at. IsVerdictReport at a.document a.steps a.book a.ramp a.refine a.strict)
+    c.finish.result verify_want (verify_by (map g.S.AsStr.text c.args.words.now)) (verifying_view c.in-Ok.asked) (g.F.FileSet.holding c.args.files.now) (λ a at. IsVerdictReport at a)
     (Wants (g.O.Outlet.bytes c.args.out.now) (g.O.Outlet.bytes c.finish.new.out) (g.O.Outlet.is_broken c.finish.new.out) (g.E.Outlet.bytes c.args.err.now) (g.E.Outlet.bytes c.finish.new.err) (g.E.Outlet.is_broken c.finish.new.err) c.finish.result)
     c.verdict-came.result c.in-Ok.ensures.ok c.verdict-came.ensures.exact c.finish.ensures

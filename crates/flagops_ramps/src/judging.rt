@@ -1,0 +1,222 @@
+//! Answers to steps that stand in a file, which are loaded and judged for each command that takes them.
+ghost use Rattle.std.specs.Prelude.{◌≡◌, ◌≤◌, ◌⊎◌, true, length, map, option_map, string_bytes, IfOk, IfSome, Ok};
+ghost use Rattle.flagops_commands.specs.Lines.{NamesFile};
+ghost use Rattle.flagops_files.specs.Question.{book_question_view};
+ghost use Rattle.flagops_ramps.specs.Judging.{AreRightAnswers, IsFoundAt, IsFoundOf, IsFoundOver, answered_view, answers_at, read_as, refused_as};
+ghost use Rattle.flagops_ramps.specs.Refusal.{is_want};
+ghost use Rattle.flagops_ramps.specs.Remarks.{NamesStep};
+ghost use Rattle.flagops_ramps.specs.Report.{GivesOne, GivesUnlessWant};
+ghost use Rattle.flagops_ramps.specs.Words.{verifying_view};
+ghost use Rattle.plan_text.specs.Answer.{planned_view};
+ghost use Rattle.ramp_steps.specs.Lines.{ramp_of};
+ghost use Rattle.ramp_steps.specs.Steps.{most_steps, requests_view};
+
+use crate::asked::Verifying;
+use crate::ramping::{count, of_steps};
+use crate::refusal::RampRefusal;
+use crate::remarks::{of_steps_in, step_line};
+use crate::reports::Told;
+use flagops_commands::{file_line, whole_line};
+use flagops_files::{BookQuestion, FileSet, Remark, load, load_book_question};
+use flagops_remarks::Ends;
+use flagops_words::{factor_number, factor_of};
+use plan_text::Planned;
+use ramp::{RampFault, verify_steps};
+use ramp_steps::{RampFileFault, read_ramp, read_steps};
+use rollout_checks::{RolloutFault, VerifyFault};
+use std::alloc::{AllocError, Global};
+use std::thread::Threads;
+
+/// The largest file of answers, in bytes.
+const RAMP_LIMIT: u64 = limits::FILE_BYTES as u64;
+
+/// Answers that are right, with what they answer: the steps of a question, whose book has counted what these ask of it.
+#[derive(Drop)]
+pub struct RightAnswers {
+    pub question: BookQuestion,
+    pub steps: Vec<Vec<u8>>,
+    pub answers: Vec<Planned>,
+}
+
+/// The answers of the file that is asked for, with the files that they are judged by, where they are right; or the first refusal.
+pub fn load_answers<R: Threads + Sync, F: FileSet>(
+    rt: &R,
+    alloc: Global,
+    files: &mut F,
+    asked: &Verifying<'_>,
+) -> Result<RightAnswers, Told>
+    ensures exact { IfSome (F.holding files.old) (λ at. GivesOne answered_view result (IsFoundAt at (verifying_view asked.now))) }
+    ensures right { IfOk result (AreRightAnswers (option_map (λ m. m.number) asked.now.rollout.refine)) }
+    ensures kept { F.holding files.new ≡ F.holding files.old }
+{
+    let rollout = &asked.rollout;
+    match load_book_question(
+        rt,
+        alloc,
+        files,
+        rollout.document,
+        rollout.steps,
+        rollout.book,
+        factor_of(rollout.refine),
+    ) {
+        Ok(question) => against(rt, alloc, files, asked, question),
+        Err(refused) => Err(Told::of(refused)),
+    }
+}
+
+/// The same to a question, whose answers stand in a file.
+fn against<R: Threads + Sync, F: FileSet>(
+    rt: &R,
+    alloc: Global,
+    files: &mut F,
+    asked: &Verifying<'_>,
+    question: BookQuestion,
+) -> Result<RightAnswers, Told>
+    ensures exact { IfSome (F.holding files.old) (λ at. GivesOne answered_view result (IsFoundOf (option_map (λ m. m.number) asked.now.rollout.refine) (Ok (book_question_view question)) (answers_at at asked.now.ramp.now))) }
+    ensures right { IfOk result (AreRightAnswers (option_map (λ m. m.number) asked.now.rollout.refine)) }
+    ensures kept { F.holding files.new ≡ F.holding files.old }
+{
+    let answers = load_ramp(alloc, files, asked.ramp)?;
+    match read_steps(alloc, question.request.as_slice()) {
+        Ok(steps) => over(rt, alloc, asked, question, steps, answers),
+        Err(fault) => {
+            let fault = of_steps(fault);
+            Err(Told {
+                refusal: RampRefusal::Verify(VerifyFault::Request(fault.fault)),
+                remark: Remark::of(of_steps_in(alloc, asked.rollout.steps, &question, fault)),
+            })
+        }
+    }
+}
+
+/// The same of answers to these steps.
+fn over<R: Threads + Sync>(
+    rt: &R,
+    alloc: Global,
+    asked: &Verifying<'_>,
+    question: BookQuestion,
+    steps: Vec<Vec<u8>>,
+    answers: Vec<Planned>,
+) -> Result<RightAnswers, Told>
+    requires { length steps.items ≤ most_steps }
+    ensures exact { GivesOne answered_view result (IsFoundOver (option_map (λ m. m.number) asked.now.rollout.refine) (book_question_view question) (map planned_view answers.items) (Ok (requests_view steps.items))) }
+    ensures right { IfOk result (AreRightAnswers (option_map (λ m. m.number) asked.now.rollout.refine)) }
+{
+    let mut question = question;
+    let refine = asked.rollout.refine;
+    let factor = factor_of(refine);
+    let Ok(()) = count(rt, alloc, &mut question, steps.as_slice(), factor) else {
+        return Err(out_of_memory());
+    };
+    match verify_steps(
+        rt,
+        alloc,
+        &question.flags,
+        steps.as_slice(),
+        &question.book,
+        factor_number(refine),
+        answers.as_slice(),
+    ) {
+        Ok(()) => Ok(RightAnswers {
+            question,
+            steps,
+            answers,
+        }),
+        Err(fault) => Err(wrong(alloc, asked, fault)),
+    }
+}
+
+/// The answers of the file at a path.
+pub(crate) fn load_ramp<F: FileSet>(
+    alloc: Global,
+    files: &mut F,
+    path: &str,
+) -> Result<Vec<Planned>, Told>
+    ensures exact { IfSome (F.holding files.old) (λ at. GivesUnlessWant (λ v. map planned_view v.items) result (answers_at at path.now)) }
+    ensures kept { F.holding files.new ≡ F.holding files.old }
+{
+    match load(alloc, files, path, RAMP_LIMIT) {
+        Ok(bytes) => read(alloc, path, bytes.as_slice()),
+        Err(refused) => Err(Told::of(refused)),
+    }
+}
+
+/// The answers of a file's bytes.
+fn read(alloc: Global, path: &str, bytes: &[u8]) -> Result<Vec<Planned>, Told>
+    ensures { GivesUnlessWant (λ v. map planned_view v.items) result (read_as (ramp_of bytes.now)) }
+{
+    match read_ramp(alloc, bytes) {
+        Ok(answers) => Ok(answers),
+        Err(fault) => Err(Told {
+            refusal: RampRefusal::Read(fault),
+            remark: Remark::of(of_ramp(alloc, path, Ends::of(bytes), fault)),
+        }),
+    }
+}
+
+/// Memory that ran out.
+pub fn out_of_memory() -> Told
+    ensures { is_want result.refusal ≡ true }
+{
+    Told {
+        refusal: RampRefusal::Verify(VerifyFault::Request(RolloutFault::WantOfMemory)),
+        remark: Remark::Short,
+    }
+}
+
+/// Answers that are not right, which a person is told of.
+fn wrong(alloc: Global, asked: &Verifying<'_>, fault: RampFault) -> Told
+    ensures { result.refusal ≡ refused_as fault }
+{
+    match fault {
+        RampFault::Step(step, fault) => Told {
+            remark: Remark::of(of_verdict(alloc, asked, step, &fault)),
+            refusal: RampRefusal::Verify(fault),
+        },
+        RampFault::Lines => Told {
+            refusal: RampRefusal::Lines,
+            remark: Remark::of(file_line(
+                alloc,
+                asked.ramp,
+                "there are fewer or more lines than steps; an empty file has none",
+            )),
+        },
+    }
+}
+
+/// What a person is told of a step whose answer is not right, or that is refused.
+fn of_verdict(
+    alloc: Global,
+    asked: &Verifying<'_>,
+    step: u32,
+    fault: &VerifyFault,
+) -> Result<String, AllocError>
+    ensures { IfOk result (λ s. NamesStep asked.now.rollout.steps.now step (string_bytes s) ⊎ NamesStep asked.now.ramp.now step (string_bytes s)) }
+{
+    let path = match fault {
+        VerifyFault::Request(_) => asked.rollout.steps,
+        VerifyFault::Check(_) => asked.ramp,
+    };
+    let reason = format!(in alloc; "{fault}")?;
+    step_line(alloc, path, step, reason.as_str())
+}
+
+/// What a person is told of a file that is none of answers, by what is seen of it at its ends.
+fn of_ramp(
+    alloc: Global,
+    path: &str,
+    ends: Ends,
+    fault: RampFileFault,
+) -> Result<String, AllocError>
+    ensures { IfOk result (λ s. NamesFile path.now (string_bytes s)) }
+{
+    let reason = format!(in alloc; "{fault}")?;
+    match ends {
+        Ends::Marked => whole_line(
+            alloc,
+            path,
+            "begins with a byte order mark, and has no answers to steps\n  save it as UTF-8 without the mark",
+        ),
+        _ => file_line(alloc, path, reason.as_str()),
+    }
+}
