@@ -14,19 +14,12 @@ use flagops_files::{Call, FileSet, want};
 use flagops_filters::{Opening, join, record, tally};
 use flagops_pictures::{picture, picture_ramp, plan_picture};
 use flagops_ramps::{apply_step, ramp, verify_ramp};
-use flagops_service::ofrep;
+use flagops_service::{Host, ofrep};
 use flagops_streams::{follow, serve};
 use line_batches::Inlet;
 use std::convert::AsStr;
-use std::fs::File;
 use std::io;
-use std::net::{Net, TcpListener, TcpStream};
 use std::process::ExitCode;
-use std::random::RandomSource;
-use std::rt::Files;
-use std::sync::Wait;
-use std::thread::Threads;
-use std::time::Clock;
 
 /// Does what the words after the program's name ask for, over whatever files and outlets it is given, and gives the status
 /// that the process ends with.
@@ -39,14 +32,7 @@ pub fn flagops<R, S, I, F, O, E>(
     err: &mut E,
 ) -> ExitCode
 where
-    R: AllocGlobal
-        + Files<File = File>
-        + Net<Listener = TcpListener, Stream = TcpStream>
-        + Clock
-        + RandomSource
-        + Threads
-        + Wait
-        + Sync,
+    R: Host,
     S: AsStr + Drop,
     I: Inlet + Opening,
     F: FileSet,
@@ -80,14 +66,7 @@ fn status_of<R, S, I, F, O, E>(
     err: &mut E,
 ) -> u8
 where
-    R: AllocGlobal
-        + Files<File = File>
-        + Net<Listener = TcpListener, Stream = TcpStream>
-        + Clock
-        + RandomSource
-        + Threads
-        + Wait
-        + Sync,
+    R: Host,
     S: AsStr,
     I: Inlet + Opening,
     F: FileSet,
