@@ -1,3 +1,6 @@
 pub mod Extents
+pub mod Flat
 pub mod Found
+pub mod Literal
 pub mod Readings
+pub mod Turns

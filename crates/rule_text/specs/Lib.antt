@@ -1,3 +1,4 @@
 pub mod Buckets
+pub mod Listed
 pub mod Parts
 pub mod Reading

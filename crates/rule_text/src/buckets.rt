@@ -10,6 +10,7 @@ ghost use Rattle.rule_text.specs.declared.fault.RuleTextFault.TheVariants.{Text}
 ghost use Rattle.flag_text.specs.declared.fault.TextFault.TheVariants as texts;
 
 use crate::fault::RuleTextFault;
+use crate::listed::listed;
 use crate::look::look;
 use crate::part::{Extent, part_from, read_item};
 use bucket_core::RuleFault;
@@ -25,15 +26,31 @@ const MANY_LISTS: usize = 1 << 22;
 /// What was found in a text: its literal buckets, where it is a list of them alone, and its extent.
 type Found = (Option<Vec<(String, u64)>>, Extent);
 
-/// The names and weights of a JSON text that is a list of literal buckets.
+/// The names and weights of a JSON text that is a list of literal buckets. One that is just that is read without a thought of
+/// what else it may be.
 ///
 /// Refusals, in this order: `NotJson`, `TooDeep`, `NotWhole`, `BadRule`.
 pub(crate) fn read_buckets(alloc: Global, text: &str) -> Result<Vec<(String, u64)>, RuleTextFault>
     ensures exact { GivesEntries result (buckets_in (if_whole (if_json (read text.now)))) }
     ensures kind { result ≢ Err (Text texts.TooLarge) }
 {
+    let count = lists_in(text);
+    if count > MANY_LISTS {
+        return read_any(alloc, text, count);
+    }
+    match listed(alloc, text)? {
+        Some(entries) => Ok(entries),
+        None => read_any(alloc, text, count),
+    }
+}
+
+/// The same of any text, which has so many lists at most.
+fn read_any(alloc: Global, text: &str, lists: usize) -> Result<Vec<(String, u64)>, RuleTextFault>
+    ensures exact { GivesEntries result (buckets_in (if_whole (if_json (read text.now)))) }
+    ensures kind { result ≢ Err (Text texts.TooLarge) }
+{
     let mut scratch = Scratch::new(alloc);
-    let count = if lists_in(text) > MANY_LISTS {
+    let count = if lists > MANY_LISTS {
         look(alloc, text, &mut scratch)?
     } else {
         0

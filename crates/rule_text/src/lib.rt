@@ -13,6 +13,7 @@
 
 mod buckets;
 mod fault;
+mod listed;
 mod look;
 mod number;
 mod part;

@@ -1,7 +1,6 @@
 use Rattle.std.proofs.Common.{◌≡◌, ◌-◌, ◌+◌, ◌<◌, [], ◌∷◌, length, true, false, option_map, ℕ, List, Result, Ok, Err, Some, None, refl, sym, ap, ap₂, ◌∙◌, arith}
 use Rattle.std.specs.Prelude.{MatchResult}
 use Rattle.std.specs.Result.{result_or}
-use Rattle.std.proofs.lemmas.Result.{IfOk-weaker}
 use Rattle.json.specs.Token.{Token}
 use Rattle.json.specs.Json.{parse_map, after_end_array, read_key, items, members, value}
 use Rattle.json.specs.Reads.{token_of}
@@ -11,7 +10,7 @@ use Rattle.serde_json.specs.Data.{put, no_members}
 use Rattle.serde_json.specs.Read.{converted, of_json, of_items, number_of}
 use Rattle.flag_text.specs.Reading.{shape_of, items_shape, members_shape}
 use Rattle.flag_text.specs.Shape.{members_levels, members_have_other}
-use Rattle.rule_text.specs.Parts.{Seen, part_view, part_of, rest_of, list_of, list_view, both, extents_view, all_extents}
+use Rattle.rule_text.specs.Parts.{Seen, part_of, rest_of, list_of, both, extents_view, all_extents}
 use Rattle.rule_text.proofs.Extents.{flat, both_none, after, after_none, after_item, extent_in, one_more, all_members, number_part, weighed_some, weighed_none, around, around_at, list_part}
 use Rattle.rule_text.proofs.Readings.{converted-array, converted-object, item_read, item_refused, items_over, member_read, member_refused, key_refused, members_over, mapped_as, mapped_twice, mapped_some, unmapped}
 use Rattle.rule_text.proofs.part.+read.Goals as goal
