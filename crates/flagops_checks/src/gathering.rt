@@ -18,6 +18,7 @@ use crate::told::Told;
 use flag_defs::Flags;
 use flagops_files::{Call, Document, FileSet, Refusal, Refused, Remark, load_document};
 use std::alloc::{AllocError, Global};
+use std::mem;
 use unread_members::Reader;
 
 /// What is printed and told of the documents so far.
@@ -47,19 +48,21 @@ pub(crate) fn gather<F: FileSet>(
         told: Told::new(alloc),
         is_wrong: false,
     };
+    let alone = paths.len() == 1;
     for path in paths {
-        all = with_document(alloc, files, form, all, path)?;
+        all = with_document(alloc, files, form, all, path, alone)?;
     }
     Ok(all)
 }
 
-/// With the document at a path.
+/// With the document at a path, which stands alone or is one of several.
 fn with_document<F: FileSet>(
     alloc: Global,
     files: &mut F,
     form: Form,
     all: Gathered,
     path: &str,
+    alone: bool,
 ) -> Result<Gathered, Refused>
     ensures exact { IfSome (F.holding files.old) (λ at. GivesNext form all result (IsCheckedAt at path.now)) }
     ensures calls { ComesFrom check_calls result }
@@ -68,7 +71,12 @@ fn with_document<F: FileSet>(
     ensures names { TellsOf (file path.now) result }
 {
     let Document { bytes, flags } = load_document(alloc, files, path)?;
-    match with_flags(alloc, form, all, path, bytes.as_slice(), &flags) {
+    let next = with_flags(alloc, form, all, path, bytes.as_slice(), &flags);
+    if alone {
+        // The program ends soon, and its memory with it.
+        mem::forget(flags);
+    }
+    match next {
         Ok(next) => Ok(next),
         Err(AllocError) => Err(out_of_memory()),
     }
