@@ -1,16 +1,17 @@
 //! Texts that stand for themselves between two quotes.
-ghost use Rattle.std.specs.Prelude.{◌≡◌, ◌++◌, [], ◌∷◌, length, Ok, IfSome};
+ghost use Rattle.std.specs.Prelude.{◌≡◌, ℕ, List, length, Ok, IfSome, MatchOption};
 ghost use Rattle.std.specs.List.{list_all};
-ghost use Rattle.flag_text.specs.Plain.{is_plain};
+ghost use Rattle.flag_text.specs.Plain.{is_plain, IsQuoted, StandsBetween};
 ghost use Rattle.flag_text.specs.Reading.{tree_of};
 ghost use Rattle.flag_text.specs.Shape.{text};
 
 use std::str;
 
 /// The text that the bytes stand for, where they are a quoted text without an escape and nothing stands around it. `None`
-/// says nothing of them: their reading as a tree decides. Cost: a pass over the bytes, and no memory.
+/// says no more of them: their reading as a tree decides. Cost: a pass over the bytes, and no memory.
 pub fn plain_text(bytes: &[u8]) -> Option<&str>
-    ensures { IfSome result (λ s. tree_of bytes.now (length bytes.now) ≡ Ok (text s.now)) }
+    ensures quoted { MatchOption result ((s : List ℕ) → ¬ (IsQuoted bytes.now s)) (λ s. IsQuoted bytes.now s.now) }
+    ensures reads { IfSome result (λ s. tree_of bytes.now (length bytes.now) ≡ Ok (text s.now)) }
 {
     let inner = unquoted(bytes)?;
     if !is_all_plain(inner) {
@@ -24,7 +25,7 @@ pub fn plain_text(bytes: &[u8]) -> Option<&str>
 
 /// What stands between two quotes.
 fn unquoted(bytes: &[u8]) -> Option<&[u8]>
-    ensures { IfSome result (λ inner. bytes.now ≡ 34 ∷ (inner.now ++ 34 ∷ [])) }
+    ensures { MatchOption result ((s : List ℕ) → ¬ (StandsBetween bytes.now s)) (λ inner. StandsBetween bytes.now inner.now) }
 {
     match bytes {
         [b'"', inner @ .., b'"'] => Some(inner),

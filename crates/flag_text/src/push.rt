@@ -53,9 +53,11 @@ fn push_escaped(alloc: Global, out: &mut Vec<u8>, content: &str) -> Result<(), A
     written
 }
 
-/// Adds a text as a JSON text to another text, as [`print_tree`] writes it. Cost: linear in the text.
+/// Adds a text as a JSON text to another text, as [`print_tree`] writes it. Where memory runs out the other text is as it was.
+/// Cost: linear in the text.
 pub fn push_string(alloc: Global, out: &mut String, content: &str) -> Result<(), AllocError>
-    ensures { OnOk result (string_bytes out.new ≡ string_bytes out.old ++ text_of (text content.now)) }
+    ensures ok { OnOk result (string_bytes out.new ≡ string_bytes out.old ++ text_of (text content.now)) }
+    ensures err { OnErr result (string_bytes out.new ≡ string_bytes out.old) }
 {
     if is_all_plain(content.as_bytes()) {
         push_between_quotes(out, content)
@@ -68,18 +70,22 @@ pub fn push_string(alloc: Global, out: &mut String, content: &str) -> Result<(),
 /// The same of a text that stands for itself between two quotes.
 fn push_between_quotes(out: &mut String, content: &str) -> Result<(), AllocError>
     requires { list_all is_plain content.now ≡ true }
-    ensures { OnOk result (string_bytes out.new ≡ string_bytes out.old ++ text_of (text content.now)) }
+    ensures ok { OnOk result (string_bytes out.new ≡ string_bytes out.old ++ text_of (text content.now)) }
+    ensures err { OnErr result (string_bytes out.new ≡ string_bytes out.old) }
 {
+    out.reserve(content.len() + 2)?;
     out.push_str("\"")?;
     out.push_str(content)?;
     out.push_str("\"")?;
     Ok(())
 }
 
-/// Adds the compact text of a tree to another text, as [`print_tree`] gives it. The condition is [`Tree::is_whole`].
+/// Adds the compact text of a tree to another text, as [`print_tree`] gives it. Where memory runs out the other text is as it
+/// was. The condition is [`Tree::is_whole`].
 pub fn push_tree(alloc: Global, out: &mut String, tree: &Tree) -> Result<(), AllocError>
     requires { is_whole (view tree.now) ≡ true }
-    ensures { OnOk result (string_bytes out.new ≡ string_bytes out.old ++ text_of (view tree.now)) }
+    ensures ok { OnOk result (string_bytes out.new ≡ string_bytes out.old ++ text_of (view tree.now)) }
+    ensures err { OnErr result (string_bytes out.new ≡ string_bytes out.old) }
 {
     match tree {
         Tree::Text(content) => push_string(alloc, out, content.as_str()),
