@@ -1,6 +1,7 @@
 pub mod Extents
 pub mod Flat
 pub mod Found
+pub mod Lending
 pub mod Literal
 pub mod Readings
 pub mod Turns

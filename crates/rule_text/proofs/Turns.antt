@@ -1,28 +1,21 @@
 -- The tokens of a list of literal buckets, a bucket at a time.
-use Rattle.std.proofs.Common.{◌≡◌, inl, inr, ℕ, ◌-◌, ◌<◌, ◌≤◌, ◌^◌, false, List, [], ◌∷◌, ◌++◌, length, Option, Some, None, option_map, option_and_then, String, Global, refl, sym, ap, ◌∙◌, arith, append-nil, IfSome}
-use Rattle.fast_float.specs.Text.{Parts, IsInteger, digits_of}
+use Rattle.std.proofs.Common.{◌≡◌, inl, inr, ℕ, ◌-◌, ◌<◌, ◌≤◌, List, [], ◌∷◌, ◌++◌, length, Option, Some, None, option_map, option_and_then, refl, sym, ap, ◌∙◌, arith, append-nil, IfSome}
 use Rattle.json.specs.Json as json
 use Rattle.json.specs.Json.{parse_map, after_end_array, items, value}
 use Rattle.json.specs.Lex.{tokens}
 use Rattle.json.specs.Token.{Token}
 use Rattle.json.proofs.Grammar.{value_is, value-begin_array, items_end, items_more}
 use Rattle.serde_json.specs.Data as parsed
-use Rattle.serde_json.specs.Data.{Data, Num, unsigned}
-use Rattle.serde_json.specs.Read.{converted, max_depth, of_json, of_items, number_from, number_of}
+use Rattle.serde_json.specs.Data.{Data, Num}
+use Rattle.serde_json.specs.Read.{converted, max_depth, of_json, of_items, number_of}
 use Rattle.flag_text.specs.Readers.{as_list}
 use Rattle.flag_text.specs.Reading.{shape_of, items_shape, number_shape}
 use Rattle.bucket_core.specs.Reading.{weight_of, bucket_of, buckets_of}
-use Rattle.bucket_core.specs.Rule.{Entries, entry_view, entries_view}
+use Rattle.bucket_core.specs.Rule.{Entries}
+use Rattle.rule_text.specs.Lent.{lent_entry, lent_view}
+use Rattle.rule_text.proofs.Lending.{Lent}
 use Rattle.rule_text.specs.Listed.{bucket_in, buckets_in, Closes, IsListed}
 use Rattle.rule_text.proofs.Flat.{both}
-
--- ---- a weight
-
-pub plain_number : (p : Parts) (n : ℕ) → IsInteger p → n ≡ digits_of p → n < 2 ^ 31 → number_from false p ≡ Some (unsigned n)
-plain_number p n whole is small = grind (arith, whole.0, whole.1, whole.2, is, small)
-
-pub weight-unsigned : (n : ℕ) → n < 2 ^ 31 → weight_of (number_shape (unsigned n)) ≡ Some n
-weight-unsigned n small = grind (arith, small)
 
 -- ---- a bucket
 
@@ -100,12 +93,12 @@ pub none_before : (r : Option (Entries × List Token)) → r ≡ parse_map (befo
 none_before None = refl
 none_before (Some p) = refl
 
-pushed : (es : List (String Global × ℕ)) (e : String Global × ℕ) (rest : Entries) → entries_view es ++ (entry_view e ∷ rest) ≡ entries_view (es ++ e ∷ []) ++ rest
+pushed : (es : List Lent) (e : Lent) (rest : Entries) → lent_view es ++ (lent_entry e ∷ rest) ≡ lent_view (es ++ e ∷ []) ++ rest
 pushed [] e rest = refl
-pushed (x ∷ es) e rest = ap (λ bs. entry_view x ∷ bs) (pushed es e rest)
+pushed (x ∷ es) e rest = ap (λ bs. lent_entry x ∷ bs) (pushed es e rest)
 
-pub one_more_before : (es : List (String Global × ℕ)) (e : String Global × ℕ) (r : Option (Entries × List Token))
-    → parse_map (before (entries_view es)) (parse_map (λ bs. entry_view e ∷ bs) r) ≡ parse_map (before (entries_view (es ++ e ∷ []))) r
+pub one_more_before : (es : List Lent) (e : Lent) (r : Option (Entries × List Token))
+    → parse_map (before (lent_view es)) (parse_map (λ bs. lent_entry e ∷ bs) r) ≡ parse_map (before (lent_view (es ++ e ∷ []))) r
 one_more_before es e None = refl
 one_more_before es e (Some p) = ap (λ bs. Some (bs, p.1)) (pushed es e p.0)
 

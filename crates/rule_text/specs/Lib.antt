@@ -1,4 +1,6 @@
 pub mod Buckets
+pub mod Choosing
+pub mod Lent
 pub mod Listed
 pub mod Parts
 pub mod Reading

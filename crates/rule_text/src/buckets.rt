@@ -10,7 +10,7 @@ ghost use Rattle.rule_text.specs.declared.fault.RuleTextFault.TheVariants.{Text}
 ghost use Rattle.flag_text.specs.declared.fault.TextFault.TheVariants as texts;
 
 use crate::fault::RuleTextFault;
-use crate::listed::listed;
+use crate::listed::{listed, owned};
 use crate::look::look;
 use crate::part::{Extent, part_from, read_item};
 use bucket_core::RuleFault;
@@ -38,8 +38,9 @@ pub(crate) fn read_buckets(alloc: Global, text: &str) -> Result<Vec<(String, u64
     if count > MANY_LISTS {
         return read_any(alloc, text, count);
     }
-    match listed(alloc, text)? {
-        Some(entries) => Ok(entries),
+    let mut scratch = Scratch::new(alloc);
+    match listed(alloc, text, &mut scratch)? {
+        Some(entries) => Ok(owned(alloc, entries.as_slice())?),
         None => read_any(alloc, text, count),
     }
 }

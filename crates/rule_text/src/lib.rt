@@ -8,10 +8,12 @@
 //! ```
 //!
 //! Proved, over `rule_of_text` of `specs/Reading.antt`: [`read_rule_text`] gives the rule of the tree that `flag_text`
-//! reads of the bytes, and each refusal of the text and of the rule in its order.
+//! reads of the bytes, and each refusal of the text and of the rule in its order. [`choose_in_text`] gives what that rule gives a
+//! hash input, and keeps no name but that.
 #![tactic(auto)]
 
 mod buckets;
+mod choosing;
 mod fault;
 mod listed;
 mod look;
@@ -19,5 +21,6 @@ mod number;
 mod part;
 mod read;
 
+pub use choosing::{Choice, choose_in_text};
 pub use fault::RuleTextFault;
 pub use read::read_rule_text;

@@ -2,20 +2,26 @@
 ghost use Rattle.std.specs.Prelude.{◌≡◌, ◌<◌, length, Some, IfOk, IfSome};
 ghost use Rattle.json.specs.Json.{value, items};
 ghost use Rattle.serde_json.specs.Read.{converted};
-ghost use Rattle.bucket_core.specs.Rule.{entry_view, entries_view};
+ghost use Rattle.bucket_core.specs.Rule.{entries_view};
 ghost use Rattle.rule_text.specs.Listed.{bucket_in, buckets_in, weight_in, Closes, IsListed};
+ghost use Rattle.rule_text.specs.Lent.{lent_entry, lent_view};
 
-use bucket_core::MAX_TOTAL;
-use fast_float::Numeral;
+use crate::number::number;
 use json::{Reader, Scratch, Token};
 use std::alloc::{AllocError, Global};
 
+/// A name, where it lies in its text or in what its escapes were replaced in, and a weight.
+pub(crate) type LentEntry<'a> = (&'a str, u64);
+
 /// The entries of a JSON text that is a list of literal buckets. Of any other text there may be none.
-pub(crate) fn listed(alloc: Global, text: &str) -> Result<Option<Vec<(String, u64)>>, AllocError>
-    ensures { IfOk result (λ o. IfSome o (λ v. IsListed text.now (entries_view v.items))) }
+pub(crate) fn listed<'a>(
+    alloc: Global,
+    text: &'a str,
+    scratch: &'a mut Scratch,
+) -> Result<Option<Vec<LentEntry<'a>>>, AllocError>
+    ensures { IfOk result (λ o. IfSome o (λ v. IsListed text.now (lent_view v.items))) }
 {
-    let mut scratch = Scratch::new(alloc);
-    let mut reader = Reader::new(text, &mut scratch)?;
+    let mut reader = Reader::new(text, scratch)?;
     let Some(Token::BeginArray) = reader.next() else {
         return Ok(None);
     };
@@ -27,13 +33,16 @@ pub(crate) fn listed(alloc: Global, text: &str) -> Result<Option<Vec<(String, u6
 }
 
 /// The entries of buckets, and the end of their list.
-fn entries(alloc: Global, reader: &mut Reader<'_>) -> Result<Option<Vec<(String, u64)>>, AllocError>
+fn entries<'a>(
+    alloc: Global,
+    reader: &mut Reader<'a>,
+) -> Result<Option<Vec<LentEntry<'a>>>, AllocError>
     ensures { IfOk result (λ o. IfSome o (λ v. converted buckets_in (items (value 126) (length reader.old) reader.old)
-        ≡ Some (entries_view v.items, reader.new))) }
+        ≡ Some (lent_view v.items, reader.new))) }
 {
     let mut found = Vec::new(alloc);
     'entries: while !reader.take_end_array() {
-        let Some(next) = entry(alloc, reader)? else {
+        let Some(next) = entry(reader) else {
             return Ok(None);
         };
         found.push(next)?;
@@ -42,20 +51,20 @@ fn entries(alloc: Global, reader: &mut Reader<'_>) -> Result<Option<Vec<(String,
 }
 
 /// The name and the weight of a literal bucket.
-fn entry(alloc: Global, reader: &mut Reader<'_>) -> Result<Option<(String, u64)>, AllocError>
-    ensures value { IfOk result (λ o. IfSome o (λ e. converted bucket_in (value 126 reader.old) ≡ Some (entry_view e, reader.new))) }
-    ensures shorter { IfOk result (λ o. IfSome o (λ _. length reader.new < length reader.old)) }
+fn entry<'a>(reader: &mut Reader<'a>) -> Option<LentEntry<'a>>
+    ensures value { IfSome result (λ e. converted bucket_in (value 126 reader.old) ≡ Some (lent_entry e, reader.new)) }
+    ensures shorter { IfSome result (λ _. length reader.new < length reader.old) }
 {
     let Some(Token::BeginArray) = reader.next() else {
-        return Ok(None);
+        return None;
     };
     let Some(Token::String(name)) = reader.next() else {
-        return Ok(None);
+        return None;
     };
-    let Some(weight) = closing_weight(reader) else {
-        return Ok(None);
-    };
-    Ok(Some((String::from_str(alloc, name)?, weight)))
+    match closing_weight(reader) {
+        Some(weight) => Some((name, weight)),
+        None => None,
+    }
 }
 
 /// The weight behind a name, 1 where it is left out, and the end of the bucket.
@@ -75,16 +84,26 @@ fn closing_weight(reader: &mut Reader<'_>) -> Option<u64>
     Some(weight)
 }
 
-/// A weight, where it is written in digits alone.
+/// A weight.
 fn weight(text: &str) -> Option<u64>
     ensures { IfSome result (λ weight. weight_in text.now ≡ Some weight) }
 {
-    let bytes = text.as_bytes();
-    if bytes.is_empty() || bytes[0] == b'-' {
-        return None;
+    match number(text) {
+        Some((weight, _)) => weight,
+        None => None,
     }
-    match Numeral::scan(bytes).to_u64() {
-        Some(weight) if weight <= u64::from(MAX_TOTAL) => Some(weight),
-        _ => None,
+}
+
+/// Copies of the entries.
+pub(crate) fn owned(
+    alloc: Global,
+    entries: &[LentEntry<'_>],
+) -> Result<Vec<(String, u64)>, AllocError>
+    ensures { IfOk result (λ v. entries_view v.items ≡ lent_view entries.now) }
+{
+    let mut copies = Vec::with_capacity(alloc, entries.len())?;
+    for (name, weight) in entries {
+        copies.push((String::from_str(alloc, name)?, *weight))?;
     }
+    Ok(copies)
 }

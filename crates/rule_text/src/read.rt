@@ -34,7 +34,7 @@ pub fn read_rule_text(alloc: Global, bytes: &[u8], max: usize) -> Result<Rule, R
 }
 
 /// The rule that a JSON text stands for.
-fn rule_in(alloc: Global, text: &str) -> Result<Rule, RuleTextFault>
+pub(crate) fn rule_in(alloc: Global, text: &str) -> Result<Rule, RuleTextFault>
     ensures exact { GivesUnlessShort result (of_tree (if_whole (if_json (read text.now)))) }
     ensures kind { result ≢ Err (RuleTextFault.Text texts.TooLarge) }
 {

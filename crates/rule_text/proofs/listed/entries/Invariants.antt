@@ -1,7 +1,7 @@
 use Rattle.std.proofs.Common.{◌≡◌, ℕ, ◌≤◌, length}
 use Rattle.json.specs.Json.{items, value, parse_map}
 use Rattle.serde_json.specs.Read.{converted}
-use Rattle.bucket_core.specs.Rule.{entries_view}
+use Rattle.rule_text.specs.Lent.{lent_view}
 use Rattle.rule_text.specs.Listed.{buckets_in}
 use Rattle.rule_text.proofs.Turns.{before}
 use Rattle.rule_text.proofs.listed.entries.Given as goal
@@ -10,7 +10,7 @@ use Rattle.rule_text.proofs.listed.entries.Given as goal
 abbrev pub invariant-entries : goal.invariant-entries
 invariant-entries l =
     (n : ℕ) × (length l.reader ≤ n)
-    × (converted buckets_in (items (value 126) (length l.initial.reader) l.initial.reader) ≡ parse_map (before (entries_view l.found.items)) (converted buckets_in (items (value 126) n l.reader)))
+    × (converted buckets_in (items (value 126) (length l.initial.reader) l.initial.reader) ≡ parse_map (before (lent_view l.found.items)) (converted buckets_in (items (value 126) n l.reader)))
 
 abbrev pub decreases-entries : goal.decreases-entries
 decreases-entries l = length l.reader
