@@ -17,16 +17,16 @@ use crate::tally::{Endings, Tally, inputs_before};
 use book_core::{Book, print_book};
 use book_share::{DriveFault, Driven, drive};
 use flag_defs::Flags;
+use flag_resolve::Resolution;
 use flag_text::Tree;
 use limits::SEATS;
 use progress::Meter;
 use std::alloc::Global;
-use std::mem;
 use std::sync::Wait;
 use std::thread::Threads;
 
 /// The whole output of the command.
-#[derive(Debug, Drop)]
+#[derive(Drop)]
 pub struct Drove {
     /// The lines that are printed.
     pub text: Vec<u8>,
@@ -34,6 +34,15 @@ pub struct Drove {
     pub book: Vec<u8>,
     /// What a person is told.
     pub tally: Tally,
+    /// What it was made of.
+    pub rest: Rest,
+}
+
+/// The answers and the book that an output was made of. They take a while to drop, which a program that ends can spare itself.
+#[derive(Drop)]
+pub struct Rest {
+    answers: Vec<Resolution>,
+    book: Book,
 }
 
 /// Why the asks of a file are not driven by so many workers, as far as it is known without taking memory: they are no asks,
@@ -156,12 +165,11 @@ fn output_of(
         inputs: counts.inputs,
     };
     let file = print_book(alloc, &book)?;
-    // The program ends soon, and its memory with it.
-    mem::forget((answers, book));
     Ok(Drove {
         text,
         book: file,
         tally,
+        rest: Rest { answers, book },
     })
 }
 

@@ -33,7 +33,7 @@ mod tally;
 mod unread;
 
 pub use asks::asks_of;
-pub use command::{Drove, drive_asks, refusal_of};
+pub use command::{Drove, Rest, drive_asks, refusal_of};
 pub use fault::DriveRefusal;
 pub use tally::{Endings, Tally};
 pub use unread::has_unread_ask;

@@ -1,8 +1,9 @@
 -- Files loaded and read in turn, each before the next.
-use Rattle.std.specs.Prelude.{ℕ, List, Result, Ok, Err}
+use Rattle.std.specs.Prelude.{ℕ, List, Option, Result, Ok, Err}
 use Rattle.flag_text.specs.Shape.{Shape}
 use Rattle.flag_text.specs.Reading.{tree_of}
 use Rattle.bucket_core.specs.Rule.{Entries}
+use Rattle.rule_text.specs.Choosing.{choice_of}
 use Rattle.rule_text.specs.Reading.{rule_of_text}
 use Rattle.rule_text.specs.declared.fault.RuleTextFault.{RuleTextFault}
 use Rattle.rule_text.specs.declared.fault.RuleTextFault.TheVariants.{Text, Rule}
@@ -45,3 +46,9 @@ unfoldable pub rule_at : Holding → List ℕ → Result Entries Refusal
 rule_at at path = do
   bytes ← refused_by Load (load_of at path max_rule)
   refused_by refusal_of (rule_of_text bytes max_rule)
+
+-- what the rule of the rule file at a path gives a key: its point, and the name there
+unfoldable pub choice_at : Holding → List ℕ → List ℕ → Result (ℕ × Option (List ℕ)) Refusal
+choice_at at path key = do
+  bytes ← refused_by Load (load_of at path max_rule)
+  refused_by refusal_of (choice_of key (rule_of_text bytes max_rule))

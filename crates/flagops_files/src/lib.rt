@@ -54,7 +54,7 @@ pub use documents::{Document, load_document, load_flags};
 pub use evidence::Evidence;
 pub use files::{FileSet, LoadFault, NOTES_PIECE, StoreFault};
 pub use keeping::KeepRefusal;
-pub use loading::{TEXT_LIMIT, load, load_rule, load_tree};
+pub use loading::{TEXT_LIMIT, load, load_choice, load_rule, load_tree};
 pub use outcome::{Outcome, Status};
 pub use plan_file::load_planned;
 pub use question::{Question, load_question};

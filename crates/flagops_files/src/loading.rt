@@ -4,10 +4,11 @@ ghost use Rattle.flag_text.specs.Shape.{is_whole};
 ghost use Rattle.flag_text.specs.View.{view};
 ghost use Rattle.flagops_files.specs.Refusal.{ComesFrom, GivesUnlessWant, is_file_fault, loads_file, loads_rule, loads_tree};
 ghost use Rattle.flagops_files.specs.Files.{load_of};
-ghost use Rattle.flagops_files.specs.Loading.{refusal_of, refused_by, rule_at, tree_at};
+ghost use Rattle.flagops_files.specs.Loading.{choice_at, refusal_of, refused_by, rule_at, tree_at};
 ghost use Rattle.flagops_files.specs.declared.refusal.Refusal.TheVariants.{Load};
 ghost use Rattle.flagops_remarks.specs.Named.{Names};
 ghost use Rattle.flagops_files.specs.Told.{Says, TellsOf, file};
+ghost use Rattle.rule_text.specs.Choosing.{choice_view};
 
 use crate::files::FileSet;
 use crate::refusal::Refusal;
@@ -15,7 +16,7 @@ use crate::refused::{Refused, Remark};
 use bucket_core::Rule;
 use flag_text::{Tree, read_tree};
 use flagops_remarks::{of_rule, of_text, of_unreadable};
-use rule_text::{RuleTextFault, read_rule_text};
+use rule_text::{Choice, RuleTextFault, choose_in_text, read_rule_text};
 use std::alloc::Global;
 
 /// The largest rule or plan file, in bytes.
@@ -88,6 +89,30 @@ pub fn load_rule<F: FileSet>(alloc: Global, files: &mut F, path: &str) -> Result
     let bytes = load(alloc, files, path, u64::from(RULE_LIMIT))?;
     match read_rule_text(alloc, bytes.as_slice(), RULE_LIMIT as usize) {
         Ok(rule) => Ok(rule),
+        Err(fault) => Err(Refused {
+            refusal: refusal_of(fault),
+            remark: remark_on(alloc, path, bytes.as_slice(), fault),
+        }),
+    }
+}
+
+/// What the rule of the rule file at a path gives a key. Beside the file it takes 24 bytes for each entry of the rule.
+#[tactic(auto, using(crate::proofs::Told::says), unfolding(crate::specs::Loading::choice_at))]
+pub fn load_choice<F: FileSet>(
+    alloc: Global,
+    files: &mut F,
+    path: &str,
+    key: &str,
+) -> Result<Choice, Refused>
+    ensures exact { IfSome (F.holding files.old) (λ at. GivesUnlessWant choice_view result (choice_at at path.now key.now)) }
+    ensures calls { ComesFrom loads_rule result }
+    ensures failed { F.has_failed files.new ≡ (F.has_failed files.old || is_file_fault result) }
+    ensures kept { F.holding files.new ≡ F.holding files.old }
+    ensures names { TellsOf (file path.now) result }
+{
+    let bytes = load(alloc, files, path, u64::from(RULE_LIMIT))?;
+    match choose_in_text(alloc, bytes.as_slice(), RULE_LIMIT as usize, key) {
+        Ok(choice) => Ok(choice),
         Err(fault) => Err(Refused {
             refusal: refusal_of(fault),
             remark: remark_on(alloc, path, bytes.as_slice(), fault),

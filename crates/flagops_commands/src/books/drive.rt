@@ -113,8 +113,11 @@ fn written<F: FileSet>(
     ensures remark { IfOk result (λ o. o.remark ≡ Some remark) }
 {
     store(alloc, files, book, drove.book.as_slice())?;
+    let Drove { text, rest, .. } = drove;
+    // The program ends soon, and its memory with it.
+    mem::forget(rest);
     Ok(Outcome {
-        text: drove.text,
+        text,
         status: Status::Done,
         remark: Some(remark),
     })

@@ -6,12 +6,12 @@ ghost use Rattle.flagops_files.specs.Refusal.{ComesFrom, GivesUnlessWant, is_fil
 ghost use Rattle.flagops_files.specs.Report.{outcome_view};
 ghost use Rattle.flagops_files.specs.Told.{TellsOfOne};
 ghost use Rattle.flagops_commands.specs.Subjects.{bucket_subjects};
+ghost use Rattle.rule_text.specs.Choosing.{choice_view};
 
-use bucket_core::{Rule, point};
-use flagops_files::{Call, FileSet, Outcome, Refusal, Refused, Remark, Status, load_rule, quoted};
+use flagops_files::{Call, FileSet, Outcome, Refusal, Refused, Remark, Status, load_choice, quoted};
 use murmur_core::hash;
+use rule_text::Choice;
 use std::alloc::{AllocError, Global};
-use std::mem;
 
 /// The hash of the key, its point on the rule and its variant, a line each or with `json` as one JSON text.
 #[tactic(auto, unfolding(crate::specs::Bucket::bucket_report))]
@@ -28,11 +28,8 @@ pub fn bucket<F: FileSet>(
     ensures kept { F.holding files.new ≡ F.holding files.old }
     ensures names { TellsOfOne (bucket_subjects rule.now) result }
 {
-    let rule = load_rule(alloc, files, rule)?;
-    let text = answer(alloc, &rule, key, json);
-    // The program ends soon, and its memory with it.
-    mem::forget(rule);
-    match text {
+    let choice = load_choice(alloc, files, rule, key)?;
+    match answer(alloc, &choice, key, json) {
         Ok(text) => Ok(Outcome::plain(text.into_bytes(), Status::Done)),
         Err(AllocError) => Err(Refused {
             refusal: Refusal::WantOfMemory(Call::Bucket),
@@ -42,16 +39,15 @@ pub fn bucket<F: FileSet>(
 }
 
 #[tactic(auto, unfolding(crate::specs::Bucket::bucket_json, crate::specs::Bucket::bucket_text))]
-fn answer(alloc: Global, rule: &Rule, key: &str, json: bool) -> Result<String, AllocError>
-    ensures { IfOk result (λ s. string_bytes s ≡ (if json then bucket_json rule.now key.now else bucket_text rule.now key.now)) }
+fn answer(alloc: Global, choice: &Choice, key: &str, json: bool) -> Result<String, AllocError>
+    ensures { IfOk result (λ s. string_bytes s ≡ (if json then bucket_json key.now (choice_view choice.now) else bucket_text key.now (choice_view choice.now))) }
 {
-    let point = point(rule.total(), key);
     let digits = eight_hex_digits(alloc, hash(key.as_bytes(), 0))?;
-    let name = quoted(alloc, rule.variant_at(point))?;
+    let name = quoted(alloc, choice.variant.as_str())?;
     if json {
-        three_members(alloc, &digits, point, &name)
+        three_members(alloc, &digits, choice.point, &name)
     } else {
-        three_lines(alloc, &digits, point, &name)
+        three_lines(alloc, &digits, choice.point, &name)
     }
 }
 
