@@ -14,6 +14,9 @@ use limits::PAGE_INPUTS;
 use murmur_core::hash;
 use std::alloc::{AllocError, Global};
 
+/// About as many bytes as the line of an input has at least. Points find room without their vector being moved.
+const USUAL_BYTES: usize = 16;
+
 /// The lines that stand first among some bytes, read before it is known what stands before them: the first and the last of
 /// their inputs, how many there are, the point of each where inputs are counted, and the bytes behind these lines.
 #[derive(Drop)]
@@ -108,7 +111,8 @@ pub(crate) fn read_part<'a>(
     requires { IfSome total IsRuleTotal }
     ensures { IfOk result (λ r. IfSome r (IsPartOf bytes.now total)) }
 {
-    let Some(mut part) = first_line(alloc, bytes, total)? else {
+    let room = bytes.len().saturating_sub(stop) / USUAL_BYTES;
+    let Some(mut part) = first_line(alloc, bytes, total, room)? else {
         return Ok(None);
     };
     while part.rest.len() > stop {
@@ -119,11 +123,12 @@ pub(crate) fn read_part<'a>(
     Ok(Some(part))
 }
 
-/// The part of the first line alone, where it is plain.
+/// The part of the first line alone, where it is plain, with room for so many points where inputs are counted.
 fn first_line<'a>(
     alloc: Global,
     bytes: &'a [u8],
     total: Option<u32>,
+    room: usize,
 ) -> Result<Option<Part<'a>>, AllocError>
     requires { IfSome total IsRuleTotal }
     ensures { IfOk result (λ r. IfSome r (IsPart bytes.now total [])) }
@@ -131,7 +136,8 @@ fn first_line<'a>(
     let Some((first, rest)) = short_line(bytes) else {
         return Ok(None);
     };
-    let mut points = Vec::new(alloc);
+    let room = if total.is_some() { room } else { 0 };
+    let mut points = Vec::with_capacity(alloc, room)?;
     push_point(&mut points, total, first)?;
     Ok(Some(Part {
         first,

@@ -8,8 +8,8 @@ use book_core::feed_at;
 use std::alloc::{AllocError, Global};
 use std::thread::{Threads, join};
 
-/// Reads the plain lines that stand first, as `read_part` does, in so many parts at the same time: the first in a thread of
-/// its own, the others likewise, and the last one here.
+/// Reads the plain lines that stand first, as `read_part` does, in so many parts at the same time: the last in a thread of its
+/// own, the others likewise, and the first one here, to which the others are then joined one after another.
 pub(crate) fn read_parts<'a, R: Threads>(
     rt: &R,
     alloc: Global,
@@ -24,18 +24,18 @@ pub(crate) fn read_parts<'a, R: Threads>(
     if parts < 2 {
         return read_part(alloc, bytes, stop, total);
     }
-    let behind = behind_first(bytes, stop, parts);
-    let parts = parts - 1;
-    let (front, next) = join(
+    let others = parts - 1;
+    let behind = behind_first(bytes, stop, parts, others);
+    let (next, front) = join(
         rt,
         || -> Result<Option<Part<'_>>, AllocError>
             requires { IfSome total IsRuleTotal }
-            ensures { IfOk result (λ r. IfSome r (IsPartOf bytes.entry.now total)) }
-        { read_part(alloc, bytes, behind.len(), total) },
+            ensures { IfOk result (λ r. IfSome r (IsPartOf behind.entry.now total)) }
+        { read_part(alloc, behind, stop, total) },
         || -> Result<Option<Part<'_>>, AllocError>
             requires { IfSome total IsRuleTotal }
-            ensures { IfOk result (λ r. IfSome r (IsPartOf behind.entry.now total)) }
-        { read_parts(rt, alloc, behind, stop, total, parts) },
+            ensures { IfOk result (λ r. IfSome r (IsPartOf bytes.entry.now total)) }
+        { read_parts(rt, alloc, bytes, behind.len(), total, others) },
     );
     match front? {
         None => Ok(None),
@@ -43,12 +43,13 @@ pub(crate) fn read_parts<'a, R: Threads>(
     }
 }
 
-/// The bytes from the first line on that begins behind the first of so many parts of those before the stop.
-pub(crate) fn behind_first<'a>(bytes: &'a [u8], stop: usize, parts: usize) -> &'a [u8]
+/// The bytes from the first line on that begins behind the first ones of so many parts of those before the stop.
+pub(crate) fn behind_first<'a>(bytes: &'a [u8], stop: usize, parts: usize, first: usize) -> &'a [u8]
     requires { 0 < parts }
     ensures { IsEndOf bytes.now result.now }
 {
-    let size = bytes.len().saturating_sub(stop) / parts;
+    let part = bytes.len().saturating_sub(stop) / parts;
+    let size = part.saturating_mul(first).min(bytes.len());
     match feed_at(&bytes[size..]) {
         None => &bytes[bytes.len()..],
         Some(at) => &bytes[size + at + 1..],

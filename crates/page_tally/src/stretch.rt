@@ -82,7 +82,7 @@ fn in_parts<'a, R: Threads>(
     if parts < 2 {
         return alone(bytes, stop, key);
     }
-    let behind = behind_first(bytes, stop, parts);
+    let behind = behind_first(bytes, stop, parts, 1);
     let parts = parts - 1;
     let (front, next) = join(
         rt,
