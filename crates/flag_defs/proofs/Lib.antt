@@ -11,6 +11,8 @@ pub mod Limited
 pub mod Meanings
 pub mod Meant
 pub mod Outlines
+pub mod Paired
+pub mod Parted
 pub mod Printed
 pub mod PrintedBytes
 pub mod Reasons

@@ -1,7 +1,7 @@
 -- What is known of a flag's targeting before its references are replaced.
-use Rattle.std.specs.Prelude.{◌≡◌, ◌≤◌, ℕ, Bool, true, false, ◌&&◌, if◌then◌else◌, Option, Some, None, is_some}
+use Rattle.std.specs.Prelude.{◌≡◌, ◌≤◌, Bool, true, false, ◌&&◌, if◌then◌else◌, Option, Some, None, is_some}
 use Rattle.flag_text.specs.Readers.{as_object}
-use Rattle.flag_text.specs.Shape.{Shape, null, object, levels, Items, no_items, item, Members, no_members, member}
+use Rattle.flag_text.specs.Shape.{Shape, null, object, Members, no_members}
 use Rattle.logic_ast.specs.Expression.{Expression}
 use Rattle.logic_ast.specs.Writing.{written}
 use Rattle.flag_defs.specs.Definition.{HasTargeting}

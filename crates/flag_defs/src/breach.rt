@@ -7,10 +7,10 @@ ghost use Rattle.flag_defs.specs.Breach.{AllTell, TargetingBreaks, TargetingTell
 ghost use Rattle.flag_defs.specs.Definition.{HasTargeting};
 ghost use Rattle.flag_defs.specs.Document.{evaluators_in, flags_in, or_no_members};
 
-use crate::entries::{evaluators_in, members_of};
 use crate::forecast::{Forecast, tree_forecast};
 use crate::kind::are_of_one_kind;
 use crate::outline::{are_few, default_variant, state, variants};
+use crate::parts::{evaluators_in, members_of};
 use flag_references::{Evaluators, Measure};
 use flag_text::{Tree, member_by_halving};
 use std::alloc::{AllocError, Global};

@@ -1,11 +1,10 @@
 //! From the bytes of a document to the list of its flags.
-ghost use Rattle.std.specs.Prelude.{◌≡◌, ◌<◌, ◌≤◌, true, false, length, Some, option_map, option_and_then, IfOk, IsErrOf};
+ghost use Rattle.std.specs.Prelude.{◌≡◌, ◌<◌, ◌≤◌, true, false, length, Some, IfOk, IsErrOf};
 ghost use Rattle.std.specs.Cmp.Lexicographic.{slice_cmp};
 ghost use Rattle.std.specs.List.Sorted.{IsStrictlySortedBy};
 ghost use Rattle.std.specs.Map.{keys_of};
 ghost use Rattle.std.specs.Ordering.{nat_cmp};
 ghost use Rattle.std.specs.Str.{is_utf8};
-ghost use Rattle.flag_text.specs.Readers.{as_object, member_of};
 ghost use Rattle.flag_text.specs.Shape.{is_tidy, members_are_tidy};
 ghost use Rattle.flag_text.specs.View.{view, members_view};
 ghost use Rattle.flag_defs.specs.Document.{AllMean, DocumentMeans, FlagsMean, evaluators_in, flags_in, max_bytes};
@@ -19,6 +18,7 @@ use crate::definition::{definition_forecast, read_flag};
 use crate::fault::DefFault;
 use crate::flag::Flag;
 use crate::forecast::Forecast;
+use crate::parts::Parts;
 use flag_references::{Evaluators, plus};
 use flag_text::{TextFault, Tree, read_doc};
 use limits::{FLAGS, TEXT_BYTES};
@@ -39,7 +39,7 @@ pub(crate) fn read_entries(alloc: Global, bytes: &[u8]) -> Result<Vec<(String, F
     ensures no_text { length bytes.now ≤ max_bytes → is_utf8 bytes.now ≡ false → IsErrOf result DefFault.NotJson }
 {
     match read_doc(alloc, bytes, TEXT_BYTES) {
-        Ok(document) => read_document(alloc, &document),
+        Ok(document) => read_document(alloc, document),
         Err(fault) => Err(of_text(fault)),
     }
 }
@@ -55,49 +55,33 @@ fn of_text(fault: TextFault) -> DefFault
     }
 }
 
-fn read_document(alloc: Global, document: &Tree) -> Result<Vec<(String, Flag)>, DefFault>
-    requires { is_tidy (view document.now) ≡ true }
-    ensures means { HoldsLimited (FlagsMean (evaluators_in (view document.now)) (flags_in (view document.now))) result }
+/// The document is consumed: what is not read of it is dropped at once, and each definition once its flag is made.
+fn read_document(alloc: Global, document: Tree) -> Result<Vec<(String, Flag)>, DefFault>
+    requires { is_tidy (view document) ≡ true }
+    ensures means { HoldsLimited (FlagsMean (evaluators_in (view document)) (flags_in (view document))) result }
     ensures rising { IfOk result (λ v. IsStrictlySortedBy (slice_cmp nat_cmp) (keys_of (entries_view v.items))) }
 {
-    match members_of(document, "flags") {
-        Some(definitions) => {
-            let evaluators = Evaluators::read(alloc, evaluators_in(document))?;
-            read_definitions(alloc, definitions, &evaluators)
-        }
-        None => Err(DefFault::NoFlags),
-    }
-}
-
-/// The members of the object of this name.
-pub(crate) fn members_of<'a>(document: &'a Tree, name: &str) -> Option<&'a [(String, Tree)]>
-    ensures { option_map (λ ms. members_view ms.now) result ≡ option_and_then as_object (member_of name.now (view document.now)) }
-{
-    match document.member(name) {
-        Some(tree) => tree.as_object(),
-        None => None,
-    }
-}
-
-pub(crate) fn evaluators_in(document: &Tree) -> &[(String, Tree)]
-    ensures { members_view result.now ≡ evaluators_in (view document.now) }
-{
-    match members_of(document, "$evaluators") {
-        Some(evaluators) => evaluators,
-        None => &[],
-    }
+    let Parts {
+        definitions,
+        evaluators,
+    } = Parts::of(alloc, document);
+    let Some(definitions) = definitions else {
+        return Err(DefFault::NoFlags);
+    };
+    let evaluators = Evaluators::read(alloc, evaluators.as_slice())?;
+    read_definitions(alloc, definitions, &evaluators)
 }
 
 fn read_definitions(
     alloc: Global,
-    definitions: &[(String, Tree)],
+    definitions: Vec<(String, Tree)>,
     evaluators: &Evaluators<'_>,
 ) -> Result<Vec<(String, Flag)>, DefFault>
-    requires { members_are_tidy (members_view definitions.now) ≡ true }
-    ensures means { HoldsLimited (FlagsMean (members_view evaluators.now) (Some (members_view definitions.now))) result }
+    requires { members_are_tidy (members_view definitions.items) ≡ true }
+    ensures means { HoldsLimited (FlagsMean (members_view evaluators.now) (Some (members_view definitions.items))) result }
     ensures rising { IfOk result (λ v. IsStrictlySortedBy (slice_cmp nat_cmp) (keys_of (entries_view v.items))) }
 {
-    let forecasts = forecasts_of(alloc, definitions, evaluators)?;
+    let forecasts = forecasts_of(alloc, definitions.as_slice(), evaluators)?;
     let least = least_of_all(forecasts.as_slice());
     if definitions.len() > FLAGS {
         return Err(DefFault::TooLarge);
@@ -105,7 +89,7 @@ fn read_definitions(
     if least as usize > TEXT_BYTES {
         return Err(DefFault::TooLarge);
     }
-    let flags = read_all(alloc, definitions, forecasts.as_slice(), evaluators)?;
+    let flags = read_all(alloc, definitions, forecasts, evaluators)?;
     Ok(flags)
 }
 
@@ -138,23 +122,24 @@ fn least_of_all(forecasts: &[Forecast]) -> u32
 }
 
 /// The flags of all definitions, under their keys, of which this is foreseen. The condition is that they are few, and that
-/// what their targetings take when they are expanded was added up and found small.
+/// what their targetings take when they are expanded was added up and found small. Each definition is dropped once its flag is
+/// made, so that the next flag takes its memory.
 fn read_all(
     alloc: Global,
-    definitions: &[(String, Tree)],
-    forecasts: &[Forecast],
+    definitions: Vec<(String, Tree)>,
+    forecasts: Vec<Forecast>,
     evaluators: &Evaluators<'_>,
 ) -> Result<Vec<(String, Flag)>, AllocError>
-    requires tidy { members_are_tidy (members_view definitions.now) ≡ true }
-    requires foreseen { AllForesee (members_view evaluators.now) (members_view definitions.now) forecasts.now }
-    requires light { AreLight (members_view evaluators.now) (members_view definitions.now) }
-    ensures { IfOk result (λ v. AllMean (members_view evaluators.now) (members_view definitions.now) (entries_view v.items)) }
+    requires tidy { members_are_tidy (members_view definitions.items) ≡ true }
+    requires foreseen { AllForesee (members_view evaluators.now) (members_view definitions.items) forecasts.items }
+    requires light { AreLight (members_view evaluators.now) (members_view definitions.items) }
+    ensures { IfOk result (λ v. AllMean (members_view evaluators.now) (members_view definitions.items) (entries_view v.items)) }
 {
     let mut flags = Vec::with_capacity(alloc, definitions.len())?;
-    for i in 0..definitions.len() {
-        let (key, definition) = &definitions[i];
-        let flag = read_flag(alloc, definition, forecasts[i], evaluators)?;
-        flags.push((key.clone()?, flag))?;
+    for ((key, definition), forecast) in definitions.into_iter().zip(forecasts) {
+        let flag = read_flag(alloc, &definition, forecast, evaluators)?;
+        drop(definition);
+        flags.push((key, flag))?;
     }
     Ok(flags)
 }

@@ -48,6 +48,7 @@ mod lent;
 mod make;
 mod members;
 mod outline;
+mod parts;
 mod print;
 mod printed_bytes;
 mod rules;
