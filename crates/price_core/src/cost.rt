@@ -48,6 +48,21 @@ fn cost_over(rt: &(impl Threads + Sync), switching: &Switching<'_>, inputs: &[St
         .sum(rt)
 }
 
+fn cost_over_lent(rt: &(impl Threads + Sync), switching: &Switching<'_>, inputs: &[&str]) -> u64
+    requires few { length inputs.now ≤ 1000000 }
+    requires lawful { IsPricing switching.now.2 }
+    ensures { result ≡ cost_of switching.now.0 switching.now.1 (map (λ s. s.now) inputs.now) switching.now.2 }
+{
+    inputs
+        .par_iter()
+        .map(
+            |input: &&str| -> u64
+                ensures { result ≡ input_cost switching.entry.now.0 switching.entry.now.1 switching.entry.now.2 input.now.now }
+            { switching.cost(input) },
+        )
+        .sum(rt)
+}
+
 /// The sum of what the inputs cost, each hashed once, added up by as many threads as there are
 /// processors. The rules may differ in their totals. No two texts are compared for an input: equal
 /// names of the two rules share a number, and the prices are looked up by numbers.
@@ -61,21 +76,22 @@ pub fn switch_cost(
 ) -> Result<u64, AllocError>
     ensures exact { IfOk result (λ cost. cost ≡ cost_of old.now new.now exposure.now prices.now) }
 {
-    switch_cost_of(rt, alloc, old, new, exposure.inputs(), prices)
+    let switching = Switching::of(alloc, old, new, prices)?;
+    Ok(cost_over(rt, &switching, exposure.inputs()))
 }
 
-/// As [`switch_cost`], for inputs that are lent, 1,000,000 at most. One that stands among them twice is paid for twice.
+/// As [`switch_cost`], for inputs where they lie, 1,000,000 at most. One that stands among them twice is paid for twice.
 pub fn switch_cost_of(
     rt: &(impl Threads + Sync),
     alloc: Global,
     old: &Rule,
     new: &Rule,
-    inputs: &[String],
+    inputs: &[&str],
     prices: &Prices,
 ) -> Result<u64, AllocError>
     requires few { length inputs.now ≤ 1000000 }
-    ensures exact { IfOk result (λ cost. cost ≡ cost_of old.now new.now (map string_bytes inputs.now) prices.now) }
+    ensures exact { IfOk result (λ cost. cost ≡ cost_of old.now new.now (map (λ s. s.now) inputs.now) prices.now) }
 {
     let switching = Switching::of(alloc, old, new, prices)?;
-    Ok(cost_over(rt, &switching, inputs))
+    Ok(cost_over_lent(rt, &switching, inputs))
 }
