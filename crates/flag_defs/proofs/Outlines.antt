@@ -1,8 +1,8 @@
 -- The parts of a good definition, and that the rules that they make can be printed and read again.
-use Rattle.std.proofs.Common.{◌≡◌, ℕ, List, codes, Bool, true, false, not, ◌&&◌, cond, Option, Some, None, option_map, is_some, Result, Ok, Err, refl, sym, ap, ◌∙◌, subst}
+use Rattle.std.proofs.Common.{◌≡◌, ℕ, List, codes, Bool, true, false, not, ◌&&◌, cond, Option, Some, None, option_map, is_some, Result, Ok, Err, refl, sym, ap, ap₂, ◌∙◌, subst}
 use Rattle.std.specs.Prelude.{option_and_then}
 use Rattle.std.specs.Result.{result_ok}
-use Rattle.flag_text.specs.Readers.{find_member}
+use Rattle.flag_text.specs.Readers.{as_object, find_member}
 use Rattle.flag_text.specs.Shape.{Shape, null, boolean, whole, other, text, list, object, Members, no_members, member, is_whole}
 use Rattle.flag_text.proofs.Bools.{both, left, right}
 use Rattle.logic_ast.specs.Expression.{Expression}
@@ -15,6 +15,7 @@ use Rattle.logic_ast.specs.declared.fault.LogicFault.{LogicFault}
 use Rattle.logic_ast.specs.declared.operator.Operator.{Operator}
 use Rattle.logic_ast.proofs.WellFormed.{is_well_formed-from}
 use Rattle.flag_defs.specs.Definition.{Rules, IsGood, HasTargeting, state_of, variants_of, default_of, or_null, targeting_of, are_variants}
+use Rattle.flag_defs.specs.Document.{or_no_members}
 use Rattle.flag_references.specs.Inlining.{has_reference}
 use Rattle.flag_defs.specs.Outline.{Outline, outline_of, with_state, with_variants, rules_with}
 use Rattle.flag_defs.specs.Rules.{has_members, is_targeting, are_targetings, is_default, are_rules}
@@ -164,6 +165,28 @@ lawful_with evaluators ms o e t h has =
 pub good_with : (evaluators ms : Members) (o : Outline) (e : Option Expression) → outline_of ms ≡ Some o → HasTargeting evaluators (or_null (found (codes "targeting") ms)) e → IsGood evaluators ms (rules_with o e)
 good_with evaluators ms o e h has =
     let parts = is_outline ms o h in record { state = parts.state; variants = parts.variants; default_variant = parts.default_variant; targeting = has }
+
+chosen_members : (b : Bool) (ms vs : Members) → cond b (Some ms) None ≡ Some vs → ms ≡ vs
+chosen_members true ms vs h = cc
+chosen_members false ms vs h = cc
+
+-- variants are the members of the object that stands there
+object_variants : (o : Option Shape) (vs : Members) → variants_of o ≡ Some vs → or_no_members (option_and_then as_object o) ≡ vs
+object_variants None vs h = cc
+object_variants (Some null) vs h = cc
+object_variants (Some (boolean b)) vs h = cc
+object_variants (Some (whole n)) vs h = cc
+object_variants (Some other) vs h = cc
+object_variants (Some (text s)) vs h = cc
+object_variants (Some (list ts)) vs h = cc
+object_variants (Some (object ms)) vs h = chosen_members (are_variants ms) ms vs h
+
+-- the rules of an outline, with that object's members for its variants
+pub moved-rules : (ms vs : Members) (d : Option (List ℕ)) (o : Outline) (e : Option Expression) → outline_of ms ≡ Some o → vs ≡ or_no_members (option_and_then as_object (found (codes "variants") ms)) → d ≡ o.default_variant
+    → (let r : Rules = record { enabled = o.enabled; variants = vs; default_variant = d; targeting = e } in r) ≡ rules_with o e
+moved-rules ms vs d o e h variants default_variant =
+    ap₂ (λ (ws : Members) (b : Option (List ℕ)). let r : Rules = record { enabled = o.enabled; variants = ws; default_variant = b; targeting = e } in r)
+    (variants ∙ object_variants (found (codes "variants") ms) o.variants (is_outline ms o h).variants) default_variant
 
 pub rules_lawful : (evaluators ms : Members) (r : Rules) → IsGood evaluators ms r → are_rules r ≡ true
 rules_lawful evaluators ms r h =

@@ -2,18 +2,16 @@
 ghost use Rattle.std.specs.Prelude.{◌≡◌, true, Option, Some, option_map, option_copied, string_bytes, IfOk};
 ghost use Rattle.flag_text.specs.Shape.{object, is_tidy, members_are_tidy};
 ghost use Rattle.flag_text.specs.View.{view as tree_view, members_view};
-ghost use Rattle.logic_ast.specs.Expr.{view};
 ghost use Rattle.flag_defs.specs.Definition.{Means, good};
 ghost use Rattle.flag_defs.specs.Flag.{flag_view};
 ghost use Rattle.flag_defs.specs.Foreseen.{Foresees};
-ghost use Rattle.flag_defs.specs.Outline.{outline_view, rules_with};
-ghost use Rattle.flag_defs.specs.Rules.{are_rules};
+ghost use Rattle.flag_defs.specs.Rules.{are_rules, rules_of};
 ghost use Rattle.flag_defs.specs.Weighing.{IsWeighed};
 
 use crate::flag::Flag;
 use crate::forecast::{Forecast, targeting_forecast};
-use crate::members::copy_members;
-use crate::outline::{Outline, outline_of};
+use crate::members::take_object;
+use crate::outline::outline_of;
 use crate::rules::Rules;
 use crate::targeting::read_targeting;
 use flag_references::Evaluators;
@@ -44,63 +42,65 @@ fn members_forecast(members: &[(String, Tree)], evaluators: &Evaluators<'_>) -> 
 }
 
 /// The flag of a definition of which this is foreseen. The condition is that it was weighed with all others of its document.
+/// The definition is consumed: the variants are moved out of it, and all else is dropped.
 pub(crate) fn read_flag(
     alloc: Global,
-    definition: &Tree,
+    definition: Tree,
     forecast: Forecast,
     evaluators: &Evaluators<'_>,
 ) -> Result<Flag, AllocError>
-    requires tidy { is_tidy (tree_view definition.now) ≡ true }
-    requires foreseen { Foresees (members_view evaluators.now) (tree_view definition.now) forecast }
-    requires weighed { IsWeighed (members_view evaluators.now) (tree_view definition.now) }
-    ensures { IfOk result (λ f. Means (members_view evaluators.now) (tree_view definition.now) (flag_view f)) }
+    requires tidy { is_tidy (tree_view definition) ≡ true }
+    requires foreseen { Foresees (members_view evaluators.now) (tree_view definition) forecast }
+    requires weighed { IsWeighed (members_view evaluators.now) (tree_view definition) }
+    ensures { IfOk result (λ f. Means (members_view evaluators.now) (tree_view definition) (flag_view f)) }
 {
-    match definition.as_object() {
-        Some(members) => read_members(alloc, members, forecast, evaluators),
-        None => Ok(Flag { rules: None }),
+    match definition {
+        Tree::Object(members) => read_members(alloc, members, forecast, evaluators),
+        _ => Ok(Flag { rules: None }),
     }
 }
 
 fn read_members(
     alloc: Global,
-    members: &[(String, Tree)],
+    members: Vec<(String, Tree)>,
     forecast: Forecast,
     evaluators: &Evaluators<'_>,
 ) -> Result<Flag, AllocError>
-    requires tidy { members_are_tidy (members_view members.now) ≡ true }
-    requires foreseen { Foresees (members_view evaluators.now) (object (members_view members.now)) forecast }
-    requires weighed { IsWeighed (members_view evaluators.now) (object (members_view members.now)) }
-    ensures { IfOk result (λ f. Means (members_view evaluators.now) (object (members_view members.now)) (flag_view f)) }
+    requires tidy { members_are_tidy (members_view members.items) ≡ true }
+    requires foreseen { Foresees (members_view evaluators.now) (object (members_view members.items)) forecast }
+    requires weighed { IsWeighed (members_view evaluators.now) (object (members_view members.items)) }
+    ensures { IfOk result (λ f. Means (members_view evaluators.now) (object (members_view members.items)) (flag_view f)) }
 {
-    let Some(outline) = outline_of(members) else {
+    let Some(outline) = outline_of(members.as_slice()) else {
         return Ok(Flag { rules: None });
     };
     if let Forecast::Broken = forecast {
         return Ok(Flag { rules: None });
     }
-    let targeting = member_by_halving(members, "targeting");
+    let targeting = member_by_halving(members.as_slice(), "targeting");
     let targeting = read_targeting(alloc, targeting, evaluators)?;
-    good_flag(alloc, outline, targeting)
+    let default_variant = own_name(alloc, outline.default_variant)?;
+    let enabled = outline.enabled;
+    let variants = take_object(alloc, members, "variants");
+    Ok(good_flag(enabled, variants, default_variant, targeting))
 }
 
-/// The good flag with this targeting.
 fn good_flag(
-    alloc: Global,
-    outline: Outline<'_>,
+    enabled: bool,
+    variants: Vec<(String, Tree)>,
+    default_variant: Option<String>,
     targeting: Option<Expr>,
-) -> Result<Flag, AllocError>
-    requires { are_rules (rules_with (outline_view outline) (option_map view targeting)) ≡ true }
-    ensures { IfOk result (λ f. flag_view f ≡ good (rules_with (outline_view outline.entry) (option_map view targeting))) }
+) -> Flag
+    requires { are_rules (rules_of enabled variants.items default_variant targeting) ≡ true }
+    ensures { flag_view result ≡ good (rules_of enabled variants.items default_variant targeting) }
 {
-    let variants = copy_members(alloc, outline.variants)?;
-    let default_variant = own_name(alloc, outline.default_variant)?;
     let rules = Rules {
-        enabled: outline.enabled,
+        enabled,
         variants,
         default_variant,
         targeting,
     };
-    Ok(Flag { rules: Some(rules) })
+    Flag { rules: Some(rules) }
 }
 
 fn own_name(alloc: Global, name: Option<&str>) -> Result<Option<String>, AllocError>

@@ -55,7 +55,7 @@ fn of_text(fault: TextFault) -> DefFault
     }
 }
 
-/// The document is consumed: what is not read of it is dropped at once, and each definition once its flag is made.
+/// The document is consumed: what is not read of it is dropped at once, and each definition as its flag is made.
 fn read_document(alloc: Global, document: Tree) -> Result<Vec<(String, Flag)>, DefFault>
     requires { is_tidy (view document) ≡ true }
     ensures means { HoldsLimited (FlagsMean (evaluators_in (view document)) (flags_in (view document))) result }
@@ -122,7 +122,7 @@ fn least_of_all(forecasts: &[Forecast]) -> u32
 }
 
 /// The flags of all definitions, under their keys, of which this is foreseen. The condition is that they are few, and that
-/// what their targetings take when they are expanded was added up and found small. Each definition is dropped once its flag is
+/// what their targetings take when they are expanded was added up and found small. Each definition is consumed as its flag is
 /// made, so that the next flag takes its memory.
 fn read_all(
     alloc: Global,
@@ -137,8 +137,7 @@ fn read_all(
 {
     let mut flags = Vec::with_capacity(alloc, definitions.len())?;
     for ((key, definition), forecast) in definitions.into_iter().zip(forecasts) {
-        let flag = read_flag(alloc, &definition, forecast, evaluators)?;
-        drop(definition);
+        let flag = read_flag(alloc, definition, forecast, evaluators)?;
         flags.push((key, flag))?;
     }
     Ok(flags)

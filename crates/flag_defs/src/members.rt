@@ -1,7 +1,9 @@
 //! Members of an object.
-ghost use Rattle.std.specs.Prelude.{◌≡◌, IfOk, OnOk, map, string_bytes};
+ghost use Rattle.std.specs.Prelude.{◌≡◌, IfOk, OnOk, map, option_and_then, option_map, string_bytes};
+ghost use Rattle.flag_text.specs.Readers.{as_object, find_member};
 ghost use Rattle.flag_text.specs.Shape.{Members, member};
 ghost use Rattle.flag_text.specs.View.{view, members_view};
+ghost use Rattle.flag_defs.specs.Document.{or_no_members};
 ghost use Rattle.flag_defs.specs.Flag.{member_names};
 ghost use Rattle.flag_defs.specs.Members.{followed_by};
 
@@ -46,4 +48,35 @@ pub(crate) fn push_member(
     let name = String::from_str(alloc, name)?;
     members.push((name, value))?;
     Ok(())
+}
+
+/// The members of the object of this name, which is moved out of these; there are none where there is no such object.
+pub(crate) fn take_object(
+    alloc: Global,
+    members: Vec<(String, Tree)>,
+    name: &str,
+) -> Vec<(String, Tree)>
+    ensures { members_view result.items ≡ or_no_members (option_and_then as_object (find_member name.now (members_view members.items))) }
+{
+    let mut members = members;
+    let mut kept = None;
+    // From the back, so that of equal names the first is kept, as `Tree::member` finds it.
+    while let Some((key, member)) = members.pop() {
+        if key.as_str() == name {
+            kept = Some(member);
+        } else {
+            drop(member);
+        }
+    }
+    into_members(kept).unwrap_or(Vec::new(alloc))
+}
+
+/// The members of an object.
+pub(crate) fn into_members(tree: Option<Tree>) -> Option<Vec<(String, Tree)>>
+    ensures { option_map (λ ms. members_view ms.items) result ≡ option_and_then as_object (option_map view tree) }
+{
+    match tree {
+        Some(Tree::Object(members)) => Some(members),
+        _ => None,
+    }
 }

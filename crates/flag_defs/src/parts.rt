@@ -5,6 +5,7 @@ ghost use Rattle.flag_text.specs.Shape.{object};
 ghost use Rattle.flag_text.specs.View.{view, members_view};
 ghost use Rattle.flag_defs.specs.Document.{evaluators_in, flags_in};
 
+use crate::members::into_members;
 use flag_text::Tree;
 use std::alloc::Global;
 
@@ -51,15 +52,6 @@ fn parts_among(alloc: Global, members: Vec<(String, Tree)>) -> Parts
     Parts {
         definitions: into_members(definitions),
         evaluators: into_members(evaluators).unwrap_or(Vec::new(alloc)),
-    }
-}
-
-fn into_members(tree: Option<Tree>) -> Option<Vec<(String, Tree)>>
-    ensures { option_map (λ ms. members_view ms.items) result ≡ option_and_then as_object (option_map view tree) }
-{
-    match tree {
-        Some(Tree::Object(members)) => Some(members),
-        _ => None,
     }
 }
 
