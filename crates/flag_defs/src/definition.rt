@@ -85,6 +85,7 @@ fn read_members(
     Ok(good_flag(enabled, variants, default_variant, targeting))
 }
 
+/// The flag that keeps all rules, with these.
 fn good_flag(
     enabled: bool,
     variants: Vec<(String, Tree)>,
