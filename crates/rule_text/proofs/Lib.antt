@@ -4,4 +4,5 @@ pub mod Found
 pub mod Lending
 pub mod Literal
 pub mod Readings
+pub mod Texted
 pub mod Turns

@@ -10,7 +10,7 @@ use Rattle.rule_text.specs.Buckets.{buckets_in, or_bad_rule}
 use Rattle.rule_text.specs.Listed.{IsListed}
 use Rattle.rule_text.proofs.Flat.{both, flat_list}
 
-flat_tree : (t : Shape) → levels t ≤ 2 → has_other t ≡ false → if_whole (Ok t) ≡ Ok t
+pub flat_tree : (t : Shape) → levels t ≤ 2 → has_other t ≡ false → if_whole (Ok t) ≡ Ok t
 flat_tree t low whole = grind (arith, low, whole)
 
 pub listed_buckets : (text : List ℕ) (es : Entries) → IsListed text es → buckets_in (if_whole (if_json (read text))) ≡ Ok es

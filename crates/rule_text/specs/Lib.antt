@@ -4,3 +4,4 @@ pub mod Lent
 pub mod Listed
 pub mod Parts
 pub mod Reading
+pub mod Texts

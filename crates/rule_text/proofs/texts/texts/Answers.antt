@@ -1,0 +1,35 @@
+use Rattle.std.proofs.Common.{◌≡◌, ◌-◌, ◌<◌, ◌∷◌, length, None, sym, ap, ◌∙◌, arith}
+use Rattle.json.specs.Json.{parse_map, after_end_array, items, value}
+use Rattle.json.specs.Token.{Token}
+use Rattle.rule_text.specs.Texts.{texts_then, texts_view}
+use Rattle.rule_text.proofs.Texted.{none_before, one_more, one_more_before, all_read}
+use Rattle.rule_text.proofs.texts.texts.Goals as goal
+
+pub texts-init : goal.texts-init
+texts-init c =
+    let all = items (value 126) (length c.args.reader.now) c.args.reader.now in
+    (length c.args.reader.now, omega arith, none_before all ∙ ap (λ vs. parse_map (texts_then (texts_view vs)) all) (sym c.new-found.ensures.items))
+
+pub texts-preserved : goal.texts-preserved
+texts-preserved c =
+    let l = c.texts in
+    let n = l.invariant.0 in
+    let s = c.in-Some-String.text in
+    let r = c.next.new.self in
+    let going : (after_end_array l.reader ≡ None) × (c.take_end_array.new.self ≡ l.reader) = grind arith in
+    let next : c.take_end_array.new.self ≡ Token.string s.now ∷ r = grind arith in
+    let here : l.reader ≡ Token.string s.now ∷ r = sym going.1 ∙ next in
+    let some : 0 < n = omega (arith, l.invariant.1, ap length here) in
+    let turn = ap (items (value 126) n) here ∙ one_more n s.now r some in (
+      n - 1,
+      omega (arith, l.invariant.1, ap length here),
+      l.invariant.2 ∙ ap (parse_map (texts_then (texts_view l.found.items))) turn ∙ one_more_before l.found.items s _
+          ∙ ap (λ vs. parse_map (texts_then (texts_view vs)) (items (value 126) (n - 1) r)) (sym c.in_ok-push.ensures.items),
+    )
+
+pub returns : goal.returns
+returns c =
+    let l = c.texts in
+    let n = l.invariant.0 in
+    let r = c.take_end_array.new.self in
+    l.invariant.2 ∙ ap (parse_map (texts_then (texts_view l.found.items))) (all_read n l.reader r l.invariant.1 (grind arith))
