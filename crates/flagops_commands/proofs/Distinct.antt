@@ -1,5 +1,6 @@
 -- Keys that a page takes come to the same inputs as they do sorted, each once.
-use Rattle.std.proofs.Common.{◌≡◌, ◌⊎◌, inl, inr, Ok, ℕ, ◌+◌, ◌<◌, List, [], ◌∷◌, length, map, Bool, true, false, cond, String, Global, string_bytes, Ordering, refl, sym, ap, ap₂, ◌∙◌, arith}
+use denote.Ref.{Bor}
+use Rattle.std.proofs.Common.{◌≡◌, ◌⊎◌, inl, inr, Ok, ℕ, ◌+◌, ◌<◌, List, [], ◌∷◌, length, map, Bool, true, false, cond, Ordering, refl, sym, ap, ap₂, ◌∙◌, arith}
 use Rattle.std.specs.List.{dedup, dedup_from}
 use Rattle.std.specs.List.Sorted.{IsPermutation, IsSorted}
 use Rattle.std.specs.Ordering.{is_lt}
@@ -13,8 +14,9 @@ use Rattle.book_core.specs.Book.{Inputs}
 use Rattle.book_core.specs.Page.{bytes_cmp}
 use Rattle.transport_instance.proofs.Joined.{rise-nil}
 use Rattle.transport_instance.proofs.Members.{Stands, contains_from_place, place_from_contains, sorted_unique}
+use Rattle.rule_text.specs.Texts.{texts_view}
 use Rattle.flagops_commands.specs.Price.{are_taken, exposed}
-use Rattle.flagops_commands.proofs.Gathered.{gathered, gathered-rise, gathered-entered, gathered-came, none_stands, exposed-moved}
+use Rattle.flagops_commands.proofs.Gathered.{gathered, gathered-rise, gathered-entered, gathered-came, none_stands, now, exposed-moved}
 
 -- ---- a list under a map
 
@@ -63,8 +65,8 @@ gathered-apart : (keys : Inputs) → IsSorted bytes_cmp keys → gathered [] key
 gathered-apart keys up =
     sorted_unique bytes_cmp nat_list_cmp_total (gathered [] keys) (apart keys) (gathered-rise [] keys (rise-nil bytes_cmp)) (IsStrictlySortedBy-dedup nat_list_cmp_total (λ x y. sym (is_eq-slice_cmp x y)) keys up) (stands_apart keys) (stands_gathered keys)
 
-pub exposed-apart : (keys sorted distinct : List (String Global)) → are_taken keys ≡ true → IsPermutation keys sorted → IsSorted (λ x y. bytes_cmp (string_bytes x) (string_bytes y)) sorted
-    → distinct ≡ dedup (λ x y. bytes_eq (string_bytes x) (string_bytes y)) sorted → exposed (map string_bytes keys) ≡ Ok (map string_bytes distinct)
+pub exposed-apart : (keys sorted distinct : List (Bor (List ℕ))) → are_taken keys ≡ true → IsPermutation keys sorted → IsSorted (λ x y. bytes_cmp x.now y.now) sorted
+    → distinct ≡ dedup (λ x y. bytes_eq x.now y.now) sorted → exposed (texts_view keys) ≡ Ok (texts_view distinct)
 exposed-apart keys sorted distinct passes same up once =
     exposed-moved keys sorted passes same
-    ∙ ap Ok (gathered-apart (map string_bytes sorted) (sorted-map string_bytes bytes_cmp sorted up) ∙ sym (map-dedup string_bytes bytes_eq sorted) ∙ ap (map string_bytes) (sym once))
+    ∙ ap Ok (gathered-apart (texts_view sorted) (sorted-map now bytes_cmp sorted up) ∙ sym (map-dedup now bytes_eq sorted) ∙ ap texts_view (sym once))

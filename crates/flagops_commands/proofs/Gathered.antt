@@ -1,5 +1,6 @@
 -- Keys that a page takes, in whatever order they are noted: they come to the same inputs.
-use Rattle.std.proofs.Common.{◌≡◌, ◌⊎◌, inl, inr, ⊎_elim, ℕ, zero, suc, ◌+◌, ◌<◌, ◌≤◌, List, [], ◌∷◌, length, map, true, false, nat_le, Some, Result, Ok, String, Global, string_bytes, Ordering, Less, Equal, Greater, refl, sym, ap, ◌∙◌, arith}
+use denote.Ref.{Bor}
+use Rattle.std.proofs.Common.{◌≡◌, ◌⊎◌, inl, inr, ⊎_elim, ℕ, zero, suc, ◌+◌, ◌<◌, ◌≤◌, List, [], ◌∷◌, length, map, true, false, nat_le, Some, Result, Ok, Ordering, Less, Equal, Greater, refl, sym, ap, ◌∙◌, arith}
 use Rattle.std.specs.BTreeSet.{insert_key}
 use Rattle.std.specs.List.{All}
 use Rattle.std.specs.List.Sorted.{IsPermutation, IsStrictlySortedBy}
@@ -21,10 +22,15 @@ use Rattle.book_core.specs.declared.noted.Noted.TheVariants.{Again, New}
 use Rattle.flagops_files.specs.Loading.{◌>>=◌, refused_by}
 use Rattle.flagops_files.specs.declared.refusal.Refusal.{Refusal}
 use Rattle.flagops_files.specs.declared.refusal.Refusal.TheVariants.{Note}
+use Rattle.rule_text.specs.Texts.{texts_view}
 use Rattle.flagops_commands.specs.Price.{are_short, are_taken, exposed, key_page, noted_from}
 use Rattle.transport_instance.proofs.Joined.{rise-nil}
 use Rattle.transport_instance.proofs.Members.{Stands, contains_from_place, place_from_contains, sorted_unique}
 use Rattle.transport_instance.proofs.Placed.{name_ties}
+
+-- a text, without where it lies
+abbrev pub now : Bor (List ℕ) → List ℕ
+now s = s.now
 
 -- the inputs of a page after these
 abbrev pub gathered : Inputs → Inputs → Inputs
@@ -159,25 +165,25 @@ none_yet = refl
 exposed-gathered : (keys : Inputs) → All IsShort keys → length keys ≤ most_inputs → exposed keys ≡ Ok (gathered [] keys)
 exposed-gathered keys short few = noted-gathered [] keys short (omega (arith, ap length none_yet)) ∙ ap (λ (s : Inputs). Ok (gathered s keys)) none_yet
 
-all_short : (keys : List (String Global)) → are_short keys ≡ true → All IsShort (map string_bytes keys)
+all_short : (keys : List (Bor (List ℕ))) → are_short keys ≡ true → All IsShort (texts_view keys)
 all_short [] passes = All-nil IsShort
 all_short (key ∷ keys) passes =
-    let parts = and_parts (nat_le (length (string_bytes key)) most_bytes) (are_short keys) passes in
-    All-cons IsShort (string_bytes key) (map string_bytes keys) (leb-true (length (string_bytes key)) most_bytes parts.0) (all_short keys parts.1)
+    let parts = and_parts (nat_le (length key.now) most_bytes) (are_short keys) passes in
+    All-cons IsShort key.now (texts_view keys) (leb-true (length key.now) most_bytes parts.0) (all_short keys parts.1)
 
-pub few_taken : (keys : List (String Global)) → are_taken keys ≡ true → length keys ≤ most_inputs
+pub few_taken : (keys : List (Bor (List ℕ))) → are_taken keys ≡ true → length keys ≤ most_inputs
 few_taken keys passes = leb-true (length keys) most_inputs (and_parts (nat_le (length keys) most_inputs) (are_short keys) passes).0
 
 abbrev AreTaken : Inputs → Type 0
 AreTaken keys = All IsShort keys × (length keys ≤ most_inputs)
 
-taken_texts : (keys : List (String Global)) → are_taken keys ≡ true → AreTaken (map string_bytes keys)
+taken_texts : (keys : List (Bor (List ℕ))) → are_taken keys ≡ true → AreTaken (texts_view keys)
 taken_texts keys passes =
-    (all_short keys (and_parts (nat_le (length keys) most_inputs) (are_short keys) passes).1, omega (arith, length-map keys string_bytes, few_taken keys passes))
+    (all_short keys (and_parts (nat_le (length keys) most_inputs) (are_short keys) passes).1, omega (arith, length-map keys now, few_taken keys passes))
 
 -- keys that a page takes, in another order: what is gathered of them so
-pub exposed-moved : (keys sorted : List (String Global)) → are_taken keys ≡ true → IsPermutation keys sorted → exposed (map string_bytes keys) ≡ Ok (gathered [] (map string_bytes sorted))
+pub exposed-moved : (keys sorted : List (Bor (List ℕ))) → are_taken keys ≡ true → IsPermutation keys sorted → exposed (texts_view keys) ≡ Ok (gathered [] (texts_view sorted))
 exposed-moved keys sorted passes same =
-    let texts = map string_bytes keys in
+    let texts = texts_view keys in
     let taken = taken_texts keys passes in
-    exposed-gathered texts taken.0 taken.1 ∙ ap Ok (gathered-moved texts (map string_bytes sorted) (IsPermutation-map string_bytes keys sorted same))
+    exposed-gathered texts taken.0 taken.1 ∙ ap Ok (gathered-moved texts (texts_view sorted) (IsPermutation-texts_view keys sorted same))

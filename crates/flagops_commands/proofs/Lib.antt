@@ -5,6 +5,7 @@ mod Distinct
 mod Doubting
 mod Gathered
 pub mod Hexadecimal
+mod Keys
 mod Keeping
 pub mod Leaving
 mod Members

@@ -41,6 +41,11 @@ abbrev pub price_itself : Call → Bool
 price_itself call.Price = true
 price_itself c = false
 
+-- the calls that weighing the bytes of a key file makes
+abbrev pub weighs_keys : Call → Bool
+weighs_keys call.Note = true
+weighs_keys c = loads_keys c
+
 -- the calls that the command `price` makes
 abbrev pub price_calls : Call → Bool
 price_calls call.Price = true

@@ -1,22 +1,23 @@
 -- What the command `price` answers.
-use Rattle.std.specs.Prelude.{ℕ, pos, List, [], ◌∷◌, ◌++◌, ◌==◌, ◌&&◌, Bool, true, nat_le, length, String, string_bytes, codes, decimal, if◌then◌else◌, Option, Some, None, option_map, option_and_then, Result, Ok, Err}
+use Rattle.std.specs.Prelude.{ℕ, pos, List, [], ◌∷◌, ◌++◌, ◌==◌, ◌&&◌, Bool, true, nat_le, length, codes, decimal, if◌then◌else◌, Option, Some, None, option_map, option_and_then, Result, Ok, Err}
 use Rattle.flag_text.specs.Printing.{text_of}
 use Rattle.flag_text.specs.Readers.{as_text, as_list}
+use Rattle.flag_text.specs.Reading.{tree_of}
 use Rattle.flag_text.specs.Shape.{Shape, whole, text, object, Items, no_items, item, Members, no_members, member}
 use Rattle.bucket_core.specs.Rule.{Entries, total_weight}
-use Rattle.std.specs.declared.alloc.Global.{Global}
+use Rattle.std.specs.Borrow.{Bor}
 use Rattle.book_core.specs.Book.{Contents, Inputs, inputs_on, most_bytes, most_inputs, reply_to, with_input}
 use Rattle.book_core.specs.Page.{PageName}
 use Rattle.price_core.specs.Cost.{cost_of, first_forbidden_of}
 use Rattle.price_core.specs.Pricing.{Pricing}
 use Rattle.price_core.specs.Request.{Asked, asked_of}
 use Rattle.flagops_files.specs.Files.{Holding, load_of}
-use Rattle.flagops_files.specs.Loading.{◌>>=◌, refused_by, rule_at, tree_at, max_text}
+use Rattle.flagops_files.specs.Loading.{◌>>=◌, refused_by, rule_at, max_text}
 use Rattle.flagops_files.specs.Report.{Report, beside, done}
 use Rattle.flagops_commands.specs.Doubts.{is_unread}
 use Rattle.flagops_commands.specs.Totals.{totals_by_name}
 use Rattle.flagops_files.specs.declared.refusal.Refusal.{Refusal}
-use Rattle.flagops_files.specs.declared.refusal.Refusal.TheVariants.{Load, ReadRequest, Note, Price}
+use Rattle.flagops_files.specs.declared.refusal.Refusal.TheVariants.{Load, ReadRequest, ReadTree, Note, Price}
 use Rattle.flagops_files.specs.declared.refusal.PriceMismatch.TheVariants.{Weight, BadKeys}
 
 -- ---- what is read
@@ -45,11 +46,15 @@ if_keys (Some keys) = Ok keys
 abbrev pub keys_in : Shape → Result Inputs Refusal
 keys_in t = if_keys (option_and_then texts_of (as_list t))
 
+-- the keys that the bytes of a file stand for
+abbrev pub keys_of : List ℕ → Result Inputs Refusal
+keys_of bytes = refused_by ReadTree (tree_of bytes max_text) >>= keys_in
+
 -- the keys of the file at a path
 unfoldable pub keys_at : Holding → List ℕ → Result Inputs Refusal
 keys_at at path = do
-  t ← tree_at at path max_text
-  keys_in t
+  bytes ← refused_by Load (load_of at path max_text)
+  keys_of bytes
 
 -- ---- what is noted
 
@@ -63,12 +68,12 @@ noted_from book [] = Ok book
 noted_from book (key ∷ keys) = refused_by Note (reply_to book key_page key) >>= λ _. noted_from (with_input book key_page key) keys
 
 -- whether none of the texts is longer than an input may be
-abbrev pub are_short : List (String Global) → Bool
+abbrev pub are_short : List (Bor (List ℕ)) → Bool
 are_short [] = true
-are_short (key ∷ keys) = nat_le (length (string_bytes key)) most_bytes && are_short keys
+are_short (key ∷ keys) = nat_le (length key.now) most_bytes && are_short keys
 
 -- whether a page takes all these texts, in whatever order they are noted
-abbrev pub are_taken : List (String Global) → Bool
+abbrev pub are_taken : List (Bor (List ℕ)) → Bool
 are_taken keys = nat_le (length keys) most_inputs && are_short keys
 
 -- the inputs that the book then has

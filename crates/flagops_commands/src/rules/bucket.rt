@@ -8,7 +8,9 @@ ghost use Rattle.flagops_files.specs.Told.{TellsOfOne};
 ghost use Rattle.flagops_commands.specs.Subjects.{bucket_subjects};
 ghost use Rattle.rule_text.specs.Choosing.{choice_view};
 
-use flagops_files::{Call, FileSet, Outcome, Refusal, Refused, Remark, Status, load_choice, quoted};
+use flagops_files::{
+    Call, FileSet, Outcome, Refusal, Refused, Remark, Status, load_choice, quoted,
+};
 use murmur_core::hash;
 use rule_text::Choice;
 use std::alloc::{AllocError, Global};

@@ -4,33 +4,37 @@ ghost use Rattle.std.specs.List.Sorted.{IsPermutation, IsSorted};
 ghost use Rattle.bucket_core.specs.Rule.{total_weight};
 ghost use Rattle.flag_text.specs.Shape.{members_are_whole, object, whole};
 ghost use Rattle.flag_text.specs.View.{view, items_view};
-ghost use Rattle.flagops_commands.specs.Price.{request_at, keys_at, keys_in, if_keys, texts_of, are_short, are_taken, exposed, price_report, weighed, weighed_keys, with_doubt, price_json, price_lines, price_members, price_text, number_or_null, total_lines, total_members, forbidden_line, cost_line};
-ghost use Rattle.flagops_commands.specs.Calls.{loads_keys, loads_request, notes_keys, price_calls, price_itself};
-ghost use Rattle.flagops_files.specs.Loading.{refused_by};
+ghost use Rattle.flagops_commands.specs.Price.{request_at, keys_of, keys_in, if_keys, texts_of, are_short, are_taken, exposed, price_report, weighed, weighed_keys, with_doubt, price_json, price_lines, price_members, price_text, number_or_null, total_lines, total_members, forbidden_line, cost_line};
+ghost use Rattle.flagops_commands.specs.Calls.{loads_keys, loads_request, notes_keys, price_calls, price_itself, weighs_keys};
+ghost use Rattle.flagops_files.specs.Files.{load_of};
+ghost use Rattle.flagops_files.specs.Loading.{◌>>=◌, refused_by, max_text};
 ghost use Rattle.flagops_files.specs.Refusal.{ComesFrom, GivesUnlessWant, is_file_fault};
 ghost use Rattle.flagops_files.specs.Report.{outcome_view};
 ghost use Rattle.flagops_files.specs.declared.refusal.PriceMismatch.TheVariants.{BadKeys};
-ghost use Rattle.flagops_files.specs.declared.refusal.Refusal.TheVariants.{Price, ReadRequest};
+ghost use Rattle.flagops_files.specs.declared.refusal.Refusal.TheVariants.{Load, Price, ReadRequest};
 ghost use Rattle.flagops_files.specs.Told.{NamesSubject, Says, TellsOf, TellsOfOne, file, word};
 ghost use Rattle.flagops_commands.specs.Subjects.{is_of_keys, is_of_rules, old_weights, price_subjects};
 ghost use Rattle.flagops_remarks.specs.Named.{Names};
+ghost use Rattle.book_core.specs.Page.{bytes_cmp};
 ghost use Rattle.price_core.specs.Request.{asked_of};
+ghost use Rattle.rule_text.specs.Texts.{texts_view};
 
 use crate::rollouts::doubts::unread;
 use crate::rules::totals::totals_by_name;
 use book_core::{Book, Exposure, Page};
 use bucket_core::Rule;
-use flag_text::{Tree, print_tree};
+use flag_text::{Tree, print_tree, read_tree};
 use flagops_files::{
     Call, FileSet, Outcome, PriceMismatch, Refusal, Refused, Remark, Status, TEXT_LIMIT, load,
-    load_rule, load_tree, quoted,
+    load_rule, quoted,
 };
-use flagops_remarks::{of_keys, of_noted, of_request, of_weights};
+use flagops_remarks::{of_keys, of_noted, of_request, of_text, of_weights};
+use json::Scratch;
 use limits::{INPUT_BYTES, PAGE_INPUTS};
 use price_core::{Prices, Request, first_forbidden, switch_cost_of};
 use rayon::prelude::par_sort_unstable;
+use rule_text::read_texts;
 use std::alloc::{AllocError, AllocFailed, Global};
-use std::mem;
 use std::thread::Threads;
 
 /// A request, with what a person is told of members that are not read.
@@ -42,7 +46,7 @@ struct NotedRequest {
 
 /// The totals of the new rule's names, the first forbidden point, and what the change costs the
 /// keys, a line each or with `json` as one JSON text. What is doubted of the request is told.
-#[tactic(auto, unfolding(crate::specs::Price::price_report))]
+#[tactic(auto, unfolding(crate::specs::Price::price_report, crate::specs::Price::keys_at))]
 pub fn price<R: Threads + Sync, F: FileSet>(
     rt: &R,
     alloc: Global,
@@ -66,7 +70,7 @@ pub fn price<R: Threads + Sync, F: FileSet>(
     let path = keys;
     let keys = load_keys(alloc, files, path)?;
     let prices = request.prices();
-    let outcome = weigh_keys(rt, alloc, path, keys, &old, &new, prices, json)?;
+    let outcome = weigh_file(rt, alloc, path, keys.as_slice(), &old, &new, prices, json)?;
     Ok(beside(outcome, remark))
 }
 
@@ -125,17 +129,98 @@ fn request_in(alloc: Global, path: &str, bytes: &[u8]) -> Result<NotedRequest, R
     }
 }
 
-/// The texts of the key file at a path.
-#[tactic(auto, unfolding(crate::specs::Price::keys_at))]
-fn load_keys<F: FileSet>(alloc: Global, files: &mut F, path: &str) -> Result<Vec<String>, Refused>
-    ensures exact { IfSome (F.holding files.old) (λ at. GivesUnlessWant (λ v. map string_bytes v.items) result (keys_at at path.now)) }
+/// The bytes of the key file at a path.
+fn load_keys<F: FileSet>(alloc: Global, files: &mut F, path: &str) -> Result<Vec<u8>, Refused>
+    ensures exact { IfSome (F.holding files.old) (λ at. GivesUnlessWant (λ v. v.items) result (refused_by Load (load_of at path.now max_text))) }
     ensures calls { ComesFrom loads_keys result }
     ensures failed { F.has_failed files.new ≡ (F.has_failed files.old || is_file_fault result) }
     ensures kept { F.holding files.new ≡ F.holding files.old }
     ensures names { TellsOfOne ((file path.now, is_of_keys) ∷ []) result }
 {
-    let tree = load_tree(alloc, files, path, TEXT_LIMIT)?;
-    keys_in(alloc, path, tree)
+    load(alloc, files, path, u64::from(TEXT_LIMIT))
+}
+
+/// What the change costs the keys that the bytes of a file stand for. A tree is made of them only where they are no list of
+/// texts, so that it is told what they are.
+fn weigh_file<R: Threads + Sync>(
+    rt: &R,
+    alloc: Global,
+    path: &str,
+    bytes: &[u8],
+    old: &Rule,
+    new: &Rule,
+    prices: &Prices,
+    json: bool,
+) -> Result<Outcome, Refused>
+    ensures exact { GivesUnlessWant outcome_view result (keys_of bytes.now >>= λ keys. weighed_keys json old.now new.now prices.now keys) }
+    ensures calls { ComesFrom weighs_keys result }
+    ensures read { is_file_fault result ≡ false }
+    ensures names { TellsOfOne ((file path.now, is_of_keys) ∷ (word old_weights, is_of_rules) ∷ []) result }
+{
+    let mut scratch = Scratch::new(alloc);
+    match read_texts(alloc, bytes, TEXT_LIMIT as usize, &mut scratch) {
+        Ok(Some(keys)) => weigh_keys(rt, alloc, path, keys, old, new, prices, json),
+        Ok(None) => weigh_tree(rt, alloc, path, bytes, old, new, prices, json),
+        Err(AllocError) => Err(Refused {
+            refusal: Refusal::WantOfMemory(Call::Price),
+            remark: Remark::Short,
+        }),
+    }
+}
+
+/// The same, by the tree of the bytes.
+fn weigh_tree<R: Threads + Sync>(
+    rt: &R,
+    alloc: Global,
+    path: &str,
+    bytes: &[u8],
+    old: &Rule,
+    new: &Rule,
+    prices: &Prices,
+    json: bool,
+) -> Result<Outcome, Refused>
+    ensures exact { GivesUnlessWant outcome_view result (keys_of bytes.now >>= λ keys. weighed_keys json old.now new.now prices.now keys) }
+    ensures calls { ComesFrom weighs_keys result }
+    ensures read { is_file_fault result ≡ false }
+    ensures names { TellsOfOne ((file path.now, is_of_keys) ∷ (word old_weights, is_of_rules) ∷ []) result }
+{
+    let keys = tree_keys(alloc, path, bytes)?;
+    match lent(alloc, keys.as_slice()) {
+        Ok(keys) => weigh_keys(rt, alloc, path, keys, old, new, prices, json),
+        Err(AllocError) => Err(Refused {
+            refusal: Refusal::WantOfMemory(Call::Price),
+            remark: Remark::Short,
+        }),
+    }
+}
+
+/// The texts, where they lie.
+fn lent(alloc: Global, texts: &[String]) -> Result<Vec<&str>, AllocError>
+    ensures { IfOk result (λ v. texts_view v.items ≡ map string_bytes texts.now) }
+{
+    let mut lent = Vec::with_capacity(alloc, texts.len())?;
+    for text in texts {
+        lent.push(text.as_str())?;
+    }
+    Ok(lent)
+}
+
+/// The keys of the tree of the bytes.
+#[tactic(auto, using(flagops_files::proofs::Told::says))]
+fn tree_keys(alloc: Global, path: &str, bytes: &[u8]) -> Result<Vec<String>, Refused>
+    ensures exact { GivesUnlessWant (λ v. map string_bytes v.items) result (keys_of bytes.now) }
+    ensures calls { ComesFrom loads_keys result }
+    ensures read { is_file_fault result ≡ false }
+    ensures names { TellsOfOne ((file path.now, is_of_keys) ∷ []) result }
+{
+    let limit = TEXT_LIMIT as usize;
+    match read_tree(alloc, bytes, limit) {
+        Ok(tree) => keys_in(alloc, path, tree),
+        Err(fault) => Err(Refused {
+            refusal: Refusal::ReadTree(fault),
+            remark: Remark::of(of_text(alloc, path, bytes, limit, fault)),
+        }),
+    }
 }
 
 fn keys_in(alloc: Global, path: &str, tree: Tree) -> Result<Vec<String>, Refused>
@@ -190,13 +275,13 @@ fn weigh_keys<R: Threads + Sync>(
     rt: &R,
     alloc: Global,
     path: &str,
-    mut keys: Vec<String>,
+    mut keys: Vec<&str>,
     old: &Rule,
     new: &Rule,
     prices: &Prices,
     json: bool,
 ) -> Result<Outcome, Refused>
-    ensures exact { GivesUnlessWant outcome_view result (weighed_keys json old.now new.now prices.now (map string_bytes keys.items)) }
+    ensures exact { GivesUnlessWant outcome_view result (weighed_keys json old.now new.now prices.now (texts_view keys.items)) }
     ensures calls { ComesFrom notes_keys result }
     ensures read { is_file_fault result ≡ false }
     ensures names { TellsOfOne ((file path.now, is_of_keys) ∷ (word old_weights, is_of_rules) ∷ []) result }
@@ -204,32 +289,35 @@ fn weigh_keys<R: Threads + Sync>(
     if are_taken(keys.as_slice()) {
         sort_keys(rt, &mut keys);
         keys.dedup();
-        let outcome = priced(rt, alloc, old, new, prices, keys.as_slice(), json);
-        // The program ends soon, and its memory with it.
-        mem::forget(keys);
-        return outcome;
+        return priced(rt, alloc, old, new, prices, keys.as_slice(), json);
     }
     let exposure = noted(alloc, path, keys.as_slice())?;
-    priced(rt, alloc, old, new, prices, exposure.inputs(), json)
+    match lent(alloc, exposure.inputs()) {
+        Ok(inputs) => priced(rt, alloc, old, new, prices, inputs.as_slice(), json),
+        Err(AllocError) => Err(Refused {
+            refusal: Refusal::WantOfMemory(Call::Price),
+            remark: Remark::Short,
+        }),
+    }
 }
 
 /// Sorts the keys by their bytes, by as many threads as there are processors.
-fn sort_keys(rt: &(impl Threads + Sync), keys: &mut Vec<String>)
+fn sort_keys(rt: &(impl Threads + Sync), keys: &mut Vec<&str>)
     ensures permutation { IsPermutation keys.old.items keys.new.items }
     ensures len { length keys.new.items ≡ length keys.old.items }
-    ensures sorted { IsSorted ⟦<String as Ord>⟧.cmp keys.new.items }
+    ensures sorted { IsSorted (λ x y. bytes_cmp x.now y.now) keys.new.items }
 {
     par_sort_unstable(rt, keys.as_mut_slice());
 }
 
 /// Whether a page takes all these keys in whatever order they are noted.
-fn are_taken(keys: &[String]) -> bool
+fn are_taken(keys: &[&str]) -> bool
     ensures { result ≡ are_taken keys.now }
 {
     keys.len() <= PAGE_INPUTS && are_short(keys)
 }
 
-fn are_short(keys: &[String]) -> bool
+fn are_short(keys: &[&str]) -> bool
     ensures { result ≡ are_short keys.now }
 {
     for key in keys {
@@ -242,8 +330,8 @@ fn are_short(keys: &[String]) -> bool
 
 /// The keys as the inputs of a page of their own, noted one after the other.
 #[tactic(auto, using(flagops_files::proofs::Told::says))]
-fn noted(alloc: Global, path: &str, keys: &[String]) -> Result<Exposure, Refused>
-    ensures exact { GivesUnlessWant (λ e. e) result (exposed (map string_bytes keys.now)) }
+fn noted(alloc: Global, path: &str, keys: &[&str]) -> Result<Exposure, Refused>
+    ensures exact { GivesUnlessWant (λ e. e) result (exposed (texts_view keys.now)) }
     ensures calls { ComesFrom notes_keys result }
     ensures read { is_file_fault result ≡ false }
     ensures names { TellsOfOne ((file path.now, is_of_keys) ∷ []) result }
@@ -255,8 +343,8 @@ fn noted(alloc: Global, path: &str, keys: &[String]) -> Result<Exposure, Refused
     };
     let mut book = Book::new(alloc);
     for key in keys {
-        if let Err(fault) = book.note(alloc, &page, key.as_str()) {
-            let lines = of_noted(alloc, path, key.as_str(), fault);
+        if let Err(fault) = book.note(alloc, &page, key) {
+            let lines = of_noted(alloc, path, key, fault);
             return Err(Refused {
                 refusal: Refusal::Note(fault),
                 remark: Remark::of(lines),
@@ -279,11 +367,11 @@ fn priced(
     old: &Rule,
     new: &Rule,
     prices: &Prices,
-    inputs: &[String],
+    inputs: &[&str],
     json: bool,
 ) -> Result<Outcome, Refused>
     requires few { length inputs.now ≤ 1000000 }
-    ensures exact { GivesUnlessWant outcome_view result (weighed json old.now new.now prices.now (map string_bytes inputs.now)) }
+    ensures exact { GivesUnlessWant outcome_view result (weighed json old.now new.now prices.now (texts_view inputs.now)) }
     ensures calls { ComesFrom price_itself result }
     ensures read { is_file_fault result ≡ false }
     ensures names { TellsOfOne ((word old_weights, is_of_rules) ∷ []) result }
@@ -312,14 +400,14 @@ fn answer(
     old: &Rule,
     new: &Rule,
     prices: &Prices,
-    inputs: &[String],
+    inputs: &[&str],
     json: bool,
 ) -> Result<String, AllocError>
     requires few { length inputs.now ≤ 1000000 }
     requires same { total_weight old.now ≡ total_weight new.now }
     requires small { total_weight new.now < 2 ^ 31 }
     ensures { IfOk result (λ s. string_bytes s
-        ≡ (if json then price_json old.now new.now prices.now (map string_bytes inputs.now) else price_text old.now new.now prices.now (map string_bytes inputs.now))) }
+        ≡ (if json then price_json old.now new.now prices.now (texts_view inputs.now) else price_text old.now new.now prices.now (texts_view inputs.now))) }
 {
     let totals = totals_by_name(alloc, new.entries())?;
     let forbidden = first_forbidden(old, new, prices);

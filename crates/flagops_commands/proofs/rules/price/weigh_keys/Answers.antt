@@ -1,10 +1,11 @@
 -- sorted keys, each once, are the inputs that the keys come to
-use Rattle.std.proofs.Common.{◌≡◌, [], ◌∷◌, false, map, string_bytes, sym, ap, ◌∙◌, subst, arith, rules}
+use Rattle.std.proofs.Common.{◌≡◌, [], ◌∷◌, false, sym, ap, ◌∙◌, subst, arith, rules}
 use Rattle.std.specs.Str.{bytes_eq}
 use Rattle.std.proofs.lemmas.List.Filters.{dedup_is}
 use Rattle.flagops_files.specs.Loading.{◌>>=◌}
 use Rattle.flagops_files.specs.Refusal.{GivesUnlessWant, is_want}
 use Rattle.flagops_files.specs.Report.{outcome_view}
+use Rattle.rule_text.specs.Texts.{texts_view}
 use Rattle.flagops_commands.specs.Price.{are_taken, weighed}
 use Rattle.flagops_commands.proofs.Distinct.{exposed-apart}
 use Rattle.flagops_files.specs.Told.{NamesOne, file, word}
@@ -17,10 +18,10 @@ pub returns-then-are_taken-clause-exact : goal.returns-then-are_taken-clause-exa
 returns-then-are_taken-clause-exact g c =
     let sorted = c.sort_keys.new.keys.items in
     let distinct = c.dedup.new.self.items in
-    let once = dedup_is (λ x y. bytes_eq (string_bytes x) (string_bytes y)) sorted distinct c.dedup.ensures.filtered in
+    let once = dedup_is (λ x y. bytes_eq x.now y.now) sorted distinct c.dedup.ensures.filtered in
     let same = exposed-apart c.args.keys.items sorted distinct (ap are_taken (sym c.as_slice.ensures.value) ∙ sym c.if-are_taken.ensures) c.sort_keys.ensures.permutation c.sort_keys.ensures.sorted once in
     let weigh = weighed c.args.json c.args.old.now c.args.new.now c.args.prices.now in
-    subst (λ wanted. GivesUnlessWant outcome_view c.priced-outcome.result wanted) (ap (λ xs. weigh (map string_bytes xs)) c.as_slice-then-are_taken.ensures.value ∙ sym (ap (λ r. r >>= weigh) same)) c.priced-outcome.ensures.exact
+    subst (λ wanted. GivesUnlessWant outcome_view c.priced-outcome.result wanted) (ap (λ xs. weigh (texts_view xs)) c.as_slice-then-are_taken.ensures.value ∙ sym (ap (λ r. r >>= weigh) same)) c.priced-outcome.ensures.exact
 
 pub priced-outcome-requires-clause-few : goal.priced-outcome-requires-clause-few
 priced-outcome-requires-clause-few g c =
