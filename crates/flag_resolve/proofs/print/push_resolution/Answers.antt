@@ -14,9 +14,9 @@ returns c =
     let reached_front = c.in_ok-push_str-2.ensures.bytes ∙ ap (λ b. b ++ codes ",\"reached\":") code in
     let reached = c.in_ok-push_reached.ensures ∙ ap₂ (λ b rs. b ++ list_text (map reached_shape rs)) reached_front c.as_slice.ensures.value in
     let reason_front = c.in_ok-push_str-3.ensures.bytes ∙ ap (λ b. b ++ codes ",\"reason\":") reached in
-    let reason = c.in_ok-push_string.ensures ∙ ap₂ (λ b w. b ++ text_of (text w)) reason_front c.as_str.ensures in
+    let reason = c.in_ok-push_string.ensures.ok ∙ ap₂ (λ b w. b ++ text_of (text w)) reason_front c.as_str.ensures in
     let value_front = c.in_ok-push_str-4.ensures.bytes ∙ ap (λ b. b ++ codes ",\"value\":") reason in
-    let value = c.in_ok-push_tree.ensures ∙ ap (λ b. b ++ text_of (view c.args.resolution.now.value)) value_front in
+    let value = c.in_ok-push_tree.ensures.ok ∙ ap (λ b. b ++ text_of (view c.args.resolution.now.value)) value_front in
     let variant_front = c.in_ok-push_str-5.ensures.bytes ∙ ap (λ b. b ++ codes ",\"variant\":") value in
     let variant = c.in_ok-push_word-2.ensures ∙ ap₂ (λ b w. b ++ text_of (text_or_null w)) variant_front c.name_of.ensures in
     c.in_ok-push_str-6.ensures.bytes ∙ ap (λ b. b ++ codes "}") variant ∙ resolution_pushed (string_bytes c.args.out.now) c.args.resolution.now
