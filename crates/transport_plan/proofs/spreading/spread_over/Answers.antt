@@ -1,5 +1,5 @@
 -- The numbers of the groups are spent on their points, and what is dealt out has the assignment.
-use Rattle.std.proofs.Common.{◌≡◌, ◌==◌, ◌<◌, ◌*◌, ⊎_elim, ℕ, List, Bor, Some, true, length, sum, count_by, string_bytes, sym, ap, ◌∙◌, subst, arith}
+use Rattle.std.proofs.Common.{◌≡◌, ◌<◌, ◌*◌, ⊎_elim, ℕ, List, Bor, Some, true, length, sum, string_bytes, sym, ap, ◌∙◌, subst, arith}
 use Rattle.std.specs.List.{All, slice_index}
 use Rattle.std.specs.Map.{keys_of}
 use Rattle.std.proofs.lemmas.Bool.{cases_eq}
@@ -11,7 +11,7 @@ use Rattle.transport_instance.specs.Assignment.{HasAssignment, arc_flows, spends
 use Rattle.transport_instance.specs.Groups.{AreSizesBy, GroupKey, group_at, group_by, row_view, rows_view}
 use Rattle.transport_instance.proofs.Costs.{counted_at}
 use Rattle.transport_instance.proofs.Plans.{whole-sizes}
-use Rattle.transport_plan.specs.Dealing.{row, IsDealt}
+use Rattle.transport_plan.specs.Dealing.{IsDealt}
 use Rattle.transport_plan.proofs.Assigned.{group_within, group_points, has_assignment}
 use Rattle.transport_plan.proofs.Names.{apart}
 use Rattle.transport_plan.proofs.Numbers.{some_left}
