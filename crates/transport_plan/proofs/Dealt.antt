@@ -1,7 +1,7 @@
--- Numbers that are dealt out to points, stretch by stretch.
-use Rattle.std.proofs.Common.{◌≡◌, ◌==◌, ℕ, zero, suc, ◌+◌, ◌-◌, ◌*◌, ◌<◌, ◌≤◌, List, [], ◌∷◌, ◌++◌, length, take, get_or, set, sum, sum_by, count_by, cond, replicate, refl, sym, ap, ◌∙◌, subst, arith, append_assoc, length-append}
+-- Numbers that are dealt out to points, whose names stand in their places then.
+use Rattle.std.proofs.Common.{◌≡◌, ◌==◌, ℕ, zero, suc, ◌+◌, ◌-◌, ◌*◌, ◌<◌, ◌≤◌, List, [], ◌∷◌, ◌++◌, length, take, drop, get_or, set, sum, sum_by, count_by, cond, refl, sym, ap, ◌∙◌, subst, arith, append_assoc, length-append}
 use Rattle.std.proofs.lemmas.Bool.{eq-eqb}
-use Rattle.std.proofs.lemmas.List.{append-nil, length-set, length-replicate}
+use Rattle.std.proofs.lemmas.List.{append-nil, drop-drop, drop-set-lt, get_or-drop, length-set, length-take, take_all, take_more_set}
 use Rattle.std.proofs.lemmas.List.Elements.{All-nil, All-append, All-replicate}
 use Rattle.std.proofs.lemmas.List.Folds.{sum_by-replicate}
 use Rattle.std.proofs.lemmas.List.Sums.{sum_by-cons, sum_by-append, sum_by-take-le, count_by_more_yes}
@@ -12,41 +12,50 @@ use Rattle.transport_plan.proofs.Numbers.{row_less, tally_less, of_all, of_group
 -- ---- points of one group
 
 -- none
-pub deals_none : (width g : ℕ) (numbers items : List ℕ) → DealsTo width g 0 numbers numbers items items
-deals_none width g numbers items = record {
+pub deals_none : (width g i : ℕ) (numbers points : List ℕ) → DealsTo width g i i numbers numbers points points
+deals_none width g i numbers points = record {
   dealt = [];
-  more = sym (append-nil items);
-  many = refl;
+  front = sym (append-nil (take i points));
+  back = refl;
+  long = refl;
+  many = omega arith;
   named = All-nil (λ w. w < width);
   shape = refl;
   spent = omega arith;
   tallies = λ groups tally counts is shape group. omega arith;
 }
 
--- so many, and then others
-pub deals_both : (width g n m : ℕ) (first second third before between after : List ℕ) → DealsTo width g n first second before between → DealsTo width g m second third between after → DealsTo width g (n + m) first third before after
-deals_both width g n m first second third before between after a b = record {
-  dealt = a.dealt ++ b.dealt;
-  more = b.more ∙ (ap (λ xs. xs ++ b.dealt) a.more ∙ append_assoc before a.dealt b.dealt);
-  many = omega (arith, length-append a.dealt b.dealt, a.many, b.many);
-  named = All-append (λ w. w < width) a.dealt b.dealt a.named b.named;
-  shape = b.shape ∙ a.shape;
-  spent = omega (arith, a.spent, b.spent);
-  tallies = λ groups tally counts is shape group.
-      omega (arith, a.tallies groups tally counts is shape group, b.tallies groups tally counts is (a.shape ∙ shape) group, sum_by-append (counts g) a.dealt b.dealt);
-}
+-- some, and then others
+pub deals_both : (width g i j k : ℕ) (first second third before between after : List ℕ) → DealsTo width g i j first second before between → DealsTo width g j k second third between after → DealsTo width g i k first third before after
+deals_both width g i j k first second third before between after a b =
+    let m = length b.dealt in
+    let behind : (xs : List ℕ) → drop k xs ≡ drop m (drop j xs) = λ xs. ap (λ n. drop n xs) (sym b.many) ∙ sym (drop-drop m j xs) in
+    record {
+      dealt = a.dealt ++ b.dealt;
+      front = b.front ∙ (ap (λ xs. xs ++ b.dealt) a.front ∙ append_assoc (take i before) a.dealt b.dealt);
+      back = b.back ∙ (behind between ∙ (ap (drop m) a.back ∙ sym (behind before)));
+      long = b.long ∙ a.long;
+      many = omega (arith, length-append a.dealt b.dealt, a.many, b.many);
+      named = All-append (λ w. w < width) a.dealt b.dealt a.named b.named;
+      shape = b.shape ∙ a.shape;
+      spent = omega (arith, a.spent, b.spent, length-append a.dealt b.dealt);
+      tallies = λ groups tally counts is shape group.
+          omega (arith, a.tallies groups tally counts is shape group, b.tallies groups tally counts is (a.shape ∙ shape) group, sum_by-append (counts g) a.dealt b.dealt);
+    }
 
--- so many of one name
-pub deals_name : (width g w n : ℕ) (numbers items : List ℕ) → w < width → n ≤ get_or numbers (g * width + w) 0
-    → DealsTo width g n numbers (set numbers (g * width + w) (get_or numbers (g * width + w) 0 - n)) items (items ++ replicate n w)
-deals_name width g w n numbers items within few = record {
-  dealt = replicate n w;
-  more = refl;
-  many = length-replicate n w;
-  named = All-replicate (λ v. v < width) n w within;
-  shape = length-set numbers (g * width + w) (get_or numbers (g * width + w) 0 - n);
-  spent = omega (arith, row_less width numbers g w n within few);
-  tallies = λ groups tally counts is shape group. omega (arith, tally_less groups width tally counts numbers g w n is shape group within few, sum_by-replicate (counts g) n w);
+-- one
+pub deals_name : (width g w i : ℕ) (numbers points : List ℕ) → w < width → i < length points → 0 < get_or numbers (g * width + w) 0
+    → DealsTo width g i (i + 1) numbers (set numbers (g * width + w) (get_or numbers (g * width + w) 0 - 1)) points (set points i w)
+deals_name width g w i numbers points within inside some = record {
+  dealt = w ∷ [];
+  front = take_more_set points i w inside;
+  back = drop-set-lt (i + 1) points i w (omega arith);
+  long = length-set points i w;
+  many = omega arith;
+  named = All-replicate (λ v. v < width) 1 w within;
+  shape = length-set numbers (g * width + w) (get_or numbers (g * width + w) 0 - 1);
+  spent = omega (arith, row_less width numbers g w 1 within (omega (arith, some)));
+  tallies = λ groups tally counts is shape group. omega (arith, tally_less groups width tally counts numbers g w 1 is shape group within (omega (arith, some)), sum_by-replicate (counts g) 1 w);
 }
 
 -- ---- points beside the names that they are given
@@ -89,57 +98,82 @@ count_more points g i (suc n) room same =
 
 -- ---- the loop
 
--- what holds when the points before the end of `items` were dealt
-pub record Deals (groups width : ℕ) (numbers points left items : List ℕ) : Type 0 where
-  pub few : length items ≤ length points
+-- what holds when the points before this one were dealt, whose names stand in their places
+pub record Deals (groups width : ℕ) (numbers points left : List ℕ) (i : ℕ) (now : List ℕ) : Type 0 where
+  pub within : i ≤ length points
+  pub long : length now ≡ length points
+  pub ahead : drop i now ≡ drop i points
   pub shape : length left ≡ groups * width
-  pub named : All (λ w. w < width) items
-  pub tallies : (tally : List ℕ → ℕ) (counts : ℕ → ℕ → ℕ) → IsTally groups width tally counts → tally numbers ≡ tally left + sum_by (λ e. counts e.0 e.1) (zip points items)
+  pub named : All (λ w. w < width) (take i now)
+  pub tallies : (tally : List ℕ → ℕ) (counts : ℕ → ℕ → ℕ) → IsTally groups width tally counts → tally numbers ≡ tally left + sum_by (λ e. counts e.0 e.1) (zip points (take i now))
 
-pub none_dealt : (groups width : ℕ) (numbers points : List ℕ) → length numbers ≡ groups * width → Deals groups width numbers points numbers []
+pub none_dealt : (groups width : ℕ) (numbers points : List ℕ) → length numbers ≡ groups * width → Deals groups width numbers points numbers 0 points
 none_dealt groups width numbers points shape = record {
-  few = omega arith;
+  within = omega arith;
+  long = refl;
+  ahead = refl;
   shape = shape;
   named = All-nil (λ w. w < width);
   tallies = λ tally counts is. omega (arith, none_zipped (λ e. counts e.0 e.1) points);
 }
 
-module _ (groups width : ℕ) (numbers points left items : List ℕ) (before : Deals groups width numbers points left items) (g n : ℕ) (group : g < groups) (room : length items + n ≤ length points)
-    (same : (q : ℕ) → q < n → get_or points (length items + q) 0 ≡ g) where
-  -- the group of the next points has as many left
-  pub group_has : sum (row width numbers g) ≡ count_by (λ p. p == g) points → n ≤ sum (row width left g)
-  group_has all =
-      let so_far = before.tallies (λ xs. sum (row width xs g)) (λ h w. cond (h == g) 1 0) (of_group groups width g) in
-      let counted = sum_zip_points (λ h. cond (h == g) 1 0) points items before.few in
-      let more = count_more points g (length items) n room same in
-      let most = sum_by-take-le (λ p. cond (p == g) 1 0) points (length items + n) in
-      omega (arith, so_far, counted, more, most, all)
+module _ (groups width : ℕ) (numbers points left : List ℕ) (i : ℕ) (now : List ℕ) (before : Deals groups width numbers points left i now) where
+  done : length (take i now) ≡ i
+  done = omega (arith, length-take i now, before.long, before.within)
 
-  pub deals_more : (left' items' : List ℕ) → DealsTo width g n left left' items items' → Deals groups width numbers points left' items'
-  deals_more left' items' dealt = record {
-    few = omega (arith, ap length dealt.more, length-append items dealt.dealt, dealt.many, room);
-    shape = dealt.shape ∙ before.shape;
-    named = subst (λ xs. All (λ w. w < width) xs) (sym dealt.more) (All-append (λ w. w < width) items dealt.dealt before.named dealt.named);
-    tallies = λ tally counts is.
-        let so_far = before.tallies tally counts is in
-        let now = dealt.tallies groups tally counts is before.shape group in
-        let zipped = sum_zip_more counts points items dealt.dealt g (omega (arith, room, dealt.many)) (λ q below. same q (omega (arith, below, dealt.many))) in
-        let grown : sum_by (λ (e : ℕ × ℕ). counts e.0 e.1) (zip points items') ≡ sum_by (λ (e : ℕ × ℕ). counts e.0 e.1) (zip points (items ++ dealt.dealt)) = ap (λ xs. sum_by (λ (e : ℕ × ℕ). counts e.0 e.1) (zip points xs)) dealt.more in
-        omega (arith, so_far, now, zipped, grown);
-  }
+  -- the points ahead are as they were
+  pub point_ahead : (q : ℕ) → get_or (drop i now) q 0 ≡ get_or points (i + q) 0
+  point_ahead q = ap (λ xs. get_or xs q 0) before.ahead ∙ get_or-drop i points q 0
+
+  pub next_is : get_or now i 0 ≡ get_or points i 0
+  next_is =
+      let e : i + 0 ≡ i = omega arith in
+      sym (ap (λ k. get_or now k 0) e) ∙ (sym (get_or-drop i now 0 0) ∙ (point_ahead 0 ∙ ap (λ k. get_or points k 0) e))
+
+  pub next_below : All (λ g. g < groups) points → i < length now → get_or now i 0 < groups
+  next_below all inside = omega (arith, next_is, all i 0 (omega (arith, before.long, inside)))
+
+  module _ (g n : ℕ) (group : g < groups) (room : i + n ≤ length points) (same : (q : ℕ) → q < n → get_or (drop i now) q 0 ≡ g) where
+    are : (q : ℕ) → q < n → get_or points (i + q) 0 ≡ g
+    are q below = sym (point_ahead q) ∙ same q below
+
+    -- the group of the next points has as many left
+    pub group_has : sum (row width numbers g) ≡ count_by (λ p. p == g) points → n ≤ sum (row width left g)
+    group_has all =
+        let so_far = before.tallies (λ xs. sum (row width xs g)) (λ h w. cond (h == g) 1 0) (of_group groups width g) in
+        let counted = sum_zip_points (λ h. cond (h == g) 1 0) points (take i now) (omega (arith, done, before.within)) in
+        let front : sum_by (λ p. cond (p == g) 1 0) (take (length (take i now)) points) ≡ sum_by (λ p. cond (p == g) 1 0) (take i points) = ap (λ k. sum_by (λ p. cond (p == g) 1 0) (take k points)) done in
+        let more = count_more points g i n room are in
+        let most = sum_by-take-le (λ p. cond (p == g) 1 0) points (i + n) in
+        omega (arith, so_far, counted, front, more, most, all)
+
+    pub deals_more : (left' now' : List ℕ) → DealsTo width g i (i + n) left left' now now' → Deals groups width numbers points left' (i + n) now'
+    deals_more left' now' to =
+        let many : length to.dealt ≡ n = omega (arith, to.many) in
+        let behind : (xs : List ℕ) → drop (i + n) xs ≡ drop n (drop i xs) = λ xs. sym (drop-drop n i xs) in
+        record {
+          within = room;
+          long = to.long ∙ before.long;
+          ahead = to.back ∙ (behind now ∙ (ap (drop n) before.ahead ∙ sym (behind points)));
+          shape = to.shape ∙ before.shape;
+          named = subst (λ xs. All (λ w. w < width) xs) (sym to.front) (All-append (λ w. w < width) (take i now) to.dealt before.named to.named);
+          tallies = λ tally counts is.
+              let so_far = before.tallies tally counts is in
+              let here = to.tallies groups tally counts is before.shape group in
+              let zipped = sum_zip_more counts points (take i now) to.dealt g (omega (arith, done, room, many)) (λ q below. ap (λ k. get_or points (k + q) 0) done ∙ are q (omega (arith, below, many))) in
+              let grown : sum_by (λ (e : ℕ × ℕ). counts e.0 e.1) (zip points (take (i + n) now')) ≡ sum_by (λ (e : ℕ × ℕ). counts e.0 e.1) (zip points (take i now ++ to.dealt)) = ap (λ xs. sum_by (λ (e : ℕ × ℕ). counts e.0 e.1) (zip points xs)) to.front in
+              omega (arith, so_far, here, zipped, grown);
+        }
 
 -- all are dealt
-pub all_dealt : (groups width : ℕ) (numbers points left items : List ℕ) → Deals groups width numbers points left items → length points ≤ length items → sum numbers ≡ length points → IsDealt groups width numbers points items
-all_dealt groups width numbers points left items deals done whole = λ tally counts is.
-    let all = deals.tallies sum (λ g w. 1) (of_all groups width) in
-    let ones = sum_zip_points (λ h. 1) points items deals.few in
-    let many = sum_of_ones (take (length items) points) in
-    let front : length (take (length items) points) ≡ length points = length_all points (length items) done in
-    let nothing : sum left ≡ 0 = omega (arith, all, ones, many, front, whole) in
-    omega (arith, deals.tallies tally counts is, is.none left nothing)
-  where
-    length_all : (xs : List ℕ) (n : ℕ) → length xs ≤ n → length (take n xs) ≡ length xs
-    length_all [] zero long = refl
-    length_all [] (suc n) long = refl
-    length_all (x ∷ xs) zero long = absurd (omega arith)
-    length_all (x ∷ xs) (suc n) long = omega (arith, length_all xs n (omega arith))
+pub all_dealt : (groups width : ℕ) (numbers points left : List ℕ) (i : ℕ) (now : List ℕ) → Deals groups width numbers points left i now → length points ≤ i → sum numbers ≡ length points → IsDealt groups width numbers points now
+all_dealt groups width numbers points left i now deals all whole =
+    let names : take i now ≡ now = take_all i now (omega (arith, deals.long, all)) in
+    λ tally counts is.
+    let counted = deals.tallies sum (λ g w. 1) (of_all groups width) in
+    let ones = sum_zip_points (λ h. 1) points (take i now) (omega (arith, ap length names, deals.long)) in
+    let many = sum_of_ones (take (length (take i now)) points) in
+    let front : length (take (length (take i now)) points) ≡ length points = omega (arith, length-take (length (take i now)) points, ap length names, deals.long) in
+    let nothing : sum left ≡ 0 = omega (arith, counted, ones, many, front, whole) in
+    let dealt : sum_by (λ (e : ℕ × ℕ). counts e.0 e.1) (zip points (take i now)) ≡ sum_by (λ (e : ℕ × ℕ). counts e.0 e.1) (zip points now) = ap (λ xs. sum_by (λ (e : ℕ × ℕ). counts e.0 e.1) (zip points xs)) names in
+    omega (arith, deals.tallies tally counts is, is.none left nothing, dealt)

@@ -33,7 +33,7 @@ at_row width xs g w within = get_or-take width (drop (g * width) xs) w 0 within 
 pub own_row : (width : ℕ) (xs : List ℕ) (g w y : ℕ) → w < width → row width (set xs (g * width + w) y) g ≡ set (row width xs g) w y
 own_row width xs g w y within = ap (take width) (drop-set-add (g * width) xs w y) ∙ take-set-lt width (drop (g * width) xs) w y within
 
-earlier_row : (g h width : ℕ) → h < g → width * h + width ≤ width * g
+pub earlier_row : (g h width : ℕ) → h < g → width * h + width ≤ width * g
 earlier_row g h width before = omega (arith, mul-le-mul_left {m = h + 1} {n = g} width (omega arith))
 
 other_row : (width : ℕ) (xs : List ℕ) (g h w y : ℕ) → w < width → (g ≡ h → ⊥) → row width (set xs (h * width + w) y) g ≡ row width xs g

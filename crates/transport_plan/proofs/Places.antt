@@ -1,5 +1,5 @@
 -- Where a key stands among keys that rise, as halving finds it.
-use Rattle.std.proofs.Common.{◌≡◌, ℕ, ◌+◌, ◌-◌, ◌<◌, ◌≤◌, ⊎_elim, List, [], ◌∷◌, ◌++◌, Bor, length, map, drop, get_or, true, false, Option, Some, unwrap_or, Ordering, refl, sym, ap, ◌∙◌, subst, arith, length-append, length-drop}
+use Rattle.std.proofs.Common.{◌≡◌, ℕ, zero, suc, ◌+◌, ◌-◌, ◌<◌, ◌≤◌, ⊎_elim, List, [], ◌∷◌, ◌++◌, Bor, length, map, drop, get_or, true, false, Option, Some, unwrap_or, Ordering, refl, sym, ap, ◌∙◌, subst, arith, length-append, length-drop}
 use Rattle.std.specs.Cmp.{IsTotalOrder}
 use Rattle.std.specs.List.{All, Contains, slice_get, slice_index, slice_range}
 use Rattle.std.specs.List.Sorted.{IsStrictlySortedBy, IsPartitionedBy, IsPartitionPoint}
@@ -16,7 +16,7 @@ use Rattle.transport_instance.proofs.Members.{place_from_contains, contains_from
 use Rattle.transport_instance.proofs.Points.{get_below}
 use Rattle.bucket_core.specs.Rule.{Entries, IsRun, total_weight, at}
 use Rattle.transport_instance.specs.Groups.{GroupKey, AreSizesBy, group_by, row_view, rows_view}
-use Rattle.transport_plan.specs.Placing.{AddsPlaces}
+use Rattle.transport_plan.specs.Placing.{AddsPlaces, AreFamilies}
 use Rattle.std.specs.Map.{keys_of}
 
 lt_is : (o : Ordering) → is_lt o ≡ true → o ≡ Less
@@ -65,6 +65,35 @@ module _ {K P : Type 0} (R : K → K → Ordering) (o : IsTotalOrder R) (key : P
 pub keys-rows : (rows : List ((Bor (List ℕ) × ℕ) × ℕ)) → keys_of (rows_view rows) ≡ map (λ r. (row_view r).0) rows
 keys-rows [] = refl
 keys-rows (r ∷ rows) = ap (λ ks. (row_view r).0 ∷ ks) (keys-rows rows)
+
+-- the name of the group at a place
+pub name_at : (rows : List ((Bor (List ℕ) × ℕ) × ℕ)) (i : ℕ) (d : GroupKey) (r : (Bor (List ℕ) × ℕ) × ℕ) → i < length rows → (get_or (keys_of (rows_view rows)) i d).0 ≡ (get_or rows i r).0.0.now
+name_at [] i d r below = absurd (omega arith)
+name_at (x ∷ rows) zero d r below = refl
+name_at (x ∷ rows) (suc i) d r below = name_at rows i d r (omega arith)
+
+-- ---- families: groups of one name
+
+-- each of the first groups has the name of its family
+abbrev pub HaveNames : List GroupKey → List ℕ → ℕ → Type 0
+HaveNames keys families i = (k : ℕ) (d : GroupKey) → k < i → (get_or keys (get_or families k 0) d).0 ≡ (get_or keys k d).0
+
+pub names_more : (keys : List GroupKey) (families : List ℕ) (i first : ℕ) → HaveNames keys families i → length families ≡ i → ((d : GroupKey) → (get_or keys first d).0 ≡ (get_or keys i d).0) → HaveNames keys (families ++ first ∷ []) (i + 1)
+names_more keys families i first named many here k d below =
+    ⊎_elim
+    (λ (earlier : k < i). ap (λ n. (get_or keys n d).0) (get_or_append_left families (first ∷ []) 0 k (omega (arith, earlier, many))) ∙ named k d earlier)
+    (λ (from : i ≤ k).
+    let last : k ≡ i = omega (arith, from, below) in
+    let place : k ≡ length families + 0 = omega (arith, last, many) in
+    let is : get_or (families ++ first ∷ []) k 0 ≡ first = ap (λ n. get_or (families ++ first ∷ []) n 0) place ∙ get_or-append-add families (first ∷ []) 0 0 in
+    ap (λ n. (get_or keys n d).0) is ∙ (here d ∙ ap (λ n. (get_or keys n d).0) (sym last)))
+    (cases_lt k i)
+
+pub are_families : (keys : List GroupKey) (families : List ℕ) (n : ℕ) → HaveNames keys families n → length keys ≤ n → AreFamilies keys families
+are_families keys families n named all = λ i j g h at beside same.
+    let first : (get_or keys (get_or families i 0) g).0 ≡ g.0 = named i g (omega (arith, slice_get_within keys i g at, all)) ∙ ap (λ (k : GroupKey). k.0) (get_or_from_slice_get keys i g g at) in
+    let second : (get_or keys (get_or families j 0) g).0 ≡ h.0 = named j g (omega (arith, slice_get_within keys j h beside, all)) ∙ ap (λ (k : GroupKey). k.0) (get_or_from_slice_get keys j h g beside) in
+    sym first ∙ (ap (λ k. (get_or keys k g).0) same ∙ second)
 
 -- ---- the groups of the points
 

@@ -1,9 +1,9 @@
 -- What the passes take, by the instance's points, groups and names.
-use Rattle.std.proofs.Common.{◌≡◌, ℕ, suc, ◌+◌, ◌*◌, ◌<◌, ◌≤◌, List, [], ◌∷◌, length, ap, ◌∙◌, arith}
+use Rattle.std.proofs.Common.{◌≡◌, ℕ, ◌+◌, ◌*◌, ◌<◌, ◌≤◌, List, [], ◌∷◌, length, ap, ◌∙◌, arith}
 use Rattle.std.proofs.Math.Nat.{mul-le-mul, mul-le-mul_left}
 use Rattle.std.proofs.lemmas.List.{get_or_default}
 use Rattle.min_cost_flow.specs.Effort.{Searches, nodes_of, points_of}
-use Rattle.min_cost_flow.specs.Problem.{group_at, names_of, sum_to}
+use Rattle.min_cost_flow.specs.Problem.{group_at, sum_to}
 use Rattle.min_cost_flow.specs.declared.problem.FlowProblem.{FlowProblem}
 use Rattle.shortest_path.specs.Spent.{Spent}
 use Rattle.transport_instance.specs.Groups.{GroupKey}

@@ -16,12 +16,14 @@ pub record IsTally (groups width : ℕ) (tally : List ℕ → ℕ) (counts : ℕ
 abbrev pub IsDealt : ℕ → ℕ → List ℕ → List ℕ → List ℕ → Type 0
 IsDealt groups width numbers points items = (tally : List ℕ → ℕ) (counts : ℕ → ℕ → ℕ) → IsTally groups width tally counts → tally numbers ≡ sum_by (λ e. counts e.0 e.1) (zip points items)
 
--- From the numbers some points of a group are dealt to, whose names follow those that were there.
-pub record DealsTo (width group points : ℕ) (numbers left before after : List ℕ) : Type 0 where
+-- From the numbers the points of a group from one to another are dealt names, which stand in their places then.
+pub record DealsTo (width group from to : ℕ) (numbers left before after : List ℕ) : Type 0 where
   pub dealt : List ℕ
-  pub more : after ≡ before ++ dealt
-  pub many : length dealt ≡ points
+  pub front : take to after ≡ take from before ++ dealt
+  pub back : drop to after ≡ drop to before
+  pub long : length after ≡ length before
+  pub many : from + length dealt ≡ to
   pub named : All (λ w. w < width) dealt
   pub shape : length left ≡ length numbers
-  pub spent : sum (row width left group) + points ≡ sum (row width numbers group)
+  pub spent : sum (row width left group) + length dealt ≡ sum (row width numbers group)
   pub tallies : (groups : ℕ) (tally : List ℕ → ℕ) (counts : ℕ → ℕ → ℕ) → IsTally groups width tally counts → length numbers ≡ groups * width → group < groups → tally numbers ≡ tally left + sum_by (counts group) dealt

@@ -7,3 +7,7 @@ pub record AddsPlaces (keys : List GroupKey) (name counts : List ℕ) (many : �
   pub grown : length after ≡ length before + many
   pub kept : (q : ℕ) → q < length before → slice_index after q ≡ slice_index before q
   pub placed : (q : ℕ) → q < many → slice_get keys (slice_index after (length before + q)) ≡ Some (name, slice_index counts q)
+
+-- groups that have one number are of one name
+abbrev pub AreFamilies : List GroupKey → List ℕ → Type 0
+AreFamilies keys families = (i j : ℕ) (g h : GroupKey) → slice_get keys i ≡ Some g → slice_get keys j ≡ Some h → slice_index families i ≡ slice_index families j → g.0 ≡ h.0

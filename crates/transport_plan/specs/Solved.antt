@@ -1,17 +1,15 @@
 -- What the planner answers: a plan with the certificate that proves its cost, or a cut that shows that there is none.
-use Rattle.std.specs.Prelude.{◌≡◌, ℕ, List}
+use Rattle.std.specs.Prelude.{ℕ, List}
 use Rattle.bucket_core.specs.Rule.{Entries, names_view}
-use Rattle.transport_instance.specs.Assignment.{HasAssignment, IsProved, flows_of}
+use Rattle.transport_instance.specs.Assignment.{HasAssignment, flows_of}
 use Rattle.transport_instance.specs.Certificate.{IsCertified, certificate_view}
 use Rattle.transport_instance.specs.Deficient.{IsDeficient, IsOver}
-use Rattle.transport_instance.specs.Fits.{Fits, IsLeast}
+use Rattle.transport_instance.specs.Fits.{IsLeast}
 use Rattle.transport_instance.specs.Groups.{AreSizes}
 use Rattle.transport_instance.specs.Instance.{TransportProblem}
 use Rattle.transport_instance.specs.declared.assignment.Assignment.{Assignment}
 use Rattle.transport_instance.specs.declared.certificate.Certificate.{Certificate}
 use Rattle.transport_instance.specs.declared.certificate.Cut.{Cut}
-use Rattle.transport_instance.specs.declared.certificate.CutKind.{CutKind}
-use Rattle.transport_instance.specs.declared.certificate.CutKind.TheVariants.{Over, Under}
 use Rattle.transport_plan.specs.declared.solving.Solved.{Solved}
 use Rattle.transport_plan.specs.declared.solving.Solved.TheVariants.{Plan, None}
 

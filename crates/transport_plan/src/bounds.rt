@@ -13,21 +13,8 @@ pub(crate) struct Limit {
 }
 
 impl Limit {
-    /// How many points of a stretch of the group change, which are counted.
-    pub(crate) fn changes_of(&mut self, stretch: &Stretch, row: &[u32]) -> usize
-        requires base { stretch.now.base < length row.now }
-        requires before { stretch.now.before < length row.now }
-        requires after { stretch.now.after < length row.now }
-        ensures { result ≤ stretch.now.points }
-    {
-        if !self.has_any() {
-            return 0;
-        }
-        self.changes(stretch.rank(row), stretch.points)
-    }
-
-    /// How many of so many points of the rank change.
-    fn changes(&mut self, rank: usize, points: usize) -> usize
+    /// How many of the points of a stretch of this rank change, which are counted.
+    pub(crate) fn changes(&mut self, rank: usize, points: usize) -> usize
         ensures { result ≤ points }
     {
         if rank < self.rank {
@@ -42,26 +29,27 @@ impl Limit {
     }
 
     /// Whether any points change.
-    fn has_any(&self) -> bool {
+    pub(crate) fn has_any(&self) -> bool {
         self.rank > 0 || self.more > 0
     }
 }
 
-/// The limit of each group. Its points that change are those that are given another name than its base.
+/// The limit of each group, and the rank of each stretch of the groups of which any points change, in order. The points that
+/// change are those that are given another name than their group's base.
 pub(crate) fn limits_of(
     alloc: Global,
     points: &[u32],
     numbers: &[u32],
     bases: &[usize],
     names: usize,
-) -> Result<Vec<Limit>, AllocError>
+) -> Result<(Vec<Limit>, Vec<u8>), AllocError>
     requires shape { length numbers.now ≡ length bases.now * names }
     requires few { names ≤ 64 }
     requires small { length points.now < 2 ^ 32 }
     requires short { length bases.now < 2 ^ 32 }
     requires groups { All (λ g. g < length bases.now) points.now }
     requires named { All (λ w. w < names) bases.now }
-    ensures many { IfOk result (λ v. length v.items ≡ length bases.now) }
+    ensures many { IfOk result (λ v. length v.0.items ≡ length bases.now) }
 {
     let mut limits = Vec::with_capacity(alloc, bases.len())?;
     for (group, base) in bases.iter().enumerate() {
@@ -71,9 +59,9 @@ pub(crate) fn limits_of(
             more: others(&numbers[start..start + names], *base),
         })?;
     }
-    let sizes = sizes_of(alloc, points, numbers, bases, names, limits.as_slice())?;
+    let (sizes, ranks) = ranks_of(alloc, points, numbers, bases, names, limits.as_slice())?;
     raise(limits.as_mut_slice(), sizes.as_slice());
-    Ok(limits)
+    Ok((limits, ranks))
 }
 
 /// The sum of the numbers but for this name's.
@@ -89,36 +77,41 @@ fn others(row: &[u32], base: usize) -> usize
     sum
 }
 
-/// How many points of each group, if any of it change, lie in stretches of each rank.
-fn sizes_of(
+/// How many points of each group, if any of it change, lie in stretches of each rank, and the ranks of these stretches in order.
+fn ranks_of(
     alloc: Global,
     points: &[u32],
     numbers: &[u32],
     bases: &[usize],
     names: usize,
     limits: &[Limit],
-) -> Result<Vec<u32>, AllocError>
+) -> Result<(Vec<u32>, Vec<u8>), AllocError>
     requires shape { length numbers.now ≡ length bases.now * names }
     requires small { length points.now < 2 ^ 32 }
     requires short { length bases.now < 2 ^ 32 }
     requires groups { All (λ g. g < length bases.now) points.now }
     requires named { All (λ w. w < names) bases.now }
     requires limits { length limits.now ≡ length bases.now }
-    ensures many { IfOk result (λ v. length v.items ≡ length bases.now * RANKS) }
+    ensures many { IfOk result (λ v. length v.0.items ≡ length bases.now * RANKS) }
 {
     let mut sizes = vec![in alloc; 0u32; bases.len() * RANKS]?;
+    let mut ranks = Vec::new(alloc);
     let mut start = 0;
     while start < points.len() {
-        let stretch = Stretch::at(points, bases, start);
-        let group = stretch.group;
-        if limits[group].has_any() {
+        if limits[points[start] as usize].has_any() {
+            let before = bases[points[start.saturating_sub(1)] as usize];
+            let stretch = Stretch::first(&points[start..], bases, before);
+            let group = stretch.group;
             let row = group * names;
             let rank = stretch.rank(&numbers[row..row + names]);
+            ranks.push(rank as u8)?;
             sizes[group * RANKS + rank] += stretch.points as u32;
+            start += stretch.points;
+        } else {
+            start += 1;
         }
-        start += stretch.points;
     }
-    Ok(sizes)
+    Ok((sizes, ranks))
 }
 
 /// Moves each limit up to the rank at which the points that are to change run out.

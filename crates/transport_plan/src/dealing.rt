@@ -1,6 +1,6 @@
 //! Dealing: each point is given one of the names that its group has left.
 ghost use Rattle.std.specs.List.{All};
-ghost use Rattle.std.specs.Prelude.{◌≡◌, ◌≤◌, ◌<◌, ◌+◌, ◌*◌, ◌^◌, ◌++◌, ℕ, IfOk, OnOk, length, replicate, sum, count_by, ◌==◌, slice_index};
+ghost use Rattle.std.specs.Prelude.{◌≡◌, ◌≤◌, ◌<◌, ◌+◌, ◌*◌, ◌^◌, ℕ, IfOk, length, sum, count_by, ◌==◌, slice_index};
 ghost use Rattle.transport_plan.specs.Dealing.{row, IsDealt, DealsTo};
 
 use crate::bounds::{Limit, limits_of};
@@ -9,33 +9,47 @@ use std::alloc::{AllocError, Global};
 
 /// The name that each point is given, as an index: of each group's points each name is given to as many as the group's number
 /// of it says. The numbers stand by group and then by name; a point is given by the index of its group. Which of a group's
-/// points have which name is no promise: it is chosen to make few runs of equal names. It goes over the points three times.
+/// points have which name is no promise: it is chosen to make few runs of equal names. It goes over the points twice, and
+/// writes the names over them.
 pub(crate) fn deal(
     alloc: Global,
-    points: &[u32],
-    numbers: &[u32],
+    mut points: Vec<u32>,
+    mut numbers: Vec<u32>,
     groups: usize,
     names: usize,
 ) -> Result<Vec<u32>, AllocError>
-    requires shape { length numbers.now ≡ groups * names }
+    requires shape { length numbers.items ≡ groups * names }
     requires some { 0 < names }
     requires few { names ≤ 64 }
-    requires small { length points.now < 2 ^ 32 }
+    requires small { length points.items < 2 ^ 32 }
     requires short { groups < 2 ^ 32 }
-    requires groups { All (λ g. g < groups) points.now }
-    requires rows { (g : ℕ) → g < groups → sum (row names numbers.now g) ≡ count_by (λ p. p == g) points.now }
-    requires whole { sum numbers.now ≡ length points.now }
-    ensures many { IfOk result (λ v. length v.items ≡ length points.now) }
+    requires groups { All (λ g. g < groups) points.items }
+    requires rows { (g : ℕ) → g < groups → sum (row names numbers.items g) ≡ count_by (λ p. p == g) points.items }
+    requires whole { sum numbers.items ≡ length points.items }
+    ensures many { IfOk result (λ v. length v.items ≡ length points.items) }
     ensures named { IfOk result (λ v. All (λ i. i < names) v.items) }
-    ensures dealt { IfOk result (λ v. IsDealt groups names numbers.now points.now v.items) }
+    ensures dealt { IfOk result (λ v. IsDealt groups names numbers.items points.items v.items) }
 {
-    let bases = bases_of(alloc, numbers, groups, names)?;
+    let bases = bases_of(alloc, numbers.as_slice(), groups, names)?;
     let bases = bases.as_slice();
-    let mut limits = limits_of(alloc, points, numbers, bases, names)?;
-    let mut left = Vec::from_slice(alloc, numbers)?;
-    let left = left.as_mut_slice();
+    let (mut limits, ranks) = limits_of(
+        alloc,
+        points.as_slice(),
+        numbers.as_slice(),
+        bases,
+        names,
+    )?;
+    let left = numbers.as_mut_slice();
     let limits = limits.as_mut_slice();
-    deal_by(alloc, points, numbers, left, bases, limits, names)
+    deal_by(
+        points.as_mut_slice(),
+        left,
+        bases,
+        limits,
+        ranks.as_slice(),
+        names,
+    );
+    Ok(points)
 }
 
 /// The name that the most points of each group are given.
@@ -74,38 +88,51 @@ fn most_given(row: &[u32]) -> usize
     most
 }
 
-/// Deals out all that is left, stretch by stretch.
+/// Deals out all that is left: point by point in a group of which none changes, and else stretch by stretch.
 fn deal_by(
-    alloc: Global,
-    points: &[u32],
-    numbers: &[u32],
+    points: &mut [u32],
     left: &mut [u32],
     bases: &[usize],
     limits: &mut [Limit],
+    ranks: &[u8],
     names: usize,
-) -> Result<Vec<u32>, AllocError>
-    requires shape { length numbers.now ≡ length bases.now * names }
+)
+    requires shape { length left.old ≡ length bases.now * names }
     requires few { names ≤ 64 }
-    requires left { left.old ≡ numbers.now }
     requires limits { length limits.old ≡ length bases.now }
-    requires groups { All (λ g. g < length bases.now) points.now }
+    requires groups { All (λ g. g < length bases.now) points.old }
     requires base { All (λ w. w < names) bases.now }
-    requires rows { (g : ℕ) → g < length bases.now → sum (row names numbers.now g) ≡ count_by (λ p. p == g) points.now }
-    requires whole { sum numbers.now ≡ length points.now }
-    ensures many { IfOk result (λ v. length v.items ≡ length points.now) }
-    ensures named { IfOk result (λ v. All (λ i. i < names) v.items) }
-    ensures dealt { IfOk result (λ v. IsDealt (length bases.now) names numbers.now points.now v.items) }
+    requires rows { (g : ℕ) → g < length bases.now → sum (row names left.old g) ≡ count_by (λ p. p == g) points.old }
+    requires whole { sum left.old ≡ length points.old }
+    ensures many { length points.new ≡ length points.old }
+    ensures named { All (λ i. i < names) points.new }
+    ensures dealt { IsDealt (length bases.now) names left.old points.old points.new }
 {
-    let mut items = Vec::with_capacity(alloc, points.len())?;
-    while items.len() < points.len() {
-        let start = items.len();
-        let mut stretch = Stretch::at(points, bases, start);
-        let row = stretch.group * names;
-        let changes = limits[stretch.group].changes_of(&stretch, &numbers[row..row + names]);
-        stretch.before = last_or(items.as_slice(), stretch.before);
-        deal_stretch(&mut items, left, names, &stretch, changes)?;
+    let mut start = 0;
+    let mut seen = 0;
+    while start < points.len() {
+        let group = points[start] as usize;
+        let base = bases[group];
+        if limits[group].has_any() {
+            let before = last_or(&points[..start], base);
+            let stretch = Stretch::first(&points[start..], bases, before);
+            let changes = limits[group].changes(rank_at(ranks, seen), stretch.points);
+            deal_stretch(points, start, left, names, &stretch, changes);
+            seen += 1;
+            start += stretch.points;
+        } else {
+            deal_point(points, start, left, names, group, base, base);
+            start += 1;
+        }
     }
-    Ok(items)
+}
+
+/// The rank at this place among those of the stretches, of which each has one.
+fn rank_at(ranks: &[u8], place: usize) -> usize {
+    match ranks.get(place) {
+        Some(rank) => usize::from(*rank),
+        None => 0,
+    }
 }
 
 /// The last of the names, else this one.
@@ -118,95 +145,120 @@ fn last_or(names: &[u32], name: usize) -> usize
     }
 }
 
-/// Deals the points of a stretch, of which so many change.
+/// Deals the points of the stretch that begins at the point, of which so many change.
 fn deal_stretch(
-    items: &mut Vec<u32>,
+    points: &mut [u32],
+    start: usize,
     left: &mut [u32],
     names: usize,
     stretch: &Stretch,
     changes: usize,
-) -> Result<(), AllocError>
+)
     requires few { names ≤ 64 }
+    requires inside { start + stretch.now.points ≤ length points.old }
     requires room { stretch.now.group * names + names ≤ length left.old }
     requires base { stretch.now.base < names }
     requires before { stretch.now.before < names }
     requires after { stretch.now.after < names }
     requires changes { changes ≤ stretch.now.points }
     requires enough { stretch.now.points ≤ sum (row names left.old stretch.now.group) }
-    ensures { OnOk result (DealsTo names stretch.now.group stretch.now.points left.old left.new items.old.items items.new.items) }
+    ensures { DealsTo names stretch.now.group start (start + stretch.now.points) left.old left.new points.old points.new }
 {
+    let end = start + stretch.points;
     if changes == 0 {
-        deal_run(items, left, names, stretch, stretch.base, stretch.points)
+        deal_run(points, start, end, left, names, stretch, stretch.base);
     } else {
-        deal_parts(items, left, names, stretch, changes)
+        deal_parts(points, start, left, names, stretch, changes);
     }
 }
 
 /// The same where some change: beside the neighbour that has their new name.
 fn deal_parts(
-    items: &mut Vec<u32>,
+    points: &mut [u32],
+    start: usize,
     left: &mut [u32],
     names: usize,
     stretch: &Stretch,
     changes: usize,
-) -> Result<(), AllocError>
+)
     requires few { names ≤ 64 }
+    requires inside { start + stretch.now.points ≤ length points.old }
     requires room { stretch.now.group * names + names ≤ length left.old }
     requires base { stretch.now.base < names }
     requires before { stretch.now.before < names }
     requires after { stretch.now.after < names }
     requires changes { changes ≤ stretch.now.points }
     requires enough { stretch.now.points ≤ sum (row names left.old stretch.now.group) }
-    ensures { OnOk result (DealsTo names stretch.now.group stretch.now.points left.old left.new items.old.items items.new.items) }
+    ensures { DealsTo names stretch.now.group start (start + stretch.now.points) left.old left.new points.old points.new }
 {
     let row = stretch.group * names;
     let name = stretch.wish(&left[row..row + names]);
-    let stays = stretch.points - changes;
+    let end = start + stretch.points;
     if name == stretch.after && name != stretch.before {
-        deal_run(items, left, names, stretch, stretch.base, stays)?;
-        deal_run(items, left, names, stretch, name, changes)
+        let middle = end - changes;
+        deal_run(points, start, middle, left, names, stretch, stretch.base);
+        deal_run(points, middle, end, left, names, stretch, name);
     } else {
-        deal_run(items, left, names, stretch, name, changes)?;
-        deal_run(items, left, names, stretch, stretch.base, stays)
+        let middle = start + changes;
+        deal_run(points, start, middle, left, names, stretch, name);
+        deal_run(points, middle, end, left, names, stretch, stretch.base);
     }
 }
 
-/// Deals points of a stretch: the name as long as the group has it left, and then others.
+/// Deals the points of a stretch from one to another: the name as long as the group has it left, and then others.
 fn deal_run(
-    items: &mut Vec<u32>,
+    points: &mut [u32],
+    start: usize,
+    end: usize,
     left: &mut [u32],
     names: usize,
     stretch: &Stretch,
     name: usize,
-    points: usize,
-) -> Result<(), AllocError>
+)
     requires few { names ≤ 64 }
+    requires order { start ≤ end }
+    requires inside { end ≤ length points.old }
     requires room { stretch.now.group * names + names ≤ length left.old }
     requires base { stretch.now.base < names }
     requires name { name < names }
-    requires enough { points ≤ sum (row names left.old stretch.now.group) }
-    ensures { OnOk result (DealsTo names stretch.now.group points left.old left.new items.old.items items.new.items) }
+    requires enough { end ≤ start + sum (row names left.old stretch.now.group) }
+    ensures { DealsTo names stretch.now.group start end left.old left.new points.old points.new }
 {
-    let start = stretch.group * names;
-    let mut rest = points;
-    while rest > 0 {
-        let next = next(&left[start..start + names], stretch.base, name);
-        let many = rest.min(left[start + next] as usize);
-        left[start + next] -= many as u32;
-        push_many(items, next as u32, many)?;
-        rest -= many;
+    for point in start..end {
+        deal_point(
+            points,
+            point,
+            left,
+            names,
+            stretch.group,
+            stretch.base,
+            name,
+        );
     }
-    Ok(())
 }
 
-/// Adds the name so many times. Stretches are short, so that each is pushed.
-fn push_many(items: &mut Vec<u32>, name: u32, many: usize) -> Result<(), AllocError>
-    ensures { OnOk result (items.new.items ≡ items.old.items ++ replicate many name) }
+/// Deals the point to the name, if the group has it left, and else to another.
+fn deal_point(
+    points: &mut [u32],
+    point: usize,
+    left: &mut [u32],
+    names: usize,
+    group: usize,
+    base: usize,
+    name: usize,
+)
+    requires few { names ≤ 64 }
+    requires inside { point < length points.old }
+    requires room { group * names + names ≤ length left.old }
+    requires base { base < names }
+    requires name { name < names }
+    requires enough { 0 < sum (row names left.old group) }
+    ensures { DealsTo names group point (point + 1) left.old left.new points.old points.new }
 {
-    for _ in 0..many {
-        items.push(name)?;
-    }
-    Ok(())
+    let start = group * names;
+    let next = next(&left[start..start + names], base, name);
+    left[start + next] -= 1;
+    points[point] = next as u32;
 }
 
 /// The name, if the group has any of it left, else the first but the base that it has, and else the base.

@@ -1,15 +1,15 @@
-//! Where groups stand: beside the last one of the name, or found by halving.
+//! Where groups stand: as far from the last one of the name as the numbers are apart, or found by halving.
 ghost use Rattle.std.specs.Bool.{OnTrue};
 ghost use Rattle.std.specs.Cmp.Lexicographic.{slice_cmp};
 ghost use Rattle.std.specs.List.Sorted.{IsStrictlySortedBy};
 ghost use Rattle.std.specs.List.{All, Contains};
 ghost use Rattle.std.specs.Map.{keys_of};
 ghost use Rattle.std.specs.Ordering.{nat_cmp};
-ghost use Rattle.std.specs.Prelude.{◌≡◌, ◌≤◌, ◌<◌, ℕ, Some, IfOk, OnOk, length, slice_get, slice_index};
+ghost use Rattle.std.specs.Prelude.{◌≡◌, ◌≤◌, ◌<◌, ℕ, List, Some, IfOk, OnOk, length, slice_get, slice_index};
 ghost use Rattle.bucket_core.specs.Rule.{names_view, total_weight};
 ghost use Rattle.transport_instance.specs.Groups.{AreSizesBy, group_by, group_cmp, rows_view};
 ghost use Rattle.transport_instance.specs.Instance.{max_planned_total};
-ghost use Rattle.transport_plan.specs.Placing.{AddsPlaces};
+ghost use Rattle.transport_plan.specs.Placing.{AddsPlaces, AreFamilies};
 
 use bucket_core::Rule;
 use std::alloc::{AllocError, Global};
@@ -28,6 +28,7 @@ pub(crate) fn groups_of(
     ensures many { IfOk result (λ v. length v.items ≡ total_weight old.now) }
     ensures grouped { IfOk result (λ v. (p : ℕ) → p < total_weight old.now → slice_get (keys_of (rows_view groups.now)) (slice_index v.items p) ≡ Some (group_by old.now (slice_index counts.now) p)) }
 {
+    let families = families_of(alloc, groups)?;
     let mut points = Vec::with_capacity(alloc, counts.len())?;
     let total = old.total();
     let mut start = 0;
@@ -37,6 +38,7 @@ pub(crate) fn groups_of(
         push_groups(
             &mut points,
             groups,
+            families.as_slice(),
             old.entry_name(entry),
             &counts[start as usize..end as usize],
         )?;
@@ -45,16 +47,35 @@ pub(crate) fn groups_of(
     Ok(points)
 }
 
-/// Adds the groups of points in a row that have this name, on each of which so many inputs fall. A group is looked up where
-/// the number is another than at the point before, first as far from the last one as the numbers are apart.
+/// For each group the place of the first one of its name, so that names are told apart without their texts.
+fn families_of(alloc: Global, groups: &[((&str, u32), u32)]) -> Result<Vec<usize>, AllocError>
+    ensures many { IfOk result (λ v. length v.items ≡ length groups.now) }
+    ensures families { IfOk result (λ v. AreFamilies (keys_of (rows_view groups.now)) v.items) }
+{
+    let mut families = Vec::with_capacity(alloc, groups.len())?;
+    let mut first = 0;
+    for (place, ((name, _), _)) in groups.iter().enumerate() {
+        if groups[first].0.0 != *name {
+            first = place;
+        }
+        families.push(first)?;
+    }
+    Ok(families)
+}
+
+/// Adds the groups of points in a row that have this name, on each of which so many inputs fall. A group is looked up first
+/// as far from that of the point before as the numbers are apart.
 fn push_groups(
     points: &mut Vec<u32>,
     groups: &[((&str, u32), u32)],
+    families: &[usize],
     name: &str,
     counts: &[u32],
 ) -> Result<(), AllocError>
     requires few { length groups.now ≤ max_planned_total }
     requires rise { IsStrictlySortedBy group_cmp (keys_of (rows_view groups.now)) }
+    requires many { length families.now ≡ length groups.now }
+    requires families { AreFamilies (keys_of (rows_view groups.now)) families.now }
     requires stand { All (λ n. Contains (keys_of (rows_view groups.now)) (name.now, n)) counts.now }
     ensures { OnOk result (AddsPlaces (keys_of (rows_view groups.now)) name.now counts.now (length counts.now) points.old.items points.new.items) }
 {
@@ -64,10 +85,8 @@ fn push_groups(
     let mut known = *first;
     let mut group = group_of(groups, name, known);
     for count in counts {
-        if *count != known {
-            group = group_beside(groups, name, *count, known, group);
-            known = *count;
-        }
+        group = group_beside(groups, families, name, *count, known, group);
+        known = *count;
         points.push(group as u32)?;
     }
     Ok(())
@@ -77,6 +96,7 @@ fn push_groups(
 /// as far from it as the numbers are apart, since the groups of a name stand by their numbers.
 fn group_beside(
     groups: &[((&str, u32), u32)],
+    families: &[usize],
     name: &str,
     count: u32,
     known: u32,
@@ -84,26 +104,38 @@ fn group_beside(
 ) -> usize
     requires few { length groups.now ≤ max_planned_total }
     requires rise { IsStrictlySortedBy group_cmp (keys_of (rows_view groups.now)) }
-    requires known { place < length groups.now }
+    requires many { length families.now ≡ length groups.now }
+    requires families { AreFamilies (keys_of (rows_view groups.now)) families.now }
+    requires inside { place < length groups.now }
+    requires known { slice_get (keys_of (rows_view groups.now)) place ≡ Some (name.now, known) }
     requires stands { Contains (keys_of (rows_view groups.now)) (name.now, count) }
     ensures within { result < length groups.now }
     ensures place { slice_get (keys_of (rows_view groups.now)) result ≡ Some (name.now, count) }
 {
     let guess = (place + count as usize).saturating_sub(known as usize);
-    if stands_at(groups, guess, name, count) {
+    if stands_at(groups, families, guess, place, count) {
         guess
     } else {
         group_of(groups, name, count)
     }
 }
 
-/// Whether the group of this name and number of inputs stands at the place.
-fn stands_at(groups: &[((&str, u32), u32)], place: usize, name: &str, count: u32) -> bool
+/// Whether a group of this number of inputs stands at the place, and has the name of that at the other place.
+fn stands_at(
+    groups: &[((&str, u32), u32)],
+    families: &[usize],
+    place: usize,
+    other: usize,
+    count: u32,
+) -> bool
+    requires many { length families.now ≡ length groups.now }
+    requires families { AreFamilies (keys_of (rows_view groups.now)) families.now }
+    requires other { other < length groups.now }
     ensures within { OnTrue result (place < length groups.now) }
-    ensures place { OnTrue result (slice_get (keys_of (rows_view groups.now)) place ≡ Some (name.now, count)) }
+    ensures place { OnTrue result ((name : List ℕ) (known : ℕ) → slice_get (keys_of (rows_view groups.now)) other ≡ Some (name, known) → slice_get (keys_of (rows_view groups.now)) place ≡ Some (name, count)) }
 {
     match groups.get(place) {
-        Some(((other, number), _)) => *number == count && *other == name,
+        Some(((_, number), _)) => *number == count && families[place] == families[other],
         None => false,
     }
 }

@@ -71,8 +71,6 @@ fn spread_over(
     // Called for what its contract says, on which what is dealt out rests: a rule's total is from 1 to 2^31-1.
     let _total = old.total();
     let points = groups_of(alloc, old, counts, groups)?;
-    let points = points.as_slice();
-    let numbers = numbers.as_slice();
     let items = deal(alloc, points, numbers, groups.len(), names.len())?;
     Rule::from_points(alloc, items.as_slice(), names)
 }

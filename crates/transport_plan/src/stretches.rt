@@ -1,6 +1,6 @@
 //! Stretches: points in a row of one group, and how many entries a change of their name takes from a rule or adds to it.
 ghost use Rattle.std.specs.List.{All, prefix_len};
-ghost use Rattle.std.specs.Prelude.{◌≡◌, ◌==◌, ◌≤◌, ◌<◌, ◌+◌, ℕ, length, sum, slice_index};
+ghost use Rattle.std.specs.Prelude.{◌≡◌, ◌==◌, ◌≤◌, ◌<◌, ℕ, length, sum, slice_index};
 
 /// A stretch, and the names around it, as indices.
 #[derive(Clone, Copy)]
@@ -21,33 +21,29 @@ pub(crate) const RANKS: usize = 5 * LENGTHS;
 const LENGTHS: usize = 40;
 
 impl Stretch {
-    /// The stretch that begins at the point, where each group has a name that its points are expected to be given.
-    pub(crate) fn at(points: &[u32], bases: &[usize], start: usize) -> Stretch
-        requires inside { start < length points.now }
+    /// The stretch that the points begin with, behind this name, where each group has a name that its points are expected to
+    /// be given.
+    pub(crate) fn first(points: &[u32], bases: &[usize], before: usize) -> Stretch
+        requires some { 0 < length points.now }
         requires groups { All (λ g. g < length bases.now) points.now }
         ensures some { 0 < result.points }
-        ensures within { start + result.points ≤ length points.now }
+        ensures within { result.points ≤ length points.now }
         ensures group { result.group < length bases.now }
-        ensures same { (q : ℕ) → q < result.points → slice_index points.now (start + q) ≡ result.group }
+        ensures same { (q : ℕ) → q < result.points → slice_index points.now q ≡ result.group }
         ensures named { (width : ℕ) → All (λ w. w < width) bases.now → result.base < width }
-        ensures before { (width : ℕ) → All (λ w. w < width) bases.now → result.before < width }
+        ensures before { result.before ≡ before }
         ensures after { (width : ℕ) → All (λ w. w < width) bases.now → result.after < width }
     {
-        let group = points[start];
-        let many = run_len(&points[start..], group);
-        let end = start + many;
+        let group = points[0];
+        let many = run_len(points, group);
         let base = bases[group as usize];
         Stretch {
             group: group as usize,
             points: many,
             base,
-            before: if start > 0 {
-                bases[points[start - 1] as usize]
-            } else {
-                base
-            },
-            after: if end < points.len() {
-                bases[points[end] as usize]
+            before,
+            after: if many < points.len() {
+                bases[points[many] as usize]
             } else {
                 base
             },

@@ -1,65 +1,103 @@
--- Each turn deals the points of a stretch, as many as its group has left for them.
-use Rattle.std.proofs.Common.{◌≡◌, ◌≤◌, ◌<◌, ◌+◌, [], length, get_or, sym, ap, ◌∙◌, subst, arith}
+-- Each turn deals the points of a stretch, or a point, as many as its group has left for them.
+use Rattle.std.proofs.Common.{◌≤◌, ◌<◌, ◌-◌, ℕ, length, drop, get_or, ap, sym, ◌∙◌, subst, arith, length-drop}
 use Rattle.std.specs.List.{All}
-use Rattle.std.proofs.lemmas.List.{length-set}
-use Rattle.transport_plan.proofs.Numbers.{row_wide}
-use Rattle.transport_plan.proofs.Dealt.{Deals, none_dealt, group_has, deals_more, all_dealt}
+use Rattle.std.proofs.lemmas.List.{get_or-take, get_or-drop, length-set, length-take, take_all}
+use Rattle.transport_plan.proofs.Numbers.{earlier_row}
+use Rattle.transport_plan.proofs.Dealt.{none_dealt, next_below, group_has, deals_more, all_dealt}
 use Rattle.transport_plan.proofs.dealing.deal_by.Goals as goal
 
-pub loop-items-init : goal.loop-items-init
-loop-items-init c =
-    let none = none_dealt (length c.args.bases.now) c.args.names c.args.numbers.now c.args.points.now c.requires.shape in
-    record {
-      deals = subst (λ xs. Deals (length c.args.bases.now) c.args.names c.args.numbers.now c.args.points.now c.args.left.now xs) (sym c.in_ok-items.ensures.items)
-          (subst (λ ys. Deals (length c.args.bases.now) c.args.names c.args.numbers.now c.args.points.now ys []) (sym c.requires.left) none);
-      limits = c.requires.limits;
-    }
+pub loop-start-init : goal.loop-start-init
+loop-start-init c = record {
+  deals = none_dealt (length c.args.bases.now) c.args.names c.args.left.now c.args.points.now c.requires.shape;
+  limits = c.requires.limits;
+  few = omega arith;
+}
 
-pub changes_of-changes-requires-clause-base : goal.changes_of-changes-requires-clause-base
-changes_of-changes-requires-clause-base c = omega (arith, c.at-stretch.ensures.named c.args.names c.requires.base, row_wide (length c.args.bases.now) c.args.names c.at-stretch.result.group c.args.numbers.now c.requires.shape c.at-stretch.ensures.group)
+pub bounds-bases-group : goal.bounds-bases-group
+bounds-bases-group c =
+    let l = c.loop-start in
+    next_below (length c.args.bases.now) c.args.names c.args.left.now c.args.points.now l.left l.start l.points l.invariant.deals c.requires.groups (omega arith)
 
-pub changes_of-changes-requires-clause-before : goal.changes_of-changes-requires-clause-before
-changes_of-changes-requires-clause-before c = omega (arith, c.at-stretch.ensures.before c.args.names c.requires.base, row_wide (length c.args.bases.now) c.args.names c.at-stretch.result.group c.args.numbers.now c.requires.shape c.at-stretch.ensures.group)
+pub bounds-limits-group : goal.bounds-limits-group
+bounds-limits-group c =
+    let l = c.loop-start in
+    omega (arith, next_below (length c.args.bases.now) c.args.names c.args.left.now c.args.points.now l.left l.start l.points l.invariant.deals c.requires.groups (omega arith), l.invariant.limits)
 
-pub changes_of-changes-requires-clause-after : goal.changes_of-changes-requires-clause-after
-changes_of-changes-requires-clause-after c = omega (arith, c.at-stretch.ensures.after c.args.names c.requires.base, row_wide (length c.args.bases.now) c.args.names c.at-stretch.result.group c.args.numbers.now c.requires.shape c.at-stretch.ensures.group)
+pub bounds-limits-group-then-has_any : goal.bounds-limits-group-then-has_any
+bounds-limits-group-then-has_any c =
+    let l = c.loop-start in
+    omega (arith, next_below (length c.args.bases.now) c.args.names c.args.left.now c.args.points.now l.left l.start l.points l.invariant.deals c.requires.groups (omega arith), l.invariant.limits)
 
 pub deal_stretch-requires-clause-base : goal.deal_stretch-requires-clause-base
-deal_stretch-requires-clause-base c = c.at-stretch.ensures.named c.args.names c.requires.base
+deal_stretch-requires-clause-base c = c.first-stretch.ensures.named c.args.names c.requires.base
 
 pub deal_stretch-requires-clause-before : goal.deal_stretch-requires-clause-before
 deal_stretch-requires-clause-before c =
-    let named = subst (λ xs. All (λ w. w < c.args.names) xs) (sym c.as_slice.ensures.value) c.loop-items.invariant.deals.named in
-    c.last_or.ensures.among c.args.names named (c.at-stretch.ensures.before c.args.names c.requires.base)
+    let l = c.loop-start in
+    let group = next_below (length c.args.bases.now) c.args.names c.args.left.now c.args.points.now l.left l.start l.points l.invariant.deals c.requires.groups (omega arith) in
+    omega (arith, c.first-stretch.ensures.before, c.last_or-before.ensures.among c.args.names l.invariant.deals.named (c.requires.base (get_or l.points l.start 0) 0 group))
 
 pub deal_stretch-requires-clause-after : goal.deal_stretch-requires-clause-after
-deal_stretch-requires-clause-after c = c.at-stretch.ensures.after c.args.names c.requires.base
+deal_stretch-requires-clause-after c = c.first-stretch.ensures.after c.args.names c.requires.base
 
 pub deal_stretch-requires-clause-enough : goal.deal_stretch-requires-clause-enough
 deal_stretch-requires-clause-enough c =
-    let points = c.args.points.now in
-    let items = c.loop-items.items.items in
-    let s = c.at-stretch.result in
-    let start_is : c.len-start.result ≡ length items = omega (arith, c.len-start.ensures, c.loop-items.items.ok) in
-    let room : length items + s.points ≤ length points = omega (arith, start_is, c.at-stretch.ensures.within) in
-    group_has (length c.args.bases.now) c.args.names c.args.numbers.now points c.loop-items.left items c.loop-items.invariant.deals s.group s.points c.at-stretch.ensures.group room
-    (λ q below. ap (λ k. get_or points (k + q) 0) (sym start_is) ∙ c.at-stretch.ensures.same q below)
-    (c.requires.rows s.group c.at-stretch.ensures.group)
+    let l = c.loop-start in
+    let s = c.first-stretch.result in
+    let many : ℕ = length l.points - l.start in
+    let room : s.points ≤ many = omega (arith, c.first-stretch.ensures.within, length-take many (drop l.start l.points), length-drop l.start l.points) in
+    group_has (length c.args.bases.now) c.args.names c.args.left.now c.args.points.now l.left l.start l.points l.invariant.deals s.group s.points c.first-stretch.ensures.group (omega (arith, room, l.invariant.deals.long))
+    (λ q below. sym (get_or-take many (drop l.start l.points) q 0 (omega (arith, below, room))) ∙ c.first-stretch.ensures.same q below)
+    (c.requires.rows s.group c.first-stretch.ensures.group)
 
-pub loop-items-preserved : goal.loop-items-preserved
-loop-items-preserved c =
-    let points = c.args.points.now in
-    let items = c.loop-items.items.items in
-    let s = c.at-stretch.result in
-    let start_is : c.len-start.result ≡ length items = omega (arith, c.len-start.ensures, c.loop-items.items.ok) in
-    let room : length items + s.points ≤ length points = omega (arith, start_is, c.at-stretch.ensures.within) in
+pub loop-start-preserved-then-has_any : goal.loop-start-preserved-then-has_any
+loop-start-preserved-then-has_any c =
+    let l = c.loop-start in
+    let s = c.first-stretch.result in
+    let many : ℕ = length l.points - l.start in
+    let room : s.points ≤ many = omega (arith, c.first-stretch.ensures.within, length-take many (drop l.start l.points), length-drop l.start l.points) in
     record {
-      deals = deals_more (length c.args.bases.now) c.args.names c.args.numbers.now points c.loop-items.left items c.loop-items.invariant.deals s.group s.points c.at-stretch.ensures.group room
-          (λ q below. ap (λ k. get_or points (k + q) 0) (sym start_is) ∙ c.at-stretch.ensures.same q below)
-          c.deal_stretch.new.left c.deal_stretch.new.items.items c.in_ok-deal_stretch.ensures;
-      limits = length-set c.loop-items.limits s.group _ ∙ c.loop-items.invariant.limits;
+      deals = deals_more (length c.args.bases.now) c.args.names c.args.left.now c.args.points.now l.left l.start l.points l.invariant.deals s.group s.points c.first-stretch.ensures.group (omega (arith, room, l.invariant.deals.long))
+          (λ q below. sym (get_or-take many (drop l.start l.points) q 0 (omega (arith, below, room))) ∙ c.first-stretch.ensures.same q below)
+          c.deal_stretch.new.left c.deal_stretch.new.points c.deal_stretch.ensures;
+      limits = length-set l.limits (get_or l.points l.start 0) _ ∙ l.invariant.limits;
+      few = omega (arith, l.invariant.few, c.first-stretch.ensures.some);
     }
+
+pub deal_point-requires-clause-room : goal.deal_point-requires-clause-room
+deal_point-requires-clause-room c =
+    let l = c.loop-start in
+    let group = next_below (length c.args.bases.now) c.args.names c.args.left.now c.args.points.now l.left l.start l.points l.invariant.deals c.requires.groups (omega arith) in
+    omega (arith, earlier_row (length c.args.bases.now) (get_or l.points l.start 0) c.args.names group, l.invariant.deals.shape)
+
+pub deal_point-requires-clause-enough : goal.deal_point-requires-clause-enough
+deal_point-requires-clause-enough c =
+    let l = c.loop-start in
+    let g = get_or l.points l.start 0 in
+    let group = next_below (length c.args.bases.now) c.args.names c.args.left.now c.args.points.now l.left l.start l.points l.invariant.deals c.requires.groups (omega arith) in
+    group_has (length c.args.bases.now) c.args.names c.args.left.now c.args.points.now l.left l.start l.points l.invariant.deals g 1 group (omega (arith, l.invariant.deals.long))
+    (λ q below. get_or-drop l.start l.points q 0 ∙ ap (λ k. get_or l.points k 0) (omega (arith, below)))
+    (c.requires.rows g group)
+
+pub loop-start-preserved : goal.loop-start-preserved
+loop-start-preserved c =
+    let l = c.loop-start in
+    let g = get_or l.points l.start 0 in
+    let group = next_below (length c.args.bases.now) c.args.names c.args.left.now c.args.points.now l.left l.start l.points l.invariant.deals c.requires.groups (omega arith) in
+    record {
+      deals = deals_more (length c.args.bases.now) c.args.names c.args.left.now c.args.points.now l.left l.start l.points l.invariant.deals g 1 group (omega (arith, l.invariant.deals.long))
+          (λ q below. get_or-drop l.start l.points q 0 ∙ ap (λ k. get_or l.points k 0) (omega (arith, below)))
+          c.deal_point.new.left c.deal_point.new.points c.deal_point.ensures;
+      limits = l.invariant.limits;
+      few = omega (arith, l.invariant.few);
+    }
+
+pub returns-clause-named : goal.returns-clause-named
+returns-clause-named c =
+    let l = c.loop-start in
+    subst (λ xs. All (λ w. w < c.args.names) xs) (take_all l.start l.points (omega arith)) l.invariant.deals.named
 
 pub returns-clause-dealt : goal.returns-clause-dealt
 returns-clause-dealt c =
-    all_dealt (length c.args.bases.now) c.args.names c.args.numbers.now c.args.points.now c.loop-items.left c.loop-items.items.items c.loop-items.invariant.deals (omega (arith, c.loop-items.items.ok)) c.requires.whole
+    let l = c.loop-start in
+    all_dealt (length c.args.bases.now) c.args.names c.args.left.now c.args.points.now l.left l.start l.points l.invariant.deals (omega (arith, l.invariant.deals.long)) c.requires.whole

@@ -1,12 +1,13 @@
-use Rattle.std.proofs.Common.{◌≡◌, ◌-◌, length}
+use Rattle.std.proofs.Common.{◌≡◌, ◌≤◌, ◌-◌, length}
 use Rattle.transport_plan.proofs.Dealt.{Deals}
 use Rattle.transport_plan.proofs.dealing.deal_by.Given as goal
 
-abbrev pub invariant-loop-items : goal.invariant-loop-items
-invariant-loop-items l = record {
-  deals : Deals (length l.bases) l.names l.numbers l.points l.left l.items.items;
+abbrev pub invariant-loop-start : goal.invariant-loop-start
+invariant-loop-start l = record {
+  deals : Deals (length l.bases) l.names l.fn.left l.fn.points l.left l.start l.points;
   limits : length l.limits ≡ length l.bases;
+  few : l.seen ≤ l.start;
 }
 
-abbrev pub decreases-loop-items : goal.decreases-loop-items
-decreases-loop-items l = length l.points - length l.items.items
+abbrev pub decreases-loop-start : goal.decreases-loop-start
+decreases-loop-start l = length l.points - l.start

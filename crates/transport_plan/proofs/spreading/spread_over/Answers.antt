@@ -1,5 +1,5 @@
 -- The numbers of the groups are spent on their points, and what is dealt out has the assignment.
-use Rattle.std.proofs.Common.{◌≡◌, ◌==◌, ◌<◌, ◌*◌, ⊎_elim, ℕ, List, Bor, Some, true, length, sum, count_by, string_bytes, sym, ap, ◌∙◌, subst, arith}
+use Rattle.std.proofs.Common.{◌≡◌, ◌<◌, ◌*◌, ⊎_elim, ℕ, List, Bor, Some, true, length, sum, string_bytes, sym, ap, ◌∙◌, subst, arith}
 use Rattle.std.specs.List.{All, slice_index}
 use Rattle.std.specs.Map.{keys_of}
 use Rattle.std.proofs.lemmas.Bool.{cases_eq}
@@ -11,7 +11,7 @@ use Rattle.transport_instance.specs.Assignment.{HasAssignment, arc_flows, spends
 use Rattle.transport_instance.specs.Groups.{AreSizesBy, GroupKey, group_at, group_by, row_view, rows_view}
 use Rattle.transport_instance.proofs.Costs.{counted_at}
 use Rattle.transport_instance.proofs.Plans.{whole-sizes}
-use Rattle.transport_plan.specs.Dealing.{row, IsDealt}
+use Rattle.transport_plan.specs.Dealing.{IsDealt}
 use Rattle.transport_plan.proofs.Assigned.{group_within, group_points, has_assignment}
 use Rattle.transport_plan.proofs.Names.{apart}
 use Rattle.transport_plan.proofs.Numbers.{some_left}
@@ -21,51 +21,45 @@ use Rattle.transport_plan.proofs.spreading.spread_over.Goals as goal
 pub groups_of-requires-clause-whole : goal.groups_of-requires-clause-whole
 groups_of-requires-clause-whole c = c.requires.tally.whole
 
-shape : (groups : List ((Bor (List ℕ) × ℕ) × ℕ)) (names : ℕ) (numbers given : List ℕ) → given ≡ numbers → spends_all (rows_view groups) names numbers ≡ true → length given ≡ length groups * names
-shape groups names numbers given same spent = ap length same ∙ (spends_shape (rows_view groups) names numbers spent ∙ ap (λ n. n * names) (length-map groups row_view))
+shape : (groups : List ((Bor (List ℕ) × ℕ) × ℕ)) (names : ℕ) (numbers : List ℕ) → spends_all (rows_view groups) names numbers ≡ true → length numbers ≡ length groups * names
+shape groups names numbers spent = spends_shape (rows_view groups) names numbers spent ∙ ap (λ n. n * names) (length-map groups row_view)
 
 pub deal-requires-clause-shape : goal.deal-requires-clause-shape
-deal-requires-clause-shape c = shape c.args.groups.now (length c.args.names.now) c.args.numbers.items c.as_slice-numbers.result.now c.as_slice-numbers.ensures.value c.requires.spent
+deal-requires-clause-shape c = shape c.args.groups.now (length c.args.names.now) c.args.numbers.items c.requires.spent
 
 pub deal-requires-clause-groups : goal.deal-requires-clause-groups
 deal-requires-clause-groups c =
     let groups = c.args.groups.now in
-    let is = c.as_slice-points.ensures.value in
     let within = group_within c.args.old.now (slice_index c.args.counts.now) (rows_view groups) c.requires.sizes c.in_ok-points.points.items c.in_ok-points.ensures.many c.in_ok-points.ensures.grouped in
-    subst (λ n. All (λ g. g < n) c.as_slice-points.result.now) (length-map groups row_view) (subst (λ xs. All (λ g. g < length (rows_view groups)) xs) (sym is) within)
+    subst (λ n. All (λ g. g < n) c.in_ok-points.points.items) (length-map groups row_view) within
 
 pub deal-requires-clause-rows : goal.deal-requires-clause-rows
 deal-requires-clause-rows c = λ g below.
     let groups = c.args.groups.now in
     let here : g < length (rows_view groups) = omega (arith, below, length-map groups row_view) in
-    let counted = group_points c.args.old.now (slice_index c.args.counts.now) (rows_view groups) c.requires.sizes c.in_ok-points.points.items c.in_ok-points.ensures.many c.in_ok-points.ensures.grouped g (no_key, 0) here in
-    ap (λ xs. sum (row (length c.args.names.now) xs g)) c.as_slice-numbers.ensures.value
-    ∙ (spends_row (rows_view groups) (length c.args.names.now) c.args.numbers.items g (no_key, 0) c.requires.spent here ∙ (counted ∙ ap (count_by (λ p. p == g)) (sym c.as_slice-points.ensures.value)))
+    spends_row (rows_view groups) (length c.args.names.now) c.args.numbers.items g (no_key, 0) c.requires.spent here
+    ∙ group_points c.args.old.now (slice_index c.args.counts.now) (rows_view groups) c.requires.sizes c.in_ok-points.points.items c.in_ok-points.ensures.many c.in_ok-points.ensures.grouped g (no_key, 0) here
 
-whole : (old : Entries) (groups : List (GroupKey × ℕ)) (names : ℕ) (load : ℕ → ℕ) (numbers given points shown : List ℕ) → AreSizesBy old load groups → spends_all groups names numbers ≡ true → given ≡ numbers → length points ≡ total_weight old → shown ≡ points → sum given ≡ length shown
-whole old groups names load numbers given points shown sizes spent same many is =
-    ap sum same ∙ (spends_sum groups names numbers spent ∙ (whole-sizes old load groups sizes ∙ (sym many ∙ ap length (sym is))))
+whole : (old : Entries) (groups : List (GroupKey × ℕ)) (names : ℕ) (load : ℕ → ℕ) (numbers points : List ℕ) → AreSizesBy old load groups → spends_all groups names numbers ≡ true → length points ≡ total_weight old → sum numbers ≡ length points
+whole old groups names load numbers points sizes spent many = spends_sum groups names numbers spent ∙ (whole-sizes old load groups sizes ∙ sym many)
 
 pub deal-requires-clause-whole : goal.deal-requires-clause-whole
 deal-requires-clause-whole c =
-    whole c.args.old.now (rows_view c.args.groups.now) (length c.args.names.now) (slice_index c.args.counts.now) c.args.numbers.items c.as_slice-numbers.result.now c.in_ok-points.points.items c.as_slice-points.result.now c.requires.sizes c.requires.spent
-    c.as_slice-numbers.ensures.value c.in_ok-points.ensures.many c.as_slice-points.ensures.value
+    whole c.args.old.now (rows_view c.args.groups.now) (length c.args.names.now) (slice_index c.args.counts.now) c.args.numbers.items c.in_ok-points.points.items c.requires.sizes c.requires.spent c.in_ok-points.ensures.many
 
 -- no names have no numbers
-some_names : (groups names : ℕ) (given : List ℕ) → length given ≡ groups * names → 0 < sum given → 0 < names
-some_names groups names given shape some =
+some_names : (groups names : ℕ) (numbers : List ℕ) → length numbers ≡ groups * names → 0 < sum numbers → 0 < names
+some_names groups names numbers shape some =
     ⊎_elim
-    (λ (none : names ≡ 0). absurd (omega (arith, (some_left given some).1, shape, ap (λ n. groups * n) none)))
+    (λ (none : names ≡ 0). absurd (omega (arith, (some_left numbers some).1, shape, ap (λ n. groups * n) none)))
     (λ (not : names ≡ 0 → ⊥). omega (arith, not))
     (cases_eq names 0)
 
 pub deal-requires-clause-some : goal.deal-requires-clause-some
 deal-requires-clause-some c =
-    let sum_is = whole c.args.old.now (rows_view c.args.groups.now) (length c.args.names.now) (slice_index c.args.counts.now) c.args.numbers.items c.as_slice-numbers.result.now c.in_ok-points.points.items c.as_slice-points.result.now c.requires.sizes c.requires.spent
-    c.as_slice-numbers.ensures.value c.in_ok-points.ensures.many c.as_slice-points.ensures.value in
+    let sum_is = whole c.args.old.now (rows_view c.args.groups.now) (length c.args.names.now) (slice_index c.args.counts.now) c.args.numbers.items c.in_ok-points.points.items c.requires.sizes c.requires.spent c.in_ok-points.ensures.many in
     let total : 0 < total_weight c.args.old.now = omega (arith, c.total-total.ensures.value, c.total-total.ensures.allowed.some) in
-    some_names (length c.args.groups.now) (length c.args.names.now) c.as_slice-numbers.result.now (shape c.args.groups.now (length c.args.names.now) c.args.numbers.items c.as_slice-numbers.result.now c.as_slice-numbers.ensures.value c.requires.spent)
-    (omega (arith, sum_is, total, c.in_ok-points.ensures.many, ap length c.as_slice-points.ensures.value))
+    some_names (length c.args.groups.now) (length c.args.names.now) c.args.numbers.items (shape c.args.groups.now (length c.args.names.now) c.args.numbers.items c.requires.spent) (omega (arith, sum_is, total, c.in_ok-points.ensures.many))
 
 pub from_points-requires-clause-distinct : goal.from_points-requires-clause-distinct
 from_points-requires-clause-distinct c = apart (names_view c.args.names.now) c.requires.rise
@@ -82,13 +76,10 @@ returns-clause-assigned c =
     let numbers = c.args.numbers.items in
     let items = c.in_ok-items.items.items in
     let placed = c.in_ok-points.points.items in
-    let same = c.as_slice-points.ensures.value in
     let wide : length c.args.names.now ≡ length names = sym (length-map c.args.names.now string_bytes) in
-    let of_numbers : IsDealt (length groups) (length c.args.names.now) numbers c.as_slice-points.result.now items = subst (λ ns. IsDealt (length groups) (length c.args.names.now) ns c.as_slice-points.result.now items) c.as_slice-numbers.ensures.value c.in_ok-items.ensures.dealt in
-    let by_points : IsDealt (length groups) (length c.args.names.now) numbers placed items = subst (λ xs. IsDealt (length groups) (length c.args.names.now) numbers xs items) same of_numbers in
-    let by_groups : IsDealt (length (rows_view groups)) (length c.args.names.now) numbers placed items = subst (λ n. IsDealt n (length c.args.names.now) numbers placed items) (sym (length-map groups row_view)) by_points in
+    let by_groups : IsDealt (length (rows_view groups)) (length c.args.names.now) numbers placed items = subst (λ n. IsDealt n (length c.args.names.now) numbers placed items) (sym (length-map groups row_view)) c.in_ok-items.ensures.dealt in
     let dealt : IsDealt (length (rows_view groups)) (length names) numbers placed items = subst (λ n. IsDealt (length (rows_view groups)) n numbers placed items) wide by_groups in
     IfOk-weaker c.from_points.result (λ (r : Entries). points r ≡ names_at names c.as_slice.result.now) (λ (r : Entries). (inputs : List (List ℕ)) → c.args.counts.now ≡ counts_of inputs (total_weight old) → HasAssignment old r inputs (arc_flows (keys_of (rows_view groups)) names numbers))
     (λ r named inputs counted.
-    has_assignment old inputs (rows_view groups) placed c.in_ok-points.ensures.many (λ p below. c.in_ok-points.ensures.grouped p below ∙ group_same old inputs c.args.counts.now p counted below) names numbers items r dealt (c.in_ok-items.ensures.many ∙ ap length same) (named ∙ ap (names_at names) c.as_slice.ensures.value))
+    has_assignment old inputs (rows_view groups) placed c.in_ok-points.ensures.many (λ p below. c.in_ok-points.ensures.grouped p below ∙ group_same old inputs c.args.counts.now p counted below) names numbers items r dealt c.in_ok-items.ensures.many (named ∙ ap (names_at names) c.as_slice.ensures.value))
     c.from_points.ensures.named
