@@ -4,7 +4,7 @@ use Rattle.std.specs.BTreeMap.{insert_entry, is_at}
 use Rattle.std.specs.Bool.{MatchBool}
 use Rattle.std.specs.Borrow.{Bor}
 use Rattle.std.specs.Cmp.Lexicographic.{slice_cmp}
-use Rattle.std.specs.List.Sorted.{IsStrictlySortedBy}
+use Rattle.std.specs.List.Sorted.{IsPermutation, IsStrictlySortedBy}
 use Rattle.std.specs.Map.{keys_of, lookup, set_value}
 use Rattle.std.specs.Ordering.{nat_cmp, is_eq, on, match_ordering}
 use Rattle.std.specs.Str.{bytes_eq}
@@ -14,6 +14,7 @@ use Rattle.std.proofs.lemmas.Bool.Decides.{same_from_decides, Decides-like}
 use Rattle.std.proofs.lemmas.Cmp.{nat_list_cmp_total}
 use Rattle.std.proofs.lemmas.List.{drop_all}
 use Rattle.std.proofs.lemmas.List.Folds.{sum_by-replicate}
+use Rattle.std.proofs.lemmas.List.Sorted.{sum_by-IsPermutation}
 use Rattle.std.proofs.lemmas.List.Sums.{sum_by-cons, sum_by-append, get_or-le-sum_by}
 use Rattle.std.proofs.lemmas.Map.Text.{is_eq-slice_cmp}
 use Rattle.std.proofs.lemmas.Option.{none-some, same_Some, slice_get_read}
@@ -21,7 +22,6 @@ use Rattle.std.proofs.lemmas.Slice.Eq.{bytes_eq-Decides}
 use Rattle.bucket_core.specs.Rule.{Entries, total_weight, points, total_of, entry_view, entries_view}
 use Rattle.price_core.specs.Limits.{Limits, low_of, high_of, limit_view, limits_view}
 use Rattle.price_core.specs.declared.totals.Limit.{Limit}
-use Rattle.price_core.proofs.Inserts.{rise_seen}
 use Rattle.transport_instance.specs.Refusals.{KeepsLimits, BreaksLimit}
 use Rattle.transport_instance.specs.Rows.{whole_amount, AreTotals, total_in, totals_view}
 use Rattle.transport_instance.proofs.Joined.{passed, passed-cons, both_parts, lookup-amount}
@@ -30,7 +30,7 @@ use Rattle.transport_instance.proofs.Keys.{lookup-at, get-map}
 abbrev pub Lent : Type 0
 Lent = Bor (List ℕ) × ℕ
 
-same_text : (a b : List ℕ) → bytes_eq a b ≡ true → a ≡ b
+pub same_text : (a b : List ℕ) → bytes_eq a b ≡ true → a ≡ b
 same_text a b = (bytes_eq-Decides a b).0
 
 -- ---- the points whose name passes a test, entry by entry
@@ -55,6 +55,9 @@ name_cmp = on (λ (x : Bor (List ℕ)). x.now) (slice_cmp nat_cmp)
 abbrev pub has_name : List ℕ → Bor (List ℕ) → Bool
 has_name name = is_at (λ (k : Bor (List ℕ)). slice_cmp nat_cmp name k.now)
 
+pub has_same : (name : List ℕ) (b : Bor (List ℕ)) → has_name name b ≡ true → name ≡ b.now
+has_same name b is = same_text name b.now (sym (is_eq-slice_cmp name b.now) ∙ is)
+
 abbrev lent_view : Lent → List ℕ × ℕ
 lent_view r = (r.0.now, r.1)
 
@@ -63,27 +66,36 @@ found-le_by : (b : Bool) (r : Lent) (rs : List Lent) (o : Option ℕ) (total : �
 found-le_by true r rs o total later here = omega (arith, sum_by-cons (λ (x : Lent). x.1) r rs, same_Some r.1 total here)
 found-le_by false r rs o total later found = omega (arith, sum_by-cons (λ (x : Lent). x.1) r rs, later found)
 
-pub found-le : (name : List ℕ) (rows : List Lent) (total : ℕ) → lookup (has_name name) rows ≡ Some total → total ≤ whole_amount rows
-found-le name [] total found = absurd (none-some total found)
-found-le name (r ∷ rs) total found = found-le_by (has_name name r.0) r rs (lookup (has_name name) rs) total (found-le name rs total) found
+pub found-le : (has : Bor (List ℕ) → Bool) (rows : List Lent) (total : ℕ) → lookup has rows ≡ Some total → total ≤ whole_amount rows
+found-le has [] total found = absurd (none-some total found)
+found-le has (r ∷ rs) total found = found-le_by (has r.0) r rs (lookup has rs) total (found-le has rs total) found
 
 -- more points of a name that has a row
-passed-set_by : (test : List ℕ → Bool) (name : List ℕ) (r : Lent) (rs : List Lent) (total more : ℕ) (b : Bool)
-    → (lookup (has_name name) rs ≡ Some total → passed test (totals_view (set_value (has_name name) rs (total + more))) ≡ passed test (totals_view rs) + cond (test name) more 0)
-    → has_name name r.0 ≡ b → cond b (Some r.1) (lookup (has_name name) rs) ≡ Some total
-    → passed test (totals_view (cond b ((r.0, total + more) ∷ rs) (r ∷ set_value (has_name name) rs (total + more)))) ≡ passed test (totals_view (r ∷ rs)) + cond (test name) more 0
-passed-set_by test name r rs total more true later is here =
-    let same : name ≡ r.0.now = same_text name r.0.now (sym (is_eq-slice_cmp name r.0.now) ∙ is) in
-    let amount : cond (test r.0.now) r.1 0 ≡ cond (test r.0.now) total 0 = ap (λ (n : ℕ). let k : ℕ = cond (test r.0.now) n 0 in k) (same_Some r.1 total here) in
-    let moved : cond (test name) more 0 ≡ cond (test r.0.now) more 0 = ap (λ (n : List ℕ). let k : ℕ = cond (test n) more 0 in k) same in
-    omega (arith, passed-cons test (r.0.now, total + more) (totals_view rs), passed-cons test (lent_view r) (totals_view rs), both_parts (test r.0.now) total more, amount, moved)
-passed-set_by test name r rs total more false later is found =
-    omega (arith, passed-cons test (lent_view r) (totals_view rs), passed-cons test (lent_view r) (totals_view (set_value (has_name name) rs (total + more))), later found)
+module _ (test : List ℕ → Bool) (name : List ℕ) (has : Bor (List ℕ) → Bool) (only : (b : Bor (List ℕ)) → has b ≡ true → name ≡ b.now) where
+  passed-set_by : (r : Lent) (rs : List Lent) (total more : ℕ) (b : Bool)
+      → (lookup has rs ≡ Some total → passed test (totals_view (set_value has rs (total + more))) ≡ passed test (totals_view rs) + cond (test name) more 0)
+      → has r.0 ≡ b → cond b (Some r.1) (lookup has rs) ≡ Some total
+      → passed test (totals_view (cond b ((r.0, total + more) ∷ rs) (r ∷ set_value has rs (total + more)))) ≡ passed test (totals_view (r ∷ rs)) + cond (test name) more 0
+  passed-set_by r rs total more true later is here =
+      let amount : cond (test r.0.now) r.1 0 ≡ cond (test r.0.now) total 0 = ap (λ (n : ℕ). let k : ℕ = cond (test r.0.now) n 0 in k) (same_Some r.1 total here) in
+      let moved : cond (test name) more 0 ≡ cond (test r.0.now) more 0 = ap (λ (n : List ℕ). let k : ℕ = cond (test n) more 0 in k) (only r.0 is) in
+      omega (arith, passed-cons test (r.0.now, total + more) (totals_view rs), passed-cons test (lent_view r) (totals_view rs), both_parts (test r.0.now) total more, amount, moved)
+  passed-set_by r rs total more false later is found =
+      omega (arith, passed-cons test (lent_view r) (totals_view rs), passed-cons test (lent_view r) (totals_view (set_value has rs (total + more))), later found)
 
-pub passed-set : (test : List ℕ → Bool) (name : List ℕ) (rows : List Lent) (total more : ℕ) → lookup (has_name name) rows ≡ Some total
-    → passed test (totals_view (set_value (has_name name) rows (total + more))) ≡ passed test (totals_view rows) + cond (test name) more 0
-passed-set test name [] total more found = absurd (none-some total found)
-passed-set test name (r ∷ rs) total more found = passed-set_by test name r rs total more (has_name name r.0) (passed-set test name rs total more) refl found
+  pub passed-set : (rows : List Lent) (total more : ℕ) → lookup has rows ≡ Some total → passed test (totals_view (set_value has rows (total + more))) ≡ passed test (totals_view rows) + cond (test name) more 0
+  passed-set [] total more found = absurd (none-some total found)
+  passed-set (r ∷ rs) total more found = passed-set_by r rs total more (has r.0) (passed-set rs total more) refl found
+
+passed-lent : (test : List ℕ → Bool) (rows : List Lent) → passed test (totals_view rows) ≡ sum_by (λ (x : Lent). cond (test x.0.now) x.1 0) rows
+passed-lent test [] = refl
+passed-lent test (r ∷ rs) = omega (arith, passed-cons test (lent_view r) (totals_view rs), sum_by-cons (λ (x : Lent). cond (test x.0.now) x.1 0) r rs, passed-lent test rs)
+
+-- points of a name that has none, whose row goes somewhere
+pub passed-put : (test : List ℕ → Bool) (rows more : List Lent) (r : Lent) → IsPermutation (r ∷ rows) more → passed test (totals_view more) ≡ passed test (totals_view rows) + cond (test r.0.now) r.1 0
+passed-put test rows more r put =
+    let f : Lent → ℕ = λ x. cond (test x.0.now) x.1 0 in
+    omega (arith, passed-lent test more, sum_by-IsPermutation f (r ∷ rows) more put, sum_by-cons f r rows, passed-lent test rows)
 
 -- points of a name that has none
 passed-insert_by : (test : List ℕ → Bool) (r : Lent) (rs : List Lent) (name : Bor (List ℕ)) (more : ℕ) (o : Ordering)
@@ -132,13 +144,28 @@ sums_more rows more entries i e name inside is named sums added = λ test.
     let front = ap (λ es. passed test es) (rest_front entries i e inside is) ∙ passed-cons test (entry_view e) (entries_view (drop (i + 1) entries)) in
     omega (arith, sums test, added test, here, front)
 
-pub totals_summed : (rule : Entries) (entries : List (String Global × ℕ)) (rows : List Lent) (i : ℕ) → entries_view entries ≡ rule → length entries ≤ i → SumsUp rows (drop i entries) entries → IsStrictlySortedBy name_cmp (keys_of rows) → AreTotals rule (totals_view rows)
-totals_summed rule entries rows i is all sums rise = record {
-  rise = rise_seen (λ (b : Bor (List ℕ)). b.now) (slice_cmp nat_cmp) rows rise;
+-- rows and others are all
+abbrev pub AreAll : List Lent → List Lent → List Lent → Type 0
+AreAll rows left all = (test : List ℕ → Bool) → passed test (totals_view rows) + passed test (totals_view left) ≡ passed test (totals_view all)
+
+pub row_fits : (rows : List Lent) (r : Lent) (left all : List Lent) → AreAll rows (r ∷ left) all → whole_amount rows + r.1 ≤ whole_amount all
+row_fits rows r left all are = omega (arith, are (λ name. true), passed-cons (λ name. true) (lent_view r) (totals_view left), whole-lent rows, whole-lent all)
+
+pub row_added : (rows more : List Lent) (r : Lent) (left all : List Lent) → AreAll rows (r ∷ left) all → ((test : List ℕ → Bool) → passed test (totals_view more) ≡ passed test (totals_view rows) + cond (test r.0.now) r.1 0) → AreAll more left all
+row_added rows more r left all are added = λ test. omega (arith, are test, added test, passed-cons test (lent_view r) (totals_view left))
+
+pub totals_summed : (rule : Entries) (entries : List (String Global × ℕ)) (sums rows : List Lent) (i : ℕ) → entries_view entries ≡ rule → length entries ≤ i → SumsUp sums (drop i entries) entries
+    → IsStrictlySortedBy (slice_cmp nat_cmp) (keys_of (totals_view rows)) → ((test : List ℕ → Bool) → passed test (totals_view rows) ≡ passed test (totals_view sums)) → AreTotals rule (totals_view rows)
+totals_summed rule entries sums rows i is all whole rise same = record {
+  rise = rise;
   counts = λ test.
       let none : passed test (entries_view (drop i entries)) ≡ 0 = ap (λ es. passed test (entries_view es)) (drop_all i entries all) in
-      omega (arith, sums test, none) ∙ (ap (passed test) is ∙ passed-points test rule);
+      omega (arith, same test, whole test, none) ∙ (ap (passed test) is ∙ passed-points test rule);
 }
+
+-- all are summed up
+pub sums_all : (rows : List Lent) (entries : List (String Global × ℕ)) (i : ℕ) → length entries ≤ i → SumsUp rows (drop i entries) entries → whole_amount rows ≤ total_weight (entries_view entries)
+sums_all rows entries i all sums = omega (arith, sums (λ name. true), whole-lent rows)
 
 -- ---- what is listed of a name
 

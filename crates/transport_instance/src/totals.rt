@@ -11,10 +11,9 @@ ghost use Rattle.transport_instance.specs.Rows.{AreTotals, BreakHigh, BreakLow, 
 use bucket_core::Rule;
 use price_core::{Limit, Totals};
 use std::alloc::{AllocError, Global};
-use std::collections::BTreeMap;
+use std::collections::{BTreeMap, HashMap};
 
-/// Whether the total of each text is within its limits. It takes `O(n log k)` steps at n entries of k names, and `O(k)` for
-/// each name.
+/// Whether the total of each text is within its limits. It takes `O(n)` steps at n entries, and `O(k)` for each of k names.
 pub fn keeps_limits(alloc: Global, rule: &Rule, limits: &Totals) -> Result<bool, AllocError>
     ensures { IfOk result (λ kept. MatchBool kept (KeepsLimits rule.now limits.now) ((name : List ℕ) × BreaksLimit rule.now limits.now name)) }
 {
@@ -26,22 +25,57 @@ pub fn keeps_limits(alloc: Global, rule: &Rule, limits: &Totals) -> Result<bool,
     Ok(keeps_low(totals.as_slice(), limits))
 }
 
-/// The total of each name of a rule, by name. It takes `O(n log k)` steps at n entries of k names.
+/// The total of each name of a rule, by name. It takes `O(n + k log k)` steps at n entries of k names.
 pub(crate) fn totals<'a>(alloc: Global, rule: &'a Rule) -> Result<Vec<(&'a str, u32)>, AllocError>
     ensures { IfOk result (λ v. AreTotals rule.now (totals_view v.items)) }
 {
     // Called for what its contract says: no sum of a rule's weights is above 2^31-1.
     let _total = rule.total();
     let entries = rule.entries();
-    let mut by_name = BTreeMap::new(alloc);
+    let mut sums = HashMap::new(alloc);
     for (name, weight) in entries {
-        add_points(&mut by_name, name.as_str(), *weight as u32)?;
+        count_points(&mut sums, name.as_str(), *weight as u32)?;
+    }
+    by_name(alloc, sums)
+}
+
+/// The totals in the order of the names.
+fn by_name<'a>(
+    alloc: Global,
+    sums: HashMap<&'a str, u32>,
+) -> Result<Vec<(&'a str, u32)>, AllocError>
+    requires { whole_amount sums.entries < 2 ^ 32 }
+    ensures rise { IfOk result (λ v. IsStrictlySortedBy (slice_cmp nat_cmp) (keys_of (totals_view v.items))) }
+    ensures sums { IfOk result (λ v. (test : List ℕ → Bool) → sum_by (λ r. if test r.0 then r.1 else 0) (totals_view v.items)
+        ≡ sum_by (λ r. if test r.0 then r.1 else 0) (totals_view sums.entry.entries)) }
+{
+    let mut sorted = BTreeMap::new(alloc);
+    for (name, total) in sums {
+        add_points(&mut sorted, name, total)?;
     }
     let mut totals = Vec::new(alloc);
-    for total in by_name {
+    for total in sorted {
         totals.push(total)?;
     }
     Ok(totals)
+}
+
+/// Adds points to the sum of a name.
+fn count_points<'a>(
+    sums: &mut HashMap<&'a str, u32>,
+    name: &'a str,
+    points: u32,
+) -> Result<(), AllocError>
+    requires { whole_amount sums.old.entries + points < 2 ^ 32 }
+    ensures { OnOk result ((test : List ℕ → Bool) → sum_by (λ r. if test r.0 then r.1 else 0) (totals_view sums.new.entries)
+        ≡ sum_by (λ r. if test r.0 then r.1 else 0) (totals_view sums.old.entries) + (if test name.now then points else 0)) }
+{
+    if let Some(sum) = sums.get_mut(name) {
+        *sum += points;
+        return Ok(());
+    }
+    sums.insert(name, points)?;
+    Ok(())
 }
 
 /// Adds points to the total of a name.
