@@ -2,7 +2,7 @@
 ghost use Rattle.std.specs.List.{All};
 ghost use Rattle.std.specs.Prelude.{◌≡◌, ◌≤◌, ◌<◌, ◌*◌, ◌^◌, ℕ, IfOk, length, sum};
 
-use crate::stretches::{RANKS, Stretch};
+use crate::stretches::{RANKS, Stretch, other};
 use std::alloc::{AllocError, Global};
 
 /// The points of a group that change: all of a rank below this one, and of this rank so many more.
@@ -10,6 +10,8 @@ use std::alloc::{AllocError, Global};
 pub(crate) struct Limit {
     rank: usize,
     more: usize,
+    /// The first name that the group gives but its base.
+    other: usize,
 }
 
 impl Limit {
@@ -54,9 +56,11 @@ pub(crate) fn limits_of(
     let mut limits = Vec::with_capacity(alloc, bases.len())?;
     for (group, base) in bases.iter().enumerate() {
         let start = group * names;
+        let row = &numbers[start..start + names];
         limits.push(Limit {
             rank: 0,
-            more: others(&numbers[start..start + names], *base),
+            more: others(row, *base),
+            other: other(row, *base),
         })?;
     }
     let (sizes, ranks) = ranks_of(alloc, points, numbers, bases, names, limits.as_slice())?;
@@ -103,7 +107,7 @@ fn ranks_of(
             let stretch = Stretch::first(&points[start..], bases, before);
             let group = stretch.group;
             let row = group * names;
-            let rank = stretch.rank(&numbers[row..row + names]);
+            let rank = stretch.rank(&numbers[row..row + names], limits[group].other);
             ranks.push(rank as u8)?;
             sizes[group * RANKS + rank] += stretch.points as u32;
             start += stretch.points;
@@ -122,23 +126,20 @@ fn raise(limits: &mut [Limit], sizes: &[u32])
     for (group, limit) in limits.iter_mut().enumerate() {
         if limit.has_any() {
             let start = group * RANKS;
-            *limit = reached(&sizes[start..start + RANKS], limit.more);
+            (limit.rank, limit.more) = reached(&sizes[start..start + RANKS], limit.more);
         }
     }
 }
 
-/// The limit where so many points of the sizes change.
-fn reached(sizes: &[u32], points: usize) -> Limit {
+/// The rank up to which so many points of the sizes change, and how many more of this rank.
+fn reached(sizes: &[u32], points: usize) -> (usize, usize) {
     let mut more = points;
     for (rank, size) in sizes.iter().enumerate() {
         let size = *size as usize;
         if size > more {
-            return Limit { rank, more };
+            return (rank, more);
         }
         more -= size;
     }
-    Limit {
-        rank: sizes.len(),
-        more,
-    }
+    (sizes.len(), more)
 }

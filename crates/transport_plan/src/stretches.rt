@@ -1,6 +1,6 @@
 //! Stretches: points in a row of one group, and how many entries a change of their name takes from a rule or adds to it.
 ghost use Rattle.std.specs.List.{All, prefix_len};
-ghost use Rattle.std.specs.Prelude.{◌≡◌, ◌==◌, ◌≤◌, ◌<◌, ℕ, length, sum, slice_index};
+ghost use Rattle.std.specs.Prelude.{◌≡◌, ◌==◌, ◌≤◌, ◌<◌, ℕ, IfSome, length, sum, slice_index};
 
 /// A stretch, and the names around it, as indices.
 #[derive(Clone, Copy)]
@@ -58,25 +58,38 @@ impl Stretch {
         requires after { self.now.after < length row.now }
         ensures within { result < length row.now }
     {
+        match self.neighbour(row) {
+            Some(name) => name,
+            None => other(row, self.base),
+        }
+    }
+
+    /// The name of a neighbour, if it is another than the base and the group gives it.
+    fn neighbour(&self, row: &[u32]) -> Option<usize>
+        requires before { self.now.before < length row.now }
+        requires after { self.now.after < length row.now }
+        ensures within { IfSome result (λ name. name < length row.now) }
+    {
         if self.before != self.base && row[self.before] > 0 {
-            return self.before;
+            return Some(self.before);
         }
         if self.after != self.base && row[self.after] > 0 {
-            return self.after;
+            return Some(self.after);
         }
-        other(row, self.base)
+        None
     }
 
     /// Its rank among those of the group, the first of which are to change first: by how many entries a change adds, and
-    /// then the shortest first where it takes entries away, the longest first where it adds any.
-    pub(crate) fn rank(&self, row: &[u32]) -> usize
-        requires base { self.now.base < length row.now }
+    /// then the shortest first where it takes entries away, the longest first where it adds any. The other name is the first
+    /// that the group gives.
+    pub(crate) fn rank(&self, row: &[u32], other: usize) -> usize
         requires before { self.now.before < length row.now }
         requires after { self.now.after < length row.now }
         ensures below { result < RANKS }
     {
         let length = length_class(self.points);
-        let added = 2 + self.ends(self.wish(row)) - self.ends(self.base);
+        let name = self.neighbour(row).unwrap_or(other);
+        let added = 2 + self.ends(name) - self.ends(self.base);
         if added < 2 {
             added * LENGTHS + length
         } else if added > 2 {
