@@ -2,6 +2,7 @@ pub mod Extents
 pub mod Flat
 pub mod Found
 pub mod Lending
+pub mod OnlyTexts
 pub mod Literal
 pub mod Readings
 pub mod Texted

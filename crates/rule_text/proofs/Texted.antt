@@ -12,7 +12,7 @@ use Rattle.serde_json.specs.Read.{max_depth, of_json, of_items, read}
 use Rattle.flag_text.specs.Reading.{items_shape, if_json, if_whole, tree_of}
 use Rattle.flag_text.specs.Shape.{list, items_levels, items_have_other}
 use Rattle.flag_text.proofs.Readings.{doc_of-utf8}
-use Rattle.rule_text.specs.Texts.{AreTexts, text_items, texts_then, texts_view}
+use Rattle.rule_text.specs.Texts.{AreTexts, AreTokensOf, text_items, texts_then, texts_view}
 use Rattle.rule_text.proofs.Literal.{flat_tree}
 
 -- ---- a turn of the loop
@@ -41,7 +41,7 @@ all_read n ts r enough e = items_end (value 126) n ts r enough e
 
 -- ---- the whole text
 
-abbrev text_data : List (List ℕ) → parsed.Items
+abbrev pub text_data : List (List ℕ) → parsed.Items
 text_data [] = parsed.no_items
 text_data (s ∷ ss) = parsed.item (parsed.string s) (text_data ss)
 
@@ -63,16 +63,10 @@ data_read text ts ss begins e =
     let opened : value max_depth (tokens text) ≡ Some (json.array js, []) = ap (value max_depth) begins ∙ value-begin_array max_depth ts (omega arith) ∙ ap (parse_map json.array) e in
     ap (λ o. option_and_then of_json (option_and_then (λ p. json.if_last p.0 p.1) o)) opened ∙ rw (data_of ss) refl
 
-all_texts : (bytes text : List ℕ) (limit : ℕ) (ts : List Token) (ss : List (List ℕ)) → length bytes ≤ limit → text ≡ bytes → IsUtf8 bytes → tokens text ≡ Token.begin_array ∷ ts
-    → items (value 126) (length ts) ts ≡ Some (texts_then ss json.no_items, []) → AreTexts bytes limit ss
-all_texts bytes text limit ts ss within same utf8 begins e =
+-- the tokens of a list of texts are those of bytes that are one
+pub all_texts : (bytes : List ℕ) (limit : ℕ) (ss : List (List ℕ)) → length bytes ≤ limit → IsUtf8 bytes → AreTokensOf ss (tokens bytes) → AreTexts bytes limit ss
+all_texts bytes limit ss within utf8 are =
     let t = list (text_items ss) in
     let f = flat ss in
-    let read_as : read bytes ≡ Some (parsed.array (text_data ss)) = ap read (sym same) ∙ data_read text ts ss begins e in
+    let read_as = data_read bytes are.0 ss are.1 are.2 in
     ap if_whole (doc_of-utf8 bytes limit within utf8 ∙ ap if_json read_as) ∙ ap (λ ts. if_whole (Ok (list ts))) (shape_of_texts ss) ∙ flat_tree t (omega (arith, f.0)) f.1
-
-pub texts_of : {V : Type 0} (found : Option V) (view : V → List (List ℕ)) (bytes text : List ℕ) (limit : ℕ) (ts rest : List Token) → length bytes ≤ limit → text ≡ bytes → IsUtf8 bytes
-    → tokens text ≡ Token.begin_array ∷ ts → rest ≡ [] → IfSome found (λ v. items (value 126) (length ts) ts ≡ Some (texts_then (view v) json.no_items, rest)) → IfSome found (λ v. AreTexts bytes limit (view v))
-texts_of None view bytes text limit ts rest within same utf8 begins none e = e
-texts_of (Some v) view bytes text limit ts rest within same utf8 begins none e =
-    all_texts bytes text limit ts (view v) within same utf8 begins (e ∙ ap (λ r. Some (texts_then (view v) json.no_items, r)) none)

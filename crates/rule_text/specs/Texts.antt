@@ -1,7 +1,8 @@
 -- A list of texts.
-use Rattle.std.specs.Prelude.{◌≡◌, ℕ, List, [], ◌∷◌, Ok, map}
+use Rattle.std.specs.Prelude.{◌≡◌, ℕ, List, [], ◌∷◌, length, Some, Ok, map}
 use Rattle.std.specs.Borrow.{Bor}
 use Rattle.json.specs.Json as json
+use Rattle.json.specs.Token.{Token}
 use Rattle.flag_text.specs.Reading.{tree_of}
 use Rattle.flag_text.specs.Shape.{list, text, Items, no_items, item}
 
@@ -22,3 +23,7 @@ texts_view ss = map (λ s. s.now) ss
 abbrev pub texts_then : List (List ℕ) → json.Items → json.Items
 texts_then [] js = js
 texts_then (s ∷ ss) js = json.item (json.string s) (texts_then ss js)
+
+-- the tokens are those of a list of just these texts
+abbrev pub AreTokensOf : List (List ℕ) → List Token → Type 0
+AreTokensOf ss ts = (rest : List Token) × (ts ≡ Token.begin_array ∷ rest) × (json.items (json.value 126) (length rest) rest ≡ Some (texts_then ss json.no_items, []))

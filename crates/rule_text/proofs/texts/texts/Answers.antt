@@ -2,6 +2,7 @@ use Rattle.std.proofs.Common.{◌≡◌, ◌-◌, ◌<◌, ◌∷◌, length, No
 use Rattle.json.specs.Json.{parse_map, after_end_array, items, value}
 use Rattle.json.specs.Token.{Token}
 use Rattle.rule_text.specs.Texts.{texts_then, texts_view}
+use Rattle.rule_text.proofs.OnlyTexts.{next_apart, rest_of}
 use Rattle.rule_text.proofs.Texted.{none_before, one_more, one_more_before, all_read}
 use Rattle.rule_text.proofs.texts.texts.Goals as goal
 
@@ -14,18 +15,27 @@ pub texts-preserved : goal.texts-preserved
 texts-preserved c =
     let l = c.texts in
     let n = l.invariant.0 in
-    let s = c.in-Some-String.text in
-    let r = c.next.new.self in
+    let s = c.in-Some.text in
+    let r = c.next_text.new.reader in
     let going : (after_end_array l.reader ≡ None) × (c.take_end_array.new.self ≡ l.reader) = grind arith in
-    let next : c.take_end_array.new.self ≡ Token.string s.now ∷ r = grind arith in
+    let next : c.take_end_array.new.self ≡ Token.string s.now ∷ r = c.in-Some.ensures in
     let here : l.reader ≡ Token.string s.now ∷ r = sym going.1 ∙ next in
     let some : 0 < n = omega (arith, l.invariant.1, ap length here) in
     let turn = ap (items (value 126) n) here ∙ one_more n s.now r some in (
       n - 1,
       omega (arith, l.invariant.1, ap length here),
       l.invariant.2 ∙ ap (parse_map (texts_then (texts_view l.found.items))) turn ∙ one_more_before l.found.items s _
-          ∙ ap (λ vs. parse_map (texts_then (texts_view vs)) (items (value 126) (n - 1) r)) (sym c.in_ok-push.ensures.items),
+          ∙ ap (λ vs. parse_map (texts_then (texts_view vs)) (items (value 126) (n - 1) r)) (sym c.in_ok-push-in-Some.ensures.items),
     )
+
+-- what comes next is no text
+pub returns-in-None : goal.returns-in-None
+returns-in-None c = λ texts rest are.
+    let l = c.texts in
+    let n = l.invariant.0 in
+    let going : (after_end_array l.reader ≡ None) × (c.take_end_array.new.self ≡ l.reader) = grind arith in
+    let left = rest_of (texts_view l.found.items) texts (items (value 126) n l.reader) rest (sym l.invariant.2 ∙ are) in
+    next_apart n l.reader going.0 (λ s more is. c.in-None.ensures s more (going.1 ∙ is)) left.0 rest left.1
 
 pub returns : goal.returns
 returns c =
