@@ -1,23 +1,23 @@
 //! The command `price`: what a new rule costs the keys of a file.
-ghost use Rattle.std.specs.Prelude.{◌≡◌, ◌<◌, ◌≤◌, ◌^◌, ◌++◌, ◌||◌, [], ◌∷◌, false, true, is_some, length, pos, if◌then◌else◌, IfOk, IfSome, codes, decimal, map, string_bytes};
+ghost use Rattle.std.specs.Prelude.{◌≡◌, ℕ, List, Result, ◌<◌, ◌≤◌, ◌^◌, ◌++◌, ◌||◌, [], ◌∷◌, false, true, is_some, length, pos, if◌then◌else◌, IfOk, IfSome, codes, decimal, map, string_bytes};
 ghost use Rattle.std.specs.List.Sorted.{IsPermutation, IsSorted};
 ghost use Rattle.bucket_core.specs.Rule.{total_weight};
 ghost use Rattle.flag_text.specs.Shape.{members_are_whole, object, whole};
-ghost use Rattle.flag_text.specs.View.{view, items_view};
-ghost use Rattle.flagops_commands.specs.Price.{request_at, keys_of, keys_in, if_keys, texts_of, are_short, are_taken, exposed, price_report, weighed, weighed_keys, with_doubt, price_json, price_lines, price_members, price_text, number_or_null, total_lines, total_members, forbidden_line, cost_line};
+ghost use Rattle.flagops_commands.specs.Price.{request_at, keys_of, are_short, are_taken, exposed, price_report, weighed, weighed_keys, with_doubt, price_json, price_lines, price_members, price_text, number_or_null, total_lines, total_members, forbidden_line, cost_line};
 ghost use Rattle.flagops_commands.specs.Calls.{loads_keys, loads_request, notes_keys, price_calls, price_itself, weighs_keys};
 ghost use Rattle.flagops_files.specs.Files.{load_of};
 ghost use Rattle.flagops_files.specs.Loading.{◌>>=◌, refused_by, max_text};
 ghost use Rattle.flagops_files.specs.Refusal.{ComesFrom, GivesUnlessWant, is_file_fault};
-ghost use Rattle.flagops_files.specs.Report.{outcome_view};
+ghost use Rattle.flagops_files.specs.Report.{Report, outcome_view};
 ghost use Rattle.flagops_files.specs.declared.refusal.PriceMismatch.TheVariants.{BadKeys};
+ghost use Rattle.flagops_files.specs.declared.refusal.Refusal.{Refusal as SpecRefusal};
 ghost use Rattle.flagops_files.specs.declared.refusal.Refusal.TheVariants.{Load, Price, ReadRequest};
 ghost use Rattle.flagops_files.specs.Told.{NamesSubject, Says, TellsOf, TellsOfOne, file, word};
 ghost use Rattle.flagops_commands.specs.Subjects.{is_of_keys, is_of_rules, old_weights, price_subjects};
 ghost use Rattle.flagops_remarks.specs.Named.{Names};
 ghost use Rattle.book_core.specs.Page.{bytes_cmp};
 ghost use Rattle.price_core.specs.Request.{asked_of};
-ghost use Rattle.rule_text.specs.Texts.{texts_view};
+ghost use Rattle.rule_text.specs.Texts.{AreTexts, texts_view};
 
 use crate::rollouts::doubts::unread;
 use crate::rules::totals::totals_by_name;
@@ -141,7 +141,7 @@ fn load_keys<F: FileSet>(alloc: Global, files: &mut F, path: &str) -> Result<Vec
 }
 
 /// What the change costs the keys that the bytes of a file stand for. A tree is made of them only where they are no list of
-/// texts, so that it is told what they are.
+/// texts, to tell what they are.
 fn weigh_file<R: Threads + Sync>(
     rt: &R,
     alloc: Global,
@@ -160,7 +160,7 @@ fn weigh_file<R: Threads + Sync>(
     let mut scratch = Scratch::new(alloc);
     match read_texts(alloc, bytes, TEXT_LIMIT as usize, &mut scratch) {
         Ok(Some(keys)) => weigh_keys(rt, alloc, path, keys, old, new, prices, json),
-        Ok(None) => weigh_tree(rt, alloc, path, bytes, old, new, prices, json),
+        Ok(None) => refuse_keys(alloc, path, bytes),
         Err(AllocError) => Err(Refused {
             refusal: Refusal::WantOfMemory(Call::Price),
             remark: Remark::Short,
@@ -168,30 +168,49 @@ fn weigh_file<R: Threads + Sync>(
     }
 }
 
-/// The same, by the tree of the bytes.
-fn weigh_tree<R: Threads + Sync>(
-    rt: &R,
-    alloc: Global,
-    path: &str,
-    bytes: &[u8],
-    old: &Rule,
-    new: &Rule,
-    prices: &Prices,
-    json: bool,
-) -> Result<Outcome, Refused>
-    ensures exact { GivesUnlessWant outcome_view result (keys_of bytes.now >>= λ keys. weighed_keys json old.now new.now prices.now keys) }
-    ensures calls { ComesFrom weighs_keys result }
+/// The refusal of bytes that are no list of texts.
+#[tactic(auto, using(flagops_files::proofs::Told::says))]
+fn refuse_keys(alloc: Global, path: &str, bytes: &[u8]) -> Result<Outcome, Refused>
+    requires { (texts : List (List ℕ)) → ¬ (AreTexts bytes.now max_text texts) }
+    ensures exact { (next : List (List ℕ) → Result Report SpecRefusal) → GivesUnlessWant outcome_view result (keys_of bytes.now >>= next) }
+    ensures calls { ComesFrom loads_keys result }
     ensures read { is_file_fault result ≡ false }
-    ensures names { TellsOfOne ((file path.now, is_of_keys) ∷ (word old_weights, is_of_rules) ∷ []) result }
+    ensures names { TellsOfOne ((file path.now, is_of_keys) ∷ []) result }
 {
-    let keys = tree_keys(alloc, path, bytes)?;
-    match lent(alloc, keys.as_slice()) {
-        Ok(keys) => weigh_keys(rt, alloc, path, keys, old, new, prices, json),
-        Err(AllocError) => Err(Refused {
-            refusal: Refusal::WantOfMemory(Call::Price),
-            remark: Remark::Short,
+    let limit = TEXT_LIMIT as usize;
+    match read_tree(alloc, bytes, limit) {
+        Ok(tree) => Err(no_keys(alloc, path, &tree)),
+        Err(fault) => Err(Refused {
+            refusal: Refusal::ReadTree(fault),
+            remark: Remark::of(of_text(alloc, path, bytes, limit, fault)),
         }),
     }
+}
+
+/// The refusal of a tree that is no list of texts.
+#[tactic(auto, using(flagops_files::proofs::Told::says))]
+fn no_keys(alloc: Global, path: &str, tree: &Tree) -> Refused
+    ensures refusal { result.refusal ≡ Price BadKeys }
+    ensures names { Says (NamesSubject (file path.now)) result.remark }
+{
+    let (place, value) = other_than_text(tree);
+    Refused {
+        refusal: Refusal::Price(PriceMismatch::BadKeys),
+        remark: Remark::of(of_keys(alloc, path, place, value)),
+    }
+}
+
+/// The first item that is no text, with its place; the tree itself where it is no list.
+fn other_than_text(tree: &Tree) -> (Option<usize>, &Tree) {
+    let Some(items) = tree.as_list() else {
+        return (None, tree);
+    };
+    for (place, item) in items.iter().enumerate() {
+        if item.as_text().is_none() {
+            return (Some(place), item);
+        }
+    }
+    (None, tree)
 }
 
 /// The texts, where they lie.
@@ -203,70 +222,6 @@ fn lent(alloc: Global, texts: &[String]) -> Result<Vec<&str>, AllocError>
         lent.push(text.as_str())?;
     }
     Ok(lent)
-}
-
-/// The keys of the tree of the bytes.
-#[tactic(auto, using(flagops_files::proofs::Told::says))]
-fn tree_keys(alloc: Global, path: &str, bytes: &[u8]) -> Result<Vec<String>, Refused>
-    ensures exact { GivesUnlessWant (λ v. map string_bytes v.items) result (keys_of bytes.now) }
-    ensures calls { ComesFrom loads_keys result }
-    ensures read { is_file_fault result ≡ false }
-    ensures names { TellsOfOne ((file path.now, is_of_keys) ∷ []) result }
-{
-    let limit = TEXT_LIMIT as usize;
-    match read_tree(alloc, bytes, limit) {
-        Ok(tree) => keys_in(alloc, path, tree),
-        Err(fault) => Err(Refused {
-            refusal: Refusal::ReadTree(fault),
-            remark: Remark::of(of_text(alloc, path, bytes, limit, fault)),
-        }),
-    }
-}
-
-fn keys_in(alloc: Global, path: &str, tree: Tree) -> Result<Vec<String>, Refused>
-    ensures exact { GivesUnlessWant (λ v. map string_bytes v.items) result (keys_in (view tree)) }
-    ensures calls { ComesFrom price_itself result }
-    ensures read { is_file_fault result ≡ false }
-    ensures names { TellsOfOne ((file path.now, is_of_keys) ∷ []) result }
-{
-    match tree {
-        Tree::List(items) => texts_of(alloc, path, items),
-        other => Err(no_keys(alloc, path, None, &other)),
-    }
-}
-
-fn texts_of(alloc: Global, path: &str, items: Vec<Tree>) -> Result<Vec<String>, Refused>
-    ensures exact { GivesUnlessWant (λ v. map string_bytes v.items) result (if_keys (texts_of (items_view items.items))) }
-    ensures calls { ComesFrom price_itself result }
-    ensures read { is_file_fault result ≡ false }
-    ensures names { TellsOfOne ((file path.now, is_of_keys) ∷ []) result }
-{
-    let mut texts = Vec::new(alloc);
-    for item in items {
-        let text = match item {
-            Tree::Text(text) => text,
-            other => return Err(no_keys(alloc, path, Some(texts.len()), &other)),
-        };
-        if let Err(AllocFailed { .. }) = texts.push(text) {
-            return Err(Refused {
-                refusal: Refusal::WantOfMemory(Call::Price),
-                remark: Remark::Short,
-            });
-        }
-    }
-    Ok(texts)
-}
-
-/// The refusal of a value that is no list of keys, or that is no key at a place in it.
-#[tactic(auto, using(flagops_files::proofs::Told::says))]
-fn no_keys(alloc: Global, path: &str, place: Option<usize>, value: &Tree) -> Refused
-    ensures refusal { result.refusal ≡ Price BadKeys }
-    ensures names { Says (NamesSubject (file path.now)) result.remark }
-{
-    Refused {
-        refusal: Refusal::Price(PriceMismatch::BadKeys),
-        remark: Remark::of(of_keys(alloc, path, place, value)),
-    }
 }
 
 /// What the change costs the keys of the file at a path, each of which pays once. Where a page would refuse none of them
