@@ -173,9 +173,9 @@ fn weigh_file<R: Threads + Sync>(
 fn refuse_keys(alloc: Global, path: &str, bytes: &[u8]) -> Result<Outcome, Refused>
     requires { (texts : List (List ℕ)) → ¬ (AreTexts bytes.now max_text texts) }
     ensures exact { (next : List (List ℕ) → Result Report SpecRefusal) → GivesUnlessWant outcome_view result (keys_of bytes.now >>= next) }
-    ensures calls { ComesFrom loads_keys result }
+    ensures calls { ComesFrom weighs_keys result }
     ensures read { is_file_fault result ≡ false }
-    ensures names { TellsOfOne ((file path.now, is_of_keys) ∷ []) result }
+    ensures names { TellsOfOne ((file path.now, is_of_keys) ∷ (word old_weights, is_of_rules) ∷ []) result }
 {
     let limit = TEXT_LIMIT as usize;
     match read_tree(alloc, bytes, limit) {
