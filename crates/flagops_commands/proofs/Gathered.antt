@@ -186,4 +186,4 @@ pub exposed-moved : (keys sorted : List (Bor (List ℕ))) → are_taken keys ≡
 exposed-moved keys sorted passes same =
     let texts = texts_view keys in
     let taken = taken_texts keys passes in
-    exposed-gathered texts taken.0 taken.1 ∙ ap Ok (gathered-moved texts (texts_view sorted) (IsPermutation-texts_view keys sorted same))
+    exposed-gathered texts taken.0 taken.1 ∙ ap Ok (gathered-moved texts (texts_view sorted) (IsPermutation-map now keys sorted same))

@@ -50,12 +50,6 @@ keys_in t = if_keys (option_and_then texts_of (as_list t))
 abbrev pub keys_of : List ℕ → Result Inputs Refusal
 keys_of bytes = refused_by ReadTree (tree_of bytes max_text) >>= keys_in
 
--- the keys of the file at a path
-unfoldable pub keys_at : Holding → List ℕ → Result Inputs Refusal
-keys_at at path = do
-  bytes ← refused_by Load (load_of at path max_text)
-  keys_of bytes
-
 -- ---- what is noted
 
 -- the page on which the keys are noted
@@ -136,11 +130,15 @@ weighed json old new pricing inputs =
 abbrev pub weighed_keys : Bool → Entries → Entries → Pricing → Inputs → Result Report Refusal
 weighed_keys json old new pricing keys = exposed keys >>= λ inputs. weighed json old new pricing inputs
 
+-- the same of the bytes of a key file
+unfoldable pub weighed_bytes : Bool → Entries → Entries → Pricing → List ℕ → Result Report Refusal
+weighed_bytes json old new pricing bytes = keys_of bytes >>= λ keys. weighed_keys json old new pricing keys
+
 -- what the command reports, its files read in the order of the words, and whether a person is told of a doubt beside it
 unfoldable pub price_report : Holding → List ℕ → List ℕ → List ℕ → List ℕ → Bool → Result Report Refusal
 price_report at old new request keys json = do
   o ← rule_at at old
   n ← rule_at at new
   a ← request_at at request
-  ks ← keys_at at keys
-  beside a.1 (weighed_keys json o n a.0.prices ks)
+  bytes ← refused_by Load (load_of at keys max_text)
+  beside a.1 (weighed_bytes json o n a.0.prices bytes)

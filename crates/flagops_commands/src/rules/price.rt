@@ -1,21 +1,22 @@
 //! The command `price`: what a new rule costs the keys of a file.
-ghost use Rattle.std.specs.Prelude.{◌≡◌, ℕ, List, Result, ◌<◌, ◌≤◌, ◌^◌, ◌++◌, ◌||◌, [], ◌∷◌, false, true, is_some, length, pos, if◌then◌else◌, IfOk, IfSome, codes, decimal, map, string_bytes};
+ghost use Rattle.std.specs.Prelude.{◌≡◌, ℕ, Bool, List, ◌<◌, ◌≤◌, ◌^◌, ◌++◌, ◌||◌, [], ◌∷◌, false, true, is_some, length, pos, if◌then◌else◌, IfOk, IfSome, codes, decimal, map, string_bytes};
 ghost use Rattle.std.specs.List.Sorted.{IsPermutation, IsSorted};
-ghost use Rattle.bucket_core.specs.Rule.{total_weight};
+ghost use Rattle.bucket_core.specs.Rule.{Entries, total_weight};
 ghost use Rattle.flag_text.specs.Shape.{members_are_whole, object, whole};
-ghost use Rattle.flagops_commands.specs.Price.{request_at, keys_of, are_short, are_taken, exposed, price_report, weighed, weighed_keys, with_doubt, price_json, price_lines, price_members, price_text, number_or_null, total_lines, total_members, forbidden_line, cost_line};
+ghost use Rattle.flag_text.specs.View.{view};
+ghost use Rattle.flagops_commands.specs.Price.{request_at, are_short, are_taken, exposed, price_report, weighed, weighed_bytes, weighed_keys, with_doubt, price_json, price_lines, price_members, price_text, number_or_null, total_lines, total_members, forbidden_line, cost_line};
 ghost use Rattle.flagops_commands.specs.Calls.{loads_keys, loads_request, notes_keys, price_calls, price_itself, weighs_keys};
 ghost use Rattle.flagops_files.specs.Files.{load_of};
-ghost use Rattle.flagops_files.specs.Loading.{◌>>=◌, refused_by, max_text};
+ghost use Rattle.flagops_files.specs.Loading.{refused_by, max_text};
 ghost use Rattle.flagops_files.specs.Refusal.{ComesFrom, GivesUnlessWant, is_file_fault};
-ghost use Rattle.flagops_files.specs.Report.{Report, outcome_view};
+ghost use Rattle.flagops_files.specs.Report.{outcome_view};
 ghost use Rattle.flagops_files.specs.declared.refusal.PriceMismatch.TheVariants.{BadKeys};
-ghost use Rattle.flagops_files.specs.declared.refusal.Refusal.{Refusal as SpecRefusal};
 ghost use Rattle.flagops_files.specs.declared.refusal.Refusal.TheVariants.{Load, Price, ReadRequest};
 ghost use Rattle.flagops_files.specs.Told.{NamesSubject, Says, TellsOf, TellsOfOne, file, word};
 ghost use Rattle.flagops_commands.specs.Subjects.{is_of_keys, is_of_rules, old_weights, price_subjects};
 ghost use Rattle.flagops_remarks.specs.Named.{Names};
 ghost use Rattle.book_core.specs.Page.{bytes_cmp};
+ghost use Rattle.price_core.specs.Pricing.{Pricing};
 ghost use Rattle.price_core.specs.Request.{asked_of};
 ghost use Rattle.rule_text.specs.Texts.{AreTexts, texts_view};
 
@@ -46,7 +47,7 @@ struct NotedRequest {
 
 /// The totals of the new rule's names, the first forbidden point, and what the change costs the
 /// keys, a line each or with `json` as one JSON text. What is doubted of the request is told.
-#[tactic(auto, unfolding(crate::specs::Price::price_report, crate::specs::Price::keys_at))]
+#[tactic(auto, unfolding(crate::specs::Price::price_report))]
 pub fn price<R: Threads + Sync, F: FileSet>(
     rt: &R,
     alloc: Global,
@@ -70,7 +71,7 @@ pub fn price<R: Threads + Sync, F: FileSet>(
     let path = keys;
     let keys = load_keys(alloc, files, path)?;
     let prices = request.prices();
-    let outcome = weigh_file(rt, alloc, path, keys.as_slice(), &old, &new, prices, json)?;
+    let outcome = weigh_file(rt, alloc, path, keys, &old, &new, prices, json)?;
     Ok(beside(outcome, remark))
 }
 
@@ -146,17 +147,18 @@ fn weigh_file<R: Threads + Sync>(
     rt: &R,
     alloc: Global,
     path: &str,
-    bytes: &[u8],
+    bytes: Vec<u8>,
     old: &Rule,
     new: &Rule,
     prices: &Prices,
     json: bool,
 ) -> Result<Outcome, Refused>
-    ensures exact { GivesUnlessWant outcome_view result (keys_of bytes.now >>= λ keys. weighed_keys json old.now new.now prices.now keys) }
+    ensures exact { GivesUnlessWant outcome_view result (weighed_bytes json old.now new.now prices.now bytes.items) }
     ensures calls { ComesFrom weighs_keys result }
     ensures read { is_file_fault result ≡ false }
     ensures names { TellsOfOne ((file path.now, is_of_keys) ∷ (word old_weights, is_of_rules) ∷ []) result }
 {
+    let bytes = bytes.as_slice();
     let mut scratch = Scratch::new(alloc);
     match read_texts(alloc, bytes, TEXT_LIMIT as usize, &mut scratch) {
         Ok(Some(keys)) => weigh_keys(rt, alloc, path, keys, old, new, prices, json),
@@ -169,10 +171,10 @@ fn weigh_file<R: Threads + Sync>(
 }
 
 /// The refusal of bytes that are no list of texts.
-#[tactic(auto, using(flagops_files::proofs::Told::says))]
+#[tactic(auto, using(flagops_files::proofs::Told::says), unfolding(crate::specs::Price::weighed_bytes))]
 fn refuse_keys(alloc: Global, path: &str, bytes: &[u8]) -> Result<Outcome, Refused>
     requires { (texts : List (List ℕ)) → ¬ (AreTexts bytes.now max_text texts) }
-    ensures exact { (next : List (List ℕ) → Result Report SpecRefusal) → GivesUnlessWant outcome_view result (keys_of bytes.now >>= next) }
+    ensures exact { (json : Bool) (old new : Entries) (pricing : Pricing) → GivesUnlessWant outcome_view result (weighed_bytes json old new pricing bytes.now) }
     ensures calls { ComesFrom weighs_keys result }
     ensures read { is_file_fault result ≡ false }
     ensures names { TellsOfOne ((file path.now, is_of_keys) ∷ (word old_weights, is_of_rules) ∷ []) result }
@@ -236,7 +238,7 @@ fn weigh_keys<R: Threads + Sync>(
     prices: &Prices,
     json: bool,
 ) -> Result<Outcome, Refused>
-    ensures exact { GivesUnlessWant outcome_view result (weighed_keys json old.now new.now prices.now (texts_view keys.items)) }
+    ensures exact { GivesUnlessWant outcome_view result (weighed_keys json old.now new.now prices.now (texts_view keys.entry.items)) }
     ensures calls { ComesFrom notes_keys result }
     ensures read { is_file_fault result ≡ false }
     ensures names { TellsOfOne ((file path.now, is_of_keys) ∷ (word old_weights, is_of_rules) ∷ []) result }

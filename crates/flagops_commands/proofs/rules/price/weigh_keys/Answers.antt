@@ -21,10 +21,10 @@ returns-then-are_taken-clause-exact g c =
     let once = dedup_is (λ x y. bytes_eq x.now y.now) sorted distinct c.dedup.ensures.filtered in
     let same = exposed-apart c.args.keys.items sorted distinct (ap are_taken (sym c.as_slice.ensures.value) ∙ sym c.if-are_taken.ensures) c.sort_keys.ensures.permutation c.sort_keys.ensures.sorted once in
     let weigh = weighed c.args.json c.args.old.now c.args.new.now c.args.prices.now in
-    subst (λ wanted. GivesUnlessWant outcome_view c.priced-outcome.result wanted) (ap (λ xs. weigh (texts_view xs)) c.as_slice-then-are_taken.ensures.value ∙ sym (ap (λ r. r >>= weigh) same)) c.priced-outcome.ensures.exact
+    subst (λ wanted. GivesUnlessWant outcome_view c.priced.result wanted) (ap (λ xs. weigh (texts_view xs)) c.as_slice-then-are_taken.ensures.value ∙ sym (ap (λ r. r >>= weigh) same)) c.priced.ensures.exact
 
-pub priced-outcome-requires-clause-few : goal.priced-outcome-requires-clause-few
-priced-outcome-requires-clause-few g c =
+pub priced-requires-clause-few : goal.priced-requires-clause-few
+priced-requires-clause-few g c =
     let few = few_taken c.args.keys.items (ap are_taken (sym c.as_slice.ensures.value) ∙ sym c.if-are_taken.ensures) in
     omega (arith, few, c.dedup.ensures.bound, c.sort_keys.ensures.len, c.as_slice-then-are_taken.ensures.len)
 
