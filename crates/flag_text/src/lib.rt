@@ -47,4 +47,5 @@ pub use plain::plain_text;
 pub use print::print_tree;
 pub use push::{push_string, push_text, push_tree};
 pub use read::{read_doc, read_tree, whole_tree};
+pub use tokens::read_value;
 pub use tree::{MAX_WHOLE, Tree, is_in_range};

@@ -8,7 +8,7 @@ ghost use Rattle.flag_text.specs.Shape.{is_tidy, is_whole, levels};
 ghost use Rattle.flag_text.specs.View.{view};
 
 use crate::fault::TextFault;
-use crate::tokens::read;
+use crate::tokens::read_value;
 use crate::tree::{Tree, fits, has_other};
 use json::{Reader, Scratch};
 use limits::{JSON_LEVELS, TREE_LEVELS};
@@ -43,7 +43,7 @@ fn text_tree(alloc: Global, text: &str, scratch: &mut Scratch) -> Result<Tree, T
     ensures kind { result ≢ Err TextFault.TooLarge }
 {
     let mut reader = Reader::new(text, scratch)?;
-    let tree = read(alloc, &mut reader, JSON_LEVELS)?;
+    let tree = read_value(alloc, &mut reader, JSON_LEVELS)?;
     if reader.next().is_some() {
         return Err(TextFault::NotJson);
     }

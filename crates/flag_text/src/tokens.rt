@@ -14,9 +14,12 @@ use crate::tree::Tree;
 use json::{Reader, Token};
 use std::alloc::Global;
 
-/// Reads a value whose lists and objects nest at most so deep.
+/// Takes the next value of a JSON text, whose lists and objects nest at most so deep, as the tree that it stands for: a number
+/// that is not whole is `Other`, and a member that is repeated under its name takes the place of the one before.
+///
+/// `NotJson` where no such value comes next. It takes memory for each text, list and object.
 #[cycle(read)]
-pub(crate) fn read(alloc: Global, reader: &mut Reader<'_>, depth: usize) -> Result<Tree, TextFault>
+pub fn read_value(alloc: Global, reader: &mut Reader<'_>, depth: usize) -> Result<Tree, TextFault>
     ensures ok { IfOk result (λ t. converted tree_from (value depth reader.old) ≡ Some (view t, reader.new)) }
     ensures shorter { OnOk result (length reader.new < length reader.old) }
     ensures err { result ≡ Err TextFault.NotJson → converted tree_from (value depth reader.old) ≡ None }
@@ -61,7 +64,7 @@ fn read_items(alloc: Global, reader: &mut Reader<'_>, depth: usize) -> Result<Ve
     // Room for two: most lists of a long rule are a name and a weight, and a vector that grows begins with four.
     let mut found = Vec::with_capacity(alloc, 2)?;
     'items: while !reader.take_end_array() {
-        let item = read(alloc, reader, depth)?;
+        let item = read_value(alloc, reader, depth)?;
         found.push(item)?;
     }
     Ok(found)
@@ -84,7 +87,7 @@ fn read_members(
     let mut found = SortedMembers::new(alloc)?;
     'members: while let Some(name) = reader.next_key().or(Err(TextFault::NotJson))? {
         let key = String::from_str(alloc, name)?;
-        let member = read(alloc, reader, depth)?;
+        let member = read_value(alloc, reader, depth)?;
         found.put(alloc, key, member)?;
     }
     Ok(found)

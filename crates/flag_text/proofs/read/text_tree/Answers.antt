@@ -34,11 +34,11 @@ and_more token_of (Some t) reader rest some read_as = (token_of t, read_as)
 
 pub returns-then-is_some-clause-exact : goal.returns-then-is_some-clause-exact
 returns-then-is_some-clause-exact c = λ _.
-    let more = and_more token_of c.next.result c.read.new.reader c.next.new.self c.if-is_some.ensures c.next.ensures.value in
+    let more = and_more token_of c.next.result c.read_value.new.reader c.next.new.self c.if-is_some.ensures c.next.ensures.value in
     let tree = view c.in_ok-tree.tree in
     whole_and_more c.args.text.now tree more.0 c.next.new.self (ap (λ ts. converted tree_from (value max_depth ts)) (sym c.in_ok-reader.ensures.ok) ∙ c.in_ok-tree.ensures.ok ∙ ap (λ ts. Some (tree, ts)) more.1)
 
 pub returns-clause-exact : goal.returns-clause-exact
 returns-clause-exact c =
-    let none : c.read.new.reader ≡ [] = search rules in
+    let none : c.read_value.new.reader ≡ [] = search rules in
     whole_read c.args.text.now (view c.in_ok-tree.tree) (ap (λ ts. converted tree_from (value max_depth ts)) (sym c.in_ok-reader.ensures.ok) ∙ c.in_ok-tree.ensures.ok ∙ ap (λ ts. Some (view c.in_ok-tree.tree, ts)) none)

@@ -21,85 +21,85 @@ no_key : {X E F : Type 0} (r : Result X E) (f e : F) (P : X → Type 0) {Q : Typ
 no_key (Ok k) f e P is found = cc
 no_key (Err x) f e P is found = found
 
-pub read-returns-in_err-token-clause-err : goal.read-returns-in_err-token-clause-err
-read-returns-in_err-token-clause-err t c refused =
+pub read_value-returns-in_err-token-clause-err : goal.read_value-returns-in_err-token-clause-err
+read_value-returns-in_err-token-clause-err t c refused =
     let empty : c.args.reader.now ≡ [] = grind arith in
     ap (converted tree_from) (ap (value c.args.depth) empty ∙ value_is c.args.depth [])
 
-pub read-returns-then-depth-eq0-clause-err : goal.read-returns-then-depth-eq0-clause-err
+pub read_value-returns-then-depth-eq0-clause-err : goal.read_value-returns-then-depth-eq0-clause-err
 unfolding value
-read-returns-then-depth-eq0-clause-err t c never =
+read_value-returns-then-depth-eq0-clause-err t c never =
     let first : c.args.reader.now ≡ token_of c.in_ok-token.token ∷ c.next.new.self = grind arith in
     let none : c.args.depth ≡ 0 = omega arith in
     ap (converted tree_from) (ap₂ value none (first ∙ ap (λ k. token_of k ∷ c.next.new.self) c.in-BeginArray.is))
 
-pub read-returns-then-depth-eq0-2-clause-err : goal.read-returns-then-depth-eq0-2-clause-err
+pub read_value-returns-then-depth-eq0-2-clause-err : goal.read_value-returns-then-depth-eq0-2-clause-err
 unfolding value
-read-returns-then-depth-eq0-2-clause-err t c never =
+read_value-returns-then-depth-eq0-2-clause-err t c never =
     let first : c.args.reader.now ≡ token_of c.in_ok-token.token ∷ c.next.new.self = grind arith in
     let none : c.args.depth ≡ 0 = omega arith in
     ap (converted tree_from) (ap₂ value none (first ∙ ap (λ k. token_of k ∷ c.next.new.self) c.in-BeginObject.is))
 
-pub read-returns-in_err-read_items-in-BeginArray-clause-err : goal.read-returns-in_err-read_items-in-BeginArray-clause-err
-read-returns-in_err-read_items-in-BeginArray-clause-err t c refused =
+pub read_value-returns-in_err-read_items-in-BeginArray-clause-err : goal.read_value-returns-in_err-read_items-in-BeginArray-clause-err
+read_value-returns-in_err-read_items-in-BeginArray-clause-err t c refused =
     let first : c.args.reader.now ≡ token_of c.in_ok-token.token ∷ c.next.new.self = grind arith in
     let opened = ap (converted tree_from) (ap (value c.args.depth) (first ∙ ap (λ k. token_of k ∷ c.next.new.self) c.in-BeginArray.is) ∙ value-begin_array c.args.depth c.next.new.self (omega arith)) ∙ converted-list (items (value (c.args.depth - 1)) (length c.next.new.self) c.next.new.self) in
     opened ∙ ap (parse_map list) (c.read_items.ensures.err (grind arith))
 
-pub read-returns-in_err-members-in-BeginObject-clause-err : goal.read-returns-in_err-members-in-BeginObject-clause-err
-read-returns-in_err-members-in-BeginObject-clause-err t c refused =
+pub read_value-returns-in_err-members-in-BeginObject-clause-err : goal.read_value-returns-in_err-members-in-BeginObject-clause-err
+read_value-returns-in_err-members-in-BeginObject-clause-err t c refused =
     let first : c.args.reader.now ≡ token_of c.in_ok-token.token ∷ c.next.new.self = grind arith in
     let opened = ap (converted tree_from) (ap (value c.args.depth) (first ∙ ap (λ k. token_of k ∷ c.next.new.self) c.in-BeginObject.is) ∙ value-begin_object c.args.depth c.next.new.self (omega arith)) ∙ converted-object (members (value (c.args.depth - 1)) (length c.next.new.self) c.next.new.self) in
     opened ∙ ap (parse_map object) (c.read_members.ensures.err (grind arith))
 
-pub read-returns-in_ok-from_str-in-String-clause-ok : goal.read-returns-in_ok-from_str-in-String-clause-ok
-read-returns-in_ok-from_str-in-String-clause-ok t c =
+pub read_value-returns-in_ok-from_str-in-String-clause-ok : goal.read_value-returns-in_ok-from_str-in-String-clause-ok
+read_value-returns-in_ok-from_str-in-String-clause-ok t c =
     let first : c.args.reader.now ≡ token_of c.in_ok-token.token ∷ c.next.new.self = grind arith in
     let is : c.args.reader.now ≡ Token.string c.in-String.text.now ∷ c.next.new.self = grind (arith, first) in
     let seen : view (Text c.in_ok-from_str-in-String.field-0) ≡ text c.in-String.text.now = search (rules, the_lemmas) in
     ap (converted tree_from) (ap (value c.args.depth) is ∙ value_is c.args.depth _) ∙ ap (λ d. Some (d, c.next.new.self)) (sym seen)
 
-pub read-returns-in-Bool-clause-ok : goal.read-returns-in-Bool-clause-ok
-read-returns-in-Bool-clause-ok t c =
+pub read_value-returns-in-Bool-clause-ok : goal.read_value-returns-in-Bool-clause-ok
+read_value-returns-in-Bool-clause-ok t c =
     let first : c.args.reader.now ≡ token_of c.in_ok-token.token ∷ c.next.new.self = grind arith in
     let is : c.args.reader.now ≡ Token.boolean c.in-Bool.b ∷ c.next.new.self = grind (arith, first) in
     let seen : view (Bool c.in-Bool.b) ≡ boolean c.in-Bool.b = search (rules, the_lemmas) in
     ap (converted tree_from) (ap (value c.args.depth) is ∙ value_is c.args.depth _) ∙ ap (λ d. Some (d, c.next.new.self)) (sym seen)
 
-pub read-returns-in-Null-clause-ok : goal.read-returns-in-Null-clause-ok
-read-returns-in-Null-clause-ok t c =
+pub read_value-returns-in-Null-clause-ok : goal.read_value-returns-in-Null-clause-ok
+read_value-returns-in-Null-clause-ok t c =
     let first : c.args.reader.now ≡ token_of c.in_ok-token.token ∷ c.next.new.self = grind arith in
     let is : c.args.reader.now ≡ Token.null ∷ c.next.new.self = grind (arith, first) in
     let seen : view (Null) ≡ null = search (rules, the_lemmas) in
     ap (converted tree_from) (ap (value c.args.depth) is ∙ value_is c.args.depth _) ∙ ap (λ d. Some (d, c.next.new.self)) (sym seen)
 
-pub read-returns-in-Some-clause-ok : goal.read-returns-in-Some-clause-ok
-read-returns-in-Some-clause-ok t c =
+pub read_value-returns-in-Some-clause-ok : goal.read_value-returns-in-Some-clause-ok
+read_value-returns-in-Some-clause-ok t c =
     let first : c.args.reader.now ≡ token_of c.in_ok-token.token ∷ c.next.new.self = grind arith in
     let is : c.args.reader.now ≡ Token.number c.in-Number.text.now ∷ c.next.new.self = grind (arith, first) in
     ap (converted tree_from) (ap (value c.args.depth) is ∙ value_is c.args.depth _) ∙ ap (option_map (λ b. (b, c.next.new.self))) (sym c.in-Some.ensures)
 
-pub read-returns-in-None-clause-err : goal.read-returns-in-None-clause-err
-read-returns-in-None-clause-err t c refused =
+pub read_value-returns-in-None-clause-err : goal.read_value-returns-in-None-clause-err
+read_value-returns-in-None-clause-err t c refused =
     let first : c.args.reader.now ≡ token_of c.in_ok-token.token ∷ c.next.new.self = grind arith in
     let is : c.args.reader.now ≡ Token.number c.in-Number.text.now ∷ c.next.new.self = grind (arith, first) in
     ap (converted tree_from) (ap (value c.args.depth) is ∙ value_is c.args.depth _) ∙ ap (option_map (λ b. (b, c.next.new.self))) (sym c.in-None.ensures)
 
-pub read-returns-in-EndObject-clause-err : goal.read-returns-in-EndObject-clause-err
-read-returns-in-EndObject-clause-err t c refused =
+pub read_value-returns-in-EndObject-clause-err : goal.read_value-returns-in-EndObject-clause-err
+read_value-returns-in-EndObject-clause-err t c refused =
     let first : c.args.reader.now ≡ token_of c.in_ok-token.token ∷ c.next.new.self = grind arith in
     let none : value c.args.depth c.args.reader.now ≡ None = rw (value_is c.args.depth c.args.reader.now, first) (grind arith) in
     ap (converted tree_from) none
 
-pub read-returns-in_ok-read_items-in-BeginArray-clause-ok : goal.read-returns-in_ok-read_items-in-BeginArray-clause-ok
-read-returns-in_ok-read_items-in-BeginArray-clause-ok t c =
+pub read_value-returns-in_ok-read_items-in-BeginArray-clause-ok : goal.read_value-returns-in_ok-read_items-in-BeginArray-clause-ok
+read_value-returns-in_ok-read_items-in-BeginArray-clause-ok t c =
     let first : c.args.reader.now ≡ token_of c.in_ok-token.token ∷ c.next.new.self = grind arith in
     let opened = ap (converted tree_from) (ap (value c.args.depth) (first ∙ ap (λ k. token_of k ∷ c.next.new.self) c.in-BeginArray.is) ∙ value-begin_array c.args.depth c.next.new.self (omega arith)) ∙ converted-list (items (value (c.args.depth - 1)) (length c.next.new.self) c.next.new.self) in
     let found = c.in_ok-read_items-in-BeginArray in
     opened ∙ ap (parse_map list) found.ensures.ok ∙ ap (λ d. Some (d, c.read_items.new.reader)) (sym (view-List found.field-0))
 
-pub read-returns-in_ok-into_list-in-BeginObject-clause-ok : goal.read-returns-in_ok-into_list-in-BeginObject-clause-ok
-read-returns-in_ok-into_list-in-BeginObject-clause-ok t c =
+pub read_value-returns-in_ok-into_list-in-BeginObject-clause-ok : goal.read_value-returns-in_ok-into_list-in-BeginObject-clause-ok
+read_value-returns-in_ok-into_list-in-BeginObject-clause-ok t c =
     let first : c.args.reader.now ≡ token_of c.in_ok-token.token ∷ c.next.new.self = grind arith in
     let opened = ap (converted tree_from) (ap (value c.args.depth) (first ∙ ap (λ k. token_of k ∷ c.next.new.self) c.in-BeginObject.is) ∙ value-begin_object c.args.depth c.next.new.self (omega arith)) ∙ converted-object (members (value (c.args.depth - 1)) (length c.next.new.self) c.next.new.self) in
     let found = c.in_ok-members-in-BeginObject in
@@ -118,7 +118,7 @@ read_items-returns-in_err-item-clause-err t c refused =
     let l = c.items in
     let n = l.invariant.0 in
     let going : (after_end_array l.reader ≡ None) × (c.take_end_array.new.self ≡ l.reader) = grind arith in
-    l.invariant.2 ∙ ap (parse_map (items_before l.found.items)) (item_refused p n l.reader going.0 (rw (← going.1) (c.read.ensures.err (grind arith))))
+    l.invariant.2 ∙ ap (parse_map (items_before l.found.items)) (item_refused p n l.reader going.0 (rw (← going.1) (c.read_value.ensures.err (grind arith))))
 
 pub read_items-items-preserved : goal.read_items-items-preserved
 read_items-items-preserved t c =
@@ -128,7 +128,7 @@ read_items-items-preserved t c =
     let going : (after_end_array l.reader ≡ None) × (c.take_end_array.new.self ≡ l.reader) = grind arith in
     let done = c.in_ok-item.ensures in
     let v = c.in_ok-item.item in
-    let r = c.read.new.reader in
+    let r = c.read_value.new.reader in
     let less : length r < length l.reader = rw (← going.1) done.shorter in
     let turn = item_read p n l.reader r (view v) (omega (arith, l.invariant.1)) going.0 (rw (← going.1) done.ok) in (
       n - 1,
@@ -174,7 +174,7 @@ read_members-returns-in_err-member-clause-err t c refused =
     let k = c.in-Some.name.now in
     let s = c.next_key.new.self in
     let named : read_key l.reader ≡ Some (Some k, s) = grind arith in
-    l.invariant.2 ∙ member_refused p old n k l.reader s named (c.read.ensures.err (grind arith))
+    l.invariant.2 ∙ member_refused p old n k l.reader s named (c.read_value.ensures.err (grind arith))
 
 pub read_members-members-preserved : goal.read_members-members-preserved
 read_members-members-preserved t c =
@@ -187,7 +187,7 @@ read_members-members-preserved t c =
     let named : read_key l.reader ≡ Some (Some k, s) = grind arith in
     let done = c.in_ok-member.ensures in
     let v = c.in_ok-member.member in
-    let r = c.read.new.reader in
+    let r = c.read_value.new.reader in
     let less = read_key-shorter l.reader (Some k) s named in
     let lesser = done.shorter in
     let copied : string_bytes c.in_ok-key.key ≡ k = search rules in

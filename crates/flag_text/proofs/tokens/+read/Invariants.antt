@@ -8,8 +8,8 @@ use Rattle.flag_text.specs.View.{members_view}
 use Rattle.flag_text.proofs.Turns.{items_before}
 use Rattle.flag_text.proofs.tokens.+read.Given as goal
 
-abbrev pub decreases-read : goal.decreases-read
-decreases-read l = 2 * l.depth
+abbrev pub decreases-read_value : goal.decreases-read_value
+decreases-read_value l = 2 * l.depth
 
 abbrev pub decreases-read_items : goal.decreases-read_items
 decreases-read_items l = 2 * l.depth + 1
