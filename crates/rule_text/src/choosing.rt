@@ -4,6 +4,7 @@ ghost use Rattle.std.specs.Str.{is_utf8};
 ghost use Rattle.serde_json.specs.Read.{read};
 ghost use Rattle.bucket_core.specs.Reading.{rule_of_entries};
 ghost use Rattle.bucket_core.specs.Rule.{at, total_weight};
+ghost use Rattle.bucket_core.specs.declared.fault.RuleFault.{RuleFault as Fault};
 ghost use Rattle.flag_text.specs.Reading.{if_json, if_whole};
 ghost use Rattle.flag_text.specs.declared.fault.TextFault.TheVariants as texts;
 ghost use Rattle.rule_text.specs.Choosing.{GivesChoice, choice_by, choice_of, choice_view};
@@ -83,6 +84,7 @@ fn choice_among(
     key: &str,
 ) -> Result<Choice, RuleTextFault>
     ensures exact { GivesChoice result (choice_of key.now (of_rule (rule_of_entries (lent_view entries.now)))) }
+    ensures refused { (e : Fault) → rule_of_entries (lent_view entries.now) ≡ Err e → IsErrOf result (RuleTextFault.Rule e) }
     ensures kind { result ≢ Err (RuleTextFault.Text texts.TooLarge) }
 {
     let total = total_of(entries);

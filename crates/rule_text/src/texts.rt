@@ -1,6 +1,7 @@
 //! The texts of a list of texts, where they lie.
-ghost use Rattle.std.specs.Prelude.{◌≡◌, ℕ, List, ◌∷◌, length, Some, IfOk, MatchOption};
+ghost use Rattle.std.specs.Prelude.{◌≡◌, ◌<◌, ◌≤◌, ℕ, List, ◌∷◌, false, length, None, Some, Ok, IfOk, MatchOption};
 ghost use Rattle.std.specs.Bool.{OnTrue, OnFalse};
+ghost use Rattle.std.specs.Str.{is_utf8};
 ghost use Rattle.json.specs.Json.{value, items, no_items};
 ghost use Rattle.json.specs.Lex.{tokens};
 ghost use Rattle.json.specs.Token.{Token as SpecToken};
@@ -11,14 +12,18 @@ use simdutf8::basic;
 use std::alloc::{AllocError, Global};
 
 /// The texts of a JSON text that is a list of texts, such as that of a key file, where they lie in it or in what their escapes
-/// were replaced in, which the scratch holds. `max` is the most bytes that are read. Of any other bytes there are none. Cost: a pass over the bytes for their encoding, one over the tokens, and 16 bytes for each text.
+/// were replaced in, which the scratch holds. `max` is the most bytes that are read. Of any other bytes there are none, and of
+/// more bytes, or bytes that are no UTF-8, that is known without taking memory. Cost: a pass over the bytes for their encoding,
+/// one over the tokens, and 16 bytes for each text.
 pub fn read_texts<'a>(
     alloc: Global,
     bytes: &'a [u8],
     max: usize,
     scratch: &'a mut Scratch,
 ) -> Result<Option<Vec<&'a str>>, AllocError>
-    ensures { IfOk result (λ o. MatchOption o ((texts : List (List ℕ)) → ¬ (AreTexts bytes.now max texts)) (λ v. AreTexts bytes.now max (texts_view v.items))) }
+    ensures exact { IfOk result (λ o. MatchOption o ((texts : List (List ℕ)) → ¬ (AreTexts bytes.now max texts)) (λ v. AreTexts bytes.now max (texts_view v.items))) }
+    ensures large { max < length bytes.now → result ≡ Ok None }
+    ensures no_text { length bytes.now ≤ max → is_utf8 bytes.now ≡ false → result ≡ Ok None }
 {
     if bytes.len() > max {
         return Ok(None);
