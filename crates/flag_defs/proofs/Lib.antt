@@ -1,4 +1,3 @@
-pub mod Alone
 pub mod Bytes
 pub mod Clear
 pub mod Counted

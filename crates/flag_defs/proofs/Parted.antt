@@ -1,5 +1,5 @@
--- Members of a document that are taken from the back: which of them is kept.
-use Rattle.std.proofs.Common.{◌≡◌, ℕ, List, [], ◌∷◌, ◌++◌, string_bytes, codes, Bool, true, false, cond, Option, Some, None, refl, sym, ap, ◌∙◌}
+-- Members of an object that are taken from the back: which of them is kept.
+use Rattle.std.proofs.Common.{◌≡◌, ℕ, List, [], ◌∷◌, ◌++◌, string_bytes, Bool, true, false, cond, Option, Some, None, refl, sym, ap, ◌∙◌}
 use Rattle.std.specs.Option.{option_map, option_or}
 use Rattle.std.specs.Str.{bytes_eq}
 use Rattle.std.proofs.lemmas.Slice.Eq.{bytes_eq-Decides}
@@ -41,6 +41,6 @@ taken name all ms m kept new parts is named = ap (found_or name ms) is ∙ sym (
 pub passed : (name : List ℕ) (all ms : List Named) (m : Named) (kept new : Option Tree) → all ≡ ms ++ m ∷ [] → new ≡ kept → bytes_eq (string_bytes m.0) name ≡ false → found_or name ms new ≡ found_or name all kept
 passed name all ms m kept new parts is named = ap (found_or name ms) is ∙ sym (found_or-push name all ms m kept false parts named)
 
--- the flags are not the evaluators
-pub apart : (name : List ℕ) → bytes_eq name (codes "flags") ≡ true → bytes_eq name (codes "$evaluators") ≡ false
-apart name h = ap (λ (k : List ℕ). bytes_eq k (codes "$evaluators")) ((bytes_eq-Decides name (codes "flags")).0 h)
+-- one name is not the other
+pub apart : (name one other : List ℕ) → bytes_eq one other ≡ false → bytes_eq name one ≡ true → bytes_eq name other ≡ false
+apart name one other differ named = ap (λ (k : List ℕ). bytes_eq k other) ((bytes_eq-Decides name one).0 named) ∙ differ

@@ -10,7 +10,7 @@ ghost use Rattle.flag_defs.specs.Weighing.{IsWeighed};
 
 use crate::flag::Flag;
 use crate::forecast::{Forecast, targeting_forecast};
-use crate::members::take_object;
+use crate::members::{members_in, take_both};
 use crate::outline::outline_of;
 use crate::rules::Rules;
 use crate::targeting::read_targeting;
@@ -42,7 +42,7 @@ fn members_forecast(members: &[(String, Tree)], evaluators: &Evaluators<'_>) -> 
 }
 
 /// The flag of a definition of which this is foreseen. The condition is that it was weighed with all others of its document.
-/// The definition is consumed: the variants are moved out of it, and all else is dropped.
+/// The definition is consumed: the variants and the targeting are moved out of it, and all else is dropped.
 pub(crate) fn read_flag(
     alloc: Global,
     definition: Tree,
@@ -77,11 +77,11 @@ fn read_members(
     if let Forecast::Broken = forecast {
         return Ok(Flag { rules: None });
     }
-    let targeting = member_by_halving(members.as_slice(), "targeting");
-    let targeting = read_targeting(alloc, targeting, evaluators)?;
     let default_variant = own_name(alloc, outline.default_variant)?;
     let enabled = outline.enabled;
-    let variants = take_object(alloc, members, "variants");
+    let (targeting, variants) = take_both(members, "targeting", "variants");
+    let targeting = read_targeting(alloc, targeting, evaluators)?;
+    let variants = members_in(alloc, variants);
     Ok(good_flag(enabled, variants, default_variant, targeting))
 }
 

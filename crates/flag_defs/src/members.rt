@@ -1,5 +1,6 @@
 //! Members of an object.
-ghost use Rattle.std.specs.Prelude.{◌≡◌, IfOk, OnOk, map, option_and_then, option_map, string_bytes};
+ghost use Rattle.std.specs.Prelude.{◌≡◌, false, IfOk, OnOk, map, option_and_then, option_map, string_bytes};
+ghost use Rattle.std.specs.Str.{bytes_eq};
 ghost use Rattle.flag_text.specs.Readers.{as_object, find_member};
 ghost use Rattle.flag_text.specs.Shape.{Members, member};
 ghost use Rattle.flag_text.specs.View.{view, members_view};
@@ -50,25 +51,37 @@ pub(crate) fn push_member(
     Ok(())
 }
 
-/// The members of the object of this name, which is moved out of these; there are none where there is no such object.
-pub(crate) fn take_object(
-    alloc: Global,
+/// The members of these two names, moved out of an object's members, of which all else is dropped.
+pub(crate) fn take_both(
     members: Vec<(String, Tree)>,
-    name: &str,
-) -> Vec<(String, Tree)>
-    ensures { members_view result.items ≡ or_no_members (option_and_then as_object (find_member name.now (members_view members.items))) }
+    first: &str,
+    second: &str,
+) -> (Option<Tree>, Option<Tree>)
+    requires { bytes_eq first.now second.now ≡ false }
+    ensures first { option_map view result.0 ≡ find_member first.now (members_view members.items) }
+    ensures second { option_map view result.1 ≡ find_member second.now (members_view members.items) }
 {
     let mut members = members;
-    let mut kept = None;
+    let mut one = None;
+    let mut other = None;
     // From the back, so that of equal names the first is kept, as `Tree::member` finds it.
-    while let Some((key, member)) = members.pop() {
-        if key.as_str() == name {
-            kept = Some(member);
+    while let Some((name, member)) = members.pop() {
+        if name.as_str() == first {
+            one = Some(member);
+        } else if name.as_str() == second {
+            other = Some(member);
         } else {
             drop(member);
         }
     }
-    into_members(kept).unwrap_or(Vec::new(alloc))
+    (one, other)
+}
+
+/// The members of an object; none, where there is no object.
+pub(crate) fn members_in(alloc: Global, tree: Option<Tree>) -> Vec<(String, Tree)>
+    ensures { members_view result.items ≡ or_no_members (option_and_then as_object (option_map view tree)) }
+{
+    into_members(tree).unwrap_or(Vec::new(alloc))
 }
 
 /// The members of an object.

@@ -5,7 +5,7 @@ ghost use Rattle.flag_text.specs.Shape.{object};
 ghost use Rattle.flag_text.specs.View.{view, members_view};
 ghost use Rattle.flag_defs.specs.Document.{evaluators_in, flags_in};
 
-use crate::members::into_members;
+use crate::members::{into_members, members_in, take_both};
 use flag_text::Tree;
 use std::alloc::Global;
 
@@ -36,22 +36,10 @@ fn parts_among(alloc: Global, members: Vec<(String, Tree)>) -> Parts
     ensures definitions { option_map (λ ms. members_view ms.items) result.definitions ≡ flags_in (object (members_view members.items)) }
     ensures evaluators { members_view result.evaluators.items ≡ evaluators_in (object (members_view members.items)) }
 {
-    let mut members = members;
-    let mut definitions = None;
-    let mut evaluators = None;
-    // From the back, so that of equal names the first is kept, as `Tree::member` finds it.
-    while let Some((name, member)) = members.pop() {
-        if name.as_str() == "flags" {
-            definitions = Some(member);
-        } else if name.as_str() == "$evaluators" {
-            evaluators = Some(member);
-        } else {
-            drop(member);
-        }
-    }
+    let (flags, evaluators) = take_both(members, "flags", "$evaluators");
     Parts {
-        definitions: into_members(definitions),
-        evaluators: into_members(evaluators).unwrap_or(Vec::new(alloc)),
+        definitions: into_members(flags),
+        evaluators: members_in(alloc, evaluators),
     }
 }
 

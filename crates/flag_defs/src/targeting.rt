@@ -8,7 +8,7 @@ ghost use Rattle.flag_defs.specs.Targeting.{IsGoodTargeting};
 ghost use Rattle.flag_defs.specs.Weighing.{HasWeighed};
 
 use crate::forecast::is_nothing;
-use flag_references::{Evaluators, expanded, has_reference};
+use flag_references::{Evaluators, expand};
 use flag_text::Tree;
 use logic_ast::{Expr, LogicFault, read_expr};
 use std::alloc::{AllocError, Global};
@@ -22,12 +22,12 @@ const MAX_LEVELS: usize = limits::EXPRESSION_LEVELS as usize + 1;
 /// memory runs out.
 pub(crate) fn read_targeting(
     alloc: Global,
-    targeting: Option<&Tree>,
+    targeting: Option<Tree>,
     evaluators: &Evaluators<'_>,
 ) -> Result<Option<Expr>, AllocError>
-    requires weighed { HasWeighed (members_view evaluators.now) (or_null (option_map (λ t. tree_view t.now) targeting)) }
-    requires good { IsGoodTargeting (members_view evaluators.now) (or_null (option_map (λ t. tree_view t.now) targeting)) }
-    ensures { IfOk result (λ e. HasTargeting (members_view evaluators.now) (or_null (option_map (λ t. tree_view t.now) targeting.entry)) (option_map view e)) }
+    requires weighed { HasWeighed (members_view evaluators.now) (or_null (option_map tree_view targeting)) }
+    requires good { IsGoodTargeting (members_view evaluators.now) (or_null (option_map tree_view targeting)) }
+    ensures { IfOk result (λ e. HasTargeting (members_view evaluators.now) (or_null (option_map tree_view targeting)) (option_map view e)) }
 {
     match targeting {
         Some(tree) => read_tree(alloc, tree, evaluators),
@@ -35,32 +35,30 @@ pub(crate) fn read_targeting(
     }
 }
 
-/// The same of a tree. One without references is read as it stands.
+/// The same of a tree. The references are replaced where they stand, and nothing else of it is copied.
 fn read_tree(
     alloc: Global,
-    tree: &Tree,
+    tree: Tree,
     evaluators: &Evaluators<'_>,
 ) -> Result<Option<Expr>, AllocError>
-    requires weighed { HasWeighed (members_view evaluators.now) (tree_view tree.now) }
-    requires good { IsGoodTargeting (members_view evaluators.now) (tree_view tree.now) }
-    ensures { IfOk result (λ e. HasTargeting (members_view evaluators.now) (tree_view tree.now) (option_map view e)) }
+    requires weighed { HasWeighed (members_view evaluators.now) (tree_view tree) }
+    requires good { IsGoodTargeting (members_view evaluators.now) (tree_view tree) }
+    ensures { IfOk result (λ e. HasTargeting (members_view evaluators.now) (tree_view tree) (option_map view e)) }
 {
-    if !has_reference(tree) {
-        return read_form(alloc, tree);
-    }
-    let form = expanded(alloc, tree, evaluators, MAX_LEVELS)?;
-    read_form(alloc, &form)
+    let mut form = tree;
+    expand(alloc, &mut form, evaluators, MAX_LEVELS)?;
+    read_form(alloc, form)
 }
 
 /// The expression of a targeting without references, where it has one.
-fn read_form(alloc: Global, form: &Tree) -> Result<Option<Expr>, AllocError>
-    requires good { (e : Option Expression) × (targeting_of (tree_view form.now) ≡ Some e) }
-    ensures { IfOk result (λ e. targeting_of (tree_view form.now) ≡ Some (option_map view e)) }
+fn read_form(alloc: Global, form: Tree) -> Result<Option<Expr>, AllocError>
+    requires good { (e : Option Expression) × (targeting_of (tree_view form) ≡ Some e) }
+    ensures { IfOk result (λ e. targeting_of (tree_view form) ≡ Some (option_map view e)) }
 {
-    if is_nothing(form) {
+    if is_nothing(&form) {
         return Ok(None);
     }
-    match read_expr(alloc, form) {
+    match read_expr(alloc, &form) {
         Ok(expression) => Ok(Some(expression)),
         Err(fault) => match fault {
             LogicFault::WantOfMemory => Err(AllocError),

@@ -1,6 +1,7 @@
 pub mod Expansions
 pub mod Faults
 pub mod Heads
+pub mod InPlace
 pub mod Inlined
 pub mod Known
 pub mod Least

@@ -1,9 +1,9 @@
 //! From a reference straight to the tree that it stands for.
-ghost use Rattle.std.specs.Prelude.{◌≡◌, ◌<◌, length};
+ghost use Rattle.std.specs.Prelude.{◌≡◌, ◌<◌, length, None, MatchOption};
 ghost use Rattle.std.specs.List.{HoldsAt};
 ghost use Rattle.flag_text.specs.Shape.{Shape};
 ghost use Rattle.flag_text.specs.View.{view, members_view};
-ghost use Rattle.flag_references.specs.Inlining.{IsInlined};
+ghost use Rattle.flag_references.specs.Inlining.{IsInlined, reference_in};
 ghost use Rattle.flag_references.specs.Table.{IsEndOf};
 
 use crate::references::reference_in;
@@ -16,13 +16,26 @@ impl<'a> Evaluators<'a> {
         requires found { (u : Shape) × IsInlined (members_view self.now) (view tree.now) u }
         ensures { IsEndOf (members_view self.now) (view tree.now) (view result.now) }
     {
+        match self.referred_by(tree) {
+            Some(end) => end,
+            None => tree,
+        }
+    }
+
+    /// The evaluator at the end of the references from a tree that has an inlined form, where it is wholly a reference.
+    pub(crate) fn referred_by(&self, tree: &Tree) -> Option<&'a Tree>
+        requires found { (u : Shape) × IsInlined (members_view self.now) (view tree.now) u }
+        ensures { MatchOption result
+            (reference_in (view tree.now) ≡ None)
+            (λ h. IsEndOf (members_view self.now) (view tree.now) (view h.now)) }
+    {
         let Some(name) = reference_in(tree) else {
-            return tree;
+            return None;
         };
         let table = &self.table;
         match position_of(table.members, name) {
-            Some(i) => tree_at(table.members, table.heads[i]),
-            None => tree,
+            Some(i) => Some(tree_at(table.members, table.heads[i])),
+            None => None,
         }
     }
 }

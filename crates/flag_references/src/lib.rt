@@ -3,8 +3,9 @@
 //!
 //! [`Evaluators::read`] measures the evaluators of a document, each over the measures of those that it refers to. From then on
 //! [`Evaluators::measure_of`] says of a tree whether it has an inlined form, and the [`Measure`] of that form, in time linear in
-//! the tree as it stands, [`Evaluators::end_of`] follows references to the tree at their end, and [`expanded`] makes the form
-//! itself, of a tree whose form has few enough levels. A chain of references costs no recursion.
+//! the tree as it stands, [`Evaluators::end_of`] follows references to the tree at their end, and [`expand`] makes the form
+//! itself out of a tree whose form has few enough levels: in place, so that only what stands for a reference is copied. A chain
+//! of references costs no recursion.
 //!
 //! Proved, over the definitions in `specs/`: a tree has an inlined form where no reference in it names nothing or leads back to
 //! itself (`Inlining`); whether it has one, and its measure: nodes and levels as an expression, whether it is one, and in how
@@ -12,7 +13,7 @@
 #![tactic(auto)]
 
 mod ends;
-mod expand;
+mod expansion;
 mod forms;
 mod inlined_measure;
 mod measure;
@@ -20,7 +21,6 @@ mod references;
 mod table;
 mod walk;
 
-pub use expand::expanded;
+pub use expansion::expand;
 pub use measure::{Measure, Reading, capped, plus};
-pub use references::has_reference;
 pub use table::Evaluators;

@@ -1,7 +1,7 @@
 //! References to evaluators.
 ghost use Rattle.std.specs.Prelude.{◌≡◌, option_copied};
-ghost use Rattle.flag_text.specs.View.{view, items_view, members_view};
-ghost use Rattle.flag_references.specs.Inlining.{has_reference, is_reference_name, items_have_reference, members_have_reference, name_in, reference_in, reference_of};
+ghost use Rattle.flag_text.specs.View.{view, members_view};
+ghost use Rattle.flag_references.specs.Inlining.{is_reference_name, name_in, reference_in, reference_of};
 
 use flag_text::Tree;
 
@@ -43,43 +43,4 @@ pub(crate) fn is_reference_name(key: &str) -> bool
     ensures { result ≡ is_reference_name key.now }
 {
     key == "$ref"
-}
-
-/// Whether a reference stands somewhere in a tree.
-#[cycle(reference)]
-pub fn has_reference(tree: &Tree) -> bool
-    ensures { result ≡ has_reference (view tree.now) }
-{
-    match tree {
-        Tree::List(items) => items_have_reference(items),
-        Tree::Object(members) => match reference_of(members.as_slice()) {
-            Some(_) => true,
-            None => members_have_reference(members),
-        },
-        _ => false,
-    }
-}
-
-#[cycle(reference)]
-fn items_have_reference(items: &Vec<Tree>) -> bool
-    ensures { result ≡ items_have_reference (items_view items.now.items) }
-{
-    for item in items {
-        if has_reference(item) {
-            return true;
-        }
-    }
-    false
-}
-
-#[cycle(reference)]
-fn members_have_reference(members: &Vec<(String, Tree)>) -> bool
-    ensures { result ≡ members_have_reference (members_view members.now.items) }
-{
-    for (_, member) in members {
-        if has_reference(member) {
-            return true;
-        }
-    }
-    false
 }

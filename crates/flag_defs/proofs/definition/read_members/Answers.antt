@@ -1,10 +1,11 @@
-use Rattle.std.proofs.Common.{◌≡◌, Some, option_map, codes, ap, sym, subst, ◌∙◌}
+use Rattle.std.proofs.Common.{◌≡◌, Some, option_map, option_and_then, ap, sym, subst, ◌∙◌}
 use Rattle.flag_text.proofs.Halving.{names_rise-tidy}
-use Rattle.flag_text.specs.Readers.{find_member}
+use Rattle.flag_text.specs.Readers.{as_object}
 use Rattle.flag_text.specs.Shape.{object, names_rise}
 use Rattle.flag_text.specs.View.{members_view}
 use Rattle.logic_ast.specs.Expr.{view}
 use Rattle.flag_defs.specs.Definition.{HasTargeting, Means, good, or_null}
+use Rattle.flag_defs.specs.Document.{or_no_members}
 use Rattle.flag_defs.specs.Outline.{outline_of, outline_view}
 use Rattle.flag_defs.specs.Rules.{are_rules}
 use Rattle.flag_defs.specs.Targeting.{IsGoodTargeting}
@@ -15,14 +16,11 @@ use Rattle.flag_defs.proofs.definition.read_members.Goals as goal
 pub outline_of-requires : goal.outline_of-requires
 outline_of-requires c = ap (λ xs. names_rise (members_view xs)) c.as_slice.ensures.value ∙ names_rise-tidy (members_view c.args.members.items) c.requires.tidy
 
-pub member_by_halving-targeting-requires : goal.member_by_halving-targeting-requires
-member_by_halving-targeting-requires c = record { rising = ap (λ xs. names_rise (members_view xs)) c.as_slice-2.ensures.value ∙ names_rise-tidy (members_view c.args.members.items) c.requires.tidy }
-
 pub read_targeting-requires : goal.read_targeting-requires
 read_targeting-requires c =
     let evaluators = members_view c.args.evaluators.now in
     let t = object (members_view c.args.members.items) in
-    let found = c.member_by_halving-targeting.ensures.found ∙ ap (λ xs. find_member (codes "targeting") (members_view xs)) c.as_slice-2.ensures.value in record {
+    let found = c.take_both-targeting.ensures.first in record {
       weighed = record { definition = t; weighed = c.requires.weighed; is = ap or_null (sym found) };
       good =
           subst (λ o. IsGoodTargeting evaluators (or_null o)) (sym found)
@@ -35,7 +33,8 @@ good_flag-requires c =
     let o = outline_view c.in-Some.outline in
     let e = option_map view c.in_ok-targeting.targeting in
     let outlined : outline_of ms ≡ Some o = sym (c.outline_of.ensures ∙ ap (λ xs. outline_of (members_view xs)) c.as_slice.ensures.value) ∙ ap (option_map outline_view) c.in-Some.is in
-    ap are_rules (moved-rules ms _ _ o e outlined c.take_object-variants.ensures c.in_ok-default_variant.ensures)
+    let variants = c.members_in-variants.ensures ∙ ap (λ v. or_no_members (option_and_then as_object v)) c.take_both-targeting.ensures.second in
+    ap are_rules (moved-rules ms _ _ o e outlined variants c.in_ok-default_variant.ensures)
     ∙ lawful_with (members_view c.args.evaluators.now) ms o e _ outlined c.in_ok-targeting.ensures
 
 pub returns : goal.returns
@@ -45,6 +44,6 @@ returns c =
     let o = outline_view c.in-Some.outline in
     let e = option_map view c.in_ok-targeting.targeting in
     let outlined : outline_of ms ≡ Some o = sym (c.outline_of.ensures ∙ ap (λ xs. outline_of (members_view xs)) c.as_slice.ensures.value) ∙ ap (option_map outline_view) c.in-Some.is in
-    let found = c.member_by_halving-targeting.ensures.found ∙ ap (λ xs. find_member (codes "targeting") (members_view xs)) c.as_slice-2.ensures.value in
-    subst (Means evaluators (object ms)) (sym (c.good_flag.ensures ∙ ap good (moved-rules ms _ _ o e outlined c.take_object-variants.ensures c.in_ok-default_variant.ensures)))
-    (good_with evaluators ms o e outlined (subst (λ t. HasTargeting evaluators (or_null t) e) found c.in_ok-targeting.ensures))
+    let variants = c.members_in-variants.ensures ∙ ap (λ v. or_no_members (option_and_then as_object v)) c.take_both-targeting.ensures.second in
+    subst (Means evaluators (object ms)) (sym (c.good_flag.ensures ∙ ap good (moved-rules ms _ _ o e outlined variants c.in_ok-default_variant.ensures)))
+    (good_with evaluators ms o e outlined (subst (λ t. HasTargeting evaluators (or_null t) e) c.take_both-targeting.ensures.first c.in_ok-targeting.ensures))

@@ -1,4 +1,4 @@
-use Rattle.std.proofs.Common.{Option, Bor, option_map, subst}
+use Rattle.std.proofs.Common.{Option, option_map, subst}
 use Rattle.flag_text.specs.Shape.{Shape}
 use Rattle.flag_text.specs.View.{view, members_view}
 use Rattle.flag_text.specs.declared.tree.Tree.{Tree}
@@ -9,7 +9,7 @@ use Rattle.flag_defs.proofs.targeting.read_targeting.Goals as goal
 
 pub read_tree-requires : goal.read_tree-requires
 read_tree-requires c =
-    let seen : Option (Bor Tree) → Option Shape = λ o. option_map (λ t. view t.now) o in
+    let seen : Option Tree → Option Shape = option_map view in
     let evaluators = members_view c.args.evaluators.now in record {
       weighed = subst (λ o. HasWeighed evaluators (or_null (seen o))) c.in-Some.is c.requires.weighed;
       good = subst (λ o. IsGoodTargeting evaluators (or_null (seen o))) c.in-Some.is c.requires.good;

@@ -1,5 +1,5 @@
 //! Trees with their references replaced.
-ghost use Rattle.std.specs.Prelude.{IfOk};
+ghost use Rattle.std.specs.Prelude.{IfOk, OnOk};
 ghost use Rattle.flag_text.specs.View.{view, items_view, members_view};
 ghost use Rattle.flag_references.specs.Inlining.{IsInlined};
 ghost use Rattle.flag_references.specs.Forms.{HasForm, ItemsHaveForms, MembersHaveForms, AreInlined, MembersAreInlined};
@@ -7,11 +7,75 @@ ghost use Rattle.flag_references.specs.Forms.{HasForm, ItemsHaveForms, MembersHa
 use crate::table::Evaluators;
 use flag_text::Tree;
 use std::alloc::{AllocError, Global};
+use std::mem;
+
+/// Replaces the references in a tree, which has a form of at most so many levels. What is no reference stays where it is, so
+/// that memory is taken only for what stands in place of references. Where it runs out, the tree is anything. It takes time
+/// linear in the form, and recurses no deeper than its levels.
+#[cycle(expand)]
+pub fn expand<'a>(
+    alloc: Global,
+    tree: &mut Tree,
+    evaluators: &Evaluators<'a>,
+    most: usize,
+) -> Result<(), AllocError>
+    requires { HasForm (members_view evaluators.now) most (view tree.old) }
+    ensures { OnOk result (IsInlined (members_view evaluators.now) (view tree.old) (view tree.new)) }
+{
+    if let Some(end) = evaluators.referred_by(tree) {
+        *tree = expanded(alloc, end, evaluators, most)?;
+        return Ok(());
+    }
+    match mem::replace(tree, Tree::Null) {
+        Tree::List(mut items) => {
+            expand_items(alloc, &mut items, evaluators, most - 1)?;
+            *tree = Tree::List(items);
+        }
+        Tree::Object(mut members) => {
+            expand_members(alloc, &mut members, evaluators, most - 1)?;
+            *tree = Tree::Object(members);
+        }
+        scalar => *tree = scalar,
+    }
+    Ok(())
+}
+
+#[cycle(expand)]
+fn expand_items<'a>(
+    alloc: Global,
+    items: &mut Vec<Tree>,
+    evaluators: &Evaluators<'a>,
+    most: usize,
+) -> Result<(), AllocError>
+    requires { ItemsHaveForms (members_view evaluators.now) most (items_view items.old.items) }
+    ensures { OnOk result (AreInlined (members_view evaluators.now) (items_view items.old.items) (items_view items.new.items)) }
+{
+    for item in items.iter_mut() {
+        expand(alloc, item, evaluators, most)?;
+    }
+    Ok(())
+}
+
+#[cycle(expand)]
+fn expand_members<'a>(
+    alloc: Global,
+    members: &mut Vec<(String, Tree)>,
+    evaluators: &Evaluators<'a>,
+    most: usize,
+) -> Result<(), AllocError>
+    requires { MembersHaveForms (members_view evaluators.now) most (members_view members.old.items) }
+    ensures { OnOk result (MembersAreInlined (members_view evaluators.now) (members_view members.old.items) (members_view members.new.items)) }
+{
+    for member in members.iter_mut() {
+        expand(alloc, &mut member.1, evaluators, most)?;
+    }
+    Ok(())
+}
 
 /// The inlined form of a tree that has one of at most so many levels. It takes time linear in the form, and recurses no
 /// deeper than its levels: a reference costs none.
 #[cycle(expanded)]
-pub fn expanded<'a>(
+fn expanded<'a>(
     alloc: Global,
     tree: &'a Tree,
     evaluators: &Evaluators<'a>,

@@ -5,7 +5,7 @@ use Rattle.flag_text.proofs.Halving.{name_of}
 use Rattle.flag_references.specs.Inlining.{IsInlined}
 use Rattle.flag_references.specs.Forms.{HasForm, ItemsHaveForms, MembersHaveForms}
 use Rattle.flag_references.proofs.Expansions.{list-end, list-whole, object-end, object-whole, is_scalar, scalar-whole, item-form, member-form, AreInlined-more, MembersAreInlined-more}
-use Rattle.flag_references.proofs.expand.+expanded.Goals as goal
+use Rattle.flag_references.proofs.expansion.+expanded.Goals as goal
 
 pub expanded-end_of-end-requires : goal.expanded-end_of-end-requires
 expanded-end_of-end-requires t c = record { found = (c.requires.0, c.requires.1) }

@@ -9,7 +9,7 @@ use Rattle.flag_references.specs.Table.{IsEndOf, IsWhole, Learned}
 use Rattle.flag_references.proofs.Expansions.{form-measured}
 use Rattle.flag_references.proofs.Heads.{any_default, end_there, end_within, no_end}
 use Rattle.flag_references.proofs.Objects.{some_member}
-use Rattle.flag_references.proofs.table.Evaluators.end_of.Goals as goal
+use Rattle.flag_references.proofs.table.Evaluators.referred_by.Goals as goal
 
 abbrev IsMeasured : Learned → Shape → Type 0
 IsMeasured t tree = is_some (measured (known (members_view t.members) t.measures) tree) ≡ true

@@ -1,7 +1,7 @@
 use Rattle.std.proofs.Common.{◌+◌, ◌*◌, take}
 use Rattle.flag_text.specs.View.{items_view, members_view}
 use Rattle.flag_references.specs.Forms.{AreInlined, MembersAreInlined}
-use Rattle.flag_references.proofs.expand.+expanded.Given as goal
+use Rattle.flag_references.proofs.expansion.+expanded.Given as goal
 
 abbrev pub decreases-expanded : goal.decreases-expanded
 decreases-expanded l = 2 * l.most
