@@ -1,3 +1,4 @@
+pub mod Accepted
 pub mod Changed
 pub mod Formed
 pub mod Inner

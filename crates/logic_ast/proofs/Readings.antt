@@ -1,17 +1,22 @@
 -- One part after another is read.
-use Rattle.std.proofs.Common.{◌≡◌, ℕ, ◌+◌, ◌<◌, ◌≤◌, ◌^◌, false, List, [], ◌∷◌, ◌++◌, map, length, drop, get_or, String, Global, string_bytes, refl, sym, ap, ap₂, ◌∙◌, arith, add-one, drop-cons}
-use Rattle.std.proofs.lemmas.List.{map-append}
-use Rattle.flag_text.specs.Shape.{list, member, no_members}
-use Rattle.flag_text.specs.View.{view, items_view, members_view}
+use Rattle.std.proofs.Common.{◌≡◌, ℕ, ◌+◌, ◌<◌, ◌≤◌, ◌^◌, true, false, List, [], ◌∷◌, ◌++◌, map, length, get_or, nat_eq, Option, Some, None, Box, String, Global, refl, sym, ap, ◌∙◌, arith, add-zero, drop, ap₂, add-one, drop-cons}
+use Rattle.std.specs.Iterator.{Yields}
+use Rattle.std.specs.Option.{is_some}
+use Rattle.std.specs.Vec.Iter.{into_iter_items, into_iter_len, into_iter_steps}
+use Rattle.std.specs.declared.vec.IntoIter.{IntoIter}
+use Rattle.std.proofs.lemmas.Iterator.Adapters.{YieldsList-from_vec}
+use Rattle.std.proofs.lemmas.Iterator.Consumers.{YieldsList-turn}
+use Rattle.std.proofs.lemmas.List.{length_push, map-append}
+use Rattle.flag_text.specs.Shape.{Shape, Items, no_items, list, item as item_of}
+use Rattle.flag_text.specs.View.{view, items_view}
 use Rattle.flag_text.specs.declared.tree.Tree.{Tree}
-use Rattle.logic_ast.specs.Expression.{Expression, Expressions, no_expressions, expression, Buckets, no_buckets, bucket, Bucket}
-use Rattle.logic_ast.specs.Sites.{sites, sites_in, sites_in_buckets, sites_in_bucket}
+use Rattle.logic_ast.specs.Expression.{Expression, Expressions, no_expressions, expression, By, no_by, by, Buckets, no_buckets, bucket, Bucket}
+use Rattle.logic_ast.specs.Sites.{sites, sites_in, sites_in_by, sites_in_buckets, sites_in_bucket}
 use Rattle.logic_ast.specs.FirstFault.{is_list_tree}
-use Rattle.logic_ast.specs.Reading.{expression_from, expressions_from, buckets_from, bucket_from}
-use Rattle.logic_ast.specs.View.{expressions_of, buckets_of, node_view, nodes_view, bucket_view, buckets_view}
-use Rattle.logic_ast.specs.declared.node.Bucket.{Bucket as BucketOf}
+use Rattle.logic_ast.specs.Reading.{expression_from, expressions_from, by_from, buckets_from, bucket_from, computed_from}
+use Rattle.logic_ast.specs.View.{expressions_of, buckets_of, node_view, nodes_view, boxed_view}
 use Rattle.logic_ast.specs.declared.node.Node.{Node}
-use Rattle.logic_ast.proofs.Written.{buckets_from-other}
+use Rattle.logic_ast.proofs.Written.{by_from-other, buckets_from-other}
 
 -- these, and then those
 abbrev pub onto : List Expression → Expressions → Expressions
@@ -54,30 +59,33 @@ pub sites_in_buckets-last : (bs : List Bucket) (b : Bucket) → sites_in_buckets
 sites_in_buckets-last [] b = omega arith
 sites_in_buckets-last (d ∷ bs) b = omega (arith, sites_in_buckets-last bs b)
 
--- ---- slices at a place
+-- ---- a list at a place
 
 pub dropped : {A : Type 0} (xs : List A) (i : ℕ) (x : A) → i < length xs → x ≡ get_or xs i x → drop i xs ≡ x ∷ drop (i + 1) xs
 dropped xs i x h e = drop-cons xs i x h ∙ ap₂ (λ y ys. y ∷ ys) (sym e) (ap (λ k. drop k xs) (sym (add-one i)))
 
-pub begins : {A : Type 0} (xs : List A) (x : A) → 1 ≤ length xs → x ≡ get_or xs 0 x → xs ≡ x ∷ drop 1 xs
-begins [] x h e = absurd (omega arith)
-begins (y ∷ ys) x h e = ap₂ (λ z zs. z ∷ zs) (sym e) refl
+-- ---- what a loop that consumes a list has left
 
-pub alone : {A : Type 0} (xs : List A) (x : A) → 1 ≤ length xs → length xs < 2 → x ≡ get_or xs 0 x → xs ≡ x ∷ []
-alone [] x h g e = absurd (omega arith)
-alone (y ∷ []) x h g e = ap (λ z. z ∷ []) (sym e)
-alone (y ∷ z ∷ zs) x h g e = absurd (omega arith)
+pub none_left : {A : Type 0} (xs : List A) → length xs ≡ 0 → xs ≡ []
+none_left [] h = refl
+none_left (x ∷ xs) h = absurd (omega arith)
 
-pub begins_twice : {A : Type 0} (xs : List A) (x y : A) → 2 ≤ length xs → x ≡ get_or xs 0 x → y ≡ get_or xs 1 y → xs ≡ x ∷ y ∷ drop 2 xs
-begins_twice [] x y h e f = absurd (omega arith)
-begins_twice (v ∷ []) x y h e f = absurd (omega arith)
-begins_twice (v ∷ w ∷ ws) x y h e f = ap₂ (λ a b. a ∷ b ∷ ws) (sym e) (sym f)
+pub none_counted : {A : Type 0} (xs : List A) (n : ℕ) → n ≡ length xs → nat_eq n 0 ≡ true → xs ≡ []
+none_counted [] n e h = refl
+none_counted (x ∷ xs) n e h = grind arith
 
-pub one_member : (ms : List (String Global × Tree)) (d e : String Global × Tree) → 1 ≤ length ms → length ms < 2
-    → members_view ms ≡ member (string_bytes (get_or ms 0 d).0) (view (get_or ms 0 e).1) no_members
-one_member [] d e h g = absurd (omega arith)
-one_member (m ∷ []) d e h g = refl
-one_member (m ∷ n ∷ ms) d e h g = absurd (omega arith)
+pub some_counted : {A : Type 0} (xs : List A) (n : ℕ) → n ≡ length xs → nat_eq n 0 ≡ false → 0 < length xs
+some_counted [] n e h = grind arith
+some_counted (x ∷ xs) n e h = omega arith
+
+pub one_member : (ms new : List (String Global × Tree)) (m : String Global × Tree) → length ms < 2 → ms ≡ new ++ m ∷ [] → ms ≡ m ∷ []
+one_member ms [] m h is = is
+one_member ms (n ∷ new) m h is = absurd (omega (arith, ap length is, length_push new m))
+
+-- the turn of a loop that consumes a list has the next of its items
+pub turn : (s : IntoIter Tree Global) (xs : List Tree) → into_iter_items s ≡ xs → into_iter_len s ≡ length xs → (ys : List Tree) (t u : IntoIter Tree Global)
+    → Yields into_iter_steps s ys t → (r : Option Tree) (x : Tree) → r ≡ Some x → into_iter_steps t r u → (length ys < length xs) × (x ≡ get_or xs (length ys) x)
+turn s xs items count ys t u led r x is step = YieldsList-turn (YieldsList-from_vec xs items count) ys t led r u x is step
 
 -- ---- one more node
 
@@ -103,35 +111,60 @@ node-number first next then ns new n e number is seen after =
 pub nodes-value : (first next : ℕ) (all : List Tree) (ns : List Node) → expressions_from first (items_view all) ≡ onto (map node_view ns) no_expressions → nodes_view ns ≡ expressions_from first (items_view all)
 nodes-value first next all ns h = sym (h ∙ onto-none (map node_view ns))
 
--- ---- one more bucket
+-- ---- one more argument of a site
 
-pub bucket-fits : (first next : ℕ) (all rest : List Tree) (item : Tree) (ps : List Tree) (bs : List (BucketOf Node)) → view item ≡ list (items_view ps)
-    → buckets_from first (items_view all) ≡ onto_buckets (map bucket_view bs) (buckets_from next (items_view (item ∷ rest))) → next ≡ first + sites_in_buckets (buckets_view bs)
-    → first + sites_in_buckets (buckets_from first (items_view all)) < 2 ^ 32 → next + sites_in_bucket (bucket_from next (items_view ps)) < 2 ^ 32
-bucket-fits first next all rest item ps bs is h e fits =
-    let made : buckets_from next (items_view (item ∷ rest)) ≡ bucket (bucket_from next (items_view ps)) (buckets_from (next + sites_in_bucket (bucket_from next (items_view ps))) (items_view rest)) = rw is refl in
-    omega (arith, ap sites_in_buckets (h ∙ ap (onto_buckets (map bucket_view bs)) made) ∙ sites-onto_buckets (map bucket_view bs) _, e, fits)
+-- what all arguments make, when these have been made of those before the rest; the first is the bucketing expression unless it is a list
+abbrev pub site_of_rest : By → List Bucket → ℕ → Items → By × Buckets
+site_of_rest no_by [] k ts = (by_from k ts, buckets_from (k + sites_in_by (by_from k ts)) ts)
+site_of_rest no_by (b ∷ bs) k ts = (no_by, onto_buckets (b ∷ bs) (buckets_from k ts))
+site_of_rest (by e) bs k ts = (by e, onto_buckets bs (buckets_from k ts))
 
-pub bucket-value : (first next then : ℕ) (all rest : List Tree) (item : Tree) (ps : List Tree) (bs new : List (BucketOf Node)) (b : BucketOf Node) → view item ≡ list (items_view ps)
-    → buckets_from first (items_view all) ≡ onto_buckets (map bucket_view bs) (buckets_from next (items_view (item ∷ rest)))
-    → new ≡ bs ++ b ∷ [] → bucket_view b ≡ bucket_from next (items_view ps) → then ≡ next + sites_in_bucket (bucket_from next (items_view ps))
-    → buckets_from first (items_view all) ≡ onto_buckets (map bucket_view new) (buckets_from then (items_view rest))
-bucket-value first next then all rest item ps bs new b is h more seen number =
-    let made : buckets_from next (items_view (item ∷ rest)) ≡ bucket (bucket_from next (items_view ps)) (buckets_from (next + sites_in_bucket (bucket_from next (items_view ps))) (items_view rest)) = rw is refl in
-    h ∙ (ap (onto_buckets (map bucket_view bs)) made
-    ∙ (sym (onto_buckets-last (map bucket_view bs) (bucket_from next (items_view ps)) (buckets_from (next + sites_in_bucket (bucket_from next (items_view ps))) (items_view rest)))
-    ∙ rw (more, map-append bucket_view bs (b ∷ []), seen, number) refl))
+abbrev pub sites_of : By × Buckets → ℕ
+sites_of p = sites_in_by p.0 + sites_in_buckets p.1
 
-pub bucket-number : (first next then : ℕ) (bs new : List (BucketOf Node)) (b : BucketOf Node) (e : Bucket) → next ≡ first + sites_in_buckets (buckets_view bs)
-    → new ≡ bs ++ b ∷ [] → bucket_view b ≡ e → then ≡ next + sites_in_bucket e → then ≡ first + sites_in_buckets (buckets_view new)
-bucket-number first next then bs new b e number is seen after =
-    let both : sites_in_buckets (buckets_view new) ≡ sites_in_buckets (buckets_view bs) + sites_in_bucket e = rw (is, map-append bucket_view bs (b ∷ []), ← seen) (sites_in_buckets-last (map bucket_view bs) (bucket_view b)) in
-    omega (arith, number, after, both)
+pub site-end : (b : By) (bs : List Bucket) (k : ℕ) → site_of_rest b bs k no_items ≡ (b, buckets_of bs)
+site-end no_by [] k = refl
+site-end no_by (c ∷ cs) k = ap (λ xs. (no_by, xs)) (onto_buckets-none (c ∷ cs))
+site-end (by e) bs k = ap (λ xs. (by e, xs)) (onto_buckets-none bs)
 
-pub bucket-none : (first next : ℕ) (all rest : List Tree) (item : Tree) (bs : List (BucketOf Node)) → is_list_tree (view item) ≡ false
-    → buckets_from first (items_view all) ≡ onto_buckets (map bucket_view bs) (buckets_from next (items_view (item ∷ rest)))
-    → buckets_from first (items_view all) ≡ onto_buckets (map bucket_view bs) (buckets_from next (items_view rest))
-bucket-none first next all rest item bs other h = h ∙ ap (onto_buckets (map bucket_view bs)) (buckets_from-other next (view item) (items_view rest) other)
+site-bucket-list : (b : By) (bs : List Bucket) (k : ℕ) (ps ts : Items)
+    → site_of_rest b bs k (item_of (list ps) ts) ≡ site_of_rest b (bs ++ bucket_from k ps ∷ []) (k + sites_in_bucket (bucket_from k ps)) ts
+site-bucket-list no_by [] k ps ts = ap (λ j. (no_by, buckets_from j (item_of (list ps) ts))) (add-zero k)
+site-bucket-list no_by (c ∷ cs) k ps ts = ap (λ xs. (no_by, xs)) (sym (onto_buckets-last (c ∷ cs) (bucket_from k ps) (buckets_from (k + sites_in_bucket (bucket_from k ps)) ts)))
+site-bucket-list (by e) bs k ps ts = ap (λ xs. (by e, xs)) (sym (onto_buckets-last bs (bucket_from k ps) (buckets_from (k + sites_in_bucket (bucket_from k ps)) ts)))
 
-pub buckets-value : (first : ℕ) (all : List Tree) (bs : List (BucketOf Node)) → buckets_from first (items_view all) ≡ onto_buckets (map bucket_view bs) no_buckets → buckets_view bs ≡ buckets_from first (items_view all)
-buckets-value first all bs h = sym (h ∙ onto_buckets-none (map bucket_view bs))
+pub site-bucket : (b : By) (bs : List Bucket) (k : ℕ) (t : Shape) (ps ts : Items) → t ≡ list ps
+    → site_of_rest b bs k (item_of t ts) ≡ site_of_rest b (bs ++ bucket_from k ps ∷ []) (k + sites_in_bucket (bucket_from k ps)) ts
+site-bucket b bs k t ps ts is = ap (λ x. site_of_rest b bs k (item_of x ts)) is ∙ site-bucket-list b bs k ps ts
+
+pub site-by : (k : ℕ) (t : Shape) (ts : Items) → is_list_tree t ≡ false
+    → site_of_rest no_by [] k (item_of t ts) ≡ site_of_rest (by (expression_from k t)) [] (k + sites (expression_from k t)) ts
+site-by k t ts other =
+    let made = by_from-other k t ts other in
+    ap (λ (b : By). (b, buckets_from (k + sites_in_by b) (item_of t ts))) made ∙ ap (λ xs. (by (expression_from k t), xs)) (buckets_from-other (k + sites (expression_from k t)) t ts other)
+
+-- what is no list and not the first is passed over
+pub site-none_by : (b : Option (Box Node Global)) (bs : List Bucket) (k : ℕ) (t : Shape) (ts : Items) → is_list_tree t ≡ false → is_some b ≡ true
+    → site_of_rest (boxed_view b) bs k (item_of t ts) ≡ site_of_rest (boxed_view b) bs k ts
+site-none_by None bs k t ts other h = cc
+site-none_by (Some e) bs k t ts other h = ap (λ xs. (by (node_view e.value), onto_buckets bs xs)) (buckets_from-other k t ts other)
+
+pub site-none_buckets : (b : By) (bs : List Bucket) (k : ℕ) (t : Shape) (ts : Items) → is_list_tree t ≡ false → 0 < length bs → site_of_rest b bs k (item_of t ts) ≡ site_of_rest b bs k ts
+site-none_buckets no_by [] k t ts other h = absurd (omega arith)
+site-none_buckets no_by (c ∷ cs) k t ts other h = ap (λ xs. (no_by, onto_buckets (c ∷ cs) xs)) (buckets_from-other k t ts other)
+site-none_buckets (by e) bs k t ts other h = ap (λ xs. (by e, onto_buckets bs xs)) (buckets_from-other k t ts other)
+
+pub site-sites : (b : By) (bs : List Bucket) (k : ℕ) (ts : Items) → sites_in_by b + sites_in_buckets (buckets_of bs) ≤ sites_of (site_of_rest b bs k ts)
+site-sites no_by [] k ts = omega arith
+site-sites no_by (c ∷ cs) k ts = omega (arith, sites-onto_buckets (c ∷ cs) (buckets_from k ts))
+site-sites (by e) bs k ts = omega (arith, sites-onto_buckets bs (buckets_from k ts))
+
+pub site-fits : (b : By) (bs : List Bucket) (k first : ℕ) (ts all : Items) → site_of_rest b bs k ts ≡ site_of_rest no_by [] first all
+    → first + sites_of (site_of_rest no_by [] first all) < 2 ^ 32 → first + (sites_in_by b + sites_in_buckets (buckets_of bs)) < 2 ^ 32
+site-fits b bs k first ts all h fits = omega (arith, site-sites b bs k ts, ap sites_of h, fits)
+
+-- ---- a computed bucket
+
+pub computed-first : (k : ℕ) (name : Shape) (ts : Items) → sites (expression_from k name) ≤ sites_in_bucket (computed_from k (item_of name ts))
+computed-first k name no_items = omega arith
+computed-first k name (item_of weight ts) = omega arith

@@ -50,7 +50,3 @@ is_bucket-few [] h g = absurd (omega arith)
 is_bucket-few (a ∷ []) h g = refl
 is_bucket-few (a ∷ b ∷ []) h g = refl
 is_bucket-few (a ∷ b ∷ d ∷ ts) h g = absurd (omega arith)
-
-pub object_from-none : (k : ℕ) (ms : List (String Global × Tree)) → length ms < 1 → object_from k (members_view ms) ≡ literal (object (members_view ms))
-object_from-none k [] h = refl
-object_from-none k (m ∷ ms) h = absurd (omega arith)

@@ -78,6 +78,10 @@ abbrev pub unless : {A : Type 0} → Option LogicFault → A → Result A LogicF
 unless (Some f) a = Err f
 unless None a = Ok a
 
+-- why a tree is refused: too big, then the first fault in preorder (in private contracts alone)
+abbrev pub refusal : Shape → Option LogicFault
+refusal t = if is_too_big t then Some TooBig else expression_fault t
+
 -- The reading of a tree: too big, then the first fault in preorder, then the expression.
 abbrev pub reading : Shape → Result Expression LogicFault
 reading t = if is_too_big t then Err TooBig else unless (expression_fault t) (expression_from 0 t)

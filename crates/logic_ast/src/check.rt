@@ -2,7 +2,7 @@
 ghost use Rattle.std.specs.Prelude.{◌≡◌};
 ghost use Rattle.flag_text.specs.Shape.{list};
 ghost use Rattle.flag_text.specs.View.{view, items_view, members_view};
-ghost use Rattle.logic_ast.specs.FirstFault.{is_list_tree, item_count, argument_count, is_bucket, are_buckets, are_site_arguments, expression_fault, object_fault, expressions_fault, arguments_fault, site_fault, by_fault, buckets_fault, site_argument_fault, bucket_fault};
+ghost use Rattle.logic_ast.specs.FirstFault.{item_count, argument_count, is_bucket, are_buckets, are_site_arguments, expression_fault, object_fault, expressions_fault, arguments_fault, site_fault, by_fault, buckets_fault, site_argument_fault, bucket_fault};
 
 use crate::fault::LogicFault;
 use crate::operator::{Operator, is_fractional};
@@ -100,15 +100,6 @@ fn list_fault(items: &[Tree]) -> Option<LogicFault>
         return Some(fault);
     }
     buckets_fault(items)
-}
-
-pub(crate) fn is_list(tree: &Tree) -> bool
-    ensures { result ≡ is_list_tree (view tree.now) }
-{
-    match tree {
-        Tree::List(_) => true,
-        _ => false,
-    }
 }
 
 /// Whether these are buckets by their shape, after a bucketing expression if the first is no list.

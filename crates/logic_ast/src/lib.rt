@@ -1,8 +1,9 @@
 //! Expressions: JsonLogic in a whole-number profile, with flagd's `fractional`, `sem_ver`, `starts_with` and `ends_with`.
 //!
-//! [`read_expr`] reads a tree as an expression and [`write_expr`] writes it as one. An [`Expr`] is well formed by its type:
-//! its operators have as many arguments as they take, its sites (its `fractional` operations) are numbered in preorder, and
-//! it has at most 10,000 nodes and 100 levels. [`sites`], [`site`], [`by_text`] and [`replace_site`] work on its sites.
+//! [`read_expr`] reads a tree as an expression, [`into_expr`] reads one that it consumes, and [`write_expr`] writes an
+//! expression as a tree. An [`Expr`] is well formed by its type: its operators have as many arguments as they take, its
+//! sites (its `fractional` operations) are numbered in preorder, and it has at most 10,000 nodes and 100 levels. [`sites`],
+//! [`site`], [`by_text`] and [`replace_site`] work on its sites.
 //!
 //! ```rust
 //! use flag_text::read_tree;
@@ -37,6 +38,6 @@ pub use fault::LogicFault;
 pub use lookup::{by_text, site, sites};
 pub use node::{Bucket, Node};
 pub use operator::{Operator, is_fractional};
-pub use read::read_expr;
+pub use read::{into_expr, read_expr};
 pub use replace::replace_site;
 pub use write::write_expr;
