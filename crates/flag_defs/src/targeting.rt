@@ -10,7 +10,7 @@ ghost use Rattle.flag_defs.specs.Weighing.{HasWeighed};
 use crate::forecast::is_nothing;
 use flag_references::{Evaluators, expand};
 use flag_text::Tree;
-use logic_ast::{Expr, LogicFault, read_expr};
+use logic_ast::{Expr, into_expr};
 use std::alloc::{AllocError, Global};
 
 /// The most levels of the form of a targeting that can be read: one more than its expression may have, since a literal
@@ -58,11 +58,6 @@ fn read_form(alloc: Global, form: Tree) -> Result<Option<Expr>, AllocError>
     if is_nothing(&form) {
         return Ok(None);
     }
-    match read_expr(alloc, &form) {
-        Ok(expression) => Ok(Some(expression)),
-        Err(fault) => match fault {
-            LogicFault::WantOfMemory => Err(AllocError),
-            _ => unreachable!(),
-        },
-    }
+    let expression = into_expr(alloc, form)?;
+    Ok(Some(expression))
 }

@@ -78,7 +78,7 @@ abbrev pub unless : {A : Type 0} → Option LogicFault → A → Result A LogicF
 unless (Some f) a = Err f
 unless None a = Ok a
 
--- why a tree is refused: too big, then the first fault in preorder (in private contracts alone)
+-- why a tree is refused: too big, then the first fault in preorder
 abbrev pub refusal : Shape → Option LogicFault
 refusal t = if is_too_big t then Some TooBig else expression_fault t
 

@@ -1,5 +1,5 @@
 //! From a tree to an expression.
-ghost use Rattle.std.specs.Prelude.{◌≡◌, ℕ, ◌+◌, ◌<◌, ◌^◌, true, false, None, IfOk, OnOk, IfSome, IsErrOf, string_bytes};
+ghost use Rattle.std.specs.Prelude.{◌≡◌, ℕ, ◌+◌, ◌<◌, ◌^◌, true, false, None, Ok, IfOk, OnOk, IfSome, IsErrOf, string_bytes};
 ghost use Rattle.bucket_core.specs.Reading.{bucket_from as entry_of};
 ghost use Rattle.flag_text.specs.Outcome.{GivesUnless};
 ghost use Rattle.flag_text.specs.Shape.{is_whole, list, member, no_members};
@@ -42,25 +42,20 @@ pub fn read_expr(alloc: Global, tree: &Tree) -> Result<Expr, LogicFault>
         return Err(fault);
     }
     let tree = tree.copy(alloc)?;
-    Ok(read_root(alloc, tree)?)
+    Ok(into_expr(alloc, tree)?)
 }
 
-/// The expression that a tree stands for, as [`read_expr`] gives it. The tree is consumed: its literals and the names of
-/// its literal buckets are moved, so that memory is taken for the nodes alone.
-///
-/// `TooBig` (above 10,000 nodes or 100 levels, literal buckets left out) comes first, then the first of `UnknownOperator`
-/// and `BadArguments` in preorder; none of these takes memory. It takes time linear in the tree.
-pub fn into_expr(alloc: Global, tree: Tree) -> Result<Expr, LogicFault>
-    requires { is_whole (tree_view tree) ≡ true }
-    ensures exact { GivesUnless LogicFault.WantOfMemory view result (reading (tree_view tree)) }
+/// The expression that a tree stands for, as [`read_expr`] gives it. The condition is that the tree is not refused there. It is
+/// consumed: its texts and its literals are moved into the expression, so that memory is taken for the nodes alone.
+pub fn into_expr(alloc: Global, tree: Tree) -> Result<Expr, AllocError>
+    requires whole { is_whole (tree_view tree) ≡ true }
+    requires accepted { refusal (tree_view tree) ≡ None }
+    ensures exact { IfOk result (λ e. reading (tree_view tree) ≡ Ok (view e)) }
     ensures size { IfOk result (λ e. expression_size (tree_view tree) ≡ full_size (written (without_literals (view e)))) }
-    ensures too_big { is_too_big (tree_view tree) ≡ true → IsErrOf result LogicFault.TooBig }
-    ensures faulty { is_too_big (tree_view tree) ≡ false → IfSome (expression_fault (tree_view tree)) (λ f. IsErrOf result f) }
 {
-    if let Some(fault) = refusal(&tree) {
-        return Err(fault);
-    }
-    Ok(read_root(alloc, tree)?)
+    let mut next = 0;
+    let root = read_node(alloc, tree, &mut next)?;
+    Ok(Expr { root })
 }
 
 /// Why a tree is refused: it is too big, or it has a fault.
@@ -71,18 +66,6 @@ fn refusal(tree: &Tree) -> Option<LogicFault>
         return Some(LogicFault::TooBig);
     }
     first_fault(tree)
-}
-
-/// The expression of a tree that is not refused.
-fn read_root(alloc: Global, tree: Tree) -> Result<Expr, AllocError>
-    requires whole { is_whole (tree_view tree) ≡ true }
-    requires accepted { refusal (tree_view tree) ≡ None }
-    ensures value { IfOk result (λ e. view e ≡ expression_from 0 (tree_view tree)) }
-    ensures size { IfOk result (λ e. expression_size (tree_view tree) ≡ full_size (written (without_literals (view e)))) }
-{
-    let mut next = 0;
-    let root = read_node(alloc, tree, &mut next)?;
-    Ok(Expr { root })
 }
 
 // Each function below reads a tree in which nothing is wrong, and consumes it. It numbers its sites from `next` on, and

@@ -1,16 +1,16 @@
-use Rattle.std.proofs.Common.{ap, sym, ◌∙◌, arith}
+use Rattle.std.proofs.Common.{Ok, ap, sym, ◌∙◌, arith}
 use Rattle.flag_text.specs.View.{view}
 use Rattle.logic_ast.specs.Formed.{is_formed, is_well_formed}
 use Rattle.logic_ast.specs.Reading.{expression_from}
 use Rattle.logic_ast.specs.Size.{full_size}
 use Rattle.logic_ast.specs.Stripped.{without_literals}
 use Rattle.logic_ast.specs.Writing.{written}
-use Rattle.logic_ast.proofs.Accepted.{is_small, has_no_fault}
+use Rattle.logic_ast.proofs.Accepted.{is_small, has_no_fault, is_read}
 use Rattle.logic_ast.proofs.Measured.{size-from}
 use Rattle.logic_ast.proofs.Stripped.{size-written}
 use Rattle.logic_ast.proofs.Written.{left}
 use Rattle.logic_ast.proofs.WellFormed.{numbers-fit, is_well_formed-from}
-use Rattle.logic_ast.proofs.read.read_root.Goals as goal
+use Rattle.logic_ast.proofs.read.into_expr.Goals as goal
 
 pub read_node-requires : goal.read_node-requires
 read_node-requires c = omega (arith, numbers-fit (view c.args.tree) (is_small (view c.args.tree) c.requires.accepted))
@@ -29,3 +29,6 @@ returns-clause-size c =
     sym (size-from 0 tree no_fault)
     ∙ (size-written 0 read (left (is_formed 0 read) _ formed)
     ∙ ap (λ e. full_size (written (without_literals e))) (sym c.in_ok-root.ensures.value))
+
+pub returns-clause-exact : goal.returns-clause-exact
+returns-clause-exact c = is_read (view c.args.tree) c.requires.accepted ∙ ap Ok (sym c.in_ok-root.ensures.value)
