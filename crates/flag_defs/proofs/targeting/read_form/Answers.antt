@@ -5,16 +5,14 @@ use Rattle.flag_defs.proofs.Targetings.{readable, nothing, expression_read}
 use Rattle.flag_defs.proofs.targeting.read_form.Goals as goal
 
 pub into_expr-requires-whole : goal.into_expr-requires-whole
-into_expr-requires-whole c = (readable (view c.args.form) c.requires.good.0 (sym c.is_nothing.ensures ∙ c.if-is_nothing.false) c.requires.good.1).whole_numbers
-
-pub into_expr-requires-accepted : goal.into_expr-requires-accepted
-into_expr-requires-accepted c =
+into_expr-requires-whole c = λ _.
     let r = readable (view c.args.form) c.requires.good.0 (sym c.is_nothing.ensures ∙ c.if-is_nothing.false) c.requires.good.1 in
-    accepted (view c.args.form) r.expression r.read
+    (r.whole_numbers, accepted (view c.args.form) r.expression r.read)
 
 pub returns-then-is_nothing : goal.returns-then-is_nothing
 returns-then-is_nothing c = nothing (view c.args.form) (sym c.is_nothing.ensures ∙ c.if-is_nothing.true)
 
-pub returns-in_ok-expression : goal.returns-in_ok-expression
-returns-in_ok-expression c =
-    expression_read (view c.args.form) c.in_ok-expression.expression (readable (view c.args.form) c.requires.good.0 (sym c.is_nothing.ensures ∙ c.if-is_nothing.false) c.requires.good.1) c.in_ok-expression.ensures.exact
+pub returns : goal.returns
+returns c =
+    let r = readable (view c.args.form) c.requires.good.0 (sym c.is_nothing.ensures ∙ c.if-is_nothing.false) c.requires.good.1 in
+    expression_read (view c.args.form) c.in_ok-expression.expression r c.in_ok-expression.ensures.exact
