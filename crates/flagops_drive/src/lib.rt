@@ -36,7 +36,6 @@ mod lines;
 mod plain_ask;
 mod plain_asks;
 mod plain_members;
-mod reader;
 mod reading;
 mod tally;
 mod unplain;

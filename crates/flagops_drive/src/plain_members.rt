@@ -8,11 +8,10 @@ ghost use Rattle.flag_text.specs.View.{view};
 ghost use Rattle.flag_defs.specs.Kind.{word_of};
 ghost use Rattle.flagops_drive.specs.Plain.{Comes};
 
-use crate::reader::read_value;
 use crate::reading::moment_of;
 use crate::unplain::Unplain;
 use flag_resolve::Kind;
-use flag_text::Tree;
+use flag_text::{Tree, read_value};
 use json::{Reader, Token};
 use limits::{JSON_LEVELS, TREE_LEVELS};
 use std::alloc::Global;
