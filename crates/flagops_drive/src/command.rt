@@ -1,15 +1,16 @@
 //! The command over what it read.
-ghost use Rattle.std.specs.Prelude.{◌≡◌, ◌<◌, ◌^◌, true, IfErr, IfOk, IsErrOf, Some, length};
+ghost use Rattle.std.specs.Prelude.{◌≡◌, ◌<◌, ◌^◌, true, IfErr, IfOk, IsErrOf, Some};
 ghost use Rattle.book_share.specs.DriveFault.{workers_fault};
 ghost use Rattle.flag_defs.specs.Flags.{flags_view};
 ghost use Rattle.flag_text.specs.Shape.{is_whole, items_are_whole};
-ghost use Rattle.flag_text.specs.View.{items_view, view};
 ghost use Rattle.flagops_drive.specs.Asks.{asks_in, asks_of as asks_of_shape};
 ghost use Rattle.flagops_drive.specs.Driven.{Adds, Drives, IsOutput, IsUnadded, drove_view, reached_view, refusal_of};
+ghost use Rattle.flagops_drive.specs.File.{count_of, file_view, items_of};
 ghost use Rattle.flagops_drive.specs.Tally.{IsTallied};
 ghost use Rattle.flagops_drive.specs.declared.fault.DriveRefusal.{DriveRefusal as Refusal};
 
-use crate::asks::{ask_items, asks_in};
+use crate::asks::{AskItems, ask_items, asks_in};
+use crate::asks_file::AsksFile;
 use crate::fault::DriveRefusal;
 use crate::gate::CountingGate;
 use crate::lines::{Counts, lines};
@@ -18,7 +19,6 @@ use book_core::{Book, print_book};
 use book_share::{DriveFault, Driven, drive};
 use flag_defs::Flags;
 use flag_resolve::Resolution;
-use flag_text::Tree;
 use limits::SEATS;
 use progress::Meter;
 use std::alloc::Global;
@@ -47,9 +47,9 @@ pub struct Rest {
 
 /// Why the asks of a file are not driven by so many workers, as far as it is known without taking memory: they are no asks,
 /// or else the number of the workers.
-pub fn refusal_of(asks: &Tree, workers: usize) -> Option<DriveRefusal>
-    requires { is_whole (view asks.now) ≡ true }
-    ensures { result ≡ refusal_of (asks_of_shape (view asks.now)) workers }
+pub fn refusal_of(asks: &AsksFile<'_>, workers: usize) -> Option<DriveRefusal>
+    requires { is_whole (file_view asks.now) ≡ true }
+    ensures { result ≡ refusal_of (asks_of_shape (file_view asks.now)) workers }
 {
     if ask_items(asks).is_none() {
         return Some(DriveRefusal::BadAsks);
@@ -71,16 +71,16 @@ pub fn drive_asks<R: Threads + Wait + Sync>(
     rt: &R,
     alloc: Global,
     flags: &Flags,
-    asks: &Tree,
+    asks: &AsksFile<'_>,
     workers: usize,
     before: Option<Book>,
     json: bool,
     meter: Option<&Meter>,
 ) -> Result<Drove, DriveRefusal>
-    requires { is_whole (view asks.now) ≡ true }
-    ensures driven { Drives (flags_view flags.now) (asks_of_shape (view asks.now)) workers before json result }
+    requires { is_whole (file_view asks.now) ≡ true }
+    ensures driven { Drives (flags_view flags.now) (asks_of_shape (file_view asks.now)) workers before json result }
     ensures tally { IfOk result (IsTallied before json) }
-    ensures refused { (e : Refusal) → refusal_of (asks_of_shape (view asks.now)) workers ≡ Some e → IsErrOf result e }
+    ensures refused { (e : Refusal) → refusal_of (asks_of_shape (file_view asks.now)) workers ≡ Some e → IsErrOf result e }
 {
     let Some(items) = ask_items(asks) else {
         return Err(DriveRefusal::BadAsks);
@@ -96,15 +96,15 @@ fn drive_items<R: Threads + Wait + Sync>(
     rt: &R,
     alloc: Global,
     flags: &Flags,
-    items: &[Tree],
+    items: AskItems<'_>,
     workers: usize,
     before: Option<Book>,
     json: bool,
     meter: Option<&Meter>,
 ) -> Result<Drove, DriveRefusal>
-    requires whole { items_are_whole (items_view items.now) ≡ true }
-    requires few { length items.now < 2 ^ 32 }
-    ensures driven { Drives (flags_view flags.now) (asks_in (items_view items.now)) workers before json result }
+    requires whole { items_are_whole (items_of items) ≡ true }
+    requires few { count_of items < 2 ^ 32 }
+    ensures driven { Drives (flags_view flags.now) (asks_in (items_of items.entry)) workers before json result }
     ensures tally { IfOk result (IsTallied before json) }
 {
     let asks = asks_in(alloc, items)?;

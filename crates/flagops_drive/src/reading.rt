@@ -2,7 +2,7 @@
 ghost use Rattle.std.specs.Prelude.{◌≡◌, ◌<◌, ◌^◌, true, IfSome, option_copied, option_map};
 ghost use Rattle.flag_text.specs.Shape.{is_whole};
 ghost use Rattle.flag_text.specs.View.{view};
-ghost use Rattle.flagops_drive.specs.Asks.{ask_in, ask_view, context_in, key_in, moment_in, want_in};
+ghost use Rattle.flagops_drive.specs.Asks.{ask_in, ask_view, context_in, if_moment, key_in, moment_in, want_in};
 
 use book_share::Ask;
 use flag_resolve::Kind;
@@ -57,7 +57,15 @@ fn moment_in(tree: &Tree) -> Option<u64>
     ensures value { result ≡ moment_in (view tree.now) }
     ensures small { IfSome result (λ n. n < 2 ^ 53) }
 {
-    match tree.member("moment")? {
+    moment_of(tree.member("moment")?)
+}
+
+/// The moment that a tree is.
+pub(crate) fn moment_of(tree: &Tree) -> Option<u64>
+    ensures value { result ≡ if_moment (view tree.now) }
+    ensures small { IfSome result (λ n. n < 2 ^ 53) }
+{
+    match tree {
         Tree::Whole(moment) if 0 <= *moment && *moment < MOMENTS => Some(*moment as u64),
         _ => None,
     }

@@ -6,8 +6,8 @@ use book_core::{Book, print_book};
 use book_share::{Ask, Attempt, Driven, Gate, OpenGate, drive};
 use flag_defs::{Flags, read_flags};
 use flag_resolve::{Code, Reason, Resolution};
-use flag_text::read_tree;
-use flagops_drive::asks_of;
+use flagops_drive::{asks_of, read_asks};
+use json::Scratch;
 use std::alloc::{AllocError, Global};
 use std::sync::Wait;
 use std::sync::atomic::{AtomicBool, Ordering};
@@ -116,8 +116,9 @@ fn is_outcome<G: Gate, R: Threads + Wait + Sync>(
     gate: &G,
     want: &str,
 ) -> bool {
-    match read_tree(alloc, text.as_bytes(), 67_108_864) {
-        Ok(tree) => match asks_of(alloc, &tree) {
+    let mut scratch = Scratch::new(alloc);
+    match read_asks(alloc, text.as_bytes(), 67_108_864, &mut scratch) {
+        Ok(file) => match asks_of(alloc, &file) {
             Ok(asks) => is_outcome_of(rt, alloc, asks.as_slice(), workers, gate, want),
             Err(_) => false,
         },

@@ -11,13 +11,14 @@ ghost use Rattle.flagops_files.specs.Told.{Says, TellsOf, TellsOfOne, by, file};
 ghost use Rattle.flagops_remarks.specs.Named.{Names};
 ghost use Rattle.flagops_commands.specs.Subjects.{drive_subjects};
 
+use crate::books::asks::load_asks;
 use crate::books::driving::{drove, remark_on};
 use book_core::Book;
 use flagops_drive::Drove;
 use flagops_files::{
-    FileSet, Outcome, Refused, Remark, Status, TEXT_LIMIT, check_replaceable, load_book,
-    load_flags, load_tree, store,
+    FileSet, Outcome, Refused, Remark, Status, check_replaceable, load_book, load_flags, store,
 };
+use json::Scratch;
 use std::alloc::Global;
 use std::mem;
 use std::sync::Wait;
@@ -52,14 +53,16 @@ pub fn drive<R: Threads + Wait + Sync, F: FileSet>(
     ensures notes { IfOk result (λ o. IfSome o.remark (Says (Names asks.now))) }
 {
     let flags = load_flags(alloc, files, document)?;
-    let tree = load_tree(alloc, files, asks, TEXT_LIMIT)?;
+    let mut bytes = Vec::new(alloc);
+    let mut scratch = Scratch::new(alloc);
+    let loaded = load_asks(alloc, files, asks, &mut bytes, &mut scratch)?;
     let before = book_before(alloc, files, book, add)?;
     let drove = drove(
         rt,
         alloc,
         &flags,
         asks,
-        &tree,
+        &loaded,
         workers,
         book,
         before,
@@ -67,9 +70,9 @@ pub fn drive<R: Threads + Wait + Sync, F: FileSet>(
         json,
         files.meter(),
     )?;
-    let remark = remark_on(alloc, asks, &tree, drove.tally);
+    let remark = remark_on(alloc, asks, &loaded, drove.tally);
     // The program ends soon, and its memory with it.
-    mem::forget((flags, tree));
+    mem::forget((flags, loaded));
     written(alloc, files, book, drove, remark)
 }
 

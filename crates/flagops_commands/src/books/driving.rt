@@ -2,9 +2,9 @@
 ghost use Rattle.std.specs.Prelude.{◌≡◌, false, true, IfErr, IfOk, IsErrAnd, IsOk, OnOk, Err, Ok, [], ◌∷◌, string_bytes};
 ghost use Rattle.flag_defs.specs.Flags.{flags_view};
 ghost use Rattle.flag_text.specs.Shape.{is_whole};
-ghost use Rattle.flag_text.specs.View.{view};
 ghost use Rattle.flagops_drive.specs.Asks.{asks_of};
 ghost use Rattle.flagops_drive.specs.Driven.{drove_view, refusal_of};
+ghost use Rattle.flagops_drive.specs.File.{file_view};
 ghost use Rattle.flagops_commands.specs.Calls.{drive_itself};
 ghost use Rattle.flagops_commands.specs.Doubts.{settle};
 ghost use Rattle.flagops_commands.specs.Drive.{IsDroveOf, admitted, doubt_of_asks, recorded};
@@ -16,28 +16,28 @@ ghost use Rattle.flagops_files.specs.declared.refusal.Refusal.{Refusal as Reason
 ghost use Rattle.flagops_files.specs.declared.refusal.Refusal.TheVariants.{Doubted, Drive};
 ghost use Rattle.flagops_remarks.specs.Named.{Names};
 
+use crate::books::asks::{of_no_asks, of_unread};
 use crate::rollouts::doubts::joined;
 use book_core::Book;
 use flag_defs::Flags;
-use flag_text::Tree;
-use flagops_drive::{DriveRefusal, Drove, Endings, Tally, drive_asks, has_unread_ask, refusal_of};
-use flagops_files::{Call, Doubt, Refusal, Refused, Remark};
-use flagops_remarks::{
-    of_asks, of_driven, of_full_book, of_unread_asks, of_unrecorded_asks, of_workers,
+use flagops_drive::{
+    AsksFile, DriveRefusal, Drove, Endings, Tally, drive_asks, has_unread_ask, refusal_of,
 };
+use flagops_files::{Call, Doubt, Refusal, Refused, Remark};
+use flagops_remarks::{of_driven, of_full_book, of_unrecorded_asks, of_workers};
 use progress::Meter;
 use std::alloc::{AllocError, Global};
 use std::sync::Wait;
 use std::thread::Threads;
 
-/// The asks of a tree, driven; the tree was loaded from a path, and so was the book that was there before. Each ask that is
+/// The asks of a file, driven; it was loaded from a path, and so was the book that was there before. Each ask that is
 /// answered moves the meter on, where there is one.
 pub fn drove<R: Threads + Wait + Sync>(
     rt: &R,
     alloc: Global,
     flags: &Flags,
     path: &str,
-    tree: &Tree,
+    asks: &AsksFile<'_>,
     workers: u16,
     book: &str,
     before: Option<Book>,
@@ -45,18 +45,18 @@ pub fn drove<R: Threads + Wait + Sync>(
     json: bool,
     meter: Option<&Meter>,
 ) -> Result<Drove, Refused>
-    requires { is_whole (view tree.now) ≡ true }
-    ensures exact { GivesOne drove_view result (IsDroveOf (Ok (flags_view flags.now)) (Ok (view tree.now)) (Ok before) workers strict json) }
+    requires { is_whole (file_view asks.now) ≡ true }
+    ensures exact { GivesOne drove_view result (IsDroveOf (Ok (flags_view flags.now)) (Ok (file_view asks.now)) (Ok before) workers strict json) }
     ensures calls { ComesFrom drive_itself result }
     ensures read { is_file_fault result ≡ false }
-    ensures refused { (e : Reason) → admitted strict (refusal_of (asks_of (view tree.now)) workers) (view tree.now) ≡ Err e → IsErrAnd result (λ r. r.refusal ≡ e) }
+    ensures refused { (e : Reason) → admitted strict (refusal_of (asks_of (file_view asks.now)) workers) (file_view asks.now) ≡ Err e → IsErrAnd result (λ r. r.refusal ≡ e) }
     ensures names { TellsOfOne (driven_subjects path.now book.now) result }
 {
     let workers = usize::from(workers);
-    check_members(alloc, path, tree, workers, book, strict)?;
-    match drive_asks(rt, alloc, flags, tree, workers, before, json, meter) {
+    check_members(alloc, path, asks, workers, book, strict)?;
+    match drive_asks(rt, alloc, flags, asks, workers, before, json, meter) {
         Ok(drove) => recorded(alloc, path, drove, strict),
-        Err(refusal) => Err(undriven(alloc, path, tree, workers, book, refusal)),
+        Err(refusal) => Err(undriven(alloc, path, asks, workers, book, refusal)),
     }
 }
 
@@ -66,26 +66,26 @@ pub fn drove<R: Threads + Wait + Sync>(
 fn check_members(
     alloc: Global,
     path: &str,
-    tree: &Tree,
+    asks: &AsksFile<'_>,
     workers: usize,
     book: &str,
     strict: bool,
 ) -> Result<(), Refused>
-    requires { is_whole (view tree.now) ≡ true }
-    ensures ok { OnOk result (IsOk (settle call.Drive strict (doubt_of_asks (view tree.now)))) }
-    ensures refused { IfErr result (λ r. admitted strict (refusal_of (asks_of (view tree.now)) workers) (view tree.now) ≡ Err r.refusal) }
+    requires { is_whole (file_view asks.now) ≡ true }
+    ensures ok { OnOk result (IsOk (settle call.Drive strict (doubt_of_asks (file_view asks.now)))) }
+    ensures refused { IfErr result (λ r. admitted strict (refusal_of (asks_of (file_view asks.now)) workers) (file_view asks.now) ≡ Err r.refusal) }
     ensures calls { ComesFrom drive_itself result }
     ensures read { is_file_fault result ≡ false }
     ensures names { TellsOfOne (driven_subjects path.now book.now) result }
 {
-    if !strict || !has_unread_ask(tree) {
+    if !strict || !has_unread_ask(asks) {
         return Ok(());
     }
-    Err(match refusal_of(tree, workers) {
-        Some(refusal) => undriven(alloc, path, tree, workers, book, refusal),
+    Err(match refusal_of(asks, workers) {
+        Some(refusal) => undriven(alloc, path, asks, workers, book, refusal),
         None => Refused {
             refusal: Refusal::Doubted(Call::Drive, Doubt::Unread),
-            remark: Remark::of(of_unread_asks(alloc, path, tree)),
+            remark: Remark::of(of_unread(alloc, path, asks)),
         },
     })
 }
@@ -113,7 +113,7 @@ fn recorded(alloc: Global, path: &str, drove: Drove, strict: bool) -> Result<Dro
 fn undriven(
     alloc: Global,
     path: &str,
-    tree: &Tree,
+    asks: &AsksFile<'_>,
     workers: usize,
     book: &str,
     refusal: DriveRefusal,
@@ -123,14 +123,14 @@ fn undriven(
 {
     Refused {
         refusal: Refusal::Drive(refusal),
-        remark: Remark::of(of_refusal(alloc, path, tree, workers, book, refusal)),
+        remark: Remark::of(of_refusal(alloc, path, asks, workers, book, refusal)),
     }
 }
 
 fn of_refusal(
     alloc: Global,
     path: &str,
-    tree: &Tree,
+    asks: &AsksFile<'_>,
     workers: usize,
     book: &str,
     refusal: DriveRefusal,
@@ -138,7 +138,7 @@ fn of_refusal(
     ensures { IfOk result (λ s. NamesDriven path.now book.now refusal (string_bytes s)) }
 {
     match refusal {
-        DriveRefusal::BadAsks => of_asks(alloc, path, tree),
+        DriveRefusal::BadAsks => of_no_asks(alloc, path, asks),
         DriveRefusal::Drive(fault) => of_workers(alloc, workers, fault.name()),
         DriveRefusal::PageFull => of_full_book(alloc, book),
     }
@@ -147,12 +147,12 @@ fn of_refusal(
 /// What a person is told of asks that were driven, by the path of their file: of members that are not read, and of what the
 /// asks came to.
 #[tactic(auto, using(flagops_files::proofs::Told::says))]
-pub fn remark_on(alloc: Global, path: &str, tree: &Tree, tally: Tally) -> Remark
+pub fn remark_on(alloc: Global, path: &str, asks: &AsksFile<'_>, tally: Tally) -> Remark
     ensures { Says (Names path.now) result }
 {
     let remark = Remark::of(lines_on(alloc, path, tally));
-    if has_unread_ask(tree) {
-        let unread = Remark::of(of_unread_asks(alloc, path, tree));
+    if has_unread_ask(asks) {
+        let unread = Remark::of(of_unread(alloc, path, asks));
         joined(path, unread, Some(remark))
     } else {
         remark

@@ -1,6 +1,6 @@
 use Rattle.flag_defs.specs.Flags.{flags_view}
-use Rattle.flag_text.specs.View.{view}
 use Rattle.flagops_drive.specs.Driven.{drove_view}
+use Rattle.flagops_drive.specs.File.{file_view}
 use Rattle.flagops_files.specs.Refusal.{loads_book, loads_flags, loads_tree}
 use Rattle.flagops_commands.specs.Drive.{HasNoAsks, HasUnreadAsk}
 use Rattle.flagops_commands.proofs.Driving.{at_first, driven, kept_after, left_by_storing, no_asks, no_book, no_document, not_driven, others_after}
@@ -30,43 +30,43 @@ pub returns-in_err-flags-clause-unread : goal.returns-in_err-flags-clause-unread
 returns-in_err-flags-clause-unread g c =
     in_any_mode (λ at. HasUnreadAsk at c.args.asks.now) _ c.args.strict _ (let told = by_another loads_flags c.in_err-flags.field-0.0.refusal refl c.in_err-flags.ensures.calls in search rules)
 
-pub returns-in_err-tree-clause-exact : goal.returns-in_err-tree-clause-exact
-returns-in_err-tree-clause-exact g c =
+pub returns-in_err-loaded-clause-exact : goal.returns-in_err-loaded-clause-exact
+returns-in_err-loaded-clause-exact g c =
     let told =
-    no_asks c.args.document.now c.args.asks.now c.args.workers c.args.book.now c.args.add c.args.strict c.args.json (flags_view c.in_ok-flags.flags) _ _ c.in_err-tree.field-0.0 (c.load_tree.ensures.kept ∙ c.load_flags.ensures.kept) c.in_ok-flags.ensures.exact
-    (at_first _ _ _ c.load_flags.ensures.kept c.in_err-tree.ensures.exact) in
+    no_asks c.args.document.now c.args.asks.now c.args.workers c.args.book.now c.args.add c.args.strict c.args.json (flags_view c.in_ok-flags.flags) _ _ c.in_err-loaded.field-0.0 (c.load_asks.ensures.kept ∙ c.load_flags.ensures.kept) c.in_ok-flags.ensures.exact
+    (at_first _ _ _ c.load_flags.ensures.kept c.in_err-loaded.ensures.exact) in
     search rules
 
-pub returns-in_err-tree-clause-left : goal.returns-in_err-tree-clause-left
-returns-in_err-tree-clause-left g c = inl (c.load_tree.ensures.kept ∙ c.load_flags.ensures.kept)
+pub returns-in_err-loaded-clause-left : goal.returns-in_err-loaded-clause-left
+returns-in_err-loaded-clause-left g c = inl (c.load_asks.ensures.kept ∙ c.load_flags.ensures.kept)
 
-pub returns-in_err-tree-clause-kept : goal.returns-in_err-tree-clause-kept
-returns-in_err-tree-clause-kept g c = inl (c.load_tree.ensures.kept ∙ c.load_flags.ensures.kept)
+pub returns-in_err-loaded-clause-kept : goal.returns-in_err-loaded-clause-kept
+returns-in_err-loaded-clause-kept g c = inl (c.load_asks.ensures.kept ∙ c.load_flags.ensures.kept)
 
-pub returns-in_err-tree-clause-bad_workers : goal.returns-in_err-tree-clause-bad_workers
-returns-in_err-tree-clause-bad_workers g c = λ e wrong.
-    let told = by_another loads_tree c.in_err-tree.field-0.0.refusal refl c.in_err-tree.ensures.calls in search rules
+pub returns-in_err-loaded-clause-bad_workers : goal.returns-in_err-loaded-clause-bad_workers
+returns-in_err-loaded-clause-bad_workers g c = λ e wrong.
+    let told = by_another loads_tree c.in_err-loaded.field-0.0.refusal refl c.in_err-loaded.ensures.calls in search rules
 
-pub returns-in_err-tree-clause-bad_asks : goal.returns-in_err-tree-clause-bad_asks
-returns-in_err-tree-clause-bad_asks g c =
-    in_any_case (λ at. HasNoAsks at c.args.asks.now) _ _ (let told = by_another loads_tree c.in_err-tree.field-0.0.refusal refl c.in_err-tree.ensures.calls in search rules)
+pub returns-in_err-loaded-clause-bad_asks : goal.returns-in_err-loaded-clause-bad_asks
+returns-in_err-loaded-clause-bad_asks g c =
+    in_any_case (λ at. HasNoAsks at c.args.asks.now) _ _ (let told = by_another loads_tree c.in_err-loaded.field-0.0.refusal refl c.in_err-loaded.ensures.calls in search rules)
 
-pub returns-in_err-tree-clause-unread : goal.returns-in_err-tree-clause-unread
-returns-in_err-tree-clause-unread g c =
-    in_any_mode (λ at. HasUnreadAsk at c.args.asks.now) _ c.args.strict _ (let told = by_another loads_tree c.in_err-tree.field-0.0.refusal refl c.in_err-tree.ensures.calls in search rules)
+pub returns-in_err-loaded-clause-unread : goal.returns-in_err-loaded-clause-unread
+returns-in_err-loaded-clause-unread g c =
+    in_any_mode (λ at. HasUnreadAsk at c.args.asks.now) _ c.args.strict _ (let told = by_another loads_tree c.in_err-loaded.field-0.0.refusal refl c.in_err-loaded.ensures.calls in search rules)
 
 pub returns-in_err-before-clause-exact : goal.returns-in_err-before-clause-exact
 returns-in_err-before-clause-exact g c =
     let told =
-    no_book c.args.document.now c.args.asks.now c.args.workers c.args.book.now c.args.add c.args.strict c.args.json (flags_view c.in_ok-flags.flags) (view c.in_ok-tree.tree) _ _ c.in_err-before.field-0.0 (c.book_before.ensures.kept ∙ (c.load_tree.ensures.kept ∙ c.load_flags.ensures.kept))
-    c.in_ok-flags.ensures.exact (at_first _ _ _ c.load_flags.ensures.kept c.in_ok-tree.ensures.exact) (at_first _ _ _ (c.load_tree.ensures.kept ∙ c.load_flags.ensures.kept) c.in_err-before.ensures.exact) in
+    no_book c.args.document.now c.args.asks.now c.args.workers c.args.book.now c.args.add c.args.strict c.args.json (flags_view c.in_ok-flags.flags) (file_view c.in_ok-loaded.loaded) _ _ c.in_err-before.field-0.0 (c.book_before.ensures.kept ∙ (c.load_asks.ensures.kept ∙ c.load_flags.ensures.kept))
+    c.in_ok-flags.ensures.exact (at_first _ _ _ c.load_flags.ensures.kept c.in_ok-loaded.ensures.exact) (at_first _ _ _ (c.load_asks.ensures.kept ∙ c.load_flags.ensures.kept) c.in_err-before.ensures.exact) in
     search rules
 
 pub returns-in_err-before-clause-left : goal.returns-in_err-before-clause-left
-returns-in_err-before-clause-left g c = inl (c.book_before.ensures.kept ∙ (c.load_tree.ensures.kept ∙ c.load_flags.ensures.kept))
+returns-in_err-before-clause-left g c = inl (c.book_before.ensures.kept ∙ (c.load_asks.ensures.kept ∙ c.load_flags.ensures.kept))
 
 pub returns-in_err-before-clause-kept : goal.returns-in_err-before-clause-kept
-returns-in_err-before-clause-kept g c = inl (c.book_before.ensures.kept ∙ (c.load_tree.ensures.kept ∙ c.load_flags.ensures.kept))
+returns-in_err-before-clause-kept g c = inl (c.book_before.ensures.kept ∙ (c.load_asks.ensures.kept ∙ c.load_flags.ensures.kept))
 
 pub returns-in_err-before-clause-bad_workers : goal.returns-in_err-before-clause-bad_workers
 returns-in_err-before-clause-bad_workers g c = λ e wrong.
@@ -83,56 +83,56 @@ returns-in_err-before-clause-unread g c =
 pub returns-in_err-drove-clause-exact : goal.returns-in_err-drove-clause-exact
 returns-in_err-drove-clause-exact g c =
     let told =
-    not_driven c.args.document.now c.args.asks.now c.args.workers c.args.book.now c.args.add c.args.strict c.args.json (flags_view c.in_ok-flags.flags) (view c.in_ok-tree.tree) c.in_ok-before.before _ _ c.in_err-drove.field-0.0 (c.book_before.ensures.kept ∙ (c.load_tree.ensures.kept ∙ c.load_flags.ensures.kept))
-    c.in_ok-flags.ensures.exact (at_first _ _ _ c.load_flags.ensures.kept c.in_ok-tree.ensures.exact) (at_first _ _ _ (c.load_tree.ensures.kept ∙ c.load_flags.ensures.kept) c.in_ok-before.ensures.exact) c.in_err-drove.ensures.exact in
+    not_driven c.args.document.now c.args.asks.now c.args.workers c.args.book.now c.args.add c.args.strict c.args.json (flags_view c.in_ok-flags.flags) (file_view c.in_ok-loaded.loaded) c.in_ok-before.before _ _ c.in_err-drove.field-0.0 (c.book_before.ensures.kept ∙ (c.load_asks.ensures.kept ∙ c.load_flags.ensures.kept))
+    c.in_ok-flags.ensures.exact (at_first _ _ _ c.load_flags.ensures.kept c.in_ok-loaded.ensures.exact) (at_first _ _ _ (c.load_asks.ensures.kept ∙ c.load_flags.ensures.kept) c.in_ok-before.ensures.exact) c.in_err-drove.ensures.exact in
     search rules
 
 pub returns-in_err-drove-clause-left : goal.returns-in_err-drove-clause-left
-returns-in_err-drove-clause-left g c = inl (c.book_before.ensures.kept ∙ (c.load_tree.ensures.kept ∙ c.load_flags.ensures.kept))
+returns-in_err-drove-clause-left g c = inl (c.book_before.ensures.kept ∙ (c.load_asks.ensures.kept ∙ c.load_flags.ensures.kept))
 
 pub returns-in_err-drove-clause-kept : goal.returns-in_err-drove-clause-kept
-returns-in_err-drove-clause-kept g c = inl (c.book_before.ensures.kept ∙ (c.load_tree.ensures.kept ∙ c.load_flags.ensures.kept))
+returns-in_err-drove-clause-kept g c = inl (c.book_before.ensures.kept ∙ (c.load_asks.ensures.kept ∙ c.load_flags.ensures.kept))
 
 pub returns-in_err-drove-clause-bad_workers : goal.returns-in_err-drove-clause-bad_workers
 returns-in_err-drove-clause-bad_workers g c = λ e wrong.
-    let told = by_name c.args.strict (view c.in_ok-tree.tree) c.args.workers c.in_err-drove.field-0.0.refusal (wrong_workers c.args.strict (view c.in_ok-tree.tree) c.args.workers e wrong) c.in_err-drove.ensures.refused in search rules
+    let told = by_name c.args.strict (file_view c.in_ok-loaded.loaded) c.args.workers c.in_err-drove.field-0.0.refusal (wrong_workers c.args.strict (file_view c.in_ok-loaded.loaded) c.args.workers e wrong) c.in_err-drove.ensures.refused in search rules
 
 pub returns-in_err-drove-clause-bad_asks : goal.returns-in_err-drove-clause-bad_asks
 returns-in_err-drove-clause-bad_asks g c =
-    for_no_asks c.args.asks.now (view c.in_ok-tree.tree) c.args.strict c.args.workers _ _ _ c.load_flags.ensures.kept c.in_ok-tree.ensures.exact
-    (λ are. let told = by_name c.args.strict (view c.in_ok-tree.tree) c.args.workers c.in_err-drove.field-0.0.refusal are c.in_err-drove.ensures.refused in search rules)
+    for_no_asks c.args.asks.now (file_view c.in_ok-loaded.loaded) c.args.strict c.args.workers _ _ _ c.load_flags.ensures.kept c.in_ok-loaded.ensures.exact
+    (λ are. let told = by_name c.args.strict (file_view c.in_ok-loaded.loaded) c.args.workers c.in_err-drove.field-0.0.refusal are c.in_err-drove.ensures.refused in search rules)
 
 pub returns-in_err-drove-clause-unread : goal.returns-in_err-drove-clause-unread
 returns-in_err-drove-clause-unread g c =
-    for_unread c.args.asks.now (view c.in_ok-tree.tree) c.args.strict c.args.workers _ _ _ c.load_flags.ensures.kept c.in_ok-tree.ensures.exact
-    (λ are. let told = by_name c.args.strict (view c.in_ok-tree.tree) c.args.workers c.in_err-drove.field-0.0.refusal are c.in_err-drove.ensures.refused in search rules)
+    for_unread c.args.asks.now (file_view c.in_ok-loaded.loaded) c.args.strict c.args.workers _ _ _ c.load_flags.ensures.kept c.in_ok-loaded.ensures.exact
+    (λ are. let told = by_name c.args.strict (file_view c.in_ok-loaded.loaded) c.args.workers c.in_err-drove.field-0.0.refusal are c.in_err-drove.ensures.refused in search rules)
 
 pub returns-clause-exact : goal.returns-clause-exact
 returns-clause-exact g c =
-    driven c.args.document.now c.args.asks.now c.args.workers c.args.book.now c.args.add c.args.strict c.args.json (flags_view c.in_ok-flags.flags) (view c.in_ok-tree.tree) c.in_ok-before.before _ _ (drove_view c.in_ok-drove.drove) _
-    c.in_ok-flags.ensures.exact (at_first _ _ _ c.load_flags.ensures.kept c.in_ok-tree.ensures.exact) (at_first _ _ _ (c.load_tree.ensures.kept ∙ c.load_flags.ensures.kept) c.in_ok-before.ensures.exact) c.in_ok-drove.ensures.exact (at_first _ _ _ (c.book_before.ensures.kept ∙ (c.load_tree.ensures.kept ∙ c.load_flags.ensures.kept)) c.written.ensures.exact)
+    driven c.args.document.now c.args.asks.now c.args.workers c.args.book.now c.args.add c.args.strict c.args.json (flags_view c.in_ok-flags.flags) (file_view c.in_ok-loaded.loaded) c.in_ok-before.before _ _ (drove_view c.in_ok-drove.drove) _
+    c.in_ok-flags.ensures.exact (at_first _ _ _ c.load_flags.ensures.kept c.in_ok-loaded.ensures.exact) (at_first _ _ _ (c.load_asks.ensures.kept ∙ c.load_flags.ensures.kept) c.in_ok-before.ensures.exact) c.in_ok-drove.ensures.exact (at_first _ _ _ (c.book_before.ensures.kept ∙ (c.load_asks.ensures.kept ∙ c.load_flags.ensures.kept)) c.written.ensures.exact)
 
 pub returns-clause-left : goal.returns-clause-left
 returns-clause-left g c =
-    left_by_storing c.args.document.now c.args.asks.now c.args.workers c.args.book.now c.args.add c.args.strict c.args.json (flags_view c.in_ok-flags.flags) (view c.in_ok-tree.tree) c.in_ok-before.before _ _ (drove_view c.in_ok-drove.drove)
-    c.in_ok-flags.ensures.exact (at_first _ _ _ c.load_flags.ensures.kept c.in_ok-tree.ensures.exact) (at_first _ _ _ (c.load_tree.ensures.kept ∙ c.load_flags.ensures.kept) c.in_ok-before.ensures.exact) c.in_ok-drove.ensures.exact (others_after _ _ _ _ (c.book_before.ensures.kept ∙ (c.load_tree.ensures.kept ∙ c.load_flags.ensures.kept)) c.written.ensures.others)
+    left_by_storing c.args.document.now c.args.asks.now c.args.workers c.args.book.now c.args.add c.args.strict c.args.json (flags_view c.in_ok-flags.flags) (file_view c.in_ok-loaded.loaded) c.in_ok-before.before _ _ (drove_view c.in_ok-drove.drove)
+    c.in_ok-flags.ensures.exact (at_first _ _ _ c.load_flags.ensures.kept c.in_ok-loaded.ensures.exact) (at_first _ _ _ (c.load_asks.ensures.kept ∙ c.load_flags.ensures.kept) c.in_ok-before.ensures.exact) c.in_ok-drove.ensures.exact (others_after _ _ _ _ (c.book_before.ensures.kept ∙ (c.load_asks.ensures.kept ∙ c.load_flags.ensures.kept)) c.written.ensures.others)
 
 pub returns-clause-kept : goal.returns-clause-kept
-returns-clause-kept g c = kept_after _ _ _ _ _ (c.load_tree.ensures.kept ∙ c.load_flags.ensures.kept) c.book_before.ensures.kept c.written.ensures.kept
+returns-clause-kept g c = kept_after _ _ _ _ _ (c.load_asks.ensures.kept ∙ c.load_flags.ensures.kept) c.book_before.ensures.kept c.written.ensures.kept
 
 pub returns-clause-bad_workers : goal.returns-clause-bad_workers
 returns-clause-bad_workers g c = λ e wrong.
-    absurd (none_driven c.args.strict (view c.in_ok-tree.tree) c.args.workers (wrong_workers c.args.strict (view c.in_ok-tree.tree) c.args.workers e wrong) c.in_ok-drove.ensures.refused)
+    absurd (none_driven c.args.strict (file_view c.in_ok-loaded.loaded) c.args.workers (wrong_workers c.args.strict (file_view c.in_ok-loaded.loaded) c.args.workers e wrong) c.in_ok-drove.ensures.refused)
 
 pub returns-clause-bad_asks : goal.returns-clause-bad_asks
 returns-clause-bad_asks g c =
-    for_no_asks c.args.asks.now (view c.in_ok-tree.tree) c.args.strict c.args.workers _ _ _ c.load_flags.ensures.kept c.in_ok-tree.ensures.exact
-    (λ are. absurd (none_driven c.args.strict (view c.in_ok-tree.tree) c.args.workers are c.in_ok-drove.ensures.refused))
+    for_no_asks c.args.asks.now (file_view c.in_ok-loaded.loaded) c.args.strict c.args.workers _ _ _ c.load_flags.ensures.kept c.in_ok-loaded.ensures.exact
+    (λ are. absurd (none_driven c.args.strict (file_view c.in_ok-loaded.loaded) c.args.workers are c.in_ok-drove.ensures.refused))
 
 pub returns-clause-unread : goal.returns-clause-unread
 returns-clause-unread g c =
-    for_unread c.args.asks.now (view c.in_ok-tree.tree) c.args.strict c.args.workers _ _ _ c.load_flags.ensures.kept c.in_ok-tree.ensures.exact
-    (λ are. absurd (none_driven c.args.strict (view c.in_ok-tree.tree) c.args.workers are c.in_ok-drove.ensures.refused))
+    for_unread c.args.asks.now (file_view c.in_ok-loaded.loaded) c.args.strict c.args.workers _ _ _ c.load_flags.ensures.kept c.in_ok-loaded.ensures.exact
+    (λ are. absurd (none_driven c.args.strict (file_view c.in_ok-loaded.loaded) c.args.workers are c.in_ok-drove.ensures.refused))
 
 pub returns-clause-failed : goal.returns-clause-failed
-returns-clause-failed g c = failed_last _ _ _ _ _ _ c.in_ok-flags.ensures.failed c.in_ok-tree.ensures.failed c.in_ok-before.ensures.failed c.written.ensures.failed
+returns-clause-failed g c = failed_last _ _ _ _ _ _ c.in_ok-flags.ensures.failed c.in_ok-loaded.ensures.failed c.in_ok-before.ensures.failed c.written.ensures.failed

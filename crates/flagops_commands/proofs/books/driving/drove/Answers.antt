@@ -1,7 +1,7 @@
 use Rattle.std.proofs.Common.{◌≡◌, ◌∙◌, ℕ, Err, ap, sym, subst, false}
-use Rattle.flag_text.specs.View.{view}
 use Rattle.flagops_drive.specs.Asks.{asks_of}
 use Rattle.flagops_drive.specs.Driven.{refusal_of}
+use Rattle.flagops_drive.specs.File.{file_view}
 use Rattle.flagops_commands.specs.Drive.{IsAnswered, admitted}
 use Rattle.flagops_files.specs.Refusal.{is_want}
 use Rattle.flagops_files.specs.declared.refusal.Refusal.{Refusal}
@@ -13,12 +13,12 @@ use Rattle.flagops_commands.proofs.books.driving.drove.Goals as goal
 pub returns-in-Err-clause-refused : goal.returns-in-Err-clause-refused
 returns-in-Err-clause-refused g c = λ e is.
     c.undriven.ensures.refusal
-    ∙ undriven_first c.args.strict (refusal_of (asks_of (view c.args.tree.now)) c.from-workers.result) (view c.args.tree.now) c.in-Err.refusal c.in_ok-check_members.ensures.ok c.in-Err.ensures.refused e
-    (ap (λ (n : ℕ). admitted c.args.strict (refusal_of (asks_of (view c.args.tree.now)) n) (view c.args.tree.now)) c.from-workers.ensures ∙ is)
+    ∙ undriven_first c.args.strict (refusal_of (asks_of (file_view c.args.asks.now)) c.from-workers.result) (file_view c.args.asks.now) c.in-Err.refusal c.in_ok-check_members.ensures.ok c.in-Err.ensures.refused e
+    (ap (λ (n : ℕ). admitted c.args.strict (refusal_of (asks_of (file_view c.args.asks.now)) n) (file_view c.args.asks.now)) c.from-workers.ensures ∙ is)
 
 pub returns-in-Err-clause-exact : goal.returns-in-Err-clause-exact
 returns-in-Err-clause-exact g c =
-    let asks = view c.args.tree.now in
+    let asks = file_view c.args.asks.now in
     let flags = flags_view c.args.flags.now in
     subst (λ (e : Refusal). is_want e ≡ false → IsAnswered (admitted c.args.strict (refusal_of (asks_of asks) c.args.workers) asks) flags asks c.args.before c.args.workers c.args.strict c.args.json (Err e)) (sym c.undriven.ensures.refusal)
     (subst (λ (n : ℕ). is_want (Drive c.in-Err.refusal) ≡ false → IsAnswered (admitted c.args.strict (refusal_of (asks_of asks) n) asks) flags asks c.args.before n c.args.strict c.args.json (Err (Drive c.in-Err.refusal))) c.from-workers.ensures

@@ -2,7 +2,7 @@ use Rattle.std.proofs.Common.{◌≡◌, ◌++◌, drop, length, map, option_map
 use Rattle.flag_text.specs.Shape.{items_are_whole}
 use Rattle.flag_text.specs.View.{items_view}
 use Rattle.flagops_drive.specs.Asks.{ask_view, asks_in}
-use Rattle.flagops_drive.proofs.asks.asks_in.Given as goal
+use Rattle.flagops_drive.proofs.asks.tree_asks.Given as goal
 
 abbrev pub invariant-loop-item : goal.invariant-loop-item
 invariant-loop-item l = record {

@@ -1,0 +1,64 @@
+//! The file of asks that `drive` answers: how it is loaded, and what a person is told of it.
+ghost use Rattle.std.specs.Prelude.{◌≡◌, ◌||◌, true, IfOk, IfSome, string_bytes};
+ghost use Rattle.flag_text.specs.Shape.{is_whole};
+ghost use Rattle.flagops_drive.specs.File.{file_view};
+ghost use Rattle.flagops_files.specs.Loading.{max_text, tree_at};
+ghost use Rattle.flagops_files.specs.Refusal.{ComesFrom, GivesUnlessWant, is_file_fault, loads_tree};
+ghost use Rattle.flagops_files.specs.Told.{TellsOf, file};
+ghost use Rattle.flagops_remarks.specs.Named.{Names};
+
+use flag_text::Tree;
+use flagops_drive::{AsksFile, read_asks};
+use flagops_files::{FileSet, Refusal, Refused, Remark, TEXT_LIMIT, load};
+use flagops_remarks::{of_asks, of_text, of_unread_asks};
+use json::Scratch;
+use std::alloc::{AllocError, Global};
+
+/// What the file of asks at a path holds. The file's bytes stay where they are put, and so do the texts that escapes were
+/// replaced in.
+#[tactic(auto, using(flagops_files::proofs::Told::says), unfolding(flagops_files::specs::Loading::tree_at))]
+pub fn load_asks<'a, F: FileSet>(
+    alloc: Global,
+    files: &mut F,
+    path: &str,
+    bytes: &'a mut Vec<u8>,
+    scratch: &'a mut Scratch,
+) -> Result<AsksFile<'a>, Refused>
+    ensures exact { IfSome (F.holding files.old) (λ at. GivesUnlessWant file_view result (tree_at at path.now max_text)) }
+    ensures whole { IfOk result (λ asks. is_whole (file_view asks) ≡ true) }
+    ensures calls { ComesFrom loads_tree result }
+    ensures failed { F.has_failed files.new ≡ (F.has_failed files.old || is_file_fault result) }
+    ensures kept { F.holding files.new ≡ F.holding files.old }
+    ensures names { TellsOf (file path.now) result }
+{
+    *bytes = load(alloc, files, path, u64::from(TEXT_LIMIT))?;
+    let bytes = bytes.as_slice();
+    match read_asks(alloc, bytes, TEXT_LIMIT as usize, scratch) {
+        Ok(asks) => Ok(asks),
+        Err(fault) => Err(Refused {
+            refusal: Refusal::ReadTree(fault),
+            remark: Remark::of(of_text(alloc, path, bytes, TEXT_LIMIT as usize, fault)),
+        }),
+    }
+}
+
+/// What a person is told of a file that is no list of asks. Asks that were read are refused so only where there are 2^32 or
+/// more, which a file of the program's limit has not.
+pub fn of_no_asks(alloc: Global, path: &str, asks: &AsksFile<'_>) -> Result<String, AllocError>
+    ensures { IfOk result (λ s. Names path.now (string_bytes s)) }
+{
+    match asks {
+        AsksFile::Plain(_) => of_asks(alloc, path, &Tree::Null),
+        AsksFile::Tree(tree) => of_asks(alloc, path, tree),
+    }
+}
+
+/// What a person is told of asks that have a member that is not read; those that were read have none.
+pub fn of_unread(alloc: Global, path: &str, asks: &AsksFile<'_>) -> Result<String, AllocError>
+    ensures { IfOk result (λ s. Names path.now (string_bytes s)) }
+{
+    match asks {
+        AsksFile::Plain(_) => of_unread_asks(alloc, path, &Tree::Null),
+        AsksFile::Tree(tree) => of_unread_asks(alloc, path, tree),
+    }
+}
