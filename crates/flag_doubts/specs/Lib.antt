@@ -1,3 +1,4 @@
+pub mod AllRead
 pub mod Doubled
 pub mod Doubts
 pub mod FoundFlags

@@ -23,6 +23,7 @@
 //! weights that are told of faults, or gives null where each is 0.
 #![tactic(auto)]
 
+mod definition;
 mod doubled;
 mod doubt;
 mod doubting;
