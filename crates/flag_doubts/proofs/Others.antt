@@ -1,5 +1,5 @@
 -- What is found of a document is what is found of its flags and beside them.
-use Rattle.std.proofs.Common.{◌≡◌, ◌||◌, true, codes, ℕ, List, map, string_bytes, is_some, Option, Some, None, refl, sym, ap, ◌∙◌, subst}
+use Rattle.std.proofs.Common.{◌≡◌, ◌||◌, true, codes, map, string_bytes, is_some, Some, None, refl, sym, ap, ◌∙◌, subst}
 use Rattle.std.specs.BTreeMap.{get_by_text}
 use Rattle.std.specs.Cmp.Lexicographic.{slice_cmp}
 use Rattle.std.specs.List.{list_any}

@@ -1,5 +1,5 @@
 -- Documents of which each member is read.
-use Rattle.std.specs.Prelude.{ℕ, List, codes, Bool, true, not, ◌||◌, ◌&&◌, Option, Some}
+use Rattle.std.specs.Prelude.{codes, Bool, true, not, ◌||◌, ◌&&◌, Option, Some}
 use Rattle.std.specs.List.{list_all}
 use Rattle.std.specs.Str.{bytes_eq}
 use Rattle.json.specs.Json.{Json, Members, no_members, member}

@@ -1,5 +1,5 @@
 -- What a walk of tokens passes, and that it comes upon in it.
-use Rattle.std.specs.Prelude.{◌≡◌, ℕ, ◌<◌, ◌∷◌, ◌++◌, List, map, is_some, Option, Some, None}
+use Rattle.std.specs.Prelude.{◌≡◌, ℕ, ◌<◌, ◌∷◌, ◌++◌, List, map, is_some, Some, None}
 use Rattle.std.specs.Borrow.{Bor}
 use Rattle.json.specs.Find.{as_object}
 use Rattle.json.specs.Json.{Members, Parse, value}

@@ -1,6 +1,6 @@
 -- Members that stand more than once in an object within a document (RFC 8259, section 4: the names within an object should be
 -- unique), of which readers keep the last alone.
-use Rattle.std.specs.Prelude.{◌≡◌, ℕ, List, [], ◌∷◌, codes, map, string_bytes, Bool, false, not, ◌||◌, ◌&&◌, nat_lt, is_some, Option, Some, option_and_then}
+use Rattle.std.specs.Prelude.{◌≡◌, ℕ, List, [], ◌∷◌, codes, map, string_bytes, Bool, false, not, ◌||◌, ◌&&◌, nat_lt, is_some, Option, option_and_then}
 use Rattle.std.specs.BTreeMap.{get_by_text}
 use Rattle.std.specs.Cmp.Lexicographic.{slice_cmp}
 use Rattle.std.specs.List.{list_any}

@@ -1,9 +1,7 @@
-use Rattle.std.proofs.Common.{◌≡◌, ◌-◌, ◌<◌, ◌||◌, ◌++◌, [], ◌∷◌, List, Bor, length, map, drop, take, Result, Ok, Err, Some, None, refl, sym, ap, ap₂, ◌∙◌, subst, append-nil, arith, rules}
-use Rattle.std.specs.Prelude.{MatchResult}
-use Rattle.std.specs.Result.{result_or}
+use Rattle.std.proofs.Common.{◌≡◌, ◌-◌, ◌<◌, ◌||◌, ◌++◌, [], ◌∷◌, length, Some, None, refl, sym, ap, ap₂, ◌∙◌, subst, append-nil, arith}
 use Rattle.std.proofs.lemmas.Result.{IfOk-weaker}
 use Rattle.json.specs.Token.{Token}
-use Rattle.json.specs.Json.{Json, parse_map, after_end_array, read_key, items, members, value, null, boolean, number, string, array, object, no_items, item, no_members, member}
+use Rattle.json.specs.Json.{parse_map, after_end_array, read_key, items, members, value, null, boolean, number, string, array, object, no_items, item, no_members, member}
 use Rattle.json.specs.Reads.{token_of}
 use Rattle.json.proofs.Grammar.{value_is, value-begin_array, value-begin_object, read_key-shorter}
 use Rattle.flag_doubts.specs.Doubled.{member_names}
