@@ -1,8 +1,8 @@
 -- Documents of which each member is read.
-use Rattle.std.specs.Prelude.{codes, Bool, true, not, ◌||◌, ◌&&◌, Option, Some}
+use Rattle.std.specs.Prelude.{codes, Bool, true, false, not, ◌||◌, ◌&&◌, Option, Some}
 use Rattle.std.specs.List.{list_all}
 use Rattle.std.specs.Str.{bytes_eq}
-use Rattle.json.specs.Json.{Json, Members, no_members, member}
+use Rattle.json.specs.Json.{Json, object, Members, no_members, member}
 use Rattle.unread_members.specs.Unread.{reads}
 use Rattle.unread_members.specs.declared.reader.Reader.{Reader}
 use Rattle.unread_members.specs.declared.reader.Reader.TheVariants as reader
@@ -22,6 +22,7 @@ abbrev pub are_flags_read : Members → Bool
 are_flags_read no_members = true
 are_flags_read (member k j ms) = (not (bytes_eq k (codes "flags")) || are_definitions_read (members_in (Some j))) && are_flags_read ms
 
--- each member of a document is read, and each of its definitions, under whichever member `flags` they stand
+-- the value is an object, each member of it is read, and each of its definitions, under whichever member `flags` they stand
 abbrev pub are_all_read : Option Json → Bool
-are_all_read o = takes_each reader.Document o && are_flags_read (members_in o)
+are_all_read (Some (object ms)) = takes_each reader.Document (Some (object ms)) && are_flags_read ms
+are_all_read o = false

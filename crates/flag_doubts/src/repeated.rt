@@ -28,8 +28,8 @@ pub struct Repeated {
     pub definitions: BTreeMap<String, String>,
     /// The place of such a member of the document, or of what stands beside its flags.
     pub document: Option<String>,
-    /// Whether each member of it is read, and each of the definitions in it, under whichever member `flags` they stand. So it is
-    /// where there is no document.
+    /// Whether it is an object of which each member is read, and each of the definitions in it, under whichever member `flags`
+    /// they stand.
     pub all_read: bool,
 }
 
@@ -69,7 +69,7 @@ fn of_text(alloc: Global, text: &str) -> Result<Repeated, Stop>
 fn nothing(alloc: Global) -> Repeated
     ensures { Finds None result }
 {
-    told(none(alloc), None, true)
+    told(none(alloc), None, false)
 }
 
 /// Passes a document.
