@@ -1,8 +1,8 @@
 -- The value of bytes, by whether they are a text.
-use Rattle.std.proofs.Common.{◌≡◌, ℕ, Bool, true, false, cond, List, Some, None, refl, ap, ◌∙◌}
+use Rattle.std.proofs.Common.{◌≡◌, ℕ, Bool, true, false, cond, List, None, refl, ap, ◌∙◌}
 use Rattle.std.proofs.lemmas.Str.{IsUtf8-from_is_utf8, is_utf8-from_IsUtf8}
 use Rattle.std.specs.Str.{IsUtf8, is_utf8}
-use Rattle.json.specs.Json.{Json, document}
+use Rattle.json.specs.Json.{document}
 use Rattle.flag_doubts.specs.Doubled.{json_of}
 
 pub json_text : (bytes : List ℕ) → IsUtf8 bytes → json_of bytes ≡ document bytes

@@ -5,7 +5,9 @@ use Rattle.json.specs.Find.{get_member, later_or}
 use Rattle.json.specs.Json.{Json, Items, no_items, item, Members, no_members, member, Parse, parse_map, after_end_array, read_key, items, members}
 use Rattle.json.specs.Token.{Token}
 use Rattle.json.proofs.Grammar.{items_end, items_fail, items_more, members_end, members_no_key, members_fail, members_more}
-use Rattle.flag_doubts.specs.Doubled.{member_names}
+use Rattle.unread_members.specs.declared.reader.Reader.TheVariants as reader
+use Rattle.flag_doubts.specs.AllRead.{are_definitions_read, are_flags_read, takes_each}
+use Rattle.flag_doubts.specs.Doubled.{member_names, members_in}
 use Rattle.flag_doubts.specs.Repeated.{repeats, item_repeats, member_repeats, repeats_under, repeats_beside}
 
 -- the ones and then the others
@@ -84,6 +86,14 @@ pub or_none : (a : Bool) → (a || false) ≡ a
 or_none true = refl
 or_none false = refl
 
+and_more : (a b c : Bool) → (a && (b && c)) ≡ ((a && b) && c)
+and_more true b c = refl
+and_more false b c = refl
+
+pub and_true : (a : Bool) → (a && true) ≡ a
+and_true true = refl
+and_true false = refl
+
 pub item_repeats-more : (ds : Items) (j : Json) → item_repeats (joined_items ds (item j no_items)) ≡ (item_repeats ds || repeats j)
 item_repeats-more no_items j = or_none (repeats j)
 item_repeats-more (item d ds) j = ap (λ b. repeats d || b) (item_repeats-more ds j) ∙ or_more (repeats d) (item_repeats ds) (repeats j)
@@ -110,6 +120,21 @@ module _ (k : List ℕ) (j : Json) where
   repeats_beside-more (member l d ds) =
       ap (λ b. (not (bytes_eq l (codes "flags")) && repeats d) || b) (repeats_beside-more ds)
       ∙ or_more (not (bytes_eq l (codes "flags")) && repeats d) (repeats_beside ds) (not (bytes_eq k (codes "flags")) && repeats j)
+
+  abbrev is_taken : Bool
+  is_taken = takes_each reader.Definition (Some j)
+
+  pub are_definitions_read-more : (ds : Members) → are_definitions_read (joined ds one) ≡ (are_definitions_read ds && is_taken)
+  are_definitions_read-more no_members = and_true is_taken
+  are_definitions_read-more (member l d ds) =
+      ap (λ b. takes_each reader.Definition (Some d) && b) (are_definitions_read-more ds) ∙ and_more (takes_each reader.Definition (Some d)) (are_definitions_read ds) is_taken
+
+  abbrev are_taken : List ℕ → Json → Bool
+  are_taken l d = not (bytes_eq l (codes "flags")) || are_definitions_read (members_in (Some d))
+
+  pub are_flags_read-more : (ds : Members) → are_flags_read (joined ds one) ≡ (are_flags_read ds && are_taken k j)
+  are_flags_read-more no_members = and_true (are_taken k j)
+  are_flags_read-more (member l d ds) = ap (λ b. are_taken l d && b) (are_flags_read-more ds) ∙ and_more (are_taken l d) (are_flags_read ds) (are_taken k j)
 
   later : (b : Bool) (o e : Option Json) → later_or (cond b (Some j) o) e ≡ cond b (Some j) (later_or o e)
   later true o e = refl

@@ -1,5 +1,5 @@
 -- The names of the objects that are open, innermost last.
-use Rattle.std.proofs.Common.{◌≡◌, ◌-◌, ◌++◌, arith, length-drop, ℕ, [], ◌∷◌, List, Bor, length, map, drop, take, Result, Ok, Err, refl, sym, ap, ◌∙◌, append_assoc}
+use Rattle.std.proofs.Common.{◌≡◌, ◌-◌, ◌++◌, arith, length-drop, ℕ, [], ◌∷◌, List, Bor, length, map, drop, take, Result, Ok, Err, refl, ap, ◌∙◌, append_assoc}
 use Rattle.std.specs.Prelude.{MatchResult}
 use Rattle.std.specs.Result.{result_or}
 use Rattle.std.proofs.lemmas.List.{map-append, take_all}

@@ -9,6 +9,11 @@ abbrev pub member_names : Members → List (List ℕ)
 member_names no_members = []
 member_names (member k j ms) = k ∷ member_names ms
 
+-- the members of an object; what is no object has none
+abbrev pub members_in : Option Json → Members
+members_in (Some (object ms)) = ms
+members_in o = no_members
+
 -- the names of an object's members, in the order of the text; what is no object has none
 abbrev pub names_in : Option Json → List (List ℕ)
 names_in (Some (object ms)) = member_names ms

@@ -1,9 +1,11 @@
+pub mod AllRead
 pub mod Doubled
 pub mod Doubts
 pub mod FoundFlags
 pub mod Laws
 pub mod Outcomes
 pub mod Passed
+pub mod ReadBoth
 pub mod Repeated
 pub mod Views
 pub mod Weights

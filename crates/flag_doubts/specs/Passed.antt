@@ -1,8 +1,10 @@
 -- What a walk of tokens passes, and that it comes upon in it.
-use Rattle.std.specs.Prelude.{◌≡◌, ℕ, ◌<◌, ◌∷◌, List, is_some, Option, Some, None}
+use Rattle.std.specs.Prelude.{◌≡◌, ℕ, ◌<◌, ◌∷◌, ◌++◌, List, map, is_some, Some, None}
+use Rattle.std.specs.Borrow.{Bor}
 use Rattle.json.specs.Find.{as_object}
-use Rattle.json.specs.Json.{Parse, value}
+use Rattle.json.specs.Json.{Members, Parse, value}
 use Rattle.json.specs.Token.{Token}
+use Rattle.flag_doubts.specs.Doubled.{member_names}
 use Rattle.flag_doubts.specs.Repeated.{repeats}
 use Rattle.flag_doubts.specs.declared.walk.Next.{Next}
 use Rattle.flag_doubts.specs.declared.walk.Next.TheVariants.{Object, Other}
@@ -15,3 +17,7 @@ Passes {A} parse old new P = (a : A) × (parse old ≡ Some (a, new)) × P a
 abbrev pub Begins : ℕ → List Token → List Token → Next → Type 0
 Begins depth old new Object = (0 < depth) × (old ≡ Token.begin_object ∷ new)
 Begins depth old new (Other place) = Passes (value depth) old new (λ j. (as_object j ≡ None) × (is_some place ≡ repeats j))
+
+-- the names of these members stand behind the others
+abbrev pub Leaves : Members → List (Bor (List ℕ)) → List (Bor (List ℕ)) → Type 0
+Leaves ms before after = (added : List (Bor (List ℕ))) × (after ≡ before ++ added) × (map (λ n. n.now) added ≡ member_names ms)

@@ -1,6 +1,6 @@
 -- Members that stand more than once in an object within a document (RFC 8259, section 4: the names within an object should be
 -- unique), of which readers keep the last alone.
-use Rattle.std.specs.Prelude.{◌≡◌, ℕ, List, [], ◌∷◌, codes, map, string_bytes, Bool, false, not, ◌||◌, ◌&&◌, nat_lt, is_some, Option, Some, option_and_then}
+use Rattle.std.specs.Prelude.{◌≡◌, ℕ, List, [], ◌∷◌, codes, map, string_bytes, Bool, false, not, ◌||◌, ◌&&◌, nat_lt, is_some, Option, option_and_then}
 use Rattle.std.specs.BTreeMap.{get_by_text}
 use Rattle.std.specs.Cmp.Lexicographic.{slice_cmp}
 use Rattle.std.specs.List.{list_any}
@@ -9,7 +9,8 @@ use Rattle.std.specs.Ordering.{nat_cmp}
 use Rattle.std.specs.Str.{bytes_eq}
 use Rattle.json.specs.Find.{get}
 use Rattle.json.specs.Json.{Json, null, boolean, number, string, array, object, Items, no_items, item, Members, no_members, member}
-use Rattle.flag_doubts.specs.Doubled.{count_of, json_of, member_names, names_in}
+use Rattle.flag_doubts.specs.AllRead.{are_all_read}
+use Rattle.flag_doubts.specs.Doubled.{count_of, json_of, member_names, members_in, names_in}
 use Rattle.flag_doubts.specs.declared.repeated.Repeated.{Repeated}
 
 -- one of the names stands again behind it
@@ -35,11 +36,6 @@ abbrev mutual
   member_repeats no_members = false
   member_repeats (member k j ms) = repeats j || member_repeats ms
 
--- the members of an object; what is no object has none
-abbrev pub members_in : Option Json → Members
-members_in (Some (object ms)) = ms
-members_in o = no_members
-
 -- a definition that stands under the key repeats a member
 abbrev pub repeats_under : List ℕ → Members → Bool
 repeats_under key no_members = false
@@ -64,9 +60,11 @@ is_repeated bytes key = repeats_in_flag (json_of bytes) key
 abbrev pub has_repeated : List ℕ → Bool
 has_repeated bytes = repeats_outside (json_of bytes)
 
--- what is found of a document: the keys of flags that stand more than once, in their order, and what repeats a member
+-- what is found of a document: the keys of flags that stand more than once, in their order, what repeats a member, and whether
+-- each member is read
 pub record Finds (o : Option Json) (r : Repeated) : Type 0 where
   pub keys : (key : List ℕ) → list_any (bytes_eq key) (map string_bytes r.keys.items) ≡ nat_lt 1 (count_of key (names_in (option_and_then (get (codes "flags")) o)))
   pub rising : IsStrictlySortedBy (slice_cmp nat_cmp) (map string_bytes r.keys.items)
   pub definitions : (key : List ℕ) → is_some (get_by_text r.definitions key) ≡ repeats_in_flag o key
   pub document : is_some r.document ≡ repeats_outside o
+  pub all_read : r.all_read ≡ are_all_read o

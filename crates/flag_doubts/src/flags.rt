@@ -1,4 +1,5 @@
-//! The flags of a document, token by token: which of their keys, and of the members of their definitions, stand more than once.
+//! The flags of a document, token by token: which of their keys, and of the members of their definitions, stand more than once,
+//! and whether each of these members is read.
 ghost use Rattle.std.specs.Prelude.{◌≡◌, ◌<◌, ◌||◌, ◌&&◌, ℕ, List, length, is_some, None, Some, Err, IfOk, OnOk};
 ghost use Rattle.std.specs.BTreeMap.{get_by_text};
 ghost use Rattle.std.specs.Str.{bytes_eq};
@@ -6,19 +7,22 @@ ghost use Rattle.json.specs.Json.{object, members, value};
 ghost use Rattle.flag_doubts.specs.FoundFlags.{FindsIn};
 ghost use Rattle.flag_doubts.specs.Passed.{Passes};
 
+use crate::definition::in_definition;
 use crate::doubled::doubled_among;
-use crate::walk::{Next, Stop, begin, place_in};
+use crate::walk::{Next, Stop, begin};
 use json::Reader;
 use std::alloc::{AllocError, Global};
 use std::collections::BTreeMap;
 
-/// What stands more than once among flags.
+/// What is found of flags.
 #[derive(Drop)]
 pub(crate) struct RepeatedFlags {
     /// The keys, each once and in the order of their bytes.
     pub(crate) keys: Vec<String>,
     /// For the key of each flag in whose definition a member does, the place of such a member.
     pub(crate) definitions: BTreeMap<String, String>,
+    /// Whether each member of their definitions is read.
+    pub(crate) all_read: bool,
 }
 
 /// Nothing.
@@ -28,6 +32,7 @@ pub(crate) fn none(alloc: Global) -> RepeatedFlags
     RepeatedFlags {
         keys: Vec::new(alloc),
         definitions: BTreeMap::new(alloc),
+        all_read: true,
     }
 }
 
@@ -63,14 +68,20 @@ fn in_definitions<'a>(
 {
     let outer = names.len();
     let mut definitions = BTreeMap::new(alloc);
+    let mut all_read = true;
     'members: while let Some(key) = reader.next_key().or(Err(Stop::Invalid))? {
         names.push(key)?;
-        let place = place_in(alloc, reader, depth, names)?;
-        note(alloc, &mut definitions, key, place)?;
+        let found = in_definition(alloc, reader, depth, names)?;
+        all_read &= found.all_read;
+        note(alloc, &mut definitions, key, found.place)?;
     }
     let keys = doubled_among(alloc, &names[outer..])?;
     names.truncate(outer);
-    Ok(RepeatedFlags { keys, definitions })
+    Ok(RepeatedFlags {
+        keys,
+        definitions,
+        all_read,
+    })
 }
 
 /// Keeps the place of a flag, where there is one.

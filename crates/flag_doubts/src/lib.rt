@@ -2,27 +2,35 @@
 //!
 //! A document may be read without a word though a bucket names no variant, weights give nobody a variant, a targeting can never
 //! give one, a member of a definition is misspelled, or a key or a member stands twice. [`doubts_of`] tells the first four of one
-//! flag, [`repeated_in`] the last of a document's bytes, since a tree keeps one member of a name alone.
+//! flag, [`repeated_in`] the last of a document's bytes, since a tree keeps one member of a name alone. The same walk tells
+//! whether each member of a document and of its definitions is read, where none has to be looked for. [`read_with_names`] walks
+//! in a thread of its own while the flags are read.
 //!
 //! ```rust
-//! use flag_doubts::{doubts_of, repeated_in};
+//! use flag_doubts::{doubts_of, read_with_names, repeated_in};
 //!
 //! let doubts = doubts_of(definition, flag);
 //! let is_told = doubts.is_any();
 //! let twice = repeated_in(alloc, br#"{"flags":{"a":{},"b":{"state":1,"state":2},"a":{}}}"#)?;
 //! let keys = &twice.keys;                          // "a"
 //! let place = twice.definitions.get("b");          // ".state"
+//! let plain = twice.all_read;                      // true
+//!
+//! let read = read_with_names(&rt, alloc, bytes)?;
+//! let judged = (&read.flags, &read.names);
 //! ```
 //!
 //! What is proved, over the definitions in `specs/`: what a targeting can result in is read off its literals and operators
 //! (`Outcomes`), with each branch of `if`, each argument of `and` and `or` and each bucket of `fractional`; a weight is one that
-//! `bucket_core` reads (`Weights`); each doubt is told exactly where its definition says so (`Doubts`), and without memory; and
-//! what stands more than once does so in the grammar of `json` (`Doubled`, `Repeated`), which place is told is not proved.
+//! `bucket_core` reads (`Weights`); each doubt is told exactly where its definition says so (`Doubts`), and without memory;
+//! what stands more than once does so in the grammar of `json` (`Doubled`, `Repeated`), which place is told is not proved; and
+//! all members are read exactly where it is told so (`AllRead`). What is read in two threads is what each would read alone.
 //! [`doubts_are_of_evaluations`] ties this to what `flag_resolve` gives (`Laws`): whatever is evaluated is among what was read
 //! off, a targeting that is told of as one that never gives a variant matches for nobody, and each evaluation that reaches
 //! weights that are told of faults, or gives null where each is 0.
 #![tactic(auto)]
 
+mod definition;
 mod doubled;
 mod doubt;
 mod doubting;
@@ -30,6 +38,7 @@ mod flags;
 mod given;
 mod laws;
 mod places;
+mod reading;
 mod repeated;
 mod results;
 mod twins;
@@ -40,6 +49,7 @@ pub use doubt::{Doubt, FlagDoubts};
 pub use doubting::doubts_of;
 pub use given::{Given, given_by};
 pub use laws::doubts_are_of_evaluations;
+pub use reading::{ReadDocument, read_with_names};
 pub use repeated::{Repeated, repeated_in};
 pub use results::has_truth;
 pub use weights::{are_too_heavy, are_weightless};

@@ -1,4 +1,4 @@
-//! What stands more than once in a document.
+//! What stands more than once in a document, and whether each member of it is read.
 ghost use Rattle.std.specs.Prelude.{◌≡◌, length, None, Some, Err, IfOk};
 ghost use Rattle.json.specs.Json.{document, max_depth, members, object, value};
 ghost use Rattle.flag_doubts.specs.Doubled.{json_of};
@@ -6,6 +6,7 @@ ghost use Rattle.flag_doubts.specs.FoundFlags.{FindsFlags};
 ghost use Rattle.flag_doubts.specs.Repeated.{Finds};
 ghost use Rattle.flag_doubts.specs.Passed.{Passes};
 
+use crate::definition::takes_each;
 use crate::flags::{RepeatedFlags, in_flags, none};
 use crate::places::member_place;
 use crate::walk::{Next, Stop, begin, place_in, twin_or};
@@ -13,11 +14,12 @@ use json::{Reader, Scratch};
 use simdutf8::basic;
 use std::alloc::{AllocError, Global};
 use std::collections::BTreeMap;
+use unread_members::Reader as Taker;
 
 /// How deep lists and objects of a document nest at most.
 const MAX_DEPTH: usize = 128;
 
-/// What stands more than once in a document.
+/// What stands more than once in a document, and whether each member of it is read.
 #[derive(Drop)]
 pub struct Repeated {
     /// The keys of flags, each once and in the order of their bytes.
@@ -26,6 +28,9 @@ pub struct Repeated {
     pub definitions: BTreeMap<String, String>,
     /// The place of such a member of the document, or of what stands beside its flags.
     pub document: Option<String>,
+    /// Whether it is an object of which each member is read, and each of the definitions in it, under whichever member `flags`
+    /// they stand.
+    pub all_read: bool,
 }
 
 /// What stands more than once in a document: nothing where the bytes are no document. Of several members `flags` the last
@@ -64,7 +69,7 @@ fn of_text(alloc: Global, text: &str) -> Result<Repeated, Stop>
 fn nothing(alloc: Global) -> Repeated
     ensures { Finds None result }
 {
-    told(none(alloc), None)
+    told(none(alloc), None, false)
 }
 
 /// Passes a document.
@@ -95,26 +100,32 @@ fn in_members<'a>(
     let outer = names.len();
     let mut flags = none(alloc);
     let mut place = None;
+    let mut all_read = true;
     'members: while let Some(name) = reader.next_key().or(Err(Stop::Invalid))? {
         names.push(name)?;
         if name == "flags" {
             flags = in_flags(alloc, reader, depth, names)?;
+            all_read &= flags.all_read;
         } else {
             let inner = place_in(alloc, reader, depth, names)?;
             place = member_place(alloc, place, name, inner)?;
         }
     }
-    Ok(told(flags, twin_or(alloc, &names[outer..], place)?))
+    let own = &names[outer..];
+    let all_read = takes_each(Taker::Document, own) & all_read;
+    Ok(told(flags, twin_or(alloc, own, place)?, all_read))
 }
 
-/// What is found of the flags, and the place beside them.
-fn told(flags: RepeatedFlags, document: Option<String>) -> Repeated
+/// What is found of the flags, the place beside them, and whether all is read.
+fn told(flags: RepeatedFlags, document: Option<String>, all_read: bool) -> Repeated
     ensures flags { FindsFlags flags result }
     ensures document { result.document ≡ document }
+    ensures all_read { result.all_read ≡ all_read }
 {
     Repeated {
         keys: flags.keys,
         definitions: flags.definitions,
         document,
+        all_read,
     }
 }

@@ -3,7 +3,7 @@ ghost use Rattle.std.specs.Prelude.{◌≡◌, ◌<◌, ◌||◌, length, map, i
 ghost use Rattle.json.specs.Json.{items, members, value};
 ghost use Rattle.flag_doubts.specs.Doubled.{member_names};
 ghost use Rattle.flag_doubts.specs.Repeated.{has_twin, item_repeats, member_repeats, repeats};
-ghost use Rattle.flag_doubts.specs.Passed.{Passes, Begins};
+ghost use Rattle.flag_doubts.specs.Passed.{Passes, Begins, Leaves};
 ghost use Rattle.flag_doubts.specs.declared.walk.Stop.TheVariants.{WantOfMemory};
 
 use crate::places::{item_place, member_place, stepped};
@@ -46,7 +46,7 @@ pub(crate) enum Next {
 }
 
 // Each function below passes what its name says, and gives the place in it of a member that stands more than once, where there
-// is one. `names` has the names of the objects that are open, outermost first, and is left as it was.
+// is one. `names` has the names of the objects that are open, outermost first, and is left as it was where nothing else is said.
 
 /// The next value, of at most so many levels.
 #[cycle(places)]
@@ -140,14 +140,31 @@ fn in_object<'a>(
     ensures err { result ≡ Err Stop.Invalid → members (value depth) (length reader.old) reader.old ≡ None }
 {
     let outer = names.len();
+    let inner = with_members(alloc, reader, depth, names)?;
+    let place = twin_or(alloc, &names[outer..], inner)?;
+    names.truncate(outer);
+    Ok(place)
+}
+
+/// The members of an object and its end: the place within the values, and their names left behind the others.
+#[cycle(places)]
+pub(crate) fn with_members<'a>(
+    alloc: Global,
+    reader: &mut Reader<'a>,
+    depth: usize,
+    names: &mut Vec<&'a str>,
+) -> Result<Option<String>, Stop>
+    ensures ok { IfOk result (λ o. Passes (members (value depth) (length reader.old)) reader.old reader.new
+        (λ ms. (is_some o ≡ member_repeats ms) × Leaves ms names.old.items names.new.items)) }
+    ensures shorter { OnOk result (length reader.new < length reader.old) }
+    ensures err { result ≡ Err Stop.Invalid → members (value depth) (length reader.old) reader.old ≡ None }
+{
     let mut place = None;
     'members: while let Some(name) = reader.next_key().or(Err(Stop::Invalid))? {
         names.push(name)?;
         let inner = place_in(alloc, reader, depth, names)?;
         place = member_place(alloc, place, name, inner)?;
     }
-    let place = twin_or(alloc, &names[outer..], place)?;
-    names.truncate(outer);
     Ok(place)
 }
 

@@ -1,9 +1,9 @@
-use Rattle.std.proofs.Common.{◌≡◌, ◌<◌, ◌≤◌, length, get_or, true, not, cond, nat_lt, take, string_bytes, sym, ap, ◌∙◌, subst}
+use Rattle.std.proofs.Common.{◌≡◌, ◌≤◌, length, get_or, true, not, cond, nat_lt, take, string_bytes, sym, ap, ◌∙◌}
 use Rattle.std.proofs.lemmas.List.{get_or_default, take_all}
 use Rattle.std.proofs.lemmas.Map.Text.{btree_set_updates_text}
 use Rattle.std.specs.BTreeSet.{contains_text}
 use Rattle.std.specs.Str.{bytes_eq}
-use Rattle.flag_doubts.proofs.Counts.{Members, count, counted, met_once, met_twice, met_first, was_met, was_new}
+use Rattle.flag_doubts.proofs.Counts.{count, counted, met_once, met_twice, met_first, was_met, was_new}
 use Rattle.flag_doubts.proofs.SecondNames.{nameless}
 use Rattle.flag_doubts.proofs.doubled.repeated.Goals as goal
 use Rattle.flag_doubts.proofs.doubled.repeated.Goals.{then-not-branch+in_ok-from_str-2+in_ok-insert-2, else-not-branch}

@@ -1,6 +1,7 @@
 use Rattle.std.proofs.Common.{◌≡◌, ℕ, ◌≤◌, ◌++◌, List, Bor, length, map, is_some}
 use Rattle.std.specs.BTreeMap.{get_by_text}
 use Rattle.json.specs.Json.{Members, members, value, parse_map}
+use Rattle.flag_doubts.specs.AllRead.{are_definitions_read}
 use Rattle.flag_doubts.specs.Doubled.{member_names}
 use Rattle.flag_doubts.specs.Repeated.{repeats_under}
 use Rattle.flag_doubts.proofs.Grammar.{joined}
@@ -12,6 +13,7 @@ invariant-members l =
     × (members (value l.depth) (length l.initial.reader) l.initial.reader ≡ parse_map (joined done) (members (value l.depth) n l.reader))
     × (length l.reader ≤ length l.initial.reader)
     × ((key : List ℕ) → is_some (get_by_text l.definitions key) ≡ repeats_under key done)
+    × (l.all_read ≡ are_definitions_read done)
     × (l.names.items ≡ l.initial.names.items ++ added)
     × (map (λ m. m.now) added ≡ member_names done)
 

@@ -1,20 +1,9 @@
-use Rattle.std.proofs.Common.{◌≡◌, ◌-◌, ◌<◌, ◌||◌, ◌&&◌, ◌++◌, [], ◌∷◌, not, true, false, codes, cond, length, map, is_some, nat_lt, string_bytes, Ok, Some, None, refl, sym, ap, ap₂, ◌∙◌, subst, append-nil, arith}
+use Rattle.std.proofs.Common.{sym, ap, ◌∙◌, subst}
 use Rattle.std.proofs.lemmas.Result.{IfOk-weaker}
-use Rattle.std.specs.BTreeMap.{get_by_text, is_at}
-use Rattle.std.specs.Cmp.Lexicographic.{slice_cmp}
-use Rattle.std.specs.Map.{lookup}
-use Rattle.std.specs.Ordering.{nat_cmp}
-use Rattle.std.specs.Str.{bytes_eq}
-use Rattle.json.specs.Find.{get_member}
-use Rattle.json.specs.Json.{parse_map, read_key, members, value, object, no_members, member}
-use Rattle.json.proofs.Grammar.{value-begin_object, read_key-shorter}
-use Rattle.flag_doubts.specs.Doubled.{count_of, member_names}
-use Rattle.flag_doubts.specs.FoundFlags.{FindsIn}
+use Rattle.json.specs.Json.{parse_map, value, object}
+use Rattle.json.proofs.Grammar.{value-begin_object}
 use Rattle.flag_doubts.specs.Passed.{Begins}
-use Rattle.flag_doubts.specs.Repeated.{has_twin, repeats, repeats_under, repeats_beside}
-use Rattle.flag_doubts.proofs.Grammar.{joined, members_first, member_taken, member_refused, key_refused, members_over, member_names-more, repeats_under-more, repeats_beside-more, get_member-more}
-use Rattle.flag_doubts.proofs.Open.{no_key, one_name, seen_more, added_names}
-use Rattle.flag_doubts.proofs.Others.{finds_other, finds_nothing, finds_whole}
+use Rattle.flag_doubts.proofs.Others.{finds_other}
 use Rattle.flag_doubts.proofs.flags.in_flags.Goals as goal
 use Rattle.flag_doubts.proofs.flags.in_flags.Goals.{in-Object, in-Other}
 

@@ -1,20 +1,18 @@
-use Rattle.std.proofs.Common.{◌≡◌, ◌-◌, ◌<◌, ◌||◌, ◌&&◌, ◌++◌, [], ◌∷◌, not, true, false, codes, cond, length, map, is_some, nat_lt, string_bytes, Ok, Some, None, refl, sym, ap, ap₂, ◌∙◌, subst, append-nil, arith}
-use Rattle.std.proofs.lemmas.Result.{IfOk-weaker}
-use Rattle.std.specs.BTreeMap.{get_by_text, is_at}
-use Rattle.std.specs.Cmp.Lexicographic.{slice_cmp}
-use Rattle.std.specs.Map.{lookup}
-use Rattle.std.specs.Ordering.{nat_cmp}
+use Rattle.std.proofs.Common.{◌≡◌, ◌-◌, ◌||◌, ◌&&◌, ◌++◌, [], ◌∷◌, not, true, false, codes, cond, length, is_some, Some, refl, sym, ap, ap₂, ◌∙◌, subst, append-nil, arith}
+use Rattle.std.specs.List.{list_all}
 use Rattle.std.specs.Str.{bytes_eq}
 use Rattle.json.specs.Find.{get_member}
-use Rattle.json.specs.Json.{parse_map, read_key, members, value, object, no_members, member}
-use Rattle.json.proofs.Grammar.{value-begin_object, read_key-shorter}
-use Rattle.flag_doubts.specs.Doubled.{count_of, member_names}
+use Rattle.json.specs.Json.{read_key, members, value, no_members, member}
+use Rattle.json.proofs.Grammar.{read_key-shorter}
+use Rattle.unread_members.specs.Unread.{reads}
+use Rattle.unread_members.specs.declared.reader.Reader.TheVariants as reader
+use Rattle.flag_doubts.specs.AllRead.{are_definitions_read, are_flags_read}
+use Rattle.flag_doubts.specs.Doubled.{member_names, members_in}
 use Rattle.flag_doubts.specs.FoundFlags.{FindsIn}
-use Rattle.flag_doubts.specs.Passed.{Begins}
-use Rattle.flag_doubts.specs.Repeated.{has_twin, repeats, repeats_under, repeats_beside}
-use Rattle.flag_doubts.proofs.Grammar.{joined, members_first, member_taken, member_refused, key_refused, members_over, member_names-more, repeats_under-more, repeats_beside-more, get_member-more, or_none}
+use Rattle.flag_doubts.specs.Repeated.{has_twin, repeats, repeats_beside}
+use Rattle.flag_doubts.proofs.Grammar.{joined, members_first, member_taken, member_refused, key_refused, members_over, member_names-more, repeats_beside-more, get_member-more, are_flags_read-more, and_true, or_none}
 use Rattle.flag_doubts.proofs.Open.{no_key, one_name, seen_more, added_names}
-use Rattle.flag_doubts.proofs.Others.{finds_other, finds_nothing, finds_whole}
+use Rattle.flag_doubts.proofs.Others.{finds_whole}
 use Rattle.flag_doubts.proofs.repeated.in_members.Goals as goal
 
 pub members-init : goal.members-init
@@ -26,6 +24,7 @@ members-init c = (
   members_first (members (value c.args.depth) (length c.args.reader.now) c.args.reader.now),
   omega arith,
   c.none-flags.ensures,
+  refl,
   refl,
   sym (append-nil c.args.names.now.items),
   refl,
@@ -67,7 +66,8 @@ members-preserved-then-eq c =
     let lesser = c.in_ok-flags.ensures.shorter in
     let is : bytes_eq k (codes "flags") ≡ true = sym c.if-eq.ensures in
     let last = get_member-more k j (codes "flags") done ∙ ap (λ b. cond b (Some j) (get_member (codes "flags") done)) is in
-    let beside = repeats_beside-more k j done ∙ ap (λ b. repeats_beside done || (not b && repeats j)) is in (
+    let beside = repeats_beside-more k j done ∙ ap (λ b. repeats_beside done || (not b && repeats j)) is in
+    let taken = are_flags_read-more k j done ∙ ap (λ b. are_flags_read done && (not b || are_definitions_read (members_in (Some j)))) is in (
       n - 1,
       joined done (member k j no_members),
       l.invariant.2 ++ c.in-Some.name ∷ [],
@@ -76,8 +76,9 @@ members-preserved-then-eq c =
       omega (arith, l.invariant.5),
       subst (λ o. FindsIn o c.in_ok-flags.flags) (sym last) read.2,
       l.invariant.7 ∙ sym (beside ∙ or_none (repeats_beside done)),
-      one_name c.in_flags.new.names.items l.names.items c.args.names.now.items l.invariant.2 c.in-Some.name l.invariant.8 (c.in_ok-flags.ensures.names ∙ c.in_ok-push.ensures.items),
-      seen_more l.invariant.2 c.in-Some.name (member_names done) l.invariant.9 ∙ sym (member_names-more k j done),
+      ap₂ (λ a b. a && b) l.invariant.8 read.2.all_read ∙ sym taken,
+      one_name c.in_flags.new.names.items l.names.items c.args.names.now.items l.invariant.2 c.in-Some.name l.invariant.9 (c.in_ok-flags.ensures.names ∙ c.in_ok-push.ensures.items),
+      seen_more l.invariant.2 c.in-Some.name (member_names done) l.invariant.10 ∙ sym (member_names-more k j done),
     )
 
 pub members-preserved : goal.members-preserved
@@ -95,7 +96,8 @@ members-preserved c =
     let lesser = c.in_ok-inner.ensures.shorter in
     let is : bytes_eq k (codes "flags") ≡ false = sym c.if-eq.ensures in
     let last = get_member-more k j (codes "flags") done ∙ ap (λ b. cond b (Some j) (get_member (codes "flags") done)) is in
-    let beside = repeats_beside-more k j done ∙ ap (λ b. repeats_beside done || (not b && repeats j)) is in (
+    let beside = repeats_beside-more k j done ∙ ap (λ b. repeats_beside done || (not b && repeats j)) is in
+    let taken = are_flags_read-more k j done ∙ ap (λ b. are_flags_read done && (not b || are_definitions_read (members_in (Some j)))) is in (
       n - 1,
       joined done (member k j no_members),
       l.invariant.2 ++ c.in-Some.name ∷ [],
@@ -104,8 +106,9 @@ members-preserved c =
       omega (arith, l.invariant.5),
       subst (λ o. FindsIn o l.flags) (sym last) l.invariant.6,
       c.in_ok-place.ensures ∙ ap₂ (λ a b. a || b) l.invariant.7 read.2 ∙ sym beside,
-      one_name c.place_in.new.names.items l.names.items c.args.names.now.items l.invariant.2 c.in-Some.name l.invariant.8 (c.in_ok-inner.ensures.names ∙ c.in_ok-push.ensures.items),
-      seen_more l.invariant.2 c.in-Some.name (member_names done) l.invariant.9 ∙ sym (member_names-more k j done),
+      l.invariant.8 ∙ sym (taken ∙ and_true (are_flags_read done)),
+      one_name c.place_in.new.names.items l.names.items c.args.names.now.items l.invariant.2 c.in-Some.name l.invariant.9 (c.in_ok-inner.ensures.names ∙ c.in_ok-push.ensures.items),
+      seen_more l.invariant.2 c.in-Some.name (member_names done) l.invariant.10 ∙ sym (member_names-more k j done),
     )
 
 pub returns-clause-ok : goal.returns-clause-ok
@@ -113,8 +116,9 @@ returns-clause-ok c =
     let l = c.members in
     let done = l.invariant.1 in
     let many : c.len-outer.result ≡ length c.args.names.now.items = omega (arith, c.len-outer.ensures, c.args.names.now.ok.0) in
-    let inner = added_names c.deref.result.now l.names.items c.args.names.now.items l.invariant.2 (member_names done) c.len-outer.result many c.deref.ensures.value l.invariant.8 l.invariant.9 in (
+    let inner = added_names c.deref.result.now l.names.items c.args.names.now.items l.invariant.2 (member_names done) c.len-outer.result many c.deref.ensures.value l.invariant.9 l.invariant.10 in (
       done,
       members_over (value c.args.depth) l.invariant.0 l.reader _ done l.invariant.4 c.next_key.new.self l.invariant.3 (grind arith),
-      finds_whole done l.flags _ c.told.ensures.flags l.invariant.6 (ap (λ o. is_some o) c.told.ensures.document ∙ c.in_ok-twin_or.ensures ∙ ap₂ (λ ns b. has_twin ns || b) inner l.invariant.7),
+      finds_whole done l.flags _ c.told.ensures.flags l.invariant.6 (ap (λ o. is_some o) c.told.ensures.document ∙ c.in_ok-twin_or.ensures ∙ ap₂ (λ ns b. has_twin ns || b) inner l.invariant.7)
+          (c.told.ensures.all_read ∙ ap₂ (λ a b. a && b) (c.takes_each.ensures ∙ ap (list_all (reads reader.Document)) inner) l.invariant.8),
     )

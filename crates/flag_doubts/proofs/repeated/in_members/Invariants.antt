@@ -1,6 +1,7 @@
 use Rattle.std.proofs.Common.{◌≡◌, ℕ, ◌≤◌, ◌++◌, List, Bor, codes, length, map, is_some}
 use Rattle.json.specs.Find.{get_member}
 use Rattle.json.specs.Json.{Members, members, value, parse_map}
+use Rattle.flag_doubts.specs.AllRead.{are_flags_read}
 use Rattle.flag_doubts.specs.Doubled.{member_names}
 use Rattle.flag_doubts.specs.FoundFlags.{FindsIn}
 use Rattle.flag_doubts.specs.Repeated.{repeats_beside}
@@ -14,6 +15,7 @@ invariant-members l =
     × (length l.reader ≤ length l.initial.reader)
     × FindsIn (get_member (codes "flags") done) l.flags
     × (is_some l.place ≡ repeats_beside done)
+    × (l.all_read ≡ are_flags_read done)
     × (l.names.items ≡ l.initial.names.items ++ added)
     × (map (λ m. m.now) added ≡ member_names done)
 

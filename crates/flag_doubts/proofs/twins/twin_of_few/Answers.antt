@@ -1,4 +1,4 @@
-use Rattle.std.proofs.Common.{◌≡◌, ◌||◌, ◌+◌, ◌∙◌, [], get_or, take, ap, sym, refl}
+use Rattle.std.proofs.Common.{◌||◌, ◌+◌, ◌∙◌, [], get_or, take, ap, sym, refl}
 use Rattle.std.proofs.lemmas.List.{get_or_default}
 use Rattle.flag_doubts.proofs.SecondNames.{nameless, none_met, one_met, twins, among, among_more}
 use Rattle.flag_doubts.proofs.twins.twin_of_few.Goals as goal

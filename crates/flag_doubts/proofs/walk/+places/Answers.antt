@@ -1,9 +1,7 @@
-use Rattle.std.proofs.Common.{◌≡◌, ◌-◌, ◌<◌, ◌||◌, ◌++◌, [], ◌∷◌, List, Bor, length, map, drop, take, Result, Ok, Err, Some, None, refl, sym, ap, ap₂, ◌∙◌, subst, append-nil, arith, rules}
-use Rattle.std.specs.Prelude.{MatchResult}
-use Rattle.std.specs.Result.{result_or}
+use Rattle.std.proofs.Common.{◌≡◌, ◌-◌, ◌<◌, ◌||◌, ◌++◌, [], ◌∷◌, length, Some, None, refl, sym, ap, ap₂, ◌∙◌, subst, append-nil, arith}
 use Rattle.std.proofs.lemmas.Result.{IfOk-weaker}
 use Rattle.json.specs.Token.{Token}
-use Rattle.json.specs.Json.{Json, parse_map, after_end_array, read_key, items, members, value, null, boolean, number, string, array, object, no_items, item, no_members, member}
+use Rattle.json.specs.Json.{parse_map, after_end_array, read_key, items, members, value, null, boolean, number, string, array, object, no_items, item, no_members, member}
 use Rattle.json.specs.Reads.{token_of}
 use Rattle.json.proofs.Grammar.{value_is, value-begin_array, value-begin_object, read_key-shorter}
 use Rattle.flag_doubts.specs.Doubled.{member_names}
@@ -121,25 +119,25 @@ in_items-returns-clause-ok t c =
     let l = c.items in
     (l.invariant.1, items_over (value c.args.depth) l.invariant.0 l.reader _ l.invariant.1 l.invariant.3 c.take_end_array.new.self l.invariant.2 (grind arith), l.invariant.5)
 
-pub in_object-members-init : goal.in_object-members-init
-in_object-members-init t c =
+pub with_members-members-init : goal.with_members-members-init
+with_members-members-init t c =
     (length c.args.reader.now, no_members, [], omega arith, members_first (members (value c.args.depth) (length c.args.reader.now) c.args.reader.now), omega arith, refl, sym (append-nil c.args.names.now.items), refl)
 
-pub in_object-returns-in_err-name-clause-err : goal.in_object-returns-in_err-name-clause-err
-in_object-returns-in_err-name-clause-err t c refused =
+pub with_members-returns-in_err-name-clause-err : goal.with_members-returns-in_err-name-clause-err
+with_members-returns-in_err-name-clause-err t c refused =
     let l = c.members in
     key_refused (value c.args.depth) l.invariant.0 l.reader _ l.invariant.1 l.invariant.4 (no_key c.next_key.result _ _ _ c.in_err-name.ensures c.next_key.ensures.value)
 
-pub in_object-returns-in_err-inner-clause-err : goal.in_object-returns-in_err-inner-clause-err
-in_object-returns-in_err-inner-clause-err t c refused =
+pub with_members-returns-in_err-inner-clause-err : goal.with_members-returns-in_err-inner-clause-err
+with_members-returns-in_err-inner-clause-err t c refused =
     let l = c.members in
     let k = c.in-Some.name.now in
     let s = c.next_key.new.self in
     let named : read_key l.reader ≡ Some (Some k, s) = grind arith in
     member_refused (value c.args.depth) l.invariant.0 l.reader _ l.invariant.1 l.invariant.4 k s named (c.place_in.ensures.err (grind arith))
 
-pub in_object-members-preserved : goal.in_object-members-preserved
-in_object-members-preserved t c =
+pub with_members-members-preserved : goal.with_members-members-preserved
+with_members-members-preserved t c =
     let l = c.members in
     let n = l.invariant.0 in
     let done = l.invariant.1 in
@@ -162,13 +160,16 @@ in_object-members-preserved t c =
       seen_more l.invariant.2 c.in-Some.name (member_names done) l.invariant.8 ∙ sym (member_names-more k j done),
     )
 
-pub in_object-returns-clause-ok : goal.in_object-returns-clause-ok
-in_object-returns-clause-ok t c =
+pub with_members-returns-clause-ok : goal.with_members-returns-clause-ok
+with_members-returns-clause-ok t c =
     let l = c.members in
     let done = l.invariant.1 in
+    (done, members_over (value c.args.depth) l.invariant.0 l.reader _ done l.invariant.4 c.next_key.new.self l.invariant.3 (grind arith), (l.invariant.6, (l.invariant.2, l.invariant.7, l.invariant.8)))
+
+pub in_object-returns-clause-ok : goal.in_object-returns-clause-ok
+in_object-returns-clause-ok t c =
+    let read = c.in_ok-inner.ensures.ok in
+    let left = read.2.1 in
     let many : c.len-outer.result ≡ length c.args.names.now.items = omega (arith, c.len-outer.ensures, c.args.names.now.ok.0) in
-    let inner = added_names c.deref.result.now l.names.items c.args.names.now.items l.invariant.2 (member_names done) c.len-outer.result many c.deref.ensures.value l.invariant.7 l.invariant.8 in (
-      done,
-      members_over (value c.args.depth) l.invariant.0 l.reader _ done l.invariant.4 c.next_key.new.self l.invariant.3 (grind arith),
-      c.in_ok-place-2.ensures ∙ ap₂ (λ ns b. has_twin ns || b) inner l.invariant.6,
-    )
+    let inner = added_names c.deref.result.now c.with_members.new.names.items c.args.names.now.items left.0 (member_names read.0) c.len-outer.result many c.deref.ensures.value left.1 left.2 in
+    (read.0, read.1, c.in_ok-place.ensures ∙ ap₂ (λ ns b. has_twin ns || b) inner read.2.0)

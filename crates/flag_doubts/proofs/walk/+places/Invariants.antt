@@ -15,7 +15,10 @@ abbrev pub decreases-in_items : goal.decreases-in_items
 decreases-in_items l = 3 * l.depth + 2
 
 abbrev pub decreases-in_object : goal.decreases-in_object
-decreases-in_object l = 3 * l.depth + 2
+decreases-in_object l = 3 * l.depth + 3
+
+abbrev pub decreases-with_members : goal.decreases-with_members
+decreases-with_members l = 3 * l.depth + 2
 
 abbrev pub invariant-in_items-items : goal.invariant-in_items-items
 invariant-in_items-items l =
@@ -28,8 +31,8 @@ invariant-in_items-items l =
 abbrev pub decreases-in_items-items : goal.decreases-in_items-items
 decreases-in_items-items l = length l.reader
 
-abbrev pub invariant-in_object-members : goal.invariant-in_object-members
-invariant-in_object-members l =
+abbrev pub invariant-with_members-members : goal.invariant-with_members-members
+invariant-with_members-members l =
     (n : ℕ) × (done : Members) × (added : List (Bor (List ℕ))) × (length l.reader ≤ n)
     × (members (value l.depth) (length l.initial.reader) l.initial.reader ≡ parse_map (joined done) (members (value l.depth) n l.reader))
     × (length l.reader ≤ length l.initial.reader)
@@ -37,5 +40,5 @@ invariant-in_object-members l =
     × (l.names.items ≡ l.initial.names.items ++ added)
     × (map (λ m. m.now) added ≡ member_names done)
 
-abbrev pub decreases-in_object-members : goal.decreases-in_object-members
-decreases-in_object-members l = length l.reader
+abbrev pub decreases-with_members-members : goal.decreases-with_members-members
+decreases-with_members-members l = length l.reader

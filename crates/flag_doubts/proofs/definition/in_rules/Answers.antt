@@ -1,0 +1,22 @@
+use Rattle.std.proofs.Common.{◌≡◌, ◌||◌, length, ap, ap₂, ◌∙◌, arith}
+use Rattle.std.specs.List.{list_all}
+use Rattle.unread_members.specs.Unread.{reads}
+use Rattle.unread_members.specs.declared.reader.Reader.TheVariants as reader
+use Rattle.flag_doubts.specs.Doubled.{member_names}
+use Rattle.flag_doubts.specs.Repeated.{has_twin}
+use Rattle.flag_doubts.proofs.Open.{added_names}
+use Rattle.flag_doubts.proofs.definition.in_rules.Goals as goal
+
+pub returns-clause-ok : goal.returns-clause-ok
+returns-clause-ok c =
+    let read = c.in_ok-inner.ensures.ok in
+    let left = read.2.1 in
+    let many : c.len-outer.result ≡ length c.args.names.now.items = omega (arith, c.len-outer.ensures, c.args.names.now.ok.0) in
+    let inner = added_names c.deref.result.now c.with_members.new.names.items c.args.names.now.items left.0 (member_names read.0) c.len-outer.result many c.deref.ensures.value left.1 left.2 in (
+      read.0,
+      read.1,
+      record {
+        place = c.in_ok-place.ensures ∙ ap₂ (λ ns b. has_twin ns || b) inner read.2.0;
+        all_read = c.takes_each-all_read.ensures ∙ ap (list_all (reads reader.Definition)) inner;
+      },
+    )
