@@ -103,9 +103,9 @@ is_none-step n None f rest found h = refl
 is_none-step n (Some x) f None found h = h
 is_none-step n (Some x) f (Some xs) found h = h
 
-unlimited-none : (ranges : Bool) (n : ℕ) (ms : Members) → is_some (first_unlimited ranges n ms) ≡ is_none (limits_with ranges ms)
+unlimited-none : (ranges : Bool) (n : ℕ) (ms : Members) → is_some (first_unlimited (limit_of ranges) n ms) ≡ is_none (limits_with ranges ms)
 unlimited-none ranges n no_members = refl
-unlimited-none ranges n (member k t ms) = is_none-step n (limit_of ranges t) (λ l (ls : Limits). (k, l) ∷ ls) (limits_with ranges ms) (first_unlimited ranges (n + 1) ms) (unlimited-none ranges (n + 1) ms)
+unlimited-none ranges n (member k t ms) = is_none-step n (limit_of ranges t) (λ l (ls : Limits). (k, l) ∷ ls) (limits_with ranges ms) (first_unlimited (limit_of ranges) (n + 1) ms) (unlimited-none ranges (n + 1) ms)
 
 unread-none : {X : Type 0} (f : Items → Option X) (n : ℕ) (ts : Items) → is_some (first_unread f n ts) ≡ is_none (each_of f ts)
 unread-none f n no_items = refl
@@ -262,7 +262,7 @@ module _ (form : Option Bool) (flag : Option (List ℕ)) (site : Option ℕ) (me
   abbrev misfit_with : Option Misfit
   misfit_with =
       unless (is_some form) Plan or unless (is_some flag) Flag or unless (is_some site) Site or unless (is_some members) Totals or unless (is_some usual) Price or unless (is_some prices) Prices or unless (is_some bars) Forbid
-      or option_map Total (option_and_then (λ ranges. option_and_then (first_unlimited ranges 0) members) form)
+      or option_map Total (option_and_then (λ ranges. option_and_then (first_unlimited (limit_of ranges) 0) members) form)
       or option_map PricesItem (option_and_then (first_unread price_parts 0) prices)
       or option_map ForbidItem (option_and_then (first_unread bar_parts 0) bars)
       or option_map PricesTwice (option_and_then (first_again [] 0) prices)
@@ -285,7 +285,7 @@ by-parts (Some r) (Some f) (Some s) (Some ms) None prices bars = refl
 by-parts (Some r) (Some f) (Some s) (Some ms) (Some u) None bars = sym (none_after Written (limits_with r ms))
 by-parts (Some r) (Some f) (Some s) (Some ms) (Some u) (Some ps) None = sym (none_after_two Written (limits_with r ms) (option_and_then once_each (each_of price_parts ps)))
 by-parts (Some r) (Some f) (Some s) (Some ms) (Some u) (Some ps) (Some bs) =
-    all-read (first_unlimited r 0 ms) (first_unread price_parts 0 ps) (first_unread bar_parts 0 bs) (first_again [] 0 ps) (first_again [] 0 bs) (limits_with r ms) (each_of price_parts ps) (each_of bar_parts bs)
+    all-read (first_unlimited (limit_of r) 0 ms) (first_unread price_parts 0 ps) (first_unread bar_parts 0 bs) (first_again [] 0 ps) (first_again [] 0 bs) (limits_with r ms) (each_of price_parts ps) (each_of bar_parts bs)
     (λ totals named barred. record { flag = f; site = s; totals = totals; usual = u; named = named; barred = barred })
     (unlimited-none r 0 ms) (unread-none price_parts 0 ps) (unread-none bar_parts 0 bs) (again-twice price_parts begins_price ps) (again-twice bar_parts begins_bar bs)
 

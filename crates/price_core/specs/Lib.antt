@@ -1,3 +1,4 @@
+pub mod Breach
 pub mod Cost
 pub mod Fault
 pub mod Limits

@@ -16,10 +16,10 @@ abbrev pub first_unread : {X : Type 0} → (Items → Option X) → ℕ → Item
 first_unread f n no_items = None
 first_unread f n (item t ts) = if is_some (option_and_then f (as_list t)) then first_unread f (n + 1) ts else Some n
 
--- where a total is none
-abbrev pub first_unlimited : Bool → ℕ → Members → Option ℕ
-first_unlimited ranges n no_members = None
-first_unlimited ranges n (member name t ms) = if is_some (limit_of ranges t) then first_unlimited ranges (n + 1) ms else Some n
+-- where f does not read a total
+abbrev pub first_unlimited : (Shape → Option (ℕ × ℕ)) → ℕ → Members → Option ℕ
+first_unlimited f n no_members = None
+first_unlimited f n (member name t ms) = if is_some (f t) then first_unlimited f (n + 1) ms else Some n
 
 -- `[from, to, ..]`
 abbrev pub change_parts : Items → Option Pair
@@ -40,7 +40,7 @@ list_in name t = if_there no_items as_list (member_of name t)
 
 -- the first total that is none
 abbrev pub unlimited_in : Shape → Option ℕ
-unlimited_in t = option_and_then (λ ranges. option_and_then (first_unlimited ranges 0) (members_in t)) (form_in t)
+unlimited_in t = option_and_then (λ ranges. option_and_then (first_unlimited (limit_of ranges) 0) (members_in t)) (form_in t)
 
 -- the first item of a list that f does not read
 abbrev pub unread_in : {X : Type 0} → (Items → Option X) → List ℕ → Shape → Option ℕ
@@ -54,7 +54,7 @@ again_in name t = option_and_then (first_again [] 0) (list_in name t)
 
 -- the first that there is of two
 infixl 10 ◌or◌
-abbrev ◌or◌ : {A : Type 0} → Option A → Option A → Option A
+abbrev pub ◌or◌ : {A : Type 0} → Option A → Option A → Option A
 o or p = option_or o p
 
 -- a misfit, where this is not so

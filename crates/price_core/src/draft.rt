@@ -110,8 +110,8 @@ fn limits_with(
     Ok(limits)
 }
 
-/// The least and the greatest total that one number, or a list of two, stands for.
-pub(crate) fn limit_of(tree: &Tree, ranges: bool) -> Option<(u32, u32)>
+/// The least and the greatest total that one number, or a list of two where ranges are taken, stands for.
+pub fn limit_of(tree: &Tree, ranges: bool) -> Option<(u32, u32)>
     ensures { result ≡ limit_of ranges (view tree.now) }
 {
     match tree {
@@ -185,7 +185,7 @@ pub(crate) fn price_in(item: &Tree) -> Option<((&str, &str), i64)>
     price_parts(item.as_list()?)
 }
 
-fn price_parts(parts: &[Tree]) -> Option<((&str, &str), i64)>
+pub(crate) fn price_parts(parts: &[Tree]) -> Option<((&str, &str), i64)>
     ensures { option_map lent_entry result ≡ price_parts (items_view parts.now) }
 {
     match parts {

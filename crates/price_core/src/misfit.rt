@@ -4,7 +4,7 @@ ghost use Rattle.flag_text.specs.Readers.{as_list};
 ghost use Rattle.flag_text.specs.View.{view, items_view, members_view};
 ghost use Rattle.price_core.specs.Misfit.{unless, unkind_of, misshape_of, misfit_of, first_unlimited, first_unread, first_again, change_parts, unlimited_in, unread_in, again_in};
 ghost use Rattle.price_core.specs.Pricing.{lent_pair};
-ghost use Rattle.price_core.specs.Request.{price_parts, bar_parts};
+ghost use Rattle.price_core.specs.Request.{limit_of, price_parts, bar_parts};
 
 use crate::draft::{
     bar_in, form_in, key_in, limit_of, list_in, members_in, pair_of, price_in, site_in, usual_in,
@@ -72,7 +72,7 @@ pub fn change_in(item: &Tree) -> Option<(&str, &str)>
     change_parts(item.as_list()?)
 }
 
-fn change_parts(parts: &[Tree]) -> Option<(&str, &str)>
+pub(crate) fn change_parts(parts: &[Tree]) -> Option<(&str, &str)>
     ensures { option_map lent_pair result ≡ change_parts (items_view parts.now) }
 {
     match parts {
@@ -125,7 +125,7 @@ fn unlimited_in(tree: &Tree) -> Option<usize>
 }
 
 fn first_unlimited(members: &[(String, Tree)], ranges: bool) -> Option<usize>
-    ensures { result ≡ first_unlimited ranges 0 (members_view members.now) }
+    ensures { result ≡ first_unlimited (limit_of ranges) 0 (members_view members.now) }
 {
     for (place, (_, total)) in members.iter().enumerate() {
         if limit_of(total, ranges).is_none() {
