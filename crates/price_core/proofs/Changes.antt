@@ -22,7 +22,7 @@ both_equal Less n = refl
 both_equal Equal n = refl
 both_equal Greater n = refl
 
-is_same-cmp : (p q : Pair) → is_at (pair_cmp p) q ≡ is_same_pair p q
+pub is_same-cmp : (p q : Pair) → is_at (pair_cmp p) q ≡ is_same_pair p q
 is_same-cmp p q = both_equal (slice_cmp nat_cmp p.0 q.0) (slice_cmp nat_cmp p.1 q.1) ∙ (λ i. is_eq-slice_cmp p.0 q.0 i && is_eq-slice_cmp p.1 q.1 i)
 
 pub lookup-cmp : {X : Type 0} (p : Pair) (es : List (Pair × X)) → lookup (is_at (pair_cmp p)) es ≡ lookup (is_same_pair p) es

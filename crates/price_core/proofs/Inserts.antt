@@ -53,11 +53,11 @@ found-cond : {X : Type 0} (b : Bool) (x : X) (o : Option X) → is_some (cond b 
 found-cond true x o = refl
 found-cond false x o = refl
 
-once_more : (b x : Bool) → (b || x) ≡ (b || (b || x))
+pub once_more : (b x : Bool) → (b || x) ≡ (b || (b || x))
 once_more true x = refl
 once_more false x = refl
 
-turned : (a b x : Bool) → (a || (b || x)) ≡ (b || (a || x))
+pub turned : (a b x : Bool) → (a || (b || x)) ≡ (b || (a || x))
 turned true true x = refl
 turned true false x = refl
 turned false true x = refl

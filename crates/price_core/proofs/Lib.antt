@@ -3,6 +3,7 @@ pub mod Cursors
 pub mod Inserts
 pub mod Lawful
 pub mod Limited
+mod Misfits
 pub mod Numbered
 pub mod Order
 pub mod Parts

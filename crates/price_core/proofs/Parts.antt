@@ -2,6 +2,7 @@
 use Rattle.std.proofs.Common.{◌≡◌, ◌<◌, List, [], ◌∷◌, length, None, refl, arith}
 use Rattle.flag_text.specs.declared.tree.Tree.{Tree}
 use Rattle.flag_text.specs.View.{items_view}
+use Rattle.price_core.specs.Misfit.{change_parts}
 use Rattle.price_core.specs.Request.{range_of, price_parts, bar_parts}
 
 pub range_of-short : (ts : List Tree) → length ts < 2 → range_of (items_view ts) ≡ None
@@ -38,3 +39,8 @@ price_parts-long (a ∷ []) h = refl
 price_parts-long (a ∷ b ∷ []) h = refl
 price_parts-long (a ∷ b ∷ d ∷ []) h = absurd (omega arith)
 price_parts-long (a ∷ b ∷ d ∷ e ∷ ts) h = refl
+
+pub change_parts-short : (ts : List Tree) → length ts < 2 → change_parts (items_view ts) ≡ None
+change_parts-short [] h = refl
+change_parts-short (a ∷ []) h = refl
+change_parts-short (a ∷ b ∷ ts) h = absurd (omega arith)

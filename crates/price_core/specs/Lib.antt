@@ -1,6 +1,8 @@
+pub mod Breach
 pub mod Cost
 pub mod Fault
 pub mod Limits
+pub mod Misfit
 pub mod Numbering
 pub mod Pricing
 pub mod Request

@@ -7,6 +7,7 @@ use Rattle.std.specs.Map.{keys_of, lookup}
 use Rattle.std.specs.Ordering.{nat_cmp, ordering_then}
 use Rattle.std.specs.declared.cmp.Ordering.{Ordering}
 use Rattle.std.specs.Str.{bytes_eq}
+use denote.Ref.{Bor}
 use Rattle.price_core.specs.declared.change.Change.{Change}
 
 -- a change: the name that a key had, and the name that it is given
@@ -57,3 +58,11 @@ entry_view e = (change_view e.0, e.1)
 -- the same of a list of changes
 abbrev pub entries_view : {X : Type 0} → List (Change × X) → List (Pair × X)
 entries_view es = map entry_view es
+
+-- a change whose names lie elsewhere, without where they lie
+abbrev pub lent_pair : Bor (List ℕ) × Bor (List ℕ) → Pair
+lent_pair p = (p.0.now, p.1.now)
+
+-- such a change with what is said of it
+abbrev pub lent_entry : {X : Type 0} → (Bor (List ℕ) × Bor (List ℕ)) × X → Pair × X
+lent_entry e = (lent_pair e.0, e.1)

@@ -83,9 +83,13 @@ abbrev pub limits_with : Bool → Members → Option Limits
 limits_with ranges no_members = Some []
 limits_with ranges (member name t ms) = option_and_then (λ l. option_map (λ ls. (name, l) ∷ ls) (limits_with ranges ms)) (limit_of ranges t)
 
+-- the members of the member `totals`
+abbrev pub members_in : Shape → Option Members
+members_in t = option_and_then as_object (member_of (codes "totals") t)
+
 -- the member `totals`: limits on the new total of some names
 abbrev pub totals_in : Bool → Shape → Option Limits
-totals_in ranges t = option_and_then (limits_with ranges) (option_and_then as_object (member_of (codes "totals") t))
+totals_in ranges t = option_and_then (limits_with ranges) (members_in t)
 
 -- ---- prices and prohibitions
 

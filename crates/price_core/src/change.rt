@@ -3,11 +3,11 @@ ghost use Rattle.std.specs.Prelude.{◌≡◌, IfOk, option_copied};
 ghost use Rattle.std.specs.List.Sorted.{IsStrictlySortedBy};
 ghost use Rattle.std.specs.Map.{keys_of, lookup};
 ghost use Rattle.flag_text.specs.Outcome.{GivesUnless};
-ghost use Rattle.price_core.specs.Pricing.{pair_cmp, is_same_pair, change_view, entries_view};
+ghost use Rattle.price_core.specs.Pricing.{pair_cmp, is_same_pair, change_view, entries_view, lent_pair};
 ghost use Rattle.price_core.specs.Request.{once_each, if_written};
 
 use crate::fault::PriceFault;
-use std::alloc::Global;
+use std::alloc::{AllocError, Global};
 use std::cmp::Ordering;
 use std::collections::BTreeMap;
 
@@ -19,6 +19,17 @@ pub(crate) struct Change {
 }
 
 impl Change {
+    /// The change between these names.
+    pub(crate) fn of(alloc: Global, pair: (&str, &str)) -> Result<Change, AllocError>
+        ensures { IfOk result (λ c. change_view c ≡ lent_pair pair.entry) }
+    {
+        let from = String::from_str(alloc, pair.0)?;
+        Ok(Change {
+            from,
+            to: String::from_str(alloc, pair.1)?,
+        })
+    }
+
     /// How it stands to the change between these names.
     fn compare(&self, from: &str, to: &str) -> Ordering
         ensures { result ≡ pair_cmp (change_view self.now) (from.now, to.now) }

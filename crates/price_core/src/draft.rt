@@ -1,14 +1,14 @@
 //! From a tree to a request as it is written, its prices not yet judged.
-ghost use Rattle.std.specs.Prelude.{◌≡◌, ◌^◌, true, IfOk, option_map, option_and_then, string_bytes};
+ghost use Rattle.std.specs.Prelude.{◌≡◌, ◌^◌, true, IfOk, option_map, option_and_then, option_copied, string_bytes};
 ghost use Rattle.std.specs.List.Sorted.{IsStrictlySortedBy};
 ghost use Rattle.std.specs.Map.{keys_of};
 ghost use Rattle.flag_text.specs.Outcome.{GivesUnless};
-ghost use Rattle.flag_text.specs.Readers.{as_list, as_whole, member_of};
+ghost use Rattle.flag_text.specs.Readers.{as_list, member_of};
 ghost use Rattle.flag_text.specs.Shape.{is_whole, no_items};
 ghost use Rattle.flag_text.specs.View.{view, items_view, members_view};
 ghost use Rattle.price_core.specs.Limits.{limits_view};
-ghost use Rattle.price_core.specs.Pricing.{pair_cmp, change_view, entry_view, entries_view};
-ghost use Rattle.price_core.specs.Request.{form_in, flag_in, site_in, usual_in, totals_in, named_in, barred_in, limits_with, limit_of, range_of, number_below, pair_of, price_parts, bar_parts, each_of, if_there, if_written, written_of, draft_view, IsWritten};
+ghost use Rattle.price_core.specs.Pricing.{pair_cmp, entries_view, lent_pair, lent_entry};
+ghost use Rattle.price_core.specs.Request.{form_in, flag_in, site_in, usual_in, members_in, totals_in, named_in, barred_in, limits_with, limit_of, range_of, number_below, pair_of, price_parts, bar_parts, each_of, if_there, if_written, written_of, draft_view, IsWritten};
 
 use crate::change::{Change, once_each};
 use crate::fault::PriceFault;
@@ -31,7 +31,7 @@ pub(crate) struct Draft {
 }
 
 /// Whether totals may be ranges, by the form of the request.
-fn form_in(tree: &Tree) -> Option<bool>
+pub(crate) fn form_in(tree: &Tree) -> Option<bool>
     ensures { result ≡ form_in (view tree.now) }
 {
     match tree.member("plan")?.as_whole()? {
@@ -41,16 +41,23 @@ fn form_in(tree: &Tree) -> Option<bool>
     }
 }
 
+/// The key of the flag.
+pub(crate) fn key_in(tree: &Tree) -> Option<&str>
+    ensures { option_copied result ≡ flag_in (view tree.now) }
+{
+    tree.member("flag")?.as_text()
+}
+
 fn flag_in(alloc: Global, tree: &Tree) -> Result<String, PriceFault>
     ensures { GivesUnless PriceFault.WantOfMemory (λ s. string_bytes s) result (if_written (flag_in (view tree.now))) }
 {
-    match tree.member("flag") {
-        Some(Tree::Text(flag)) => Ok(flag.clone()?),
-        _ => Err(PriceFault::BadRequest),
+    match key_in(tree) {
+        Some(key) => Ok(String::from_str(alloc, key)?),
+        None => Err(PriceFault::BadRequest),
     }
 }
 
-fn site_in(tree: &Tree) -> Option<u32>
+pub(crate) fn site_in(tree: &Tree) -> Option<u32>
     ensures { result ≡ site_in (view tree.now) }
 {
     match tree.member("site") {
@@ -60,7 +67,7 @@ fn site_in(tree: &Tree) -> Option<u32>
     }
 }
 
-fn usual_in(tree: &Tree) -> Option<i64>
+pub(crate) fn usual_in(tree: &Tree) -> Option<i64>
     ensures { result ≡ usual_in (view tree.now) }
 {
     match tree.member("price") {
@@ -69,12 +76,19 @@ fn usual_in(tree: &Tree) -> Option<i64>
     }
 }
 
+/// The names with their totals, not yet read.
+pub(crate) fn members_in(tree: &Tree) -> Option<&[(String, Tree)]>
+    ensures { option_map (λ ms. members_view ms.now) result ≡ members_in (view tree.now) }
+{
+    tree.member("totals")?.as_object()
+}
+
 fn totals_in(alloc: Global, tree: &Tree, ranges: bool) -> Result<Vec<Limit>, PriceFault>
     ensures { GivesUnless PriceFault.WantOfMemory (λ v. limits_view v.items) result (if_written (totals_in ranges (view tree.now))) }
 {
-    match tree.member("totals") {
-        Some(Tree::Object(members)) => limits_with(alloc, members.as_slice(), ranges),
-        _ => Err(PriceFault::BadRequest),
+    match members_in(tree) {
+        Some(members) => limits_with(alloc, members, ranges),
+        None => Err(PriceFault::BadRequest),
     }
 }
 
@@ -96,8 +110,8 @@ fn limits_with(
     Ok(limits)
 }
 
-/// The least and the greatest total that one number, or a list of two, stands for.
-fn limit_of(tree: &Tree, ranges: bool) -> Option<(u32, u32)>
+/// The least and the greatest total that one number, or a list of two where ranges are taken, stands for.
+pub fn limit_of(tree: &Tree, ranges: bool) -> Option<(u32, u32)>
     ensures { result ≡ limit_of ranges (view tree.now) }
 {
     match tree {
@@ -132,7 +146,7 @@ fn total_of(tree: &Tree) -> Option<u32>
 }
 
 /// The items of the list of this name, none where there is no such member.
-fn list_of<'a>(tree: &'a Tree, name: &str) -> Option<&'a [Tree]>
+pub(crate) fn list_in<'a>(tree: &'a Tree, name: &str) -> Option<&'a [Tree]>
     ensures { option_map (λ ts. items_view ts.now) result ≡ if_there no_items as_list (member_of name.now (view tree.now)) }
 {
     match tree.member(name) {
@@ -145,7 +159,7 @@ fn named_in(alloc: Global, tree: &Tree) -> Result<Vec<(Change, i64)>, PriceFault
     ensures exact { GivesUnless PriceFault.WantOfMemory (λ v. entries_view v.items) result (if_written (named_in (view tree.now))) }
     ensures rise { IfOk result (λ v. IsStrictlySortedBy pair_cmp (keys_of (entries_view v.items))) }
 {
-    let Some(items) = list_of(tree, "prices") else {
+    let Some(items) = list_in(tree, "prices") else {
         return Err(PriceFault::BadRequest);
     };
     once_each(alloc, prices_of(alloc, items)?)
@@ -156,40 +170,33 @@ fn prices_of(alloc: Global, items: &[Tree]) -> Result<Vec<(Change, i64)>, PriceF
 {
     let mut prices = Vec::new(alloc);
     for item in items {
-        prices.push(price_of(alloc, item)?)?;
+        let Some((change, price)) = price_in(item) else {
+            return Err(PriceFault::BadRequest);
+        };
+        prices.push((Change::of(alloc, change)?, price))?;
     }
     Ok(prices)
 }
 
-fn price_of(alloc: Global, item: &Tree) -> Result<(Change, i64), PriceFault>
-    ensures { GivesUnless PriceFault.WantOfMemory entry_view result (if_written (option_and_then price_parts (as_list (view item.now)))) }
+/// The price of one change, `[from, to, n]`.
+pub(crate) fn price_in(item: &Tree) -> Option<((&str, &str), i64)>
+    ensures { option_map lent_entry result ≡ option_and_then price_parts (as_list (view item.now)) }
 {
-    match item {
-        Tree::List(parts) => price_parts(alloc, parts.as_slice()),
-        _ => Err(PriceFault::BadRequest),
-    }
+    price_parts(item.as_list()?)
 }
 
-/// The price of one change, `[from, to, n]`.
-fn price_parts(alloc: Global, parts: &[Tree]) -> Result<(Change, i64), PriceFault>
-    ensures { GivesUnless PriceFault.WantOfMemory entry_view result (if_written (price_parts (items_view parts.now))) }
+pub(crate) fn price_parts(parts: &[Tree]) -> Option<((&str, &str), i64)>
+    ensures { option_map lent_entry result ≡ price_parts (items_view parts.now) }
 {
     match parts {
-        [] => Err(PriceFault::BadRequest),
-        [_] => Err(PriceFault::BadRequest),
-        [_, _] => Err(PriceFault::BadRequest),
-        [from, to, price] => priced(alloc, from, to, price),
-        [_, _, _, _, ..] => Err(PriceFault::BadRequest),
-    }
-}
-
-fn priced(alloc: Global, from: &Tree, to: &Tree, price: &Tree) -> Result<(Change, i64), PriceFault>
-    ensures { GivesUnless PriceFault.WantOfMemory entry_view result (if_written (option_and_then (λ p. option_map (λ n. (p, n)) (as_whole (view price.now))) (pair_of (view from.now) (view to.now)))) }
-{
-    let change = change_of(alloc, from, to)?;
-    match price.as_whole() {
-        Some(price) => Ok((change, price)),
-        None => Err(PriceFault::BadRequest),
+        [] => None,
+        [_] => None,
+        [_, _] => None,
+        [from, to, price] => {
+            let change = pair_of(from, to)?;
+            Some((change, price.as_whole()?))
+        }
+        [_, _, _, _, ..] => None,
     }
 }
 
@@ -197,7 +204,7 @@ fn barred_in(alloc: Global, tree: &Tree) -> Result<Vec<(Change, ())>, PriceFault
     ensures exact { GivesUnless PriceFault.WantOfMemory (λ v. entries_view v.items) result (if_written (barred_in (view tree.now))) }
     ensures rise { IfOk result (λ v. IsStrictlySortedBy pair_cmp (keys_of (entries_view v.items))) }
 {
-    let Some(items) = list_of(tree, "forbid") else {
+    let Some(items) = list_in(tree, "forbid") else {
         return Err(PriceFault::BadRequest);
     };
     once_each(alloc, bars_of(alloc, items)?)
@@ -208,45 +215,38 @@ fn bars_of(alloc: Global, items: &[Tree]) -> Result<Vec<(Change, ())>, PriceFaul
 {
     let mut bars = Vec::new(alloc);
     for item in items {
-        bars.push((bar_of(alloc, item)?, ()))?;
+        let Some(entry) = bar_in(item) else {
+            return Err(PriceFault::BadRequest);
+        };
+        bars.push((Change::of(alloc, entry.0)?, entry.1))?;
     }
     Ok(bars)
 }
 
-fn bar_of(alloc: Global, item: &Tree) -> Result<Change, PriceFault>
-    ensures { GivesUnless PriceFault.WantOfMemory (λ c. (change_view c, tt)) result (if_written (option_and_then bar_parts (as_list (view item.now)))) }
+/// One forbidden change, `[from, to]`.
+pub(crate) fn bar_in(item: &Tree) -> Option<((&str, &str), ())>
+    ensures { option_map lent_entry result ≡ option_and_then bar_parts (as_list (view item.now)) }
 {
-    match item {
-        Tree::List(parts) => bar_parts(alloc, parts.as_slice()),
-        _ => Err(PriceFault::BadRequest),
-    }
+    bar_parts(item.as_list()?)
 }
 
-/// One forbidden change, `[from, to]`.
-fn bar_parts(alloc: Global, parts: &[Tree]) -> Result<Change, PriceFault>
-    ensures { GivesUnless PriceFault.WantOfMemory (λ c. (change_view c, tt)) result (if_written (bar_parts (items_view parts.now))) }
+fn bar_parts(parts: &[Tree]) -> Option<((&str, &str), ())>
+    ensures { option_map lent_entry result ≡ bar_parts (items_view parts.now) }
 {
     match parts {
-        [] => Err(PriceFault::BadRequest),
-        [_] => Err(PriceFault::BadRequest),
-        [from, to] => change_of(alloc, from, to),
-        [_, _, _, ..] => Err(PriceFault::BadRequest),
+        [] => None,
+        [_] => None,
+        [from, to] => Some((pair_of(from, to)?, ())),
+        [_, _, _, ..] => None,
     }
 }
 
-fn change_of(alloc: Global, from: &Tree, to: &Tree) -> Result<Change, PriceFault>
-    ensures { GivesUnless PriceFault.WantOfMemory change_view result (if_written (pair_of (view from.now) (view to.now))) }
+/// Two texts: the variant that a key had, and the one that it is given.
+pub(crate) fn pair_of<'a>(from: &'a Tree, to: &'a Tree) -> Option<(&'a str, &'a str)>
+    ensures { option_map lent_pair result ≡ pair_of (view from.now) (view to.now) }
 {
-    match (from, to) {
-        (Tree::Text(from), Tree::Text(to)) => {
-            let from = from.clone()?;
-            Ok(Change {
-                from,
-                to: to.clone()?,
-            })
-        }
-        _ => Err(PriceFault::BadRequest),
-    }
+    let from = from.as_text()?;
+    Some((from, to.as_text()?))
 }
 
 /// The request that a tree stands for, as it is written.

@@ -158,7 +158,7 @@ fn has_self_pair<X>(entries: &[(Change, X)]) -> bool
     false
 }
 
-fn as_price(price: i64) -> Option<u64>
+pub(crate) fn as_price(price: i64) -> Option<u64>
     ensures value { result ≡ as_price price }
     ensures fits { IfSome result (λ n. n ≤ max_price) }
 {

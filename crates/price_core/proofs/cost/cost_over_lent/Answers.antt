@@ -1,11 +1,11 @@
-use Rattle.std.proofs.Common.{◌≡◌, ◌<◌, ◌^◌, map, sum, ap, ◌∙◌, sym, subst}
+use Rattle.std.proofs.Common.{◌≡◌, ℕ, ◌<◌, ◌^◌, List, Bor, map, sum, ap, ◌∙◌, sym, subst}
 use denote.Param.Send.{sendable}
 use Rattle.std.proofs.Crossing.{crosses}
 use Rattle.std.proofs.MapsCrossing.{crosses as maps}
 use Rattle.rayon.proofs.ToStd.{slice-map}
 use Rattle.price_core.proofs.Numbered.{Rules}
 use Rattle.price_core.proofs.Shared.{Switching-sync}
-use Rattle.price_core.proofs.Summed.{lent_cost, cost_of_lent, lent_cost_fits}
+use Rattle.price_core.proofs.Summed.{text_cost, cost_of_texts, cost_fits}
 use Rattle.price_core.proofs.cost.cost_over_lent.Goals as goal
 
 pub sum-requires : goal.sum-requires
@@ -15,8 +15,8 @@ sum-requires g c κs =
     let caught = c.map.result.f.0.now in
     let same : caught ≡ s = ap (λ k. k.0.now) c.map.ensures.f in
     let slice = ap (λ it. it.slice.now) c.map.ensures.base ∙ c.par_iter.ensures in
-    let fits = subst (λ (w : Rules). sum (map (lent_cost w.0 w.1 w.2) inputs) < 2 ^ 64) (sym same) (lent_cost_fits s.0 s.1 s.2 inputs c.requires.lawful c.requires.few) in
-    (search (sendable, crosses, maps, Switching-sync) depth 40, (search (sendable, crosses, maps) depth 40, (search (sendable, crosses, maps) depth 40, (search (sendable, crosses, maps) depth 40, (λ k d lt x e. (tt, λ y p. tt), λ ys h. rw (slice-map h.0 inputs (h.1 ∙ slice) (lent_cost caught.0 caught.1 caught.2) ys h.2) fits)))))
+    let fits = subst (λ (w : Rules). sum (map (text_cost (λ (s : Bor (List ℕ)). s.now) w.0 w.1 w.2) inputs) < 2 ^ 64) (sym same) (cost_fits (λ (s : Bor (List ℕ)). s.now) s.0 s.1 s.2 inputs c.requires.lawful c.requires.few) in
+    (search (sendable, crosses, maps, Switching-sync) depth 40, (search (sendable, crosses, maps) depth 40, (search (sendable, crosses, maps) depth 40, (search (sendable, crosses, maps) depth 40, (λ k d lt x e. (tt, λ y p. tt), λ ys h. rw (slice-map h.0 inputs (h.1 ∙ slice) (text_cost (λ (s : Bor (List ℕ)). s.now) caught.0 caught.1 caught.2) ys h.2) fits)))))
 
 pub returns : goal.returns
 returns g c =
@@ -26,4 +26,4 @@ returns g c =
     let same : caught ≡ s = ap (λ k. k.0.now) c.map.ensures.f in
     let slice = ap (λ it. it.slice.now) c.map.ensures.base ∙ c.par_iter.ensures in
     let done = c.sum.ensures in
-    done.2 ∙ (ap sum (slice-map done.1.0 inputs (done.1.1 ∙ slice) (lent_cost caught.0 caught.1 caught.2) done.0 done.1.2) ∙ (ap (λ (w : Rules). sum (map (lent_cost w.0 w.1 w.2) inputs)) same ∙ cost_of_lent s.0 s.1 s.2 inputs))
+    done.2 ∙ (ap sum (slice-map done.1.0 inputs (done.1.1 ∙ slice) (text_cost (λ (s : Bor (List ℕ)). s.now) caught.0 caught.1 caught.2) done.0 done.1.2) ∙ (ap (λ (w : Rules). sum (map (text_cost (λ (s : Bor (List ℕ)). s.now) w.0 w.1 w.2) inputs)) same ∙ cost_of_texts (λ (s : Bor (List ℕ)). s.now) s.0 s.1 s.2 inputs))
