@@ -4,18 +4,13 @@ ghost use Rattle.flagops_remarks.specs.Named.{Names};
 
 use crate::lines::{Lines, Opening};
 use crate::texts::of_text;
-use bucket_core::weight_of;
 use flag_text::{Tree, read_tree};
-use limits::{SITES, TEXT_BYTES};
-use price_core::PriceFault;
+use limits::TEXT_BYTES;
+use price_core::{Breach, Misfit, PriceFault, change_in, limit_of};
 use std::alloc::{AllocError, Global};
-use std::collections::BTreeSet;
 
 /// What a request looks like.
 const LOOK: &str = "{\"plan\":1,\"flag\":\"KEY\",\"site\":0,\"totals\":{\"NAME\":n,..}}";
-
-/// The largest price.
-const MAX_PRICE: i64 = 1_000_000;
 
 /// Of the bytes of a file.
 pub fn of_request(
@@ -34,26 +29,20 @@ pub fn of_request(
     write!(lines, ": ");
     match fault {
         PriceFault::BadRequest => put_misshaped(&mut lines, &tree)?,
-        PriceFault::SelfPair => put_self_pair(&mut lines, &tree),
-        PriceFault::PriceRange => put_price(&mut lines, &tree),
-        PriceFault::EmptyRange => put_empty_range(&mut lines, &tree),
+        PriceFault::SelfPair | PriceFault::PriceRange | PriceFault::EmptyRange => {
+            put_refused(&mut lines, &tree, fault)
+        }
         PriceFault::UnknownVariant | PriceFault::WantOfMemory => write!(lines, "{fault}"),
     }
     write!(lines, "\n");
     lines.headed(Opening::Request, path)
 }
 
-/// The first member that is not of its shape, and what a request looks like. Each function that is asked tells of the first
-/// fault of its kind, and answers whether there is one.
+/// What keeps a tree from being a request, and what a request looks like.
 fn put_misshaped(lines: &mut Lines, tree: &Tree) -> Result<(), AllocError> {
-    let is_told = put_misshaped_member(lines, tree)
-        || put_misshaped_total(lines, tree)
-        || put_misshaped_pair(lines, tree, "prices", "[FROM,TO,n]")
-        || put_misshaped_pair(lines, tree, "forbid", "[FROM,TO]")
-        || put_doubled(lines, tree, "prices")?
-        || put_doubled(lines, tree, "forbid")?;
-    if !is_told {
-        write!(lines, "a pair of variants stands twice in a list");
+    match Misfit::of(lines.alloc, tree)? {
+        Some(misfit) => put_misfit(lines, tree, misfit),
+        None => write!(lines, "{}", PriceFault::BadRequest),
     }
     write!(
         lines,
@@ -62,108 +51,118 @@ fn put_misshaped(lines: &mut Lines, tree: &Tree) -> Result<(), AllocError> {
     Ok(())
 }
 
-/// The first member that is missing, or of another kind.
-fn put_misshaped_member(lines: &mut Lines, tree: &Tree) -> bool {
-    if tree.as_object().is_none() {
-        write!(lines, "it is {}", lines.value(tree));
-        return true;
-    }
-    for (name, what) in [
-        ("plan", "1 or 2"),
-        ("flag", "the flag's key"),
-        ("site", "a number from 0 to 4294967295, or left out for 0"),
-        ("totals", "an object of points by variant"),
-        ("price", "a number, or left out for 1"),
-        ("prices", "a list, or left out"),
-        ("forbid", "a list, or left out"),
-    ] {
-        let value = tree.member(name);
-        if !is_sound(name, value) {
-            match value {
-                Some(value) => {
-                    let value = lines.value(value);
-                    write!(lines, "\"{name}\" is {value}, and has to be {what}");
-                }
-                None => write!(lines, "\"{name}\" is missing, which is {what}"),
-            }
-            return true;
-        }
-    }
-    false
-}
-
-/// Whether a member is of its kind.
-fn is_sound(name: &str, value: Option<&Tree>) -> bool {
-    match value {
-        Some(Tree::Whole(n)) => {
-            name == "price"
-                || name == "plan" && (*n == 1 || *n == 2)
-                || name == "site" && *n >= 0 && *n < SITES
-        }
-        Some(Tree::Text(_)) => name == "flag",
-        Some(Tree::Object(_)) => name == "totals",
-        Some(Tree::List(_)) => name == "prices" || name == "forbid",
-        Some(_) => false,
-        None => name != "plan" && name != "flag" && name != "totals",
+fn put_misfit(lines: &mut Lines, tree: &Tree, misfit: Misfit) {
+    match misfit {
+        Misfit::NoObject => write!(lines, "it is {}", lines.value(tree)),
+        Misfit::Plan => put_member(lines, tree, "plan", "1 or 2"),
+        Misfit::Flag => put_member(lines, tree, "flag", "the flag's key"),
+        Misfit::Site => put_member(
+            lines,
+            tree,
+            "site",
+            "a number from 0 to 4294967295, or left out for 0",
+        ),
+        Misfit::Totals => put_member(lines, tree, "totals", "an object of points by variant"),
+        Misfit::Price => put_member(lines, tree, "price", "a number, or left out for 1"),
+        Misfit::Prices => put_member(lines, tree, "prices", "a list, or left out"),
+        Misfit::Forbid => put_member(lines, tree, "forbid", "a list, or left out"),
+        Misfit::Total(place) => put_total(lines, tree, place),
+        Misfit::PricesItem(place) => write!(lines, "prices[{place}] is no [FROM,TO,n]"),
+        Misfit::ForbidItem(place) => write!(lines, "forbid[{place}] is no [FROM,TO]"),
+        Misfit::PricesTwice(place) => put_doubled(lines, tree, "prices", place),
+        Misfit::ForbidTwice(place) => put_doubled(lines, tree, "forbid", place),
     }
 }
 
-/// The first total that is no number of points, nor a range where these are taken.
-fn put_misshaped_total(lines: &mut Lines, tree: &Tree) -> bool {
-    let takes_ranges = matches!(tree.member("plan"), Some(Tree::Whole(2)));
-    for (name, total) in totals(tree) {
-        if range(total).is_none() || !takes_ranges && total.as_list().is_some() {
+/// A member that is missing, or of another kind.
+fn put_member(lines: &mut Lines, tree: &Tree, name: &str, what: &str) {
+    match tree.member(name) {
+        Some(value) => {
+            let value = lines.value(value);
+            write!(lines, "\"{name}\" is {value}, and has to be {what}");
+        }
+        None => write!(lines, "\"{name}\" is missing, which is {what}"),
+    }
+}
+
+/// A total that is no number of points, nor a range where these are taken.
+fn put_total(lines: &mut Lines, tree: &Tree, place: usize) {
+    if let Some((name, total)) = totals(tree).get(place) {
+        write!(
+            lines,
+            "totals{} is {}, no number from 0 to 2147483647 {}",
+            lines.step(name.as_str()),
+            lines.value(total),
+            if matches!(tree.member("plan"), Some(Tree::Whole(2))) {
+                "nor a range [LOW,HIGH]"
+            } else {
+                "(a range [LOW,HIGH] only with \"plan\":2)"
+            },
+        );
+    }
+}
+
+/// A pair of variants that stands in a list before.
+fn put_doubled(lines: &mut Lines, tree: &Tree, list: &str, place: usize) {
+    if let Some((from, to)) = change_at(tree, list, place) {
+        write!(
+            lines,
+            "{list}[{place}] is the change from {} to {} once more",
+            lines.name(from),
+            lines.name(to),
+        );
+    }
+}
+
+/// What refuses a request.
+fn put_refused(lines: &mut Lines, tree: &Tree, fault: PriceFault) {
+    match Breach::of(tree) {
+        Some(Breach::PricesSelf(place)) => put_self_pair(lines, tree, "prices", place),
+        Some(Breach::ForbidSelf(place)) => put_self_pair(lines, tree, "forbid", place),
+        Some(Breach::UsualPrice) => put_usual_price(lines, tree),
+        Some(Breach::Price(place)) => put_price(lines, tree, place),
+        Some(Breach::EmptyRange(place)) => put_empty_range(lines, tree, place),
+        None => write!(lines, "{fault}"),
+    }
+}
+
+fn put_self_pair(lines: &mut Lines, tree: &Tree, list: &str, place: usize) {
+    if let Some((from, _)) = change_at(tree, list, place) {
+        write!(
+            lines,
+            "{list}[{place}] is a change from {} to itself; leave it out: who stays costs nothing",
+            lines.name(from),
+        );
+    }
+}
+
+fn put_usual_price(lines: &mut Lines, tree: &Tree) {
+    if let Some(price) = tree.member("price") {
+        let price = lines.value(price);
+        write!(lines, "\"price\" is {price}; prices are from 0 to 1000000");
+    }
+}
+
+fn put_price(lines: &mut Lines, tree: &Tree, place: usize) {
+    if let Some([_, _, price]) = parts_at(tree, "prices", place) {
+        let price = lines.value(price);
+        write!(
+            lines,
+            "prices[{place}] has the price {price}; prices are from 0 to 1000000",
+        );
+    }
+}
+
+/// A range whose low limit is above its high one.
+fn put_empty_range(lines: &mut Lines, tree: &Tree, place: usize) {
+    if let Some((name, total)) = totals(tree).get(place) {
+        if let Some((low, high)) = limit_of(total, true) {
+            let name = lines.step(name.as_str());
             write!(
                 lines,
-                "totals{} is {}, no number from 0 to 2147483647 {}",
-                lines.step(name.as_str()),
-                lines.value(total),
-                if takes_ranges {
-                    "nor a range [LOW,HIGH]"
-                } else {
-                    "(a range [LOW,HIGH] only with \"plan\":2)"
-                },
+                "totals{name} is [{low},{high}]; the low limit stands first",
             );
-            return true;
         }
-    }
-    false
-}
-
-/// The limits that a total of a request gives.
-fn range(total: &Tree) -> Option<(u64, u64)> {
-    match total {
-        Tree::List(parts) => match parts.as_slice() {
-            [low, high] => {
-                let low = weight_of(low)?;
-                Some((low, weight_of(high)?))
-            }
-            _ => None,
-        },
-        _ => {
-            let points = weight_of(total)?;
-            Some((points, points))
-        }
-    }
-}
-
-/// The first item of a list of pairs that is none.
-fn put_misshaped_pair(lines: &mut Lines, tree: &Tree, list: &str, takes: &str) -> bool {
-    for (place, item) in pairs(tree, list).iter().enumerate() {
-        if !is_pair(item, list == "prices") {
-            write!(lines, "{list}[{place}] is no {takes}");
-            return true;
-        }
-    }
-    false
-}
-
-/// Whether an item is a pair of names, with a price where it has to have one.
-fn is_pair(item: &Tree, is_priced: bool) -> bool {
-    match item.as_list() {
-        Some([Tree::Text(_), Tree::Text(_)]) => !is_priced,
-        Some([Tree::Text(_), Tree::Text(_), Tree::Whole(_)]) => is_priced,
-        _ => false,
     }
 }
 
@@ -183,92 +182,12 @@ pub(crate) fn pairs<'a>(tree: &'a Tree, name: &str) -> &'a [Tree] {
     }
 }
 
-/// The first pair of variants that stands twice in a list.
-fn put_doubled(lines: &mut Lines, tree: &Tree, list: &str) -> Result<bool, AllocError> {
-    let mut seen = BTreeSet::new(lines.alloc);
-    for (place, item) in pairs(tree, list).iter().enumerate() {
-        if let Some((from, to)) = change(item) {
-            if !seen.insert((from, to))? {
-                write!(
-                    lines,
-                    "{list}[{place}] is the change from {} to {} once more",
-                    lines.name(from),
-                    lines.name(to),
-                );
-                return Ok(true);
-            }
-        }
-    }
-    Ok(false)
-}
-
 /// The old and the new variant of an item of a list of pairs.
-fn change(item: &Tree) -> Option<(&str, &str)> {
-    match item.as_list()? {
-        [Tree::Text(from), Tree::Text(to), ..] => Some((from.as_str(), to.as_str())),
-        _ => None,
-    }
+fn change_at<'a>(tree: &'a Tree, list: &str, place: usize) -> Option<(&'a str, &'a str)> {
+    change_in(pairs(tree, list).get(place)?)
 }
 
-/// The first pair of equal names.
-fn put_self_pair(lines: &mut Lines, tree: &Tree) {
-    for list in ["prices", "forbid"] {
-        for (place, item) in pairs(tree, list).iter().enumerate() {
-            if let Some((from, to)) = change(item) {
-                if from == to {
-                    return write!(
-                        lines,
-                        "{list}[{place}] is a change from {} to itself; leave it out: who stays costs nothing",
-                        lines.name(from),
-                    );
-                }
-            }
-        }
-    }
-    write!(lines, "a pair of equal names");
-}
-
-/// The first price that is out of range.
-fn put_price(lines: &mut Lines, tree: &Tree) {
-    if let Some(price) = tree.member("price") {
-        if is_out_of_range(price) {
-            let price = lines.value(price);
-            return write!(lines, "\"price\" is {price}; prices are from 0 to 1000000");
-        }
-    }
-    for (place, item) in pairs(tree, "prices").iter().enumerate() {
-        if let Some([_, _, price]) = item.as_list() {
-            if is_out_of_range(price) {
-                let price = lines.value(price);
-                return write!(
-                    lines,
-                    "prices[{place}] has the price {price}; prices are from 0 to 1000000",
-                );
-            }
-        }
-    }
-    write!(lines, "a price is not from 0 to 1000000");
-}
-
-fn is_out_of_range(price: &Tree) -> bool {
-    match price {
-        Tree::Whole(n) => *n < 0 || *n > MAX_PRICE,
-        _ => false,
-    }
-}
-
-/// The first range whose low limit is above its high one.
-fn put_empty_range(lines: &mut Lines, tree: &Tree) {
-    for (name, total) in totals(tree) {
-        if let Some((low, high)) = range(total) {
-            if low > high {
-                let name = lines.step(name.as_str());
-                return write!(
-                    lines,
-                    "totals{name} is [{low},{high}]; the low limit stands first",
-                );
-            }
-        }
-    }
-    write!(lines, "a low limit is above its high limit");
+/// The parts of an item of a list of pairs.
+fn parts_at<'a>(tree: &'a Tree, list: &str, place: usize) -> Option<&'a [Tree]> {
+    pairs(tree, list).get(place)?.as_list()
 }
