@@ -1,12 +1,14 @@
 //! Asks that workers answer through one book: workers who wait for one another, a gate that never lets an ask start, and a
 //! page that is full. What the command `drive` prints is tested on the built program.
-ghost use Rattle.std.specs.Prelude.{◌<◌, ◌^◌, length};
+ghost use Rattle.std.specs.Prelude.{◌≡◌, ◌<◌, ◌^◌, true, length};
+ghost use Rattle.flag_text.specs.Shape.{is_whole};
+ghost use Rattle.flagops_drive.specs.File.{file_view};
 
 use book_core::{Book, print_book};
 use book_share::{Ask, Attempt, Driven, Gate, OpenGate, drive};
 use flag_defs::{Flags, read_flags};
 use flag_resolve::{Code, Reason, Resolution};
-use flagops_drive::{asks_of, read_asks};
+use flagops_drive::{AsksFile, asks_of, read_asks};
 use json::Scratch;
 use std::alloc::{AllocError, Global};
 use std::sync::Wait;
@@ -41,6 +43,87 @@ const BOOK: &[u8] = b"{\"book\":1}
 \"The quick brown fox jumps over the lazy dog\"
 \"test\"
 ";
+
+/// Texts of asks, how they are read, and the key of the first ask.
+const FORMS: &[(&str, &str, &str)] = &[
+    ("[]", "asks", ""),
+    (
+        r#" [ { "key" : "a" , "want" : "bool" , "default" : null , "context" : { "key" : [ 1 ] } , "moment" : 7 } ] "#,
+        "asks",
+        "a",
+    ),
+    (
+        r#"[{"key":"\u0061\"b","want":"whole","default":{"x":-1},"context":{},"moment":9007199254740991}]"#,
+        "asks",
+        "a\"b",
+    ),
+    (
+        r#"[{"want":"text","key":"a","default":"d","context":{},"moment":0}]"#,
+        "a tree",
+        "a",
+    ),
+    (
+        r#"[{"key":"a","want":"text","default":"d","context":{},"moment":0,"m":1}]"#,
+        "a tree",
+        "a",
+    ),
+    (
+        r#"[{"key":"a","key":"b","want":"text","default":"d","context":{},"moment":0}]"#,
+        "a tree",
+        "b",
+    ),
+    (
+        r#"[{"key":"a","want":"text","default":"d","context":[],"moment":0}]"#,
+        "a tree",
+        "BadAsks",
+    ),
+    (
+        r#"[{"key":"a","want":"text","default":"d","context":{},"moment":9007199254740992}]"#,
+        "NotWhole",
+        "",
+    ),
+    (
+        r#"[{"key":"a","want":"text","default":"d","context":{},"moment":0}] ,"#,
+        "NotJson",
+        "",
+    ),
+];
+
+/// Whether asks are read so, and this is the key of the first, or the refusal.
+fn is_read(alloc: Global, text: &str, form: &str, key: &str) -> bool {
+    let mut scratch = Scratch::new(alloc);
+    match read_asks(alloc, text.as_bytes(), 1000, &mut scratch) {
+        Ok(file) => {
+            let read = match &file {
+                AsksFile::Plain(_) => "asks",
+                AsksFile::Tree(_) => "a tree",
+            };
+            read == form && is_first(alloc, &file, key)
+        }
+        Err(fault) => fault.name() == form,
+    }
+}
+
+/// Whether this is the key of the first ask, or the refusal.
+fn is_first(alloc: Global, file: &AsksFile<'_>, key: &str) -> bool
+    requires { is_whole (file_view file.now) ≡ true }
+{
+    match asks_of(alloc, file) {
+        Ok(asks) => match asks.first() {
+            Some(ask) => ask.key == key,
+            None => key.is_empty(),
+        },
+        Err(refusal) => refusal.name() == key,
+    }
+}
+
+#[test]
+fn asks_in_the_common_form_are_no_tree(rt: HostRuntime) -> Result<(), Fail> {
+    for (text, form, key) in FORMS {
+        assert!(rt; is_read(rt.alloc(), text, form, key), "{text}");
+    }
+    Ok(())
+}
 
 /// Whether each answer has this reason and this code, and reached so many sites.
 fn are(answers: &[Resolution], reason: Reason, code: Option<Code>, reached: usize) -> bool {
