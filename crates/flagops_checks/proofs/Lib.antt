@@ -6,4 +6,3 @@ mod Null
 mod Plainly
 mod Printed
 mod Spoken
-mod Taken

@@ -6,7 +6,7 @@ use Rattle.flag_text.specs.declared.tree.Tree.{the_lemmas}
 use Rattle.flag_text.specs.declared.tree.Tree.TheVariants as tree
 use Rattle.flagops_checks.specs.Judged.{definition_of, is_unread, tree_in}
 use Rattle.flagops_checks.specs.Names.{HasUnread}
-use Rattle.flagops_checks.specs.Plain.{IsPlain}
+use Rattle.flagops_checks.proofs.Plainly.{IsPlain}
 use Rattle.unread_members.specs.Unread.{unread_of}
 use Rattle.unread_members.specs.declared.reader.Reader.TheVariants as reader
 

@@ -1,13 +1,15 @@
--- What a text whose names are plain says as a document.
-use Rattle.std.proofs.Common.{◌≡◌, ◌^◌, ℕ, ℤ, pos, Bool, true, false, cond, is_some, nat_lt, codes, List, [], ◌∷◌, length, Option, Some, None, option_map, option_and_then, Ordering, Less, Equal, Greater, refl, ap, ◌∙◌, subst}
+-- What the tree of a document has, of which it is told that all of it is read.
+use Rattle.std.proofs.Common.{◌≡◌, ◌^◌, ℕ, ℤ, pos, Bool, true, false, cond, not, ◌||◌, ◌&&◌, is_some, nat_lt, codes, List, [], ◌∷◌, length, Option, Some, None, option_map, option_and_then, Ordering, Less, Equal, Greater, refl, ap, ◌∙◌, subst}
+use Rattle.std.proofs.lemmas.Bool.{false≢true}
 use Rattle.std.specs.Cmp.Lexicographic.{slice_cmp}
+use Rattle.std.specs.List.{list_all}
 use Rattle.std.specs.Ordering.{match_ordering, nat_cmp}
 use Rattle.std.specs.Prelude.{Err}
 use Rattle.std.specs.Str.{bytes_eq, is_utf8}
 use Rattle.json.specs.Json as json
 use Rattle.json.specs.Lex.{tokens}
 use Rattle.json.specs.Token.{Token}
-use Rattle.json.proofs.Found.{Some_inj, not_found}
+use Rattle.json.proofs.Found.{Some_inj, not_found, one_reading}
 use Rattle.serde_json.specs.Data as parsed
 use Rattle.serde_json.specs.Read.{max_depth, number_of, of_items, of_json, of_members, read}
 use Rattle.flag_text.proofs.Halving.{same_name}
@@ -20,8 +22,91 @@ use Rattle.unread_members.specs.Unread.{first_unread, reads, unread_of}
 use Rattle.unread_members.specs.declared.reader.Reader.{Reader}
 use Rattle.unread_members.specs.declared.reader.Reader.TheVariants as reader
 use Rattle.flag_defs.specs.Document.{max_bytes, or_no_members}
+use Rattle.flag_doubts.specs.AllRead.{are_all_read, are_definitions_read, are_flags_read, takes_each}
+use Rattle.flag_doubts.specs.Doubled.{json_of, member_names, members_in}
 use Rattle.flagops_checks.specs.Judged.{definition_of, is_unread, or_null, tree_in}
-use Rattle.flagops_checks.specs.Plain.{ArePlainFlags, AreRead, Each, IsPlain, IsPlainDefinition, IsPlainDocument, IsPlainMember, IsRead, OfObject}
+
+-- ---- what was told of the names, member by member
+
+-- each of these members is such
+abbrev Each : (List ℕ → json.Json → Type 0) → json.Members → Type 0
+Each P json.no_members = Unit {0}
+Each P (json.member k j ms) = P k j × Each P ms
+
+-- what is an object is such
+abbrev OfObject : (json.Members → Type 0) → json.Json → Type 0
+OfObject P json.null = Unit {0}
+OfObject P (json.boolean b) = Unit {0}
+OfObject P (json.number s) = Unit {0}
+OfObject P (json.string s) = Unit {0}
+OfObject P (json.array js) = Unit {0}
+OfObject P (json.object ms) = P ms
+
+-- the reader takes the member
+abbrev IsRead : Reader → List ℕ → json.Json → Type 0
+IsRead r k j = reads r k ≡ true
+
+abbrev AreRead : json.Members → Type 0
+AreRead ms = Each (IsRead reader.Definition) ms
+
+abbrev IsPlainDefinition : List ℕ → json.Json → Type 0
+IsPlainDefinition k j = OfObject AreRead j
+
+abbrev ArePlainFlags : json.Members → Type 0
+ArePlainFlags ms = Each IsPlainDefinition ms
+
+-- the member of a document is read, and where it has flags, they are plain
+abbrev IsPlainMember : List ℕ → json.Json → Type 0
+IsPlainMember k j = (reads reader.Document k ≡ true) × (bytes_eq k (codes "flags") ≡ true → OfObject ArePlainFlags j)
+
+abbrev IsPlainDocument : json.Json → Type 0
+IsPlainDocument j = OfObject (Each IsPlainMember) j
+
+both : (a b : Bool) → (a && b) ≡ true → (a ≡ true) × (b ≡ true)
+both true b e = (refl, e)
+both false b e = absurd (false≢true e)
+
+each_taken : (r : Reader) (ms : json.Members) → list_all (reads r) (member_names ms) ≡ true → Each (IsRead r) ms
+each_taken r json.no_members e = tt
+each_taken r (json.member k j ms) e = let p = both (reads r k) (list_all (reads r) (member_names ms)) e in (p.0, each_taken r ms p.1)
+
+plain_definition : (j : json.Json) → takes_each reader.Definition (Some j) ≡ true → OfObject AreRead j
+plain_definition json.null e = tt
+plain_definition (json.boolean b) e = tt
+plain_definition (json.number s) e = tt
+plain_definition (json.string s) e = tt
+plain_definition (json.array js) e = tt
+plain_definition (json.object ms) e = each_taken reader.Definition ms e
+
+plain_definitions : (ms : json.Members) → are_definitions_read ms ≡ true → ArePlainFlags ms
+plain_definitions json.no_members e = tt
+plain_definitions (json.member k j ms) e = let p = both (takes_each reader.Definition (Some j)) (are_definitions_read ms) e in (plain_definition j p.0, plain_definitions ms p.1)
+
+plain_flags : (j : json.Json) → are_definitions_read (members_in (Some j)) ≡ true → OfObject ArePlainFlags j
+plain_flags json.null e = tt
+plain_flags (json.boolean b) e = tt
+plain_flags (json.number s) e = tt
+plain_flags (json.string s) e = tt
+plain_flags (json.array js) e = tt
+plain_flags (json.object ms) e = plain_definitions ms e
+
+named : (b c : Bool) → (not b || c) ≡ true → b ≡ true → c ≡ true
+named true c e is = e
+named false c e is = absurd (false≢true is)
+
+plain_members : (ms : json.Members) → list_all (reads reader.Document) (member_names ms) ≡ true → are_flags_read ms ≡ true → Each IsPlainMember ms
+plain_members json.no_members e f = tt
+plain_members (json.member k j ms) e f =
+    let is_flags = bytes_eq k (codes "flags") in
+    let are_read = are_definitions_read (members_in (Some j)) in
+    let p = both (reads reader.Document k) (list_all (reads reader.Document) (member_names ms)) e in
+    let q = both (not is_flags || are_read) (are_flags_read ms) f in
+    ((p.0, λ is. plain_flags j (named is_flags are_read q.0 is)), plain_members ms p.1 q.1)
+
+-- in a document of these bytes each member of it and of its definitions is read
+pub record IsPlain (bytes : List ℕ) : Type 0 where
+  pub document : unread_of reader.Document (tree_in bytes) ≡ None
+  pub definitions : (key : List ℕ) → is_unread (definition_of (tree_in bytes) key) ≡ false
 
 picked : {A : Type 0} (b : Bool) (o : Option A) (a : A) → cond b o None ≡ Some a → o ≡ Some a
 picked true o a e = e
@@ -167,9 +252,34 @@ read_some None d e = not_found d e
 read_some (Some (j, [])) d e = (j, refl, e)
 read_some (Some (j, t ∷ ts)) d e = not_found d e
 
-module _ (bytes : List ℕ) (plain : (d : ℕ) (j : json.Json) (r : List Token) → json.value d (tokens bytes) ≡ Some (j, r) → IsPlainDocument j) where
+-- what is read of the text is the document of which it is told
+same_document : (o : Option json.Json) → are_all_read o ≡ true → (ms : json.Members) × (o ≡ Some (json.object ms)) × IsPlainDocument (json.object ms)
+same_document None e = absurd (false≢true e)
+same_document (Some json.null) e = absurd (false≢true e)
+same_document (Some (json.boolean b)) e = absurd (false≢true e)
+same_document (Some (json.number s)) e = absurd (false≢true e)
+same_document (Some (json.string s)) e = absurd (false≢true e)
+same_document (Some (json.array js)) e = absurd (false≢true e)
+same_document (Some (json.object ms)) e = let p = both (list_all (reads reader.Document) (member_names ms)) (are_flags_read ms) e in (ms, refl, plain_members ms p.0 p.1)
+
+last_read : (o : Option (json.Json × List Token)) (j : json.Json) → option_and_then (λ p. json.if_last p.0 p.1) o ≡ Some j → o ≡ Some (j, [])
+last_read None j e = not_found j e
+last_read (Some (i, [])) j e = ap (λ x. Some (x, [])) (Some_inj i j e)
+last_read (Some (i, t ∷ ts)) j e = not_found j e
+
+first_same : (p q : json.Json × List Token) → Some p ≡ Some q → p.0 ≡ q.0
+first_same p q e = ap (λ x. x.0) (Some_inj p q e)
+
+module _ (bytes : List ℕ) (told : are_all_read (json_of bytes) ≡ true) where
+  plain : (j : json.Json) → json.value max_depth (tokens bytes) ≡ Some (j, []) → IsPlainDocument j
+  plain j e =
+      let it = same_document (json_of bytes) told in
+      let whole = json.object it.0 in
+      let there = last_read (json.value json.max_depth (tokens bytes)) whole (picked (is_utf8 bytes) (json.document bytes) whole it.1) in
+      subst IsPlainDocument (first_same (whole, []) (j, []) (one_reading json.max_depth max_depth (tokens bytes) (whole, []) (j, []) there e)) it.2
+
   from_read : (d : parsed.Data) → read bytes ≡ Some d → IsPlainTree (shape_of d)
-  from_read d e = let got = read_some (json.value max_depth (tokens bytes)) d e in plain_tree d (document_read got.0 d got.2 (plain max_depth got.0 [] got.1))
+  from_read d e = let got = read_some (json.value max_depth (tokens bytes)) d e in plain_tree d (document_read got.0 d got.2 (plain got.0 got.1))
 
   from_text : (d : parsed.Data) → reading.json_of bytes ≡ Some d → IsPlainTree (shape_of d)
   unfolding reading.json_of

@@ -3,7 +3,6 @@ pub mod Documents
 pub mod Ended
 pub mod Judged
 pub mod Names
-pub mod Plain
 pub mod Printed
 pub mod Report
 pub mod Step

@@ -21,12 +21,13 @@ use flagops_commands::{explain, refused};
 use flagops_files::{Call, FileSet, Outcome, Refused, Remark, Status, report, want};
 use std::alloc::Global;
 use std::convert::AsStr;
+use std::thread::Threads;
 
 /// Does what the words after the program's name ask of `check`, which is the first of them, and gives the status to end with: it
 /// prints which flags of the documents are good and which are broken, and tells why on `err`, with what is doubted of them. With
 /// `--strict` the status is 1 where a flag is broken or doubted, or a member of a document is not read or stands more than once.
 /// The first document that is refused refuses the command: its line is printed with status 1, and nothing else. Files are only read.
-pub fn check<R: AllocGlobal, S: AsStr, F: FileSet, O: Outlet, E: Outlet>(
+pub fn check<R: AllocGlobal + Threads, S: AsStr, F: FileSet, O: Outlet, E: Outlet>(
     rt: &R,
     words: &[S],
     files: &mut F,
@@ -45,7 +46,7 @@ pub fn check<R: AllocGlobal, S: AsStr, F: FileSet, O: Outlet, E: Outlet>(
 {
     let alloc = rt.alloc();
     match read_checking(alloc, words) {
-        Ok(asked) => match answer(alloc, files, &asked) {
+        Ok(asked) => match answer(rt, alloc, files, &asked) {
             Ok(outcome) => report(out, err, &outcome),
             Err(call) => want(out, err, call),
         },
@@ -55,19 +56,25 @@ pub fn check<R: AllocGlobal, S: AsStr, F: FileSet, O: Outlet, E: Outlet>(
 
 /// The outcome of the command or the line of its refusal, or the call that ran out of memory.
 #[tactic(auto, using(flagops_commands::proofs::Leaving::file_refusal))]
-fn answer<F: FileSet>(alloc: Global, files: &mut F, asked: &Checking<'_>) -> Result<Outcome, Call>
+fn answer<R: Threads, F: FileSet>(
+    rt: &R,
+    alloc: Global,
+    files: &mut F,
+    asked: &Checking<'_>,
+) -> Result<Outcome, Call>
     ensures exact { IfSome (F.holding files.old) (λ at. RemarksOrWants check_calls (remark_of at (checking_view asked.now)) result (IsRunOutcome at (F.has_failed files.new) (checking_view asked.now))) }
     ensures unread { F.has_failed files.old ≡ false → F.has_failed files.new ≡ true → AnswersOrWants is_of_file result IsFileRefusal }
     ensures kept { F.holding files.new ≡ F.holding files.old }
 {
-    match outcome(alloc, files, asked) {
+    match outcome(rt, alloc, files, asked) {
         Ok(outcome) => Ok(outcome),
         Err(it) => refused(alloc, it),
     }
 }
 
 /// What the documents at the paths come to.
-fn outcome<F: FileSet>(
+fn outcome<R: Threads, F: FileSet>(
+    rt: &R,
     alloc: Global,
     files: &mut F,
     asked: &Checking<'_>,
@@ -80,7 +87,7 @@ fn outcome<F: FileSet>(
     ensures notes { IfSome (F.holding files.old) (λ at. IfOk result (λ o. IfSome o.remark (Says (TellsChecked at (checking_view asked.now))))) }
 {
     let paths = asked.documents.as_slice();
-    let gathered = gather(alloc, files, Form::of(asked.json, paths), paths)?;
+    let gathered = gather(rt, alloc, files, Form::of(asked.json, paths), paths)?;
     Ok(ended(gathered, asked.strict))
 }
 

@@ -1,6 +1,8 @@
 //! From the paths of documents to what is printed and told of them.
 ghost use Rattle.std.specs.Prelude.{◌≡◌, ◌||◌, IfErr, IfOk, IfSome, map, string_bytes};
 ghost use Rattle.flag_defs.specs.Flags.{flags_view};
+ghost use Rattle.flag_doubts.specs.Doubled.{json_of};
+ghost use Rattle.flag_doubts.specs.Repeated.{Finds};
 ghost use Rattle.flagops_checks.specs.Calls.{check_calls};
 ghost use Rattle.flagops_checks.specs.Judged.{checked, checked_view};
 ghost use Rattle.flagops_checks.specs.Documents.{AreChecked, IsCheckedAt};
@@ -12,13 +14,16 @@ ghost use Rattle.flagops_files.specs.Told.{TellsOf, TellsOfOne, file};
 use crate::checked::Checked;
 use crate::form::Form;
 use crate::judging::judge;
+use crate::loading::{Loaded, load_with_names};
 use crate::names::names_of;
 use crate::printing::push_document;
 use crate::told::Told;
 use flag_defs::Flags;
-use flagops_files::{Call, Document, FileSet, Refusal, Refused, Remark, load_document};
+use flag_doubts::Repeated;
+use flagops_files::{Call, FileSet, Refusal, Refused, Remark};
 use std::alloc::{AllocError, Global};
 use std::mem;
+use std::thread::Threads;
 use unread_members::Reader;
 
 /// What is printed and told of the documents so far.
@@ -31,7 +36,8 @@ pub(crate) struct Gathered {
 }
 
 /// What is printed and told of the documents at these paths, each read before the next.
-pub(crate) fn gather<F: FileSet>(
+pub(crate) fn gather<R: Threads, F: FileSet>(
+    rt: &R,
     alloc: Global,
     files: &mut F,
     form: Form,
@@ -50,13 +56,14 @@ pub(crate) fn gather<F: FileSet>(
     };
     let alone = paths.len() == 1;
     for path in paths {
-        all = with_document(alloc, files, form, all, path, alone)?;
+        all = with_document(rt, alloc, files, form, all, path, alone)?;
     }
     Ok(all)
 }
 
 /// With the document at a path, which stands alone or is one of several.
-fn with_document<F: FileSet>(
+fn with_document<R: Threads, F: FileSet>(
+    rt: &R,
     alloc: Global,
     files: &mut F,
     form: Form,
@@ -70,8 +77,12 @@ fn with_document<F: FileSet>(
     ensures kept { F.holding files.new ≡ F.holding files.old }
     ensures names { TellsOf (file path.now) result }
 {
-    let Document { bytes, flags } = load_document(alloc, files, path)?;
-    let next = with_flags(alloc, form, all, path, bytes.as_slice(), &flags);
+    let Loaded {
+        bytes,
+        flags,
+        repeated,
+    } = load_with_names(rt, alloc, files, path)?;
+    let next = with_flags(alloc, form, all, path, bytes.as_slice(), &flags, repeated);
     if alone {
         // The program ends soon, and its memory with it.
         mem::forget(flags);
@@ -82,7 +93,7 @@ fn with_document<F: FileSet>(
     }
 }
 
-/// With the document at a path that has these bytes and flags.
+/// With the document at a path that has these bytes and flags, in which this was found by the names.
 fn with_flags(
     alloc: Global,
     form: Form,
@@ -90,10 +101,12 @@ fn with_flags(
     path: &str,
     bytes: &[u8],
     flags: &Flags,
+    repeated: Repeated,
 ) -> Result<Gathered, AllocError>
+    requires { Finds (json_of bytes.now) repeated }
     ensures { IfOk result (Adds form (checked path.now bytes.now (flags_view flags.now)) all) }
 {
-    let names = names_of(alloc, bytes)?;
+    let names = names_of(alloc, bytes, repeated)?;
     let checked = Checked {
         path,
         bytes,

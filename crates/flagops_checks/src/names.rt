@@ -1,14 +1,14 @@
 //! What is known of a document by the names in its text.
 ghost use Rattle.std.specs.Prelude.{◌≡◌, is_some, true, IfOk};
-ghost use Rattle.flag_doubts.specs.Doubled.{is_doubled};
-ghost use Rattle.flag_doubts.specs.Repeated.{has_repeated, is_repeated};
+ghost use Rattle.flag_doubts.specs.AllRead.{are_all_read};
+ghost use Rattle.flag_doubts.specs.Doubled.{json_of};
+ghost use Rattle.flag_doubts.specs.Repeated.{Finds, has_repeated, is_repeated};
 ghost use Rattle.flag_text.specs.Shape.{is_tidy};
 ghost use Rattle.flag_text.specs.View.{view};
 ghost use Rattle.flagops_checks.specs.Judged.{tree_in};
 ghost use Rattle.flagops_checks.specs.Names.{AreKnown, HasUnread};
 
-use crate::plain::is_plain;
-use flag_doubts::{Repeated, repeated_in};
+use flag_doubts::Repeated;
 use flag_text::{Tree, read_doc};
 use limits::TEXT_BYTES;
 use std::alloc::{AllocError, Global};
@@ -48,13 +48,17 @@ impl Names<'_> {
     }
 }
 
-/// What is known of the names of a document that was read before.
-pub(crate) fn names_of(alloc: Global, bytes: &[u8]) -> Result<Names<'_>, AllocError>
+/// What is known of the names of a document that was read before, in which this was found.
+pub(crate) fn names_of(
+    alloc: Global,
+    bytes: &[u8],
+    repeated: Repeated,
+) -> Result<Names<'_>, AllocError>
+    requires { Finds (json_of bytes.now) repeated }
     ensures bytes { IfOk result (λ n. n.bytes.now ≡ bytes.now) }
     ensures known { IfOk result AreKnown }
 {
-    let document = unread_in(alloc, bytes)?;
-    let repeated = repeated_in(alloc, bytes)?;
+    let document = unread_in(alloc, bytes, repeated.all_read)?;
     Ok(Names {
         bytes,
         document,
@@ -62,11 +66,12 @@ pub(crate) fn names_of(alloc: Global, bytes: &[u8]) -> Result<Names<'_>, AllocEr
     })
 }
 
-/// A tree with each member that is not read. Where the text shows that all are read, none is made of it.
-fn unread_in(alloc: Global, bytes: &[u8]) -> Result<Tree, AllocError>
+/// A tree with each member that is not read. Where all are read, none is made of the text.
+fn unread_in(alloc: Global, bytes: &[u8], all_read: bool) -> Result<Tree, AllocError>
+    requires { all_read ≡ are_all_read (json_of bytes.now) }
     ensures { IfOk result (λ t. HasUnread bytes.now (view t)) }
 {
-    if is_plain(alloc, bytes)? {
+    if all_read {
         Ok(Tree::Null)
     } else {
         tree_of(alloc, bytes)
