@@ -10,7 +10,7 @@ ghost use Rattle.flagops_drive.specs.Plain.{ask_shape, asks_shape};
 ghost use Rattle.flagops_drive.specs.declared.unplain.Unplain.TheVariants.{WantOfMemory};
 
 use crate::plain_ask::PlainAsk;
-use crate::plain_members::{context, moment, text, tree, want};
+use crate::plain_members::{context, kind, moment, text, tree};
 use crate::unplain::Unplain;
 use json::{Reader, Scratch, Token};
 use simdutf8::basic;
@@ -76,7 +76,7 @@ fn plain_ask<'a>(alloc: Global, reader: &mut Reader<'a>) -> Result<PlainAsk<'a>,
         return Err(Unplain::Otherwise);
     };
     let key = text(reader, "key")?;
-    let want = want(reader)?;
+    let want = kind(reader)?;
     let default = tree(alloc, reader, "default")?;
     let context = context(alloc, reader)?;
     let moment = moment(alloc, reader)?;

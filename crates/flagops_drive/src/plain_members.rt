@@ -62,7 +62,7 @@ pub(crate) fn tree(alloc: Global, reader: &mut Reader<'_>, name: &str) -> Result
 }
 
 /// Takes the next member, the kind of value that is wanted.
-pub(crate) fn want(reader: &mut Reader<'_>) -> Result<Kind, Unplain>
+pub(crate) fn kind(reader: &mut Reader<'_>) -> Result<Kind, Unplain>
     ensures { IfOk result (λ kind. Comes (codes "want") reader.old (text_shape (word_of kind)) reader.new) }
 {
     let word = text(reader, "want")?;

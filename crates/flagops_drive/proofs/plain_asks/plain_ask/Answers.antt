@@ -22,7 +22,7 @@ pub returns-clause-value : goal.returns-clause-value
 returns-clause-value t =
     let c = (goal.at.returns-clause-value t).In-Ok-None in
     ap (λ ts. converted tree_from (value 126 ts)) (begun c)
-    ∙ ask_read c.next.new.self c.text.new.reader c.want.new.reader c.tree.new.reader c.context.new.reader c.moment.new.reader c.next_key.new.self c.in_ok-key.key.now (word_of c.in_ok-want.want) (view c.in_ok-default.default)
+    ∙ ask_read c.next.new.self c.text.new.reader c.kind.new.reader c.tree.new.reader c.context.new.reader c.moment.new.reader c.next_key.new.self c.in_ok-key.key.now (word_of c.in_ok-want.want) (view c.in_ok-default.default)
     (view c.in_ok-context.context) (whole (pos c.in_ok-moment.moment)) c.in_ok-key.ensures c.in_ok-want.ensures c.in_ok-default.ensures.value c.in_ok-context.ensures.value c.in_ok-moment.ensures.value (ended c)
 
 pub returns-clause-shorter : goal.returns-clause-shorter
@@ -30,8 +30,8 @@ returns-clause-shorter t =
     let c = (goal.at.returns-clause-shorter t).In-Ok-None in
     let first : length c.next.new.self < length c.args.reader.now = omega (arith, ap length (begun c)) in
     let key : length c.text.new.reader < length c.next.new.self = shorter_behind (codes "key") _ (text c.in_ok-key.key.now) _ c.in_ok-key.ensures in
-    let want : length c.want.new.reader < length c.text.new.reader = shorter_behind (codes "want") _ (text (word_of c.in_ok-want.want)) _ c.in_ok-want.ensures in
-    let default : length c.tree.new.reader < length c.want.new.reader = shorter_behind (codes "default") _ (view c.in_ok-default.default) _ c.in_ok-default.ensures.value in
+    let want : length c.kind.new.reader < length c.text.new.reader = shorter_behind (codes "want") _ (text (word_of c.in_ok-want.want)) _ c.in_ok-want.ensures in
+    let default : length c.tree.new.reader < length c.kind.new.reader = shorter_behind (codes "default") _ (view c.in_ok-default.default) _ c.in_ok-default.ensures.value in
     let context : length c.context.new.reader < length c.tree.new.reader = shorter_behind (codes "context") _ (view c.in_ok-context.context) _ c.in_ok-context.ensures.value in
     let moment : length c.moment.new.reader < length c.context.new.reader = shorter_behind (codes "moment") _ (whole (pos c.in_ok-moment.moment)) _ c.in_ok-moment.ensures.value in
     let end : length c.next_key.new.self < length c.moment.new.reader = read_key-shorter c.moment.new.reader None c.next_key.new.self (ended c) in

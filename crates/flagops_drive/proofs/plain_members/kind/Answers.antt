@@ -3,7 +3,7 @@ use Rattle.std.specs.Prelude.{codes}
 use Rattle.flag_text.specs.Shape.{text}
 use Rattle.flag_defs.specs.Kind.{word_of}
 use Rattle.flagops_drive.proofs.PlainMembers.{same_comes, word_named}
-use Rattle.flagops_drive.proofs.plain_members.want.Goals as goal
+use Rattle.flagops_drive.proofs.plain_members.kind.Goals as goal
 
 pub returns-in-Some : goal.returns-in-Some
 returns-in-Some c =
