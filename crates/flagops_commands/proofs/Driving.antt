@@ -12,7 +12,7 @@ use Rattle.flagops_drive.specs.declared.fault.DriveRefusal.TheVariants as reason
 use Rattle.flagops_files.specs.Documents.{IsDocumentAt}
 use Rattle.flagops_files.specs.Files.{Holding, KeepsOthers, Stores}
 use Rattle.flagops_files.specs.Loading.{◌>>=◌, max_text, refused_by, tree_at}
-use Rattle.flagops_files.specs.Refusal.{GivesOne, is_want, unwritable}
+use Rattle.flagops_files.specs.Refusal.{GivesOne, GivesUnlessWant, is_want, unwritable}
 use Rattle.flagops_files.specs.Report.{Report, beside, done, outcome_view}
 use Rattle.flagops_files.specs.declared.outcome.Outcome.{Outcome}
 use Rattle.flagops_files.specs.declared.refused.Refused.{Refused}
@@ -118,6 +118,31 @@ module _ (strict : Bool) (t : Shape) (flags : Definitions) (workers : ℕ) (befo
   undriven_so (Some x) ok first drives wanted =
       let same : d ≡ x = same_reason d x (first x refl) in
       ap (λ (e : DriveRefusal). Err (Drive e)) same
+
+-- asks that were driven are not refused before one is answered
+driven_unrefused : (o : Option (List Ask)) (flags : Definitions) (workers : ℕ) (before : Option Contents) (json : Bool) (d : Drove) → IsDriveOf flags o workers before json (Ok d) → refusal_of o workers ≡ None
+driven_unrefused None flags workers before json d h = cc
+driven_unrefused (Some asks) flags workers before json d h = ap (option_map reason.Drive) h.0
+
+module _ (strict : Bool) (t : Shape) (flags : Definitions) (workers : ℕ) (before : Option Contents) (json : Bool) (d : Drove) where
+  driven_settled : (s : Result Bool Refusal) → IsOk s → IsDriveOf flags (asks_of t) workers before json (Ok d) → IsAnswered s flags t before workers strict json (recorded strict d)
+  driven_settled (Ok noted) ok is = (Ok d, is, refl)
+  driven_settled (Err e) ok is = not_ok e ok
+
+  pub driven_so : IsOk (settle call.Drive strict (doubt_of_asks t)) → IsDriveOf flags (asks_of t) workers before json (Ok d)
+      → IsAnswered (admitted strict (refusal_of (asks_of t) workers) t) flags t before workers strict json (recorded strict d)
+  driven_so ok is =
+      let none = driven_unrefused (asks_of t) flags workers before json d is in
+      subst (λ (o : Option DriveRefusal). IsAnswered (admitted strict o t) flags t before workers strict json (recorded strict d)) (sym none) (driven_settled (settle call.Drive strict (doubt_of_asks t)) ok is)
+
+  pub driven_admitted : {X : Type 0} → IsOk (settle call.Drive strict (doubt_of_asks t)) → IsDriveOf flags (asks_of t) workers before json (Ok d) → (e : Refusal) → admitted strict (refusal_of (asks_of t) workers) t ≡ Err e → X
+  driven_admitted ok is e refused =
+      let none = driven_unrefused (asks_of t) flags workers before json d is in
+      not_ok e (subst (λ (s : Result Bool Refusal). IsOk s) (ap (λ (o : Option DriveRefusal). admitted strict o t) (sym none) ∙ refused) ok)
+
+pub gives_one : {X Y : Type 0} (seen : X → Y) (r : Result X Refused) (wanted : Result Y Refusal) (P : Result Y Refusal → Type 0) → GivesUnlessWant seen r wanted → P wanted → GivesOne seen r P
+gives_one seen (Ok x) wanted P is h = subst P is h
+gives_one seen (Err r) wanted P is h = λ w. subst P (is w) h
 
 -- asks that are not refused before one is answered
 admits : (strict : Bool) (o : Option DriveRefusal) (t : Shape) (noted : Bool) → admitted strict o t ≡ Ok noted → settle call.Drive strict (doubt_of_asks t) ≡ Ok noted

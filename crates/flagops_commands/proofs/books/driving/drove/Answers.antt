@@ -1,12 +1,12 @@
-use Rattle.std.proofs.Common.{◌≡◌, ◌∙◌, ℕ, Err, ap, sym, subst, false}
+use Rattle.std.proofs.Common.{◌≡◌, ◌∙◌, ℕ, Ok, Err, ap, sym, subst, false}
 use Rattle.flagops_drive.specs.Asks.{asks_of}
-use Rattle.flagops_drive.specs.Driven.{refusal_of}
+use Rattle.flagops_drive.specs.Driven.{drove_view, refusal_of}
 use Rattle.flagops_drive.specs.File.{file_view}
-use Rattle.flagops_commands.specs.Drive.{IsAnswered, admitted}
+use Rattle.flagops_commands.specs.Drive.{IsAnswered, IsDroveOf, admitted, recorded}
 use Rattle.flagops_files.specs.Refusal.{is_want}
 use Rattle.flagops_files.specs.declared.refusal.Refusal.{Refusal}
 use Rattle.flagops_files.specs.declared.refusal.Refusal.TheVariants.{Drive}
-use Rattle.flagops_commands.proofs.Driving.{undriven_first, undriven_so}
+use Rattle.flagops_commands.proofs.Driving.{driven_admitted, driven_so, gives_one, undriven_first, undriven_so}
 use Rattle.flag_defs.specs.Flags.{flags_view}
 use Rattle.flagops_commands.proofs.books.driving.drove.Goals as goal
 
@@ -23,3 +23,18 @@ returns-in-Err-clause-exact g c =
     subst (λ (e : Refusal). is_want e ≡ false → IsAnswered (admitted c.args.strict (refusal_of (asks_of asks) c.args.workers) asks) flags asks c.args.before c.args.workers c.args.strict c.args.json (Err e)) (sym c.undriven.ensures.refusal)
     (subst (λ (n : ℕ). is_want (Drive c.in-Err.refusal) ≡ false → IsAnswered (admitted c.args.strict (refusal_of (asks_of asks) n) asks) flags asks c.args.before n c.args.strict c.args.json (Err (Drive c.in-Err.refusal))) c.from-workers.ensures
     (undriven_so c.args.strict asks flags c.from-workers.result c.args.before c.args.json c.in-Err.refusal (refusal_of (asks_of asks) c.from-workers.result) c.in_ok-check_members.ensures.ok c.in-Err.ensures.refused c.in-Err.ensures.driven))
+
+pub returns-in-Ok-clause-exact : goal.returns-in-Ok-clause-exact
+returns-in-Ok-clause-exact g c =
+    let asks = file_view c.args.asks.now in
+    let flags = flags_view c.args.flags.now in
+    let d = drove_view c.in-Ok.drove in
+    gives_one drove_view c.recorded.result (recorded c.args.strict d) (IsDroveOf (Ok flags) (Ok asks) (Ok c.args.before) c.args.workers c.args.strict c.args.json) c.recorded.ensures.exact
+    (subst (λ (n : ℕ). IsAnswered (admitted c.args.strict (refusal_of (asks_of asks) n) asks) flags asks c.args.before n c.args.strict c.args.json (recorded c.args.strict d)) c.from-workers.ensures
+    (driven_so c.args.strict asks flags c.from-workers.result c.args.before c.args.json d c.in_ok-check_members.ensures.ok c.in-Ok.ensures.driven))
+
+pub returns-in-Ok-clause-refused : goal.returns-in-Ok-clause-refused
+returns-in-Ok-clause-refused g c = λ e is.
+    let asks = file_view c.args.asks.now in
+    driven_admitted c.args.strict asks (flags_view c.args.flags.now) c.from-workers.result c.args.before c.args.json (drove_view c.in-Ok.drove) c.in_ok-check_members.ensures.ok c.in-Ok.ensures.driven e
+    (ap (λ (n : ℕ). admitted c.args.strict (refusal_of (asks_of asks) n) asks) c.from-workers.ensures ∙ is)
