@@ -8,8 +8,8 @@ pub mod Pushed
 pub mod Quoted
 pub mod Readings
 pub mod Rising
-mod Trees
-mod Turns
+pub mod Trees
+pub mod Turns
 pub mod Views
 pub mod Writes
 mod Written

@@ -6,5 +6,3 @@ pub mod PlainAsks
 pub mod PlainFile
 pub mod PlainMembers
 pub mod Refused
-mod Trees
-mod Turns

@@ -14,8 +14,8 @@ use Rattle.flag_text.proofs.Printed.{has_other-whole, if_whole-kept}
 use Rattle.flag_text.proofs.Readings.{doc_of-utf8}
 use Rattle.flagops_drive.specs.Plain.{ask_shape, asks_shape}
 use Rattle.flagops_drive.specs.declared.plain_ask.PlainAsk.{PlainAsk}
-use Rattle.flagops_drive.proofs.Trees.{whole_read}
-use Rattle.flagops_drive.proofs.Turns.{converted-list}
+use Rattle.flag_text.proofs.Trees.{whole_read}
+use Rattle.flag_text.proofs.Turns.{converted-list}
 
 -- ---- a list that grows at its end
 

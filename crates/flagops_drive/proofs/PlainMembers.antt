@@ -15,7 +15,7 @@ use Rattle.flag_defs.specs.declared.kind.Kind.{Kind}
 use Rattle.flag_defs.specs.declared.kind.Kind.TheVariants as kind
 use Rattle.flagops_drive.specs.Asks.{if_moment, if_object}
 use Rattle.flagops_drive.specs.Plain.{Comes}
-use Rattle.flagops_drive.proofs.Turns.{converted-object, member_read, members_over}
+use Rattle.flag_text.proofs.Turns.{converted-object, member_read, members_over}
 
 -- ---- the values
 

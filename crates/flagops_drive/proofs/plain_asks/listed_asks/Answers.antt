@@ -4,7 +4,7 @@ use Rattle.serde_json.specs.Read.{converted}
 use Rattle.flag_text.specs.Grammar.{items_from, tree_from}
 use Rattle.flagops_drive.specs.Plain.{ask_shape}
 use Rattle.flagops_drive.proofs.PlainAsks.{asks_before, asks_before-no_items, none_before, one_more_ask}
-use Rattle.flagops_drive.proofs.Turns.{item_read, items_over}
+use Rattle.flag_text.proofs.Turns.{item_read, items_over}
 use Rattle.flagops_drive.proofs.plain_asks.listed_asks.Goals as goal
 
 pub asks-init : goal.asks-init
