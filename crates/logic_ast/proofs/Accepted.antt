@@ -1,5 +1,5 @@
 -- A tree that is not refused is small, and nothing is wrong in it.
-use Rattle.std.proofs.Common.{◌≡◌, Bool, true, false, if◌then◌else◌, Option, Some, None, Result, Ok, Err, sym, ◌∙◌}
+use Rattle.std.proofs.Common.{◌≡◌, Bool, true, false, if◌then◌else◌, Option, Some, None, Ok, Err}
 use Rattle.flag_text.specs.Shape.{Shape}
 use Rattle.logic_ast.specs.FirstFault.{expression_fault}
 use Rattle.logic_ast.specs.Expression.{Expression}

@@ -4,6 +4,7 @@ pub mod Formed
 pub mod Inner
 pub mod Lowered
 pub mod Measured
+pub mod Misused
 mod Named
 pub mod Numbered
 pub mod Operators

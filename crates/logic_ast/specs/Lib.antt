@@ -4,6 +4,7 @@ pub mod Fault
 pub mod FirstFault
 pub mod Formed
 pub mod Found
+pub mod Misuse
 pub mod Operator
 pub mod Parts
 pub mod Reading

@@ -1,6 +1,6 @@
 use Rattle.std.proofs.Common.{sym, arith}
 use Rattle.logic_ast.proofs.Sizes.{is_bucket-few, is_bucket-several}
-use Rattle.logic_ast.proofs.check.has_bucket_length.Goals as goal
+use Rattle.logic_ast.proofs.misuse.has_bucket_length.Goals as goal
 
 pub returns-in-len1 : goal.returns-in-len1
 returns-in-len1 c = sym (is_bucket-few c.args.parts.now c.in-len1.len_at_least (omega arith))
