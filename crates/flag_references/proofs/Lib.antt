@@ -7,6 +7,7 @@ pub mod Known
 pub mod Least
 pub mod Longer
 pub mod Measures
+pub mod Misused
 pub mod Named
 pub mod Objects
 pub mod Passes

@@ -2,5 +2,6 @@ pub mod Forms
 pub mod Inlining
 pub mod Least
 pub mod Measure
+pub mod Misplaced
 pub mod Readable
 pub mod Table

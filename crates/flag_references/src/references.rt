@@ -16,7 +16,7 @@ pub(crate) fn reference_in(tree: &Tree) -> Option<&str>
 }
 
 /// The name that an object refers to, where its one member is `$ref` with a text.
-pub(crate) fn reference_of(members: &[(String, Tree)]) -> Option<&str>
+pub fn reference_of(members: &[(String, Tree)]) -> Option<&str>
     ensures { option_copied result ≡ reference_of (members_view members.now) }
 {
     match members {
@@ -26,7 +26,7 @@ pub(crate) fn reference_of(members: &[(String, Tree)]) -> Option<&str>
     }
 }
 
-fn name_in<'a>(key: &str, member: &'a Tree) -> Option<&'a str>
+pub(crate) fn name_in<'a>(key: &str, member: &'a Tree) -> Option<&'a str>
     ensures { option_copied result ≡ name_in key.now (view member.now) }
 {
     let Tree::Text(name) = member else {
