@@ -36,8 +36,8 @@ pub(crate) struct Making {
 }
 
 impl Making {
-    /// The room that a read of this event's socket leaves none of unless it takes all that there is: none where the peer sends
-    /// no more, since the end of what it sent is told once, or urgent data, before which a read ends.
+    /// The size of a read of this event's socket: one of fewer bytes has emptied the socket. 0 where that does not hold: after the
+    /// end of input, which the system reports only once, after an error, and with urgent data, before which a read stops.
     fn room(&self, event: &Event) -> usize {
         if event.is_read_closed() || event.is_error() || event.is_priority() {
             return 0;

@@ -62,7 +62,7 @@ impl<J: ShareName> Front<J> {
         }
     }
 
-    /// Whether it begins the other; else the other begins it.
+    /// True if this prefix is not longer than the other, and so begins it; else the other begins this one.
     pub(crate) fn begins(&self, other: &Front<J>) -> bool
         ensures { MatchBool result (IsPrefix self.now other.now) (IsPrefix other.now self.now) }
     {
