@@ -3,7 +3,7 @@ ghost use Rattle.http_server.specs.Connection.{history};
 ghost use Rattle.recorded_answers.specs.Stand.{AllStand};
 ghost use Rattle.ofrep_connections.specs.Stand.{PeersStand};
 
-use crate::load::Share;
+use crate::load::LoadShare;
 use crate::peer::{Peer, interest};
 use crate::work::Making;
 use http_server::Connection;
@@ -90,7 +90,7 @@ pub(crate) fn admit<S: Recording>(
     now: Instant,
     registry: &Registry,
     listener: &TcpListener,
-    share: &mut Share<'_>,
+    share: &mut LoadShare<'_>,
     queue: Queue,
     service: &S,
     peers: &mut Slab<Peer>,

@@ -6,7 +6,7 @@ ghost use Rattle.recorded_answers.specs.Stand.{AllStand};
 ghost use Rattle.ofrep_connections.specs.Stand.{PeersStand};
 
 use crate::admission::{MAX_PEERS, Queue, admit};
-use crate::load::{Load, Share};
+use crate::load::{Load, LoadShare};
 use crate::peer::{Peer, Stay};
 use http_server::Config;
 use mio::event::Event;
@@ -71,7 +71,7 @@ pub fn answer_connections<S: Recording, R: Net + Clock>(
         keys,
         config,
     };
-    let mut share = Share::begin(load);
+    let mut share = LoadShare::begin(load);
     let ended = turn(
         rt,
         making,
@@ -93,7 +93,7 @@ fn turn<S: Recording, R: Clock>(
     poll: &mut Poll,
     events: &mut Events,
     listener: &TcpListener,
-    share: &mut Share<'_>,
+    share: &mut LoadShare<'_>,
     peers: &mut Slab<Peer>,
     stop: &AtomicBool,
     service: &mut S,
