@@ -20,7 +20,7 @@ use crate::printing::push_document;
 use crate::remark_lines::RemarkLines;
 use flag_defs::Flags;
 use flag_doubts::Repeated;
-use flagops_files::{Call, FileSet, Refusal, Refused, Remark};
+use flagops_files::{Call, FileSet, Refused};
 use std::alloc::{AllocError, Global};
 use std::mem;
 use std::thread::Threads;
@@ -89,7 +89,7 @@ fn with_document<R: Threads, F: FileSet>(
     }
     match next {
         Ok(next) => Ok(next),
-        Err(AllocError) => Err(out_of_memory()),
+        Err(AllocError) => Err(Refused::out_of_memory(Call::Check)),
     }
 }
 
@@ -144,14 +144,4 @@ fn with_checked(
         told: told.with(alloc, form, checked),
         is_wrong: is_wrong || checked.is_wrong(),
     })
-}
-
-/// The refusal where the command itself ran out of memory.
-fn out_of_memory() -> Refused
-    ensures { result.refusal ≡ Refusal.WantOfMemory Call.Check }
-{
-    Refused {
-        refusal: Refusal::WantOfMemory(Call::Check),
-        remark: Remark::Short,
-    }
 }
