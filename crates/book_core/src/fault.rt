@@ -9,7 +9,7 @@ use thiserror::Error;
 /// Why a book does not take an input, in the order of the numbers unless a call says another.
 #[derive(Clone, Copy, Debug, PartialEq, Eq, Error)]
 pub enum BookFault {
-    /// Memory was wanted and refused; it has no place in an order of refusals.
+    /// Out of memory; may occur at any point.
     #[error("out of memory")]
     WantOfMemory,
     /// The page has 1000000 inputs, and this one is not among them.
@@ -29,7 +29,7 @@ pub enum BookFault {
 /// Why a file is no book, with the number of the line at fault, from 1.
 #[derive(Clone, Copy, Debug, PartialEq, Eq, Error)]
 pub enum BookFileFault {
-    /// Memory was wanted and refused; it has no place in an order of refusals.
+    /// Out of memory; may occur at any point.
     #[error("out of memory")]
     WantOfMemory,
     /// The first line is not the JSON value `{"book":1}`.

@@ -9,7 +9,7 @@ use thiserror::Error;
 /// Why there are no blanks for so many seats.
 #[derive(Clone, Copy, Debug, PartialEq, Eq, Error)]
 pub enum SeatsFault {
-    /// Memory was wanted and refused; it has no place in an order of refusals.
+    /// Out of memory; may occur at any point.
     #[error("out of memory")]
     WantOfMemory,
     /// A book has a seat at least.
@@ -23,7 +23,7 @@ pub enum SeatsFault {
 /// Why a shared book was not sealed, or a page not frozen.
 #[derive(Clone, Copy, Debug, PartialEq, Eq, Error)]
 pub enum SealFault {
-    /// Memory was wanted and refused, by a freeze; a seal takes none.
+    /// Out of memory; may occur at any point of a freeze, never in a seal.
     #[error("out of memory")]
     WantOfMemory,
     /// Not all seats of the book were handed back.

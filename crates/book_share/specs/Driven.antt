@@ -19,7 +19,7 @@ use Rattle.book_share.specs.Asked.{Mention, asks_of, every, is_mention, mentione
 use Rattle.book_share.specs.DriveFault.{is_of_workers}
 use Rattle.book_share.specs.declared.ask.Ask.{Ask}
 use Rattle.book_share.specs.declared.drive_fault.DriveFault.{DriveFault}
-use Rattle.book_share.specs.declared.gather.Harvest.{Harvest}
+use Rattle.book_share.specs.declared.gather.WorkerResults.{WorkerResults}
 use Rattle.book_share.specs.declared.reach.Refusal.{Refusal}
 use Rattle.book_share.specs.declared.worker.Part.{Part}
 
@@ -113,8 +113,8 @@ abbrev pub AreParts : {L : Type 0} → Definitions → ℕ → List Ask → List
 AreParts flags workers asks parts = (w : ℕ) → IfSome (slice_get parts w) (λ r. IfOk r (λ p. IsPart flags workers asks w p))
 
 -- the parts of all workers, put together
-abbrev pub IsHarvest : {L : Type 0} → Definitions → ℕ → List Ask → Harvest L → Type 0
-IsHarvest flags workers asks h = AreWorks flags workers asks h.seats.items (map deque_items h.answers.items) h.refused.items
+abbrev pub AreWorkerResults : {L : Type 0} → Definitions → ℕ → List Ask → WorkerResults L → Type 0
+AreWorkerResults flags workers asks h = AreWorks flags workers asks h.seats.items (map deque_items h.answers.items) h.refused.items
 
 -- a worker was not refused for the number of workers
 abbrev pub HasStarted : {X : Type 0} → Result X DriveFault → Type 0

@@ -8,7 +8,7 @@ use thiserror::Error;
 /// Why asks were not driven, in the order of the numbers.
 #[derive(Clone, Copy, Debug, PartialEq, Eq, Error)]
 pub enum DriveFault {
-    /// Memory was wanted and refused; it has no place in an order of refusals.
+    /// Out of memory; may occur at any point.
     #[error("out of memory")]
     WantOfMemory,
     /// There is a worker at least.

@@ -14,7 +14,7 @@ ghost use Rattle.book_share.specs.DriveFault.{is_of_workers, workers_fault};
 use crate::ask::Ask;
 use crate::drive_fault::DriveFault;
 use crate::gate::Gate;
-use crate::gather::{Harvest, gathered, parts_of};
+use crate::gather::{WorkerResults, gathered, parts_of};
 use crate::known::known_pages;
 use crate::order::in_order;
 use crate::worker::Round;
@@ -121,7 +121,7 @@ fn driven_by<'x, L: BookName + Send + Sync, G: Gate, R: Threads + Wait + Sync>(
         known: &known,
     };
     let parts = parts_of(rt, alloc, &round, seats)?;
-    let Harvest {
+    let WorkerResults {
         seats,
         answers,
         refused,

@@ -4,7 +4,7 @@ ghost use Rattle.flag_defs.specs.Document.{Definitions};
 ghost use Rattle.flag_defs.specs.Flags.{flags_view};
 ghost use Rattle.book_lock.specs.Counts.{own};
 ghost use Rattle.book_lock.specs.Seen.{unseen};
-ghost use Rattle.book_share.specs.Driven.{AreParts, HasStarted, IsHarvest, IsPart};
+ghost use Rattle.book_share.specs.Driven.{AreParts, AreWorkerResults, HasStarted, IsPart};
 ghost use Rattle.book_share.specs.Gated.{EachPart, EachTurn, StallsOf};
 ghost use Rattle.book_share.specs.declared.ask.Ask.{Ask};
 
@@ -22,7 +22,7 @@ use std::thread::Threads;
 
 /// What all workers made: their seats, the answers of each, and what full pages refused.
 #[derive(Drop)]
-pub(crate) struct Harvest<L: BookName> {
+pub(crate) struct WorkerResults<L: BookName> {
     pub(crate) seats: Vec<Seat<L>>,
     pub(crate) answers: VecDeque<VecDeque<Resolution>>,
     pub(crate) refused: Vec<Refusal>,
@@ -83,10 +83,10 @@ pub(crate) fn gathered<L: BookName, G: Gate>(
     alloc: Global,
     round: &Round<'_, '_, L, G>,
     parts: Vec<Result<Part<L>, DriveFault>>,
-) -> Result<Harvest<L>, DriveFault>
+) -> Result<WorkerResults<L>, DriveFault>
     ensures len { IfOk result (λ h. length h.seats.items ≡ length parts.items) }
     ensures work { (flags : Definitions) (asks : List Ask) (workers : ℕ) → AreParts flags workers asks parts.items
-        → IfOk result (λ h. IsHarvest flags workers asks h) }
+        → IfOk result (λ h. AreWorkerResults flags workers asks h) }
     ensures gated { EachPart (λ n. G.started round.now.gate.now n × G.told round.now.gate.now n) round.now.step (length round.now.asks.now) parts.items
         → IfOk result (λ _. (w : ℕ) → w < length parts.items → EachTurn (λ n. G.started round.now.gate.now n × G.told round.now.gate.now n) round.now.step w (length round.now.asks.now)) }
     ensures stalled { All (λ r. StallsOf (G.refused round.now.gate.now) (length round.now.asks.now) r) parts.items → StallsOf (G.refused round.now.gate.now) (length round.now.asks.now) result }
@@ -107,7 +107,7 @@ pub(crate) fn gathered<L: BookName, G: Gate>(
         answers.push_back(more)?;
         refused.append(&mut others)?;
     }
-    Ok(Harvest {
+    Ok(WorkerResults {
         seats,
         answers,
         refused,

@@ -18,8 +18,8 @@ use std::alloc::{AllocError, Global};
 /// The bytes of `{"flags":{` and `}}`, less the comma that is counted with the last flag and not printed.
 const BYTES_AROUND: usize = 11;
 
-/// Whether together they are printed in more bytes than a document may have. None is printed for it.
-/// The condition is keys that rise strictly as bytes. It takes no memory.
+/// True if printing these flags as a document would exceed the size limit. Nothing is printed, and no memory is taken. The keys
+/// must rise strictly as bytes.
 pub(crate) fn are_heavy(_alloc: Global, entries: &[(&str, &Flag)]) -> Result<bool, AllocError>
     requires { IsStrictlySortedBy (slice_cmp nat_cmp) (keys_of (lent_view entries.now)) }
     ensures { IfOk result (λ b. b ≡ nat_lt max_bytes (length (printed (lent_view entries.now)))) }
@@ -42,8 +42,8 @@ fn entry_bytes(key: &str, flag: &Flag) -> u32
     with_member(key, flag_bytes(flag), 0)
 }
 
-/// Copies of flags that others hold, under copies of their keys. The condition is that they are few and light enough to be
-/// flags together: it asks that they were weighed before one of them is copied. It fails only where memory runs out.
+/// Copies flags that others hold, with their keys. Together they must be within the limits of a document, which is to be asked
+/// before the first of them is copied. Fails only if memory runs out.
 pub(crate) fn copy_lent(
     alloc: Global,
     entries: &[(&str, &Flag)],

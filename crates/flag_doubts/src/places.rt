@@ -4,7 +4,7 @@ ghost use Rattle.std.specs.Prelude.{◌≡◌, ◌||◌, true, is_some, IfOk};
 use flag_text::{Tree, print_tree};
 use std::alloc::{AllocError, Global};
 
-/// The first place that is known: one that was found before, else that of this item, in which one may have been found.
+/// `before` if there is one; else `inner`, a place within this item, with the step to the item in front of it.
 pub(crate) fn item_place(
     alloc: Global,
     before: Option<String>,
@@ -22,7 +22,7 @@ pub(crate) fn item_place(
     }
 }
 
-/// The first place that is known: one that was found before, else that of this member, in which one may have been found.
+/// `before` if there is one; else `inner`, a place within this member, with the step to the member in front of it.
 pub(crate) fn member_place(
     alloc: Global,
     before: Option<String>,

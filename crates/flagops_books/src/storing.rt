@@ -12,7 +12,7 @@ ghost use Rattle.flagops_files.specs.Report.{outcome_view};
 ghost use Rattle.flagops_files.specs.Told.{TellsOfOne, by, file};
 ghost use Rattle.flagops_files.specs.declared.refused.Remark.TheVariants.{Lines};
 
-use crate::uniting::{Gathered, out_of_memory};
+use crate::uniting::Gathered;
 use book_core::{Book, print_book};
 use flagops_files::{Call, FileSet, Outcome, Refusal, Refused, Remark, Status, store};
 use std::alloc::{AllocError, Global};
@@ -58,7 +58,7 @@ fn output_of(alloc: Global, book: &Book, count: usize) -> Result<Output, Refused
 {
     match printed(alloc, book, count) {
         Ok(output) => Ok(output),
-        Err(AllocError) => Err(out_of_memory()),
+        Err(AllocError) => Err(Refused::out_of_memory(Call::Book)),
     }
 }
 

@@ -131,7 +131,7 @@ fn not_united(alloc: Global, path: &str, fault: BookFault) -> Refused
     ensures names { is_want result.refusal ≡ false → Says (Names path.now) result.remark }
 {
     match fault {
-        BookFault::WantOfMemory => out_of_memory(),
+        BookFault::WantOfMemory => Refused::out_of_memory(Call::Book),
         _ => full(alloc, path),
     }
 }
@@ -158,7 +158,7 @@ fn with_lines(
         Ok(taken) => with_taken(alloc, taken, told, path),
         Err(NotesFault::Line(n)) => stopped(alloc, path, n, Ends::of(bytes)),
         Err(NotesFault::PageFull) => Err(full(alloc, path)),
-        Err(NotesFault::WantOfMemory) => Err(out_of_memory()),
+        Err(NotesFault::WantOfMemory) => Err(Refused::out_of_memory(Call::Book)),
     }
 }
 
@@ -177,7 +177,7 @@ fn with_taken(alloc: Global, taken: NotesTaken, told: String, path: &str) -> Res
     let NotesTaken { book, passed, torn } = taken;
     match with_passed(alloc, told, path, passed, torn) {
         Ok(told) => Ok(Step::Noted(Gathered { book, told })),
-        Err(AllocError) => Err(out_of_memory()),
+        Err(AllocError) => Err(Refused::out_of_memory(Call::Book)),
     }
 }
 
@@ -193,7 +193,7 @@ fn stopped(alloc: Global, path: &str, n: u64, ends: Ends) -> Result<Step, Refuse
             status: Status::Refused,
             remark: Some(Remark::of(stray_remark(alloc, path, n, ends))),
         })),
-        Err(AllocError) => Err(out_of_memory()),
+        Err(AllocError) => Err(Refused::out_of_memory(Call::Book)),
     }
 }
 
@@ -206,15 +206,5 @@ fn full(alloc: Global, path: &str) -> Refused
     Refused {
         refusal: Refusal::FullBook,
         remark: Remark::of(of_full_book(alloc, path)),
-    }
-}
-
-/// The refusal where the command itself ran out of memory.
-pub(crate) fn out_of_memory() -> Refused
-    ensures { result.refusal ≡ Refusal.WantOfMemory Call.Book }
-{
-    Refused {
-        refusal: Refusal::WantOfMemory(Call::Book),
-        remark: Remark::Short,
     }
 }

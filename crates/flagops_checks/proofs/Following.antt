@@ -12,7 +12,7 @@ use Rattle.flagops_checks.specs.Calls.{check_calls}
 use Rattle.flagops_checks.specs.Told.{TellsAll, TellsDocument, check_subjects}
 use Rattle.flagops_checks.specs.declared.form.Form.{Form}
 use Rattle.flagops_checks.specs.declared.gathering.Gathered.{Gathered}
-use Rattle.flagops_checks.specs.declared.told.Told.{Told}
+use Rattle.flagops_checks.specs.declared.remark_lines.RemarkLines.{RemarkLines}
 use Rattle.flagops_files.specs.Documents.{IsDocumentAt, IsDocumentIn, IsDocumentOf}
 use Rattle.flagops_files.specs.Files.{Holding, load_of}
 use Rattle.flagops_files.specs.Loading.{◌>>=◌, max_text, refused_by}
@@ -73,7 +73,7 @@ told_on form (d ∷ cs) c lines more whole told tells is =
     let rest = told_on form cs c told.1 more (told.1 ++ more) told.3 tells refl in
     (told.0, told.1 ++ more, told.2, rest, is ∙ (ap (λ (t : List ℕ). t ++ more) told.4 ∙ append_assoc told.0 told.1 more))
 
-all_told_on : (form : Form) (cs : List Checked) (c : Checked) (before after : Told) → HoldsLines form cs before → AddsLines form c before after → HoldsLines form (cs ++ c ∷ []) after
+all_told_on : (form : Form) (cs : List Checked) (c : Checked) (before after : RemarkLines) → HoldsLines form cs before → AddsLines form c before after → HoldsLines form (cs ++ c ∷ []) after
 all_told_on form cs c before after told adds = λ whole.
     let on = adds whole in
     told_on form cs c (string_bytes before.lines) on.1 (string_bytes after.lines) (told on.0) on.2 on.3

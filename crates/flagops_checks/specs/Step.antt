@@ -5,7 +5,7 @@ use Rattle.flagops_checks.specs.Printed.{document_text, report_text}
 use Rattle.flagops_checks.specs.Told.{TellsAll, TellsDocument}
 use Rattle.flagops_checks.specs.declared.form.Form.{Form}
 use Rattle.flagops_checks.specs.declared.gathering.Gathered.{Gathered}
-use Rattle.flagops_checks.specs.declared.told.Told.{Told}
+use Rattle.flagops_checks.specs.declared.remark_lines.RemarkLines.{RemarkLines}
 use Rattle.flagops_files.specs.Refusal.{is_want}
 use Rattle.flagops_files.specs.declared.refusal.Refusal.{Refusal}
 use Rattle.flagops_files.specs.declared.refused.Refused.{Refused}
@@ -13,15 +13,15 @@ use Rattle.flagops_files.specs.declared.refused.Remark.{Remark}
 use Rattle.flagops_files.specs.declared.refused.Remark.TheVariants.{Lines, Short}
 
 -- what is told of these documents, where there was memory for it
-abbrev pub HoldsLines : Form → List Checked → Told → Type 0
+abbrev pub HoldsLines : Form → List Checked → RemarkLines → Type 0
 HoldsLines form cs t = t.is_short ≡ false → TellsAll form cs (string_bytes t.lines)
 
 -- with the lines of a document behind those before
-abbrev pub AddsLines : Form → Checked → Told → Told → Type 0
+abbrev pub AddsLines : Form → Checked → RemarkLines → RemarkLines → Type 0
 AddsLines form c before after = after.is_short ≡ false → (before.is_short ≡ false) × (more : List ℕ) × TellsDocument form c more × (string_bytes after.lines ≡ string_bytes before.lines ++ more)
 
 -- a remark has these lines, or memory ran out for some
-abbrev pub Speaks : Told → Remark → Type 0
+abbrev pub Speaks : RemarkLines → Remark → Type 0
 Speaks t Short = t.is_short ≡ true
 Speaks t (Lines lines) = (t.is_short ≡ false) × (lines ≡ t.lines)
 

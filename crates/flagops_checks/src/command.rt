@@ -14,7 +14,7 @@ ghost use Rattle.flagops_files.specs.Told.{RemarksOrWants, Says, TellsOfOne};
 use crate::asked::Checking;
 use crate::form::Form;
 use crate::gathering::{Gathered, gather};
-use crate::told::Told;
+use crate::remark_lines::RemarkLines;
 use crate::words::read_checking;
 use flag_text::Outlet;
 use flagops_commands::{explain, refused};
@@ -120,7 +120,7 @@ fn status_of(strict: bool, is_wrong: bool) -> Status
 }
 
 /// What a person is told, where something is wrong.
-fn remark_of(told: Told, is_wrong: bool) -> Option<Remark>
+fn remark_of(told: RemarkLines, is_wrong: bool) -> Option<Remark>
     ensures told { is_some result ≡ is_wrong }
     ensures says { IfSome result (Speaks told) }
 {

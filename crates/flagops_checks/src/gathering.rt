@@ -17,10 +17,10 @@ use crate::judging::judge;
 use crate::loading::{Loaded, load_with_names};
 use crate::names::names_of;
 use crate::printing::push_document;
-use crate::told::Told;
+use crate::remark_lines::RemarkLines;
 use flag_defs::Flags;
 use flag_doubts::Repeated;
-use flagops_files::{Call, FileSet, Refusal, Refused, Remark};
+use flagops_files::{Call, FileSet, Refused};
 use std::alloc::{AllocError, Global};
 use std::mem;
 use std::thread::Threads;
@@ -30,7 +30,7 @@ use unread_members::Reader;
 #[derive(Drop)]
 pub(crate) struct Gathered {
     pub(crate) text: Vec<u8>,
-    pub(crate) told: Told,
+    pub(crate) told: RemarkLines,
     /// Whether a flag is broken or doubted, or a member of a document is not read or stands more than once.
     pub(crate) is_wrong: bool,
 }
@@ -51,7 +51,7 @@ pub(crate) fn gather<R: Threads, F: FileSet>(
 {
     let mut all = Gathered {
         text: Vec::new(alloc),
-        told: Told::new(alloc),
+        told: RemarkLines::new(alloc),
         is_wrong: false,
     };
     let alone = paths.len() == 1;
@@ -89,7 +89,7 @@ fn with_document<R: Threads, F: FileSet>(
     }
     match next {
         Ok(next) => Ok(next),
-        Err(AllocError) => Err(out_of_memory()),
+        Err(AllocError) => Err(Refused::out_of_memory(Call::Check)),
     }
 }
 
@@ -144,14 +144,4 @@ fn with_checked(
         told: told.with(alloc, form, checked),
         is_wrong: is_wrong || checked.is_wrong(),
     })
-}
-
-/// The refusal where the command itself ran out of memory.
-fn out_of_memory() -> Refused
-    ensures { result.refusal ≡ Refusal.WantOfMemory Call.Check }
-{
-    Refused {
-        refusal: Refusal::WantOfMemory(Call::Check),
-        remark: Remark::Short,
-    }
 }

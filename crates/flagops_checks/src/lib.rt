@@ -35,8 +35,8 @@ mod objects;
 mod places;
 mod printing;
 mod reasons;
+mod remark_lines;
 mod telling;
-mod told;
 mod usage;
 mod words;
 

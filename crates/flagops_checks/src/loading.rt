@@ -11,7 +11,7 @@ ghost use Rattle.flagops_files.specs.Told.{TellsOf, file};
 
 use flag_defs::Flags;
 use flag_doubts::{ReadDocument, Repeated, read_with_names};
-use flagops_files::{FileSet, Refusal, Refused, Remark, TEXT_LIMIT, load};
+use flagops_files::{FileSet, Refusal, Refused, Remark, TEXT_LIMIT, load, make_room_for};
 use flagops_remarks::of_document;
 use std::alloc::Global;
 use std::thread::Threads;
@@ -63,6 +63,7 @@ fn read_in<R: Threads>(
     ensures read { is_file_fault result ≡ false }
     ensures names { TellsOf (file path.now) result }
 {
+    make_room_for(alloc, bytes.len());
     match read_with_names(rt, alloc, bytes) {
         Ok(read) => Ok(read),
         Err(fault) => Err(Refused {

@@ -6,7 +6,7 @@ ghost use Rattle.flagops_files.specs.Refusal.{ComesFrom, GivesUnlessWant, is_fil
 ghost use Rattle.flagops_files.specs.Report.{outcome_view};
 ghost use Rattle.flagops_files.specs.Told.{TellsOfOne};
 
-use flagops_files::{Call, Outcome, Refusal, Refused, Remark, Status};
+use flagops_files::{Call, Outcome, Refused, Status};
 use flagops_words::Shell;
 use std::alloc::{AllocError, Global};
 
@@ -19,9 +19,6 @@ pub fn completions(alloc: Global, shell: Shell) -> Result<Outcome, Refused>
 {
     match String::from_str(alloc, shell.script()) {
         Ok(text) => Ok(Outcome::plain(text.into_bytes(), Status::Done)),
-        Err(AllocError) => Err(Refused {
-            refusal: Refusal::WantOfMemory(Call::Flagops),
-            remark: Remark::Short,
-        }),
+        Err(AllocError) => Err(Refused::out_of_memory(Call::Flagops)),
     }
 }

@@ -35,8 +35,8 @@ pub fn load_book<F: FileSet>(alloc: Global, files: &mut F, path: &str) -> Result
     }
 }
 
-/// The bytes of the book file at a path; a file of more than 2^40 counts as unreadable, and of one that does not begin as a
-/// book there are no more than by which that is seen.
+/// The bytes of the book file at `path`. A file of more than 2^40 bytes is refused as unreadable. Of a file that begins neither
+/// as a book nor as a tally, only the first 4,096 bytes are returned.
 #[tactic(auto, using(crate::proofs::Told::says), unfolding(crate::specs::Question::book_bytes_at))]
 pub fn load_book_bytes<F: FileSet>(
     alloc: Global,
@@ -58,8 +58,9 @@ pub fn load_book_bytes<F: FileSet>(
     }
 }
 
-/// The bytes of the file of a book or of note lines at a path; a file of more than 2^40 counts as unreadable, and of one that begins
-/// as neither there are no more than by which that is seen, also where lines that are none are passed over.
+/// The bytes of the file at `path`, a book, a tally or note lines. A file of more than 2^40 bytes is refused as unreadable. Of a
+/// file that begins as none of them, only the first 16,777,216 bytes are returned. With `passing`, where lines that are no notes
+/// are passed over, a file begins as note lines if a line ends within those bytes.
 #[tactic(auto, using(crate::proofs::Told::says), unfolding(crate::specs::Question::notes_bytes_at))]
 pub fn load_notes<F: FileSet>(
     alloc: Global,

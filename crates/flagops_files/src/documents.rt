@@ -11,6 +11,7 @@ use crate::files::FileSet;
 use crate::loading::{TEXT_LIMIT, load};
 use crate::refusal::Refusal;
 use crate::refused::{Refused, Remark};
+use crate::room::make_room_for;
 use flag_defs::{Flags, read_flags};
 use flagops_remarks::of_document;
 use std::alloc::Global;
@@ -61,6 +62,7 @@ fn flags_in(alloc: Global, path: &str, bytes: &[u8]) -> Result<Flags, Refused>
     ensures read { is_file_fault result ≡ false }
     ensures names { TellsOf (file path.now) result }
 {
+    make_room_for(alloc, bytes.len());
     match read_flags(alloc, bytes) {
         Ok(flags) => Ok(flags),
         Err(fault) => Err(Refused {

@@ -137,7 +137,7 @@ pub trait FileSet {
         None
     }
 
-    /// Makes the bytes the file at the path. After an `Err` the files are as they were.
+    /// Writes `bytes` to the file at `path`. After an `Err` the files are as they were.
     fn write(&mut self, alloc: Global, path: &str, bytes: &[u8]) -> Result<(), StoreFault>
         ensures stored { OnOk result (Stores (holding self.old) (holding self.new) path.now bytes.now) }
         ensures others { KeepsOthers (holding self.old) (holding self.new) path.now }

@@ -3,7 +3,7 @@ ghost use Rattle.std.specs.Prelude.{◌≡◌, IfOk, OnErr};
 ghost use Rattle.flagops_files.specs.Told.{remark_text};
 ghost use Rattle.flagops_files.specs.declared.refused.Remark.TheVariants.{Lines, Short};
 
-use crate::refusal::Refusal;
+use crate::refusal::{Call, Refusal};
 use std::alloc::AllocError;
 
 /// What a person is told beside the output, in words of the program's own.
@@ -43,4 +43,17 @@ impl Remark {
 pub struct Refused {
     pub refusal: Refusal,
     pub remark: Remark,
+}
+
+impl Refused {
+    /// The refusal of a call that ran out of memory.
+    pub fn out_of_memory(call: Call) -> Refused
+        ensures refusal { result.refusal ≡ Refusal.WantOfMemory call }
+        ensures remark { result.remark ≡ Short }
+    {
+        Refused {
+            refusal: Refusal::WantOfMemory(call),
+            remark: Remark::Short,
+        }
+    }
 }

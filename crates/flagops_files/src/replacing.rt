@@ -9,7 +9,7 @@ use std::rt::Files;
 /// The most links that are followed from a path to its file, as many as Linux follows.
 const MAX_LINKS: u8 = 40;
 
-/// Makes the bytes the file at the path, or fails and leaves it as it was.
+/// Writes `bytes` to the file at `path`, or fails and leaves it as it was.
 ///
 /// A new file is written beside the old one, is given its mode, is handed to the disk, and is renamed over it: so
 /// whatever happens, also to this process, at the path stands the old content or the new, whole. A link stays a link,

@@ -10,7 +10,7 @@ use crate::refused::{Refused, Remark};
 use flagops_remarks::of_unwritable;
 use std::alloc::Global;
 
-/// Makes the bytes the file at a path. After a refusal the files are as they were.
+/// Writes `bytes` to the file at `path`. After a refusal the files are as they were.
 #[tactic(auto, using(crate::proofs::Told::says))]
 pub fn store<F: FileSet>(
     alloc: Global,

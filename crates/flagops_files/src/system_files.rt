@@ -147,8 +147,8 @@ fn written_to(path: &str) -> &str {
     if path == "-" { "/dev/stdout" } else { path }
 }
 
-/// Makes the bytes the file at a path, or writes them to the standard output: to the one that is open, since a file that is
-/// opened anew has a place of its own, at which what the command prints would be written over.
+/// Writes `bytes` to the file at `path`. For `-`, uses the open standard output: a file that is opened again has a position of
+/// its own, so what the command prints later would overwrite `bytes`.
 fn written<R: Files + Print>(rt: &R, alloc: Global, path: &str, bytes: &[u8]) -> io::Result<()> {
     if path == "-" {
         rt.write_all(bytes)

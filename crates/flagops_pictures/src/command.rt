@@ -135,10 +135,7 @@ fn told(
             status: Status::Done,
             remark,
         }),
-        Err(AllocError) => Err(Refused {
-            refusal: Refusal::WantOfMemory(Call::Verify),
-            remark: Remark::Short,
-        }),
+        Err(AllocError) => Err(Refused::out_of_memory(Call::Verify)),
     }
 }
 

@@ -16,8 +16,8 @@ use crate::words::read_plan;
 use flag_text::Outlet;
 use flagops_commands::{explain, plan_answer, refused};
 use flagops_files::{
-    BookQuestion, Call, Evidence, FileSet, Outcome, Question, Refusal, Refused, Remark,
-    load_book_question, report, store, want,
+    BookQuestion, Call, Evidence, FileSet, Outcome, Question, Refusal, Refused, load_book_question,
+    report, store, want,
 };
 use flagops_words::factor_of;
 use page_tally::BookFile;
@@ -158,10 +158,7 @@ fn picture_of<R: Threads + Sync>(
 {
     match picture_drawn(rt, alloc, asked, question, outcome) {
         Ok(text) => Ok(text),
-        Err(AllocError) => Err(Refused {
-            refusal: Refusal::WantOfMemory(Call::Plan),
-            remark: Remark::Short,
-        }),
+        Err(AllocError) => Err(Refused::out_of_memory(Call::Plan)),
     }
 }
 

@@ -117,7 +117,7 @@ pub fn of_unrecorded(
     lines.headed(Opening::Note, path)
 }
 
-/// Of a request whose page has these inputs in the book, of which some are none of its flag: they do not begin with its key.
+/// Explains that some of the inputs on the request's page do not begin with the flag's key.
 pub fn of_foreign(
     alloc: Global,
     path: &str,

@@ -4,7 +4,7 @@ use crate::preparing::{LISTEN, MOST_SUBSCRIBERS};
 use flag_text::Outlet;
 use std::alloc::{AllocError, Global};
 
-/// Tells a text, as far as it is taken.
+/// Writes `text`, and stops without an error where no more of it is taken.
 pub(crate) fn say<E: Outlet>(err: &mut E, text: &str) {
     let mut rest = text.as_bytes();
     while !rest.is_empty() {

@@ -9,7 +9,7 @@ use sync_server::{NextNumber, StreamEnd};
 
 /// How a subscriber's stream ended.
 #[derive(Clone, Copy)]
-pub(crate) struct Gone {
+pub(crate) struct Disconnected {
     pub(crate) end: StreamEnd,
     pub(crate) frames: u64,
 }
@@ -24,7 +24,7 @@ struct News<J: ShareName> {
     /// How many subscribers have a thread.
     present: usize,
     /// For each subscriber that has gone, and of whom nobody was told yet, how.
-    gone: Vec<Option<Gone>>,
+    gone: Vec<Option<Disconnected>>,
 }
 
 /// A board that the publisher and the threads share. Whoever changes it wakes all that wait.
@@ -44,7 +44,7 @@ impl<J: ShareName> Board<J> {
         subscribers: usize,
         wait: u64,
     ) -> Result<Board<J>, AllocError> {
-        let gone = vec![in alloc; None::<Gone>; subscribers]?;
+        let gone = vec![in alloc; None::<Disconnected>; subscribers]?;
         let news = News {
             told,
             is_over: false,
@@ -81,13 +81,13 @@ impl<J: ShareName> Board<J> {
     }
 
     /// The thread of a subscriber, by its place, ends.
-    pub(crate) fn leave<R: Wait>(&self, rt: &R, place: usize, gone: Option<Gone>) {
+    pub(crate) fn leave<R: Wait>(&self, rt: &R, place: usize, gone: Option<Disconnected>) {
         self.news.lock(rt).leave(place, gone);
         self.changed.notify_all();
     }
 
     /// A subscriber that has gone, by its place, once there is one of whom nobody was told; None where no thread is left.
-    pub(crate) fn next_gone<R: Wait>(&self, rt: &R) -> Option<(usize, Gone)> {
+    pub(crate) fn next_gone<R: Wait>(&self, rt: &R) -> Option<(usize, Disconnected)> {
         let mut news = self
             .changed
             .wait_while(rt, self.news.lock(rt), |news| news.is_waiting());
@@ -100,7 +100,7 @@ impl<J: ShareName> News<J> {
         self.present = self.present.saturating_add(1);
     }
 
-    fn leave(&mut self, place: usize, gone: Option<Gone>) {
+    fn leave(&mut self, place: usize, gone: Option<Disconnected>) {
         self.present = self.present.saturating_sub(1);
         if let Some(slot) = self.gone.get_mut(place) {
             *slot = gone;
@@ -112,7 +112,7 @@ impl<J: ShareName> News<J> {
         self.present > 0 && !self.gone.iter().any(|slot| slot.is_some())
     }
 
-    fn take_gone(&mut self) -> Option<(usize, Gone)> {
+    fn take_gone(&mut self) -> Option<(usize, Disconnected)> {
         for (place, slot) in self.gone.iter_mut().enumerate() {
             if let Some(gone) = slot.take() {
                 return Some((place, gone));

@@ -1,7 +1,7 @@
 //! One subscriber: its seat, its numbers and its connection.
 ghost use mathlib.Core.List.{IsPrefix};
 
-use crate::board::{Board, Gone, Numbers};
+use crate::board::{Board, Disconnected, Numbers};
 use crate::parting::part;
 use crate::timed::Timed;
 use flag_text::WriteOutlet;
@@ -63,7 +63,7 @@ pub(crate) fn attend<J: ShareName, R: Wait + Clock>(
         Err(_) => (StreamEnd::WriteFault, 0),
     };
     let end = part(rt, stream, end);
-    board.leave(rt, place, Some(Gone { end, frames }));
+    board.leave(rt, place, Some(Disconnected { end, frames }));
 }
 
 /// Sends a subscriber its stream, and answers why it ended and how many frames are whole.

@@ -27,8 +27,8 @@ impl From<AllocError> for FillFault {
     }
 }
 
-/// Reads on, into this piece of memory, until the batch has at least so many bytes, or the stream ends. Gives whether it
-/// ended. The batch gets fewer bytes than the piece has more than it is to have. The condition is a piece of some bytes.
+/// Reads, by way of `piece`, until the batch has at least `size` bytes or the stream ends. Returns true at the end of the
+/// stream. A batch that begins with at most `size` bytes ends with at most `size + piece.len()`. `piece` must not be empty.
 pub fn fill<I: Inlet>(
     batch: &mut Vec<u8>,
     input: &mut I,

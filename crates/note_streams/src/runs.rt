@@ -22,8 +22,8 @@ pub(crate) struct Written {
     pub(crate) refused: bool,
 }
 
-/// What is recorded of lines, in runs of about the same number of lines, as many as there are workers, and no more than there are
-/// lines: those of the first half in a thread of its own, where one can be made, and the others here, each likewise.
+/// Records lines in runs of about equal length, one for each worker, and no more runs than lines. Halves the workers until one is
+/// left: the first half records in a thread of its own, if one can be made, the second half here.
 #[cycle(runs)]
 pub(crate) fn record_runs<R: Threads + Sync>(
     rt: &R,

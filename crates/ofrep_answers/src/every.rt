@@ -26,7 +26,7 @@ use std::alloc::{AllocError, Global};
 
 /// The bodies of the flags that there are for the caller, and what the evaluations of all flags reached and how they ended.
 #[derive(Drop)]
-struct Told {
+struct Evaluations {
     bodies: Vec<Tree>,
     reached: Vec<FlagReached>,
     reasons: Reasons,
@@ -56,13 +56,18 @@ pub(crate) fn every_flag(
 }
 
 /// The evaluations of every flag in a context, in the order of the keys.
-fn told_flags(alloc: Global, flags: &Flags, moment: u64, context: &Tree) -> Result<Told, AllocError>
+fn told_flags(
+    alloc: Global,
+    flags: &Flags,
+    moment: u64,
+    context: &Tree,
+) -> Result<Evaluations, AllocError>
     requires moment { moment < 2 ^ 53 }
     requires context { is_whole (view context.now) ≡ true }
     ensures bodies { IfOk result (λ t. map view t.bodies.items ≡ bodies (flags_view flags.now) (view context.now) moment (flags_view flags.now)) }
     ensures reached { IfOk result (λ t. map reached_view t.reached.items ≡ reached_in (flags_view flags.now) (view context.now) moment (flags_view flags.now)) }
 {
-    let mut told = Told {
+    let mut told = Evaluations {
         bodies: Vec::new(alloc),
         reached: Vec::new(alloc),
         reasons: Reasons::none(),
@@ -76,7 +81,7 @@ fn told_flags(alloc: Global, flags: &Flags, moment: u64, context: &Tree) -> Resu
     Ok(told)
 }
 
-impl Told {
+impl Evaluations {
     /// Counts an evaluation that ended with this reason.
     fn count(&mut self, reason: Reason)
         ensures bodies { map view self.new.bodies.items ≡ map view self.old.bodies.items }
@@ -100,7 +105,7 @@ impl Told {
 }
 
 /// The answer with these evaluations under the tag of its body, or without a body for a caller who has it.
-fn tagged(alloc: Global, if_none_match: &[&[u8]], told: Told) -> Result<Answer, AllocError>
+fn tagged(alloc: Global, if_none_match: &[&[u8]], told: Evaluations) -> Result<Answer, AllocError>
     ensures { IfOk result (λ a. answer_view a ≡ tagged (map (λ field. field.now) if_none_match.now) (text_of (flags_shape (map view told.bodies.items))) (map reached_view told.reached.items)) }
 {
     let text = print_tree(alloc, &flags_body(alloc, told.bodies)?)?.into_bytes();

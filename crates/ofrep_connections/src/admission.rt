@@ -3,7 +3,7 @@ ghost use Rattle.http_server.specs.Connection.{history};
 ghost use Rattle.recorded_answers.specs.Stand.{AllStand};
 ghost use Rattle.ofrep_connections.specs.Stand.{PeersStand};
 
-use crate::load::Share;
+use crate::load::LoadShare;
 use crate::peer::{Peer, interest};
 use crate::work::Making;
 use http_server::Connection;
@@ -73,8 +73,8 @@ impl Queue {
         }
     }
 
-    /// How many connections a worker that holds so many may come to hold whatever the others do: twice as many where those that
-    /// wait were left to others for long, else none.
+    /// How many connections a worker that holds `held` may reach whatever the others hold: 0 while those in the queue have waited
+    /// for less than `PATIENCE_MILLIS`, else twice `held`.
     fn most(self, now: Instant, held: usize) -> usize {
         match self {
             Queue::Waits(since) if now.duration_since(since).as_millis() < PATIENCE_MILLIS => 0,
@@ -83,14 +83,14 @@ impl Queue {
     }
 }
 
-/// Takes of the connections that wait those that are for this worker, and more where others have left them for long. Says what
-/// is known of those that wait then.
+/// Accepts this worker's share of the waiting connections, and more where the other workers have left them waiting for long.
+/// Returns the state of the queue afterwards.
 pub(crate) fn admit<S: Recording>(
     making: Making,
     now: Instant,
     registry: &Registry,
     listener: &TcpListener,
-    share: &mut Share<'_>,
+    share: &mut LoadShare<'_>,
     queue: Queue,
     service: &S,
     peers: &mut Slab<Peer>,

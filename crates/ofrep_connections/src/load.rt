@@ -20,16 +20,16 @@ impl Load {
 
 /// What one worker holds of the load of all.
 #[derive(Drop)]
-pub(crate) struct Share<'a> {
+pub(crate) struct LoadShare<'a> {
     load: &'a Load,
     held: usize,
 }
 
-impl<'a> Share<'a> {
+impl<'a> LoadShare<'a> {
     /// The share of a worker that begins.
-    pub(crate) fn begin(load: &'a Load) -> Share<'a> {
+    pub(crate) fn begin(load: &'a Load) -> LoadShare<'a> {
         load.workers.fetch_add(1, Ordering::SeqCst);
-        Share { load, held: 0 }
+        LoadShare { load, held: 0 }
     }
 
     /// The worker holds so many connections now.

@@ -6,7 +6,7 @@ ghost use Rattle.recorded_answers.specs.Stand.{AllStand};
 ghost use Rattle.ofrep_connections.specs.Stand.{PeersStand};
 
 use crate::admission::{MAX_PEERS, Queue, admit};
-use crate::load::{Load, Share};
+use crate::load::{Load, LoadShare};
 use crate::peer::{Peer, Stay};
 use http_server::Config;
 use mio::event::Event;
@@ -36,8 +36,8 @@ pub(crate) struct Making {
 }
 
 impl Making {
-    /// The room that a read of this event's socket leaves none of unless it takes all that there is: none where the peer sends
-    /// no more, since the end of what it sent is told once, or urgent data, before which a read ends.
+    /// The size of a read of this event's socket: one of fewer bytes has emptied the socket. 0 where that does not hold: after the
+    /// end of input, which the system reports only once, after an error, and with urgent data, before which a read stops.
     fn room(&self, event: &Event) -> usize {
         if event.is_read_closed() || event.is_error() || event.is_priority() {
             return 0;
@@ -71,7 +71,7 @@ pub fn answer_connections<S: Recording, R: Net + Clock>(
         keys,
         config,
     };
-    let mut share = Share::begin(load);
+    let mut share = LoadShare::begin(load);
     let ended = turn(
         rt,
         making,
@@ -93,7 +93,7 @@ fn turn<S: Recording, R: Clock>(
     poll: &mut Poll,
     events: &mut Events,
     listener: &TcpListener,
-    share: &mut Share<'_>,
+    share: &mut LoadShare<'_>,
     peers: &mut Slab<Peer>,
     stop: &AtomicBool,
     service: &mut S,

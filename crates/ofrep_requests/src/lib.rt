@@ -1,5 +1,8 @@
 //! What a request of the OpenFeature Remote Evaluation Protocol asks for.
 //!
+//! A crate of its own, though it is small: it knows paths and methods and nothing of flags, and `ofrep_answers`, which uses it,
+//! need not know how a path is encoded.
+//!
 //! [`Place::of`] says what the path of a request leads to, and [`Place::method`] the one method that is taken there;
 //! [`key_in`] reads the key of the flag that a path asks for.
 //!

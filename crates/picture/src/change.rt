@@ -130,7 +130,7 @@ fn add_bands<'a>(
     Ok(())
 }
 
-/// Where the next of these runs that moves begins, of which the first begins at a point; the total where none moves.
+/// Where the first of these runs that changes its variant begins, if the runs begin at `point`; `total` if none changes.
 fn next_move(runs: &[Run<'_>], point: u64, total: u64) -> u64 {
     let mut begin = point;
     for run in runs {

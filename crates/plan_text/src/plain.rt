@@ -25,7 +25,8 @@ use simdutf8::basic;
 use std::alloc::{AllocError, Global};
 use transport_instance::Certificate;
 
-const COSTS: u64 = 1 << 53;
+/// Costs are below it.
+pub(crate) const COSTS: u64 = 1 << 53;
 
 /// The answer of bytes that were printed of a rule with its certificate, with or without a line end. Of any others there may
 /// be none, and takes no memory of more than 67108864 or that are not UTF-8.

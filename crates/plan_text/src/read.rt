@@ -11,7 +11,7 @@ ghost use Rattle.plan_text.specs.PlanFile.{max_plan, canonical_rule, items_in, a
 use crate::fault::PlanFileFault;
 use crate::form::{Form, form_in, has_rule_member};
 use crate::order::{alpha_rises, beta_rises, names_rise};
-use crate::plain::plain_of;
+use crate::plain::{COSTS, plain_of};
 use crate::planned::Planned;
 use crate::rows::{read_alpha, read_beta, read_entries, read_names};
 use bucket_core::{Rule, RuleFault};
@@ -19,8 +19,6 @@ use flag_text::{Tree, read_tree};
 use limits::FILE_BYTES;
 use std::alloc::Global;
 use transport_instance::{Certificate, Cut, CutKind};
-
-const COSTS: i64 = 1 << 53;
 
 /// The answer that the bytes of a plan file hold: a canonical rule with its certificate, whose groups and names rise
 /// strictly, or a set of names that rise strictly. What is read may be printed. It takes time linear in the bytes; a file
@@ -110,7 +108,7 @@ fn cost_in(tree: &Tree) -> Option<u64>
     ensures { result ≡ cost_in (view tree.now) }
 {
     match tree.member("cost") {
-        Some(Tree::Whole(cost)) if 0 <= *cost && *cost < COSTS => Some(*cost as u64),
+        Some(Tree::Whole(cost)) if 0 <= *cost && *cost < COSTS as i64 => Some(*cost as u64),
         _ => None,
     }
 }

@@ -9,7 +9,7 @@ use thiserror::Error;
 /// Why a request is refused: no request first, then a pair of equal names, a price out of range, an empty range.
 #[derive(Clone, Copy, Debug, PartialEq, Eq, Error)]
 pub enum PriceFault {
-    /// Memory was wanted and refused; it has no place in an order of refusals.
+    /// Out of memory; may occur at any point.
     #[error("out of memory")]
     WantOfMemory,
     /// The text is no JSON tree of whole numbers, a member is of another form, or a pair is named twice.

@@ -1,5 +1,8 @@
 //! Why a file that is judged by its first piece is judged as all of its bytes are.
 //!
+//! A crate of its own, though it is small: its proofs are long, and only the commands on books cite them (`flagops_books`). In
+//! `flagops_files` every other command would wait for them.
+//!
 //! A book may be of any size, so a file is read up to its first 4,096 bytes, and no further where these may begin neither a
 //! book nor a tally (`flagops_files`). That this refuses no file which its whole would not, and none for another reason, is
 //! proved here over the definitions that the commands answer by: [`records_are_told_by_their_first_piece`] of the bytes, and

@@ -11,10 +11,9 @@ use json::{Reader, Scratch, Token};
 use simdutf8::basic;
 use std::alloc::{AllocError, Global};
 
-/// The texts of a JSON text that is a list of texts, such as that of a key file, where they lie in it or in what their escapes
-/// were replaced in, which the scratch holds. `max` is the most bytes that are read. Of any other bytes there are none, and of
-/// more bytes, or bytes that are no UTF-8, that is known without taking memory. Cost: a pass over the bytes for their encoding,
-/// one over the tokens, and 16 bytes for each text.
+/// Reads a JSON list of texts, such as a key file, of at most `max` bytes; `None` for anything else. The texts borrow from `bytes`,
+/// or from `scratch` if they have escapes. More bytes, and bytes that are no UTF-8, take no memory. Cost: a pass over the bytes for
+/// their encoding, one over the tokens, and 16 bytes for each text.
 pub fn read_texts<'a>(
     alloc: Global,
     bytes: &'a [u8],

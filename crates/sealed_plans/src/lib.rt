@@ -1,4 +1,7 @@
-//! From the seats of a shared book to a plan: what is planned on a sealed book is least over just what its seats were told.
+//! A plan made from a finished recording is optimal for the inputs that the workers recorded.
+//!
+//! A crate of its own, though it is small: it joins shared books to the planner, which know nothing of each other. No command
+//! uses it.
 //!
 //! [`plan_sealed`] ends a shared book and plans on it. Proved, over `Recorded.HoldsOf` of `specs/`: the rule that it gives fits
 //! the request and costs the inputs that the seats were told on the page of the request's site, each counted once, the least

@@ -9,7 +9,7 @@ use thiserror::Error;
 /// Why a hub refuses a call, in the order of the numbers.
 #[derive(Clone, Copy, Debug, PartialEq, Eq, Error)]
 pub enum HubFault {
-    /// Memory was wanted and refused; it has no place in an order of refusals.
+    /// Out of memory; may occur at any point.
     #[error("out of memory")]
     WantOfMemory,
     /// The current snapshot has the number 2^64-1.
@@ -26,7 +26,7 @@ pub enum HubFault {
 /// Why there is no world of these sources and seats, in the order of the numbers.
 #[derive(Clone, Copy, Debug, PartialEq, Eq, Error)]
 pub enum WorldFault {
-    /// Memory was wanted and refused; it has no place in an order of refusals.
+    /// Out of memory; may occur at any point.
     #[error("out of memory")]
     WantOfMemory,
     /// A source is named twice.

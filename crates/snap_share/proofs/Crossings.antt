@@ -20,8 +20,8 @@ use Rattle.snap_core.specs.contracts.snapshot.Snapshot as Snapshot
 use Rattle.sync_frames.specs.contracts.framed.FramedSnapshot as Framed
 use Rattle.sync_frames.specs.contracts.framed.FramedSnapshot.TheInside as FramedInside
 use Rattle.snap_share.specs.declared.history.ShareName as ShareName
-use Rattle.snap_share.specs.contracts.front.Front as Front
-use Rattle.snap_share.specs.contracts.front.Front.TheInside as FrontInside
+use Rattle.snap_share.specs.contracts.front.HistoryPrefix as HistoryPrefix
+use Rattle.snap_share.specs.contracts.front.HistoryPrefix.TheInside as HistoryPrefixInside
 use Rattle.snap_share.specs.contracts.stamp.Stamp as Stamp
 use Rattle.snap_share.specs.contracts.stamp.Stamp.TheInside as StampInside
 use Rattle.snap_share.specs.contracts.publisher.Told as Told
@@ -122,24 +122,24 @@ Framed-send = view_send _ _ _ _ _ (declared_send FramedInside.the_type (Snapshot
 -- ---- a seat, and what it is told
 
 module _ (T : RattleType) (g : ShareName.Ghosts T.Denot) (send : IsSend T) (sync : IsSync T) where
-  Front-sync : IsSync (Front.the_row T g)
-  Front-sync =
+  HistoryPrefix-sync : IsSync (HistoryPrefix.the_row T g)
+  HistoryPrefix-sync =
       view_sync _ _ _ _ _
-      (declared_sync (FrontInside.the_type T g) (search (sendable, crosses) depth 40, (seen.the_sync _ _ _ law.ghosts, (search (sendable, crosses) depth 40, tt))))
+      (declared_sync (HistoryPrefixInside.the_type T g) (search (sendable, crosses) depth 40, (seen.the_sync _ _ _ law.ghosts, (search (sendable, crosses) depth 40, tt))))
 
-  Front-send : IsSend (Front.the_row T g)
-  Front-send =
+  HistoryPrefix-send : IsSend (HistoryPrefix.the_row T g)
+  HistoryPrefix-send =
       view_send _ _ _ _ _
-      (declared_send (FrontInside.the_type T g) (search (sendable, crosses) depth 40, (seen.the_send _ _ _ law.ghosts, (search (sendable, crosses) depth 40, tt))))
+      (declared_send (HistoryPrefixInside.the_type T g) (search (sendable, crosses) depth 40, (seen.the_send _ _ _ law.ghosts, (search (sendable, crosses) depth 40, tt))))
 
   Stamp-sync : IsSync (Stamp.the_row T g)
-  Stamp-sync = view_sync _ _ _ _ _ (declared_sync (StampInside.the_type T g) (search (sendable, crosses, Framed-send, Framed-sync) depth 40, (Front-sync, tt)))
+  Stamp-sync = view_sync _ _ _ _ _ (declared_sync (StampInside.the_type T g) (search (sendable, crosses, Framed-send, Framed-sync) depth 40, (HistoryPrefix-sync, tt)))
 
   pub ReadSeat-send : IsSend (ReadSeat.the_row T g)
   ReadSeat-send =
       view_send _ _ _ _ _
-      (declared_send (SeatInside.the_type T g) (search (sendable, crosses, Stamp-sync, part.the_send, place.the_send, shared.the_send, shared.the_sync, lease.the_send, lease.the_sync) depth 80, (Front-send, tt)))
+      (declared_send (SeatInside.the_type T g) (search (sendable, crosses, Stamp-sync, part.the_send, place.the_send, shared.the_send, shared.the_sync, lease.the_send, lease.the_sync) depth 80, (HistoryPrefix-send, tt)))
 
   -- what was told goes with a lock from thread to thread
   pub Told-send : IsSend (Told.the_row T g)
-  Told-send = view_send _ _ _ _ _ (declared_send (ToldInside.the_type T g) (Front-send, tt))
+  Told-send = view_send _ _ _ _ _ (declared_send (ToldInside.the_type T g) (HistoryPrefix-send, tt))

@@ -9,15 +9,15 @@ use flag_defs::Flags;
 use logbook::{Offer, Seen};
 use std::marker::{Model, PhantomData};
 
-/// A beginning of the history that was seen. Contracts see it as its flags.
+/// A prefix of the history that was seen. Contracts see it as its flags.
 #[derive(Drop)]
-pub struct Front<J: ShareName> {
+pub struct HistoryPrefix<J: ShareName> {
     count: u64,
     seen: Seen<Flags, u64, Law>,
     of: PhantomData<J>,
 }
 
-impl<J: ShareName> Model for Front<J> {
+impl<J: ShareName> Model for HistoryPrefix<J> {
     ghost use Rattle.std.specs.Prelude.{◌≡◌, List, length};
     ghost use Rattle.flag_defs.specs.declared.flags.Flags.{Flags};
     ghost use Rattle.flag_defs.specs.contracts.flags.Flags as entry;
@@ -32,12 +32,12 @@ impl<J: ShareName> Model for Front<J> {
     ghost invariant = { λ f. (f.count ≡ length f.seen.log) × (f.seen.book ≡ J.book) };
 }
 
-impl<J: ShareName> Front<J> {
-    pub(crate) fn of(seen: Seen<Flags, u64, Law>) -> Front<J>
+impl<J: ShareName> HistoryPrefix<J> {
+    pub(crate) fn of(seen: Seen<Flags, u64, Law>) -> HistoryPrefix<J>
         requires { (seen.log ≡ []) × (seen.book ≡ J.book) }
         ensures { result ≡ [] }
     {
-        Front {
+        HistoryPrefix {
             count: 0,
             seen,
             of: PhantomData,
@@ -52,18 +52,18 @@ impl<J: ShareName> Front<J> {
     }
 
     /// A copy.
-    pub(crate) fn again(&self) -> Front<J>
+    pub(crate) fn again(&self) -> HistoryPrefix<J>
         ensures { result ≡ self.now }
     {
-        Front {
+        HistoryPrefix {
             count: self.count,
             seen: self.seen.again(),
             of: PhantomData,
         }
     }
 
-    /// Whether it begins the other; else the other begins it.
-    pub(crate) fn begins(&self, other: &Front<J>) -> bool
+    /// True if this prefix is not longer than the other, and so begins it; else the other begins this one.
+    pub(crate) fn begins(&self, other: &HistoryPrefix<J>) -> bool
         ensures { MatchBool result (IsPrefix self.now other.now) (IsPrefix other.now self.now) }
     {
         let mut both = self.seen.again();
@@ -75,7 +75,7 @@ impl<J: ShareName> Front<J> {
     }
 
     /// Two of one length are the same.
-    pub(crate) fn agree(&self, other: &Front<J>)
+    pub(crate) fn agree(&self, other: &HistoryPrefix<J>)
         requires { length self.now ≡ length other.now }
         ensures { self.now ≡ other.now }
     {

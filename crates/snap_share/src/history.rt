@@ -2,7 +2,7 @@
 ghost use Rattle.std.specs.Prelude.{◌≡◌, []};
 ghost use Rattle.snap_share.specs.History.{head_of};
 
-use crate::front::Front;
+use crate::front::HistoryPrefix;
 use flag_defs::Flags;
 use logbook::{Gain, Plain, Play, Rule, Seen, Start, Word};
 use std::marker::{Brand, PhantomData};
@@ -85,8 +85,8 @@ impl History {
         }
     }
 
-    /// The history's word under a name, and the front that has seen nothing.
-    pub(crate) fn named<J: ShareName>(self) -> (Head<J>, Front<J>)
+    /// The history's word under a name, and the prefix that has seen nothing.
+    pub(crate) fn named<J: ShareName>(self) -> (Head<J>, HistoryPrefix<J>)
         requires { self.seen.book ≡ J.book }
         ensures { result.1 ≡ [] }
     {
@@ -95,7 +95,7 @@ impl History {
             word: head,
             of: PhantomData,
         };
-        (head, Front::of(seen))
+        (head, HistoryPrefix::of(seen))
     }
 }
 

@@ -5,7 +5,7 @@ ghost use Rattle.snap_share.specs.Shown.{TakesNumber};
 
 use crate::cell::{Handover, Places, StampWriter};
 use crate::fault::ShareFault;
-use crate::front::Front;
+use crate::front::HistoryPrefix;
 use crate::history::{Head, ShareName};
 use crate::stamp::Stamp;
 use core::mem::replace_with;
@@ -59,7 +59,7 @@ where
     }
 
     /// What was published so far.
-    fn front(&self) -> &Front<J>
+    fn front(&self) -> &HistoryPrefix<J>
         ensures { result.now ≡ self.now }
     {
         self.writer.published().front()
@@ -179,7 +179,7 @@ where
 /// What was published, as a publisher told it. Contracts see it as the flags.
 #[derive(Drop)]
 pub struct Told<J: ShareName> {
-    pub(crate) front: Front<J>,
+    pub(crate) front: HistoryPrefix<J>,
 }
 
 impl<J: ShareName> Model for Told<J> {

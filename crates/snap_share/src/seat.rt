@@ -10,7 +10,7 @@ ghost use Rattle.snap_share.specs.Lists.{StartsWith};
 use crate::cell::{StampReader, read};
 use crate::current::Current;
 use crate::fault::ShareFault;
-use crate::front::Front;
+use crate::front::HistoryPrefix;
 use crate::history::ShareName;
 use crate::publisher::Told;
 use crate::stamp::Stamp;
@@ -22,7 +22,7 @@ use sync_frames::SharedSnapshot;
 #[derive(Drop)]
 pub struct ReadSeat<J: ShareName> {
     pub(crate) reader: StampReader<J>,
-    pub(crate) known: Front<J>,
+    pub(crate) known: HistoryPrefix<J>,
 }
 
 impl<J: ShareName> Model for ReadSeat<J> {
@@ -41,7 +41,7 @@ impl<J: ShareName> Model for ReadSeat<J> {
 }
 
 impl<J: ShareName> ReadSeat<J> {
-    pub(crate) fn of(reader: StampReader<J>, known: Front<J>) -> ReadSeat<J>
+    pub(crate) fn of(reader: StampReader<J>, known: HistoryPrefix<J>) -> ReadSeat<J>
         ensures { result ≡ known }
     {
         ReadSeat { reader, known }

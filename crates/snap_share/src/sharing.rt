@@ -4,7 +4,7 @@ ghost use Rattle.snap_share.specs.Fault.{is_of_share};
 
 use crate::cell::StampWriter;
 use crate::fault::ShareFault;
-use crate::front::Front;
+use crate::front::HistoryPrefix;
 use crate::history::{History, ShareName};
 use crate::publisher::Publisher;
 use crate::seat::ReadSeat;
@@ -82,7 +82,7 @@ fn share_among<J: ShareName, R: Wait>(
 fn seated<J: ShareName>(
     alloc: Global,
     writer: &StampWriter<J>,
-    known: &Front<J>,
+    known: &HistoryPrefix<J>,
     seats: usize,
 ) -> Result<Vec<ReadSeat<J>>, ShareFault>
     ensures other { IfErr result (λ fault. (fault ≢ ShareFault.NoSeats) × (fault ≢ ShareFault.TooManySeats)) }

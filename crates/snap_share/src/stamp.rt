@@ -5,7 +5,7 @@ ghost use Rattle.std.specs.Arc.{arc_value};
 ghost use Rattle.snap_core.specs.HubView.{snapshot_view};
 ghost use Rattle.snap_share.specs.Known.{IsLastOf, IsSnapshotOf};
 
-use crate::front::Front;
+use crate::front::HistoryPrefix;
 use crate::history::ShareName;
 use std::alloc::AllocError;
 use std::marker::Model;
@@ -16,7 +16,7 @@ use sync_frames::SharedSnapshot;
 #[derive(Drop)]
 pub struct Stamp<J: ShareName> {
     snapshot: SharedSnapshot,
-    front: Front<J>,
+    front: HistoryPrefix<J>,
 }
 
 impl<J: ShareName> Model for Stamp<J> {
@@ -37,7 +37,7 @@ impl<J: ShareName> Model for Stamp<J> {
 }
 
 impl<J: ShareName> Stamp<J> {
-    pub(crate) fn of(snapshot: SharedSnapshot, front: Front<J>) -> Stamp<J>
+    pub(crate) fn of(snapshot: SharedSnapshot, front: HistoryPrefix<J>) -> Stamp<J>
         requires { IsSnapshotOf front (arc_value snapshot) }
         ensures { result ≡ front }
     {
@@ -66,7 +66,7 @@ impl<J: ShareName> Stamp<J> {
     }
 
     /// The history up to the flags.
-    pub(crate) fn front(&self) -> &Front<J>
+    pub(crate) fn front(&self) -> &HistoryPrefix<J>
         ensures { result.now ≡ self.now }
     {
         &self.front

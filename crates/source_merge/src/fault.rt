@@ -9,7 +9,7 @@ use thiserror::Error;
 /// Why sources refuse a call, in the order of the numbers.
 #[derive(Clone, Copy, Debug, PartialEq, Eq, Error)]
 pub enum SourceFault {
-    /// Memory was wanted and refused; it has no place in an order of refusals.
+    /// Out of memory; may occur at any point.
     #[error("out of memory")]
     WantOfMemory,
     /// There is a source of this name already.

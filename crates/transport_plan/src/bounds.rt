@@ -5,7 +5,7 @@ ghost use Rattle.std.specs.Prelude.{◌≡◌, ◌≤◌, ◌<◌, ◌*◌, ◌^
 use crate::stretches::{RANKS, Stretch, other};
 use std::alloc::{AllocError, Global};
 
-/// The points of a group that change: all of a rank below this one, and of this rank so many more.
+/// Which points of a group change: all of a rank below `rank`, and `more` points of rank `rank`.
 #[derive(Clone, Copy)]
 pub(crate) struct Limit {
     rank: usize,

@@ -1,5 +1,8 @@
 //! Texts in XML: any text is put where XML takes character data, and reads back as itself.
 //!
+//! A crate of its own, though it is small: it knows XML and nothing of flags, and `picture`, which uses it, need not know what
+//! XML escapes.
+//!
 //! [`push_escaped`] and [`escaped`] write the five characters that mean something to XML as entities, and U+FFFD for the
 //! characters that no document may have; [`push_start`] writes the first characters alone.
 //!

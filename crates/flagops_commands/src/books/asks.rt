@@ -9,7 +9,7 @@ ghost use Rattle.flagops_remarks.specs.Named.{Names};
 
 use flag_text::Tree;
 use flagops_drive::{AsksFile, read_asks};
-use flagops_files::{FileSet, Refusal, Refused, Remark, TEXT_LIMIT, load};
+use flagops_files::{FileSet, Refusal, Refused, Remark, TEXT_LIMIT, load, make_room_for};
 use flagops_remarks::{of_asks, of_text, of_unread_asks};
 use json::Scratch;
 use std::alloc::{AllocError, Global};
@@ -33,6 +33,7 @@ pub fn load_asks<'a, F: FileSet>(
 {
     *bytes = load(alloc, files, path, u64::from(TEXT_LIMIT))?;
     let bytes = bytes.as_slice();
+    make_room_for(alloc, bytes.len());
     match read_asks(alloc, bytes, TEXT_LIMIT as usize, scratch) {
         Ok(asks) => Ok(asks),
         Err(fault) => Err(Refused {

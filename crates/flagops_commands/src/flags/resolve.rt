@@ -46,10 +46,7 @@ pub fn resolve<F: FileSet>(
     let context = load_tree(alloc, files, context, TEXT_LIMIT)?;
     match line(alloc, &flags, key, kind, &default, &context, moment) {
         Ok(text) => Ok(Outcome::plain(text.into_bytes(), Status::Done)),
-        Err(AllocError) => Err(Refused {
-            refusal: Refusal::WantOfMemory(Call::Resolve),
-            remark: Remark::Short,
-        }),
+        Err(AllocError) => Err(Refused::out_of_memory(Call::Resolve)),
     }
 }
 

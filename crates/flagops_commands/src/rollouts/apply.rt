@@ -76,10 +76,7 @@ fn document(alloc: Global, flags: &Flags) -> Result<Outcome, Refused>
 {
     match document_line(alloc, flags) {
         Ok(text) => Ok(Outcome::plain(text, Status::Done)),
-        Err(AllocError) => Err(Refused {
-            refusal: Refusal::WantOfMemory(Call::Apply),
-            remark: Remark::Short,
-        }),
+        Err(AllocError) => Err(Refused::out_of_memory(Call::Apply)),
     }
 }
 
@@ -91,10 +88,7 @@ fn none(alloc: Global) -> Result<Outcome, Refused>
 {
     match Vec::from_slice(alloc, b"none\n") {
         Ok(text) => Ok(Outcome::plain(text, Status::NoneExists)),
-        Err(AllocError) => Err(Refused {
-            refusal: Refusal::WantOfMemory(Call::Apply),
-            remark: Remark::Short,
-        }),
+        Err(AllocError) => Err(Refused::out_of_memory(Call::Apply)),
     }
 }
 

@@ -40,10 +40,7 @@ pub fn settled<R: Threads>(
 {
     match doubted(rt, alloc, request, book, question) {
         Ok(doubted) => settle(call, request, book, doubted, strict),
-        Err(AllocError) => Err(Refused {
-            refusal: Refusal::WantOfMemory(call),
-            remark: Remark::Short,
-        }),
+        Err(AllocError) => Err(Refused::out_of_memory(call)),
     }
 }
 

@@ -19,8 +19,7 @@ use crate::rollouts::doubts::settled;
 use crate::rollouts::kept::kept;
 use crate::rollouts::verify::Paths;
 use flagops_files::{
-    Call, FileSet, Outcome, Question, Refusal, Refused, Remark, Status, load_planned,
-    load_question, store,
+    Call, FileSet, Outcome, Question, Refused, Remark, Status, load_planned, load_question, store,
 };
 use flagops_words::{Factor, factor_of};
 use plan_text::Planned;
@@ -134,10 +133,7 @@ fn none(alloc: Global, remark: Option<Remark>) -> Result<Outcome, Refused>
             status: Status::NoneExists,
             remark,
         }),
-        Err(AllocError) => Err(Refused {
-            refusal: Refusal::WantOfMemory(Call::Apply),
-            remark: Remark::Short,
-        }),
+        Err(AllocError) => Err(Refused::out_of_memory(Call::Apply)),
     }
 }
 
@@ -173,10 +169,7 @@ fn written_line(alloc: Global, count: usize) -> Result<String, Refused>
 {
     match written_text(alloc, count) {
         Ok(line) => Ok(line),
-        Err(AllocError) => Err(Refused {
-            refusal: Refusal::WantOfMemory(Call::Apply),
-            remark: Remark::Short,
-        }),
+        Err(AllocError) => Err(Refused::out_of_memory(Call::Apply)),
     }
 }
 

@@ -87,10 +87,7 @@ fn kept_for(
                 rule,
             )
         }
-        Err(PriceFault::WantOfMemory) => Err(Refused {
-            refusal: Refusal::WantOfMemory(Call::Apply),
-            remark: Remark::Short,
-        }),
+        Err(PriceFault::WantOfMemory) => Err(Refused::out_of_memory(Call::Apply)),
         // A request that was verified is read.
         Err(_) => unreachable!(),
     }

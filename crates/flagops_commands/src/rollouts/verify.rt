@@ -119,10 +119,7 @@ fn valid(
             status: Status::Done,
             remark,
         }),
-        Err(AllocError) => Err(Refused {
-            refusal: Refusal::WantOfMemory(Call::Verify),
-            remark: Remark::Short,
-        }),
+        Err(AllocError) => Err(Refused::out_of_memory(Call::Verify)),
     }
 }
 

@@ -8,9 +8,7 @@ ghost use Rattle.flagops_files.specs.Told.{TellsOfOne};
 ghost use Rattle.flagops_commands.specs.Subjects.{bucket_subjects};
 ghost use Rattle.rule_text.specs.Choosing.{choice_view};
 
-use flagops_files::{
-    Call, FileSet, Outcome, Refusal, Refused, Remark, Status, load_choice, quoted,
-};
+use flagops_files::{Call, FileSet, Outcome, Refused, Status, load_choice, quoted};
 use murmur_core::hash;
 use rule_text::Choice;
 use std::alloc::{AllocError, Global};
@@ -33,10 +31,7 @@ pub fn bucket<F: FileSet>(
     let choice = load_choice(alloc, files, rule, key)?;
     match answer(alloc, &choice, key, json) {
         Ok(text) => Ok(Outcome::plain(text.into_bytes(), Status::Done)),
-        Err(AllocError) => Err(Refused {
-            refusal: Refusal::WantOfMemory(Call::Bucket),
-            remark: Remark::Short,
-        }),
+        Err(AllocError) => Err(Refused::out_of_memory(Call::Bucket)),
     }
 }
 

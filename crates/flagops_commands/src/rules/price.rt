@@ -118,10 +118,7 @@ fn request_in(alloc: Global, path: &str, bytes: &[u8]) -> Result<NotedRequest, R
     match Request::read(alloc, bytes) {
         Ok(request) => match unread(alloc, path, bytes) {
             Ok(remark) => Ok(NotedRequest { request, remark }),
-            Err(AllocError) => Err(Refused {
-                refusal: Refusal::WantOfMemory(Call::ReadRequest),
-                remark: Remark::Short,
-            }),
+            Err(AllocError) => Err(Refused::out_of_memory(Call::ReadRequest)),
         },
         Err(fault) => Err(Refused {
             refusal: Refusal::ReadRequest(fault),
@@ -163,10 +160,7 @@ fn weigh_file<R: Threads + Sync>(
     match read_texts(alloc, bytes, TEXT_LIMIT as usize, &mut scratch) {
         Ok(Some(keys)) => weigh_keys(rt, alloc, path, keys, old, new, prices, json),
         Ok(None) => refuse_keys(alloc, path, bytes),
-        Err(AllocError) => Err(Refused {
-            refusal: Refusal::WantOfMemory(Call::Price),
-            remark: Remark::Short,
-        }),
+        Err(AllocError) => Err(Refused::out_of_memory(Call::Price)),
     }
 }
 
@@ -251,10 +245,7 @@ fn weigh_keys<R: Threads + Sync>(
     let exposure = noted(alloc, path, keys.as_slice())?;
     match lent(alloc, exposure.inputs()) {
         Ok(inputs) => priced(rt, alloc, old, new, prices, inputs.as_slice(), json),
-        Err(AllocError) => Err(Refused {
-            refusal: Refusal::WantOfMemory(Call::Price),
-            remark: Remark::Short,
-        }),
+        Err(AllocError) => Err(Refused::out_of_memory(Call::Price)),
     }
 }
 
@@ -310,10 +301,7 @@ fn noted(alloc: Global, path: &str, keys: &[&str]) -> Result<Exposure, Refused>
     }
     match book.exposure(alloc, &page) {
         Ok(exposure) => Ok(exposure),
-        Err(AllocError) => Err(Refused {
-            refusal: Refusal::WantOfMemory(Call::Price),
-            remark: Remark::Short,
-        }),
+        Err(AllocError) => Err(Refused::out_of_memory(Call::Price)),
     }
 }
 
@@ -342,10 +330,7 @@ fn priced(
     }
     match answer(rt, alloc, old, new, prices, inputs, json) {
         Ok(text) => Ok(Outcome::plain(text.into_bytes(), Status::Done)),
-        Err(AllocError) => Err(Refused {
-            refusal: Refusal::WantOfMemory(Call::Price),
-            remark: Remark::Short,
-        }),
+        Err(AllocError) => Err(Refused::out_of_memory(Call::Price)),
     }
 }
 

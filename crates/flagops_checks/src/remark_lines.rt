@@ -8,27 +8,27 @@ use crate::form::Form;
 use crate::telling::document_lines;
 use std::alloc::{AllocError, Global};
 
-/// The lines so far.
+/// The lines of a remark so far.
 #[derive(Drop)]
-pub(crate) struct Told {
+pub(crate) struct RemarkLines {
     pub(crate) lines: String,
     /// Whether memory ran out for some.
     pub(crate) is_short: bool,
 }
 
-impl Told {
-    pub(crate) fn new(alloc: Global) -> Told
+impl RemarkLines {
+    pub(crate) fn new(alloc: Global) -> RemarkLines
         ensures lines { string_bytes result.lines ≡ [] }
         ensures whole { result.is_short ≡ false }
     {
-        Told {
+        RemarkLines {
             lines: String::new(alloc),
             is_short: false,
         }
     }
 
     /// With the lines of a document.
-    pub(crate) fn with(self, alloc: Global, form: Form, checked: &Checked<'_>) -> Told
+    pub(crate) fn with(self, alloc: Global, form: Form, checked: &Checked<'_>) -> RemarkLines
         ensures { AddsLines form (checked_view checked.now) self result }
     {
         if self.is_short {
@@ -36,7 +36,7 @@ impl Told {
         }
         match document_lines(alloc, form, checked) {
             Ok(lines) => joined(self.lines, lines.as_str()),
-            Err(AllocError) => Told {
+            Err(AllocError) => RemarkLines {
                 lines: self.lines,
                 is_short: true,
             },
@@ -45,10 +45,10 @@ impl Told {
 }
 
 /// Lines behind others.
-fn joined(lines: String, more: &str) -> Told
+fn joined(lines: String, more: &str) -> RemarkLines
     ensures { result.is_short ≡ false → string_bytes result.lines ≡ string_bytes lines ++ more.now }
 {
     let mut lines = lines;
     let is_short = lines.push_str(more).is_err();
-    Told { lines, is_short }
+    RemarkLines { lines, is_short }
 }

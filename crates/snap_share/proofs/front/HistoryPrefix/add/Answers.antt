@@ -1,6 +1,6 @@
 use Rattle.std.proofs.Common.{sym, ◌∙◌, ap}
 use Rattle.snap_share.proofs.Adding.{adds_moves}
-use Rattle.snap_share.proofs.front.Front.add.Goals as goal
+use Rattle.snap_share.proofs.front.HistoryPrefix.add.Goals as goal
 
 pub compare_exchange-found-requires : goal.compare_exchange-found-requires
 compare_exchange-found-requires g c =

@@ -2,7 +2,7 @@ use Rattle.std.proofs.Common.{◌≤◌, ap, subst, arith, length, List}
 use mathlib.Core.List.{IsPrefix}
 use Rattle.flag_defs.specs.declared.flags.Flags.{Flags}
 use Rattle.snap_share.proofs.Fronts.{prefix_shorter}
-use Rattle.snap_share.proofs.front.Front.begins.Goals as goal
+use Rattle.snap_share.proofs.front.HistoryPrefix.begins.Goals as goal
 
 pub returns-then-self-other : goal.returns-then-self-other
 returns-then-self-other g c =

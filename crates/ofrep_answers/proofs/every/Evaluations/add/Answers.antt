@@ -2,7 +2,7 @@ use Rattle.std.proofs.Common.{ap, ◌∙◌}
 use Rattle.flag_text.specs.Shape.{items_are_whole}
 use Rattle.flag_text.specs.View.{items_view}
 use Rattle.ofrep_answers.proofs.Bodies.{whole_push}
-use Rattle.ofrep_answers.proofs.every.Told.add.Goals as goal
+use Rattle.ofrep_answers.proofs.every.Evaluations.add.Goals as goal
 
 pub invariant_of-self-2 : goal.invariant_of-self-2
 invariant_of-self-2 c =
