@@ -1,5 +1,5 @@
 -- The scalar of what a run gives is that of its outcome.
-use Rattle.std.proofs.Common.{◌≡◌, List, Result, Ok, Err, refl}
+use Rattle.std.proofs.Common.{◌≡◌, Result, Ok, Err, refl}
 use Rattle.flag_text.specs.Shape.{Shape}
 use Rattle.logic_eval.specs.Scalar.{scalar_of}
 use Rattle.logic_eval.specs.Budget.{Progress}

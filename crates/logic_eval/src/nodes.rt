@@ -73,10 +73,7 @@ fn evaluate_all<'s, 'a>(
 }
 
 // The values as a list.
-fn listed<'a>(
-    alloc: Global,
-    values: SmallVec<Value<'a>, 3>,
-) -> Result<Vec<Value<'a>>, AllocError>
+fn listed<'a>(alloc: Global, values: SmallVec<Value<'a>, 3>) -> Result<Vec<Value<'a>>, AllocError>
     ensures { IfOk result (λ v. map value_view v.items ≡ map value_view values.entry.items) }
 {
     let mut items = Vec::with_capacity(alloc, values.len())?;

@@ -8,8 +8,7 @@ use Rattle.logic_eval.specs.Budget.{paid}
 use Rattle.logic_values.specs.Comparison.{bool_eq}
 use Rattle.logic_eval.specs.Evaluation.{meaning, meanings, by_meaning, bucket_meanings, input, pairs, part_of}
 use Rattle.logic_eval.specs.Fractional.{decided}
-use Rattle.logic_eval.specs.Operators.{values, operated, applied, mapped, kept, occurs, reduced, over_items}
-use Rattle.logic_eval.specs.Run.{Run, ends}
+use Rattle.logic_eval.specs.Operators.{values, operated, mapped, kept, occurs, reduced, over_items}
 use Rattle.logic_values.specs.Truth.{is_true}
 use Rattle.logic_eval.specs.Views.{progress, scope_view, default_view, input_view, share_view}
 use Rattle.logic_values.specs.Views.{value_view}

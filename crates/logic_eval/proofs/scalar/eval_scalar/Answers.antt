@@ -1,5 +1,4 @@
-use Rattle.std.proofs.Common.{◌≡◌, map, ap, refl, ◌∙◌}
-use Rattle.flag_text.specs.View.{view as tree_view}
+use Rattle.std.proofs.Common.{map, ap, refl, ◌∙◌}
 use Rattle.logic_ast.specs.Expr.{view}
 use Rattle.logic_ast.specs.View.{node_view}
 use Rattle.logic_eval.specs.Budget.{Progress}
