@@ -9,7 +9,7 @@ root=$(cd "$(dirname "$0")/.." && pwd)
 work=$(mktemp -d)
 trap 'rm -rf "$work"' EXIT
 mkdir -p "$work/crates/eval_bench/src"
-for crate in limits murmur_core flag_text bucket_core logic_ast logic_evaluator logic_eval; do
+for crate in limits murmur_core flag_text bucket_core logic_ast logic_values logic_eval; do
     cp -r "$root/crates/$crate" "$work/crates/$crate"
     grep "^$crate:" "$root/crates.txt" >> "$work/crates.txt"
 done

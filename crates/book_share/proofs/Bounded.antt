@@ -15,23 +15,24 @@ use Rattle.logic_ast.specs.Expression.{Expression, literal, operation, fractiona
 use Rattle.logic_ast.specs.Expression as ast
 use Rattle.logic_ast.specs.declared.operator.Operator.{Operator}
 use Rattle.logic_ast.specs.declared.operator.Operator.TheVariants as op
-use Rattle.logic_evaluator.specs.declared.fault.EvalFault.{EvalFault}
-use Rattle.logic_evaluator.specs.declared.fault.EvalFault.TheVariants.{TooLong}
-use Rattle.logic_evaluator.specs.Comparison.{bool_eq}
-use Rattle.logic_evaluator.specs.Evaluation.{evaluation_of, part_of, pair, pairs, input, meaning, meanings, by_meaning, bucket_meaning, bucket_meanings}
-use Rattle.logic_evaluator.specs.Fractional.{buckets_of, chosen, by_input, by_buckets, given_input, made_input}
-use Rattle.logic_evaluator.specs.Lists.{items_in}
-use Rattle.logic_evaluator.specs.Operators.{Meaning, values, variable_run, strict, conditional, first_of_truth, mapped, kept, occurs, is_empty, all_of, reduce_scope, reduced, over_items, over, start, over_from_start, operated, applied}
-use Rattle.logic_evaluator.specs.Run.{Reach, Run, cost, reach, ends, gives, after, continues, ◌>>=◌, units_of, reached_of, most_units, with_reached}
-use Rattle.logic_evaluator.specs.Scope.{Situation, root_scope, default_input, size, variable}
-use Rattle.logic_evaluator.specs.Truth.{is_true}
-use Rattle.logic_evaluator.proofs.Budgets.{reached_of-append, units_of-append}
+use Rattle.logic_values.specs.declared.fault.EvalFault.{EvalFault}
+use Rattle.logic_values.specs.declared.fault.EvalFault.TheVariants.{TooLong}
+use Rattle.logic_values.specs.Comparison.{bool_eq}
+use Rattle.logic_eval.specs.Evaluation.{evaluation_of, part_of, pair, pairs, input, meaning, meanings, by_meaning, bucket_meaning, bucket_meanings}
+use Rattle.logic_eval.specs.Fractional.{buckets_of, chosen, by_input, by_buckets, given_input, made_input}
+use Rattle.logic_values.specs.Lists.{items_in}
+use Rattle.logic_eval.specs.Operators.{Meaning, values, variable_run, strict, conditional, first_of_truth, mapped, kept, occurs, is_empty, all_of, reduced, over_items, over, start, over_from_start, operated, applied}
+use Rattle.logic_values.specs.Objects.{reduce_scope}
+use Rattle.logic_eval.specs.Run.{Reach, Run, cost, reach, ends, gives, after, continues, ◌>>=◌, units_of, reached_of, most_units, with_reached}
+use Rattle.logic_eval.specs.Scope.{Situation, root_scope, default_input, size, variable}
+use Rattle.logic_values.specs.Truth.{is_true}
+use Rattle.logic_eval.proofs.Budgets.{reached_of-append, units_of-append}
 use Rattle.flag_defs.specs.Kind.{is_of_kind}
 use Rattle.flag_resolve.specs.Resolution.{Asked, given, given_default, chosen as chosen_variant, targeted, evaluated, enabled, found, resolution_of, default_of, variant_named, name_in}
 use Rattle.flag_resolve.specs.Resolved.{Resolved}
 use Rattle.flag_resolve.specs.Views.{resolution_view}
 use Rattle.flag_resolve.specs.declared.resolution.Resolution.{Resolution}
-use Rattle.logic_evaluator.specs.Views.{reach_view}
+use Rattle.logic_eval.specs.Views.{reach_view}
 use Rattle.flag_resolve.specs.declared.reason.Reason.{Reason}
 use Rattle.book_share.specs.Asked.{resolved}
 use Rattle.book_share.specs.declared.ask.Ask.{Ask}

@@ -9,9 +9,9 @@ use Rattle.std.proofs.lemmas.Option.{slice_get-get_or}
 use Rattle.std.specs.Prelude.{All, count_by, slice_get, Result, Ok, Err, IfOk}
 use Rattle.flag_defs.specs.Document.{Definitions}
 use Rattle.logic_ast.specs.Expression.{Expression}
-use Rattle.logic_evaluator.specs.Run.{Reach}
-use Rattle.logic_evaluator.specs.Views.{reach_view}
-use Rattle.logic_evaluator.specs.declared.meter.Reached.{Reached}
+use Rattle.logic_eval.specs.Run.{Reach}
+use Rattle.logic_eval.specs.Views.{reach_view}
+use Rattle.logic_eval.specs.declared.meter.Reached.{Reached}
 use Rattle.flag_resolve.specs.Views.{resolution_view}
 use Rattle.flag_resolve.specs.declared.resolution.Resolution.{Resolution}
 use Rattle.book_core.specs.Book.{most_bytes}

@@ -11,7 +11,7 @@ use Rattle.flag_defs.specs.Document.{Definitions}
 use Rattle.flag_resolve.specs.Resolved.{Resolved}
 use Rattle.flag_resolve.specs.Views.{resolution_view}
 use Rattle.flag_resolve.specs.declared.resolution.Resolution.{Resolution}
-use Rattle.logic_evaluator.specs.Run.{most_units}
+use Rattle.logic_eval.specs.Run.{most_units}
 use Rattle.book_lock.specs.Counts.{own}
 use Rattle.book_lock.specs.Seen.{sight, unseen}
 use Rattle.book_lock.specs.Told.{all_told}

@@ -12,7 +12,7 @@ use Rattle.book_core.specs.Book.{Contents, is_among, inputs_on, input_count, IsB
 use Rattle.book_core.specs.Calls.{Call, stands}
 use Rattle.book_core.specs.Page.{PageName, page_eq}
 use Rattle.book_core.specs.PageOrder.{pages_equal}
-use Rattle.logic_evaluator.specs.Views.{reach_view}
+use Rattle.logic_eval.specs.Views.{reach_view}
 use Rattle.flag_resolve.specs.Views.{resolution_view}
 use Rattle.flag_resolve.specs.Resolved.{Resolved}
 use Rattle.flag_resolve.specs.declared.resolution.Resolution.{Resolution}

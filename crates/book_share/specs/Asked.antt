@@ -8,7 +8,7 @@ use Rattle.flag_defs.specs.Flag.{targeting_in}
 use Rattle.logic_ast.specs.Expression.{Expression}
 use Rattle.logic_ast.specs.Writing.{by_text_at}
 use Rattle.logic_ast.specs.declared.fault.LogicFault.{LogicFault}
-use Rattle.logic_evaluator.specs.Run.{Reach}
+use Rattle.logic_eval.specs.Run.{Reach}
 use Rattle.flag_resolve.specs.Resolution.{resolution_of}
 use Rattle.flag_resolve.specs.Resolved.{Resolved}
 use Rattle.book_core.specs.Book.{most_bytes}

@@ -1,6 +1,6 @@
 //! Asks, answered by workers that share a book.
 ghost use Rattle.std.specs.Prelude.{◌≡◌, ◌≢◌, ◌<◌, ◌≤◌, ◌*◌, ◌^◌, ℕ, Some, None, List, length, map, count_by, sum_by, true, false, Ok, Err, IfErr, IfOk};
-ghost use Rattle.logic_evaluator.specs.Views.{reach_view};
+ghost use Rattle.logic_eval.specs.Views.{reach_view};
 ghost use Rattle.flag_defs.specs.Flags.{flags_view};
 ghost use Rattle.flag_resolve.specs.Views.{resolution_view};
 ghost use Rattle.book_lock.specs.Limits.{most_seats};
@@ -23,7 +23,7 @@ use book_lock::{Blanks, BookName, Seat, SeatsFault, SharedBook, seal};
 use flag_defs::Flags;
 use flag_resolve::Resolution;
 use limits::INPUT_BYTES;
-use logic_evaluator::Reached;
+use logic_eval::Reached;
 use std::alloc::Global;
 use std::marker::Brand;
 use std::sync::Wait;

@@ -2,7 +2,7 @@
 ghost use Rattle.std.specs.Prelude.{◌≡◌, ◌<◌, ◌≤◌, ◌+◌, ◌-◌, ◌^◌, [], ◌∷◌, ◌++◌, map, nat_lt, length, if◌then◌else◌, Some, IfOk, IfSome, option_map, string_bytes};
 ghost use Rattle.flag_defs.specs.Flags.{flags_view};
 ghost use Rattle.logic_ast.specs.Expr.{view};
-ghost use Rattle.logic_evaluator.specs.Views.{reach_view};
+ghost use Rattle.logic_eval.specs.Views.{reach_view};
 ghost use Rattle.book_core.specs.Book.{most_bytes};
 ghost use Rattle.book_lock.specs.Counts.{own};
 ghost use Rattle.book_share.specs.Asked.{by_at, mention, mention_by, mentions_by, page_of};
@@ -16,7 +16,7 @@ use book_lock::{BookName, Seat, SharedBook};
 use flag_defs::Flags;
 use limits::INPUT_BYTES;
 use logic_ast::{Expr, LogicFault, by_text};
-use logic_evaluator::Reached;
+use logic_eval::Reached;
 use std::alloc::{AllocError, Global};
 use std::sync::Wait;
 

@@ -2,7 +2,7 @@
 ghost use Rattle.std.specs.Prelude.{◌≡◌, ◌≢◌, ◌<◌, ◌≤◌, ◌+◌, ◌*◌, ◌^◌, [], true, false, length, count_by, Err, IfErr, IfOk, Bool};
 ghost use Rattle.flag_defs.specs.Flags.{flags_view};
 ghost use Rattle.flag_resolve.specs.Views.{resolution_view};
-ghost use Rattle.logic_evaluator.specs.Run.{most_units};
+ghost use Rattle.logic_eval.specs.Run.{most_units};
 ghost use Rattle.book_lock.specs.Counts.{own};
 ghost use Rattle.book_lock.specs.Limits.{most_seats};
 ghost use Rattle.book_share.specs.Asked.{asks_of, mentions_of, resolved as resolution_of_ask};

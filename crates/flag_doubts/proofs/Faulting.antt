@@ -8,11 +8,11 @@ use Rattle.bucket_core.specs.Rule.{Entries, total_weight}
 use Rattle.flag_text.specs.Readers.{as_text}
 use Rattle.flag_text.specs.Shape.{Shape, null, whole}
 use Rattle.logic_ast.specs.Expression.{Expression, literal, list, operation, fractional, By, Buckets, no_buckets, bucket, Bucket, literal_bucket, computed_bucket}
-use Rattle.logic_evaluator.proofs.Runs.{runs-gives, runs-faults, runs-cost, runs-bind}
-use Rattle.logic_evaluator.specs.Evaluation.{bucket_meaning, bucket_meanings, meaning, pair, pairs, part_of}
-use Rattle.logic_evaluator.specs.Fractional.{by_buckets, by_input, decided, entries_of, not_too_heavy}
-use Rattle.logic_evaluator.specs.Run.{Run, gives, ◌>>=◌}
-use Rattle.logic_evaluator.specs.declared.fault.EvalFault.{EvalFault}
+use Rattle.logic_eval.proofs.Runs.{runs-gives, runs-faults, runs-cost, runs-bind}
+use Rattle.logic_eval.specs.Evaluation.{bucket_meaning, bucket_meanings, meaning, pair, pairs, part_of}
+use Rattle.logic_eval.specs.Fractional.{by_buckets, by_input, decided, entries_of, not_too_heavy}
+use Rattle.logic_eval.specs.Run.{Run, gives, ◌>>=◌}
+use Rattle.logic_values.specs.declared.fault.EvalFault.{EvalFault}
 use Rattle.flag_doubts.proofs.Told.{Anything, Gives, any}
 use Rattle.flag_doubts.specs.Laws.{ABadWeightFaults, NoWeightGivesNull}
 use Rattle.flag_doubts.specs.Weights.{are_too_heavy, are_weightless, has_bad_weight, is_no_weight, is_zero, literal_total, literal_weight}

@@ -12,11 +12,11 @@ use Rattle.flag_text.specs.Readers.{as_object}
 use Rattle.flag_text.specs.Shape as shape
 use Rattle.flag_text.specs.Shape.{Shape, null, boolean, whole, text}
 use Rattle.logic_ast.specs.Expression.{Expression}
-use Rattle.logic_evaluator.specs.Evaluation.{evaluation_of, meaning}
-use Rattle.logic_evaluator.specs.Run.{Reach, Run, most_units, reached_of, result_of, units_of, with_reached}
-use Rattle.logic_evaluator.specs.Scope.{Situation, default_input, root_scope}
-use Rattle.logic_evaluator.specs.declared.fault.EvalFault.{EvalFault}
-use Rattle.logic_evaluator.specs.declared.fault.EvalFault.TheVariants.{TooLong}
+use Rattle.logic_eval.specs.Evaluation.{evaluation_of, meaning}
+use Rattle.logic_eval.specs.Run.{Reach, Run, most_units, reached_of, result_of, units_of, with_reached}
+use Rattle.logic_eval.specs.Scope.{Situation, default_input, root_scope}
+use Rattle.logic_values.specs.declared.fault.EvalFault.{EvalFault}
+use Rattle.logic_values.specs.declared.fault.EvalFault.TheVariants.{TooLong}
 use Rattle.flag_doubts.proofs.Told.{Gives, told}
 use Rattle.flag_doubts.specs.Doubts.{gives_none, has_truth, may_be_variant, never_gives, passes}
 use Rattle.flag_doubts.specs.Laws.{EachValueIsAnOutcome, IsAmong, NeverMatches}

@@ -16,21 +16,21 @@ use Rattle.flag_resolve.specs.Resolution.{name_in}
 use Rattle.logic_ast.specs.Expression.{Expression, literal, list, operation, fractional, Expressions, no_expressions, expression, Buckets, no_buckets, bucket, Bucket, literal_bucket, computed_bucket}
 use Rattle.logic_ast.specs.declared.operator.Operator.{Operator}
 use Rattle.logic_ast.specs.declared.operator.Operator.TheVariants as op
-use Rattle.logic_evaluator.proofs.Choices.{buckets_entries}
-use Rattle.logic_evaluator.proofs.Runs.{Runs, runs-ends, runs-gives, runs-faults, runs-cost, runs-reach, runs-bind}
-use Rattle.logic_evaluator.specs.Comparison.{bool_eq}
-use Rattle.logic_evaluator.specs.Evaluation.{meaning, meanings, bucket_meaning, bucket_meanings, pair, pairs}
-use Rattle.logic_evaluator.specs.Fractional.{by_buckets, by_input, buckets_of, chosen, decided}
-use Rattle.logic_evaluator.specs.Fractional as fractions
-use Rattle.logic_evaluator.specs.Arithmetic.{if_number}
-use Rattle.logic_evaluator.specs.Operators.{Meaning, all_of, applied, as_list, conditional, first_of_truth, is_empty, kept, mapped, none_of, occurs, over, over_items, some_of, strict}
-use Rattle.logic_evaluator.specs.Operators as operators
-use Rattle.logic_evaluator.specs.Run.{Reach, Run, gives, reached_of, ◌>>=◌}
-use Rattle.logic_evaluator.specs.Lists.{items_in}
-use Rattle.logic_evaluator.specs.Number.{number_of}
-use Rattle.logic_evaluator.specs.Scope.{missing_unless, size}
-use Rattle.logic_evaluator.specs.Truth.{is_true}
-use Rattle.logic_evaluator.specs.declared.fault.EvalFault.{EvalFault}
+use Rattle.logic_eval.proofs.Choices.{buckets_entries}
+use Rattle.logic_eval.proofs.Runs.{Runs, runs-ends, runs-gives, runs-faults, runs-cost, runs-reach, runs-bind}
+use Rattle.logic_values.specs.Comparison.{bool_eq}
+use Rattle.logic_eval.specs.Evaluation.{meaning, meanings, bucket_meaning, bucket_meanings, pair, pairs}
+use Rattle.logic_eval.specs.Fractional.{by_buckets, by_input, buckets_of, chosen, decided}
+use Rattle.logic_eval.specs.Fractional as fractions
+use Rattle.logic_values.specs.Arithmetic.{if_number}
+use Rattle.logic_eval.specs.Operators.{Meaning, all_of, applied, as_list, conditional, first_of_truth, is_empty, kept, mapped, none_of, occurs, over, over_items, some_of, strict}
+use Rattle.logic_eval.specs.Operators as operators
+use Rattle.logic_eval.specs.Run.{Reach, Run, gives, reached_of, ◌>>=◌}
+use Rattle.logic_values.specs.Lists.{items_in}
+use Rattle.logic_values.specs.Number.{number_of}
+use Rattle.logic_eval.specs.Scope.{missing_unless, size}
+use Rattle.logic_values.specs.Truth.{is_true}
+use Rattle.logic_values.specs.declared.fault.EvalFault.{EvalFault}
 use Rattle.flag_doubts.specs.Laws.{IsAmong}
 use Rattle.flag_doubts.specs.Outcomes.{Outcome, named, nameless, truth, computed, literal_outcomes, literal_name, given_by, given_outcome, outcomes, all_outcomes, branches, names, name}
 use Rattle.flag_doubts.specs.Outcomes as spec

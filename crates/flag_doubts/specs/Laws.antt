@@ -8,9 +8,9 @@ use Rattle.flag_resolve.specs.Resolution.{Asked, name_in, resolution_of}
 use Rattle.flag_resolve.specs.declared.reason.Reason.TheVariants.{TargetingMatch}
 use Rattle.flag_text.specs.Shape.{Shape, null, boolean}
 use Rattle.logic_ast.specs.Expression.{Expression, fractional, By, Buckets}
-use Rattle.logic_evaluator.specs.Evaluation.{evaluation_of, meaning}
-use Rattle.logic_evaluator.specs.Run.{Reach}
-use Rattle.logic_evaluator.specs.Scope.{Situation}
+use Rattle.logic_eval.specs.Evaluation.{evaluation_of, meaning}
+use Rattle.logic_eval.specs.Run.{Reach}
+use Rattle.logic_eval.specs.Scope.{Situation}
 use Rattle.flag_doubts.specs.Doubts.{gives_none}
 use Rattle.flag_doubts.specs.Outcomes.{Outcome, named, nameless, truth, computed, outcomes}
 use Rattle.flag_doubts.specs.Weights.{are_too_heavy, are_weightless, has_bad_weight}

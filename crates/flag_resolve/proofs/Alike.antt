@@ -4,11 +4,11 @@ use Rattle.flag_text.specs.Readers.{as_object}
 use Rattle.flag_text.specs.Shape.{Shape, null, boolean, whole, other, text, list, object}
 use Rattle.flag_defs.specs.Definition.{Rules, Definition, good}
 use Rattle.logic_ast.specs.Expression.{Expression}
-use Rattle.logic_evaluator.specs.Evaluation.{evaluation_of}
-use Rattle.logic_evaluator.specs.Laws.{each_reached}
-use Rattle.logic_evaluator.specs.Run.{Reach}
-use Rattle.logic_evaluator.specs.Scope.{Situation}
-use Rattle.logic_evaluator.specs.declared.fault.EvalFault.{EvalFault}
+use Rattle.logic_eval.specs.Evaluation.{evaluation_of}
+use Rattle.logic_eval.specs.Laws.{each_reached}
+use Rattle.logic_eval.specs.Run.{Reach}
+use Rattle.logic_eval.specs.Scope.{Situation}
+use Rattle.logic_values.specs.declared.fault.EvalFault.{EvalFault}
 use Rattle.flag_resolve.specs.Alike.{with_reached, ResolvesAlike, OthersStay}
 use Rattle.flag_defs.specs.Kind.{is_of_kind}
 use Rattle.flag_resolve.specs.Resolution.{Asked, failed, variant_named, default_of, name_in, given, given_default, chosen, targeted, evaluated, defined, found, resolution_of}

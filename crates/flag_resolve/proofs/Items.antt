@@ -5,8 +5,8 @@ use Rattle.serde_json.specs.Written.{compact_text, items_text}
 use Rattle.flag_text.specs.Printing.{data_of, items_data, text_of}
 use Rattle.flag_text.specs.Shape.{Shape, list, text}
 use Rattle.flag_text.specs.View.{view, items_of}
-use Rattle.logic_evaluator.specs.Views.{reach_view}
-use Rattle.logic_evaluator.specs.declared.meter.Reached.{Reached}
+use Rattle.logic_eval.specs.Views.{reach_view}
+use Rattle.logic_eval.specs.declared.meter.Reached.{Reached}
 use Rattle.flag_resolve.specs.Printing.{details, list_text, others_text, reach_shape, resolution_text, text_or_null}
 use Rattle.flag_resolve.specs.Views.{reached_shape, resolution_view}
 use Rattle.flag_resolve.specs.Words.{code_word, reason_word}

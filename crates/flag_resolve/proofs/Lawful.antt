@@ -8,10 +8,10 @@ use Rattle.flag_defs.specs.Definition.{Definition}
 use Rattle.flag_defs.specs.Document.{Definitions}
 use Rattle.flag_defs.specs.Flag.{is_broken, is_enabled, targeting_in}
 use Rattle.logic_ast.specs.Expression.{Expression}
-use Rattle.logic_evaluator.specs.Evaluation.{evaluation_of}
-use Rattle.logic_evaluator.specs.Run.{Reach}
-use Rattle.logic_evaluator.specs.Scope.{Situation}
-use Rattle.logic_evaluator.specs.declared.fault.EvalFault.{EvalFault}
+use Rattle.logic_eval.specs.Evaluation.{evaluation_of}
+use Rattle.logic_eval.specs.Run.{Reach}
+use Rattle.logic_eval.specs.Scope.{Situation}
+use Rattle.logic_values.specs.declared.fault.EvalFault.{EvalFault}
 use Rattle.flag_defs.specs.Kind.{is_of_kind}
 use Rattle.flag_resolve.specs.Lawful.{IsLawful, is_error}
 use Rattle.flag_resolve.specs.Resolution.{Asked, defaulted, failed, given, variant_named, default_of, name_in, given_default, chosen, targeted, evaluated, enabled, defined, found, resolution_of}

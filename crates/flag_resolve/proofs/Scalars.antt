@@ -4,8 +4,8 @@ use Rattle.flag_text.specs.Shape.{Shape, null, boolean, whole, other, text, list
 use Rattle.flag_defs.specs.Definition.{Definition}
 use Rattle.flag_resolve.specs.Resolution.{Asked, evaluated, targeted}
 use Rattle.logic_eval.specs.Scalar.{scalar_in, scalar_of}
-use Rattle.logic_evaluator.specs.Run.{Reach}
-use Rattle.logic_evaluator.specs.declared.fault.EvalFault.{EvalFault}
+use Rattle.logic_eval.specs.Run.{Reach}
+use Rattle.logic_values.specs.declared.fault.EvalFault.{EvalFault}
 
 targeted-scalar : (a : Asked) (d : Definition) (t : Shape) (rs : List Reach) → targeted a d (scalar_in t) rs ≡ targeted a d t rs
 targeted-scalar a d null rs = refl

@@ -5,10 +5,10 @@ use Rattle.std.specs.Str.{bytes_eq}
 use Rattle.flag_defs.specs.Definition.{Rules, good}
 use Rattle.flag_defs.specs.Document.{Definitions}
 use Rattle.logic_ast.specs.Expression.{Expression}
-use Rattle.logic_evaluator.specs.Evaluation.{evaluation_of}
-use Rattle.logic_evaluator.specs.Laws.{each_reached}
-use Rattle.logic_evaluator.specs.Run.{Reach}
-use Rattle.logic_evaluator.specs.Scope.{Situation}
+use Rattle.logic_eval.specs.Evaluation.{evaluation_of}
+use Rattle.logic_eval.specs.Laws.{each_reached}
+use Rattle.logic_eval.specs.Run.{Reach}
+use Rattle.logic_eval.specs.Scope.{Situation}
 use Rattle.flag_resolve.specs.Resolution.{Asked, resolution_of}
 use Rattle.flag_resolve.specs.Resolved.{Resolved}
 

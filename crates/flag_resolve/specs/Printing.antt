@@ -3,7 +3,7 @@ use Rattle.std.specs.Prelude.{ℕ, pos, List, [], ◌∷◌, ◌++◌, map, code
 use Rattle.flag_text.specs.Printing.{text_of}
 use Rattle.flag_text.specs.Shape.{Shape, null, whole, text, list, object, no_items, item, no_members, member}
 use Rattle.flag_text.specs.View.{items_of}
-use Rattle.logic_evaluator.specs.Run.{Reach}
+use Rattle.logic_eval.specs.Run.{Reach}
 use Rattle.flag_resolve.specs.Resolved.{Resolved}
 use Rattle.flag_resolve.specs.Words.{reason_word, code_word}
 

@@ -1,7 +1,7 @@
 -- What a resolution has (OpenFeature: resolution details).
 use Rattle.std.specs.Prelude.{ℕ, List, Option}
 use Rattle.flag_text.specs.Shape.{Shape}
-use Rattle.logic_evaluator.specs.Run.{Reach}
+use Rattle.logic_eval.specs.Run.{Reach}
 use Rattle.flag_resolve.specs.declared.code.Code.{Code}
 use Rattle.flag_resolve.specs.declared.reason.Reason.{Reason}
 

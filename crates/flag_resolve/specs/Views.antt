@@ -2,8 +2,8 @@
 use Rattle.std.specs.Prelude.{ℕ, List, map, option_map, string_bytes}
 use Rattle.flag_text.specs.Shape.{Shape}
 use Rattle.flag_text.specs.View.{view}
-use Rattle.logic_evaluator.specs.Views.{reach_view}
-use Rattle.logic_evaluator.specs.declared.meter.Reached.{Reached}
+use Rattle.logic_eval.specs.Views.{reach_view}
+use Rattle.logic_eval.specs.declared.meter.Reached.{Reached}
 use Rattle.flag_resolve.specs.Printing.{reach_shape}
 use Rattle.flag_resolve.specs.Resolution as resolution
 use Rattle.flag_resolve.specs.Resolved.{Resolved}

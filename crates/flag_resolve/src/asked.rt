@@ -2,7 +2,7 @@
 ghost use Rattle.std.specs.Prelude.{◌≡◌, true, IfOk, map, option_map};
 ghost use Rattle.flag_text.specs.Shape.{is_whole};
 ghost use Rattle.flag_text.specs.View.{view};
-ghost use Rattle.logic_evaluator.specs.Views.{reach_view};
+ghost use Rattle.logic_eval.specs.Views.{reach_view};
 
 use crate::code::Code;
 use crate::reason::Reason;

@@ -1,1 +1,22 @@
-pub mod Scalars
+mod Alike
+mod Answered
+mod Branches
+mod Branching
+mod Chains
+mod Exits
+mod Items
+mod Joined
+mod Names
+mod Paths
+mod Reaching
+mod Results
+mod Scalars
+mod Scopes
+mod Sites
+mod Sizes
+mod Values
+mod WholeValues
+pub mod Budgets
+pub mod Choices
+pub mod Replacing
+pub mod Runs

@@ -1,10 +1,10 @@
 -- The scalar of what a run gives is that of its outcome.
-use Rattle.std.proofs.Common.{◌≡◌, List, Result, Ok, Err, refl}
+use Rattle.std.proofs.Common.{◌≡◌, Result, Ok, Err, refl}
 use Rattle.flag_text.specs.Shape.{Shape}
 use Rattle.logic_eval.specs.Scalar.{scalar_of}
-use Rattle.logic_evaluator.specs.Budget.{Progress}
-use Rattle.logic_evaluator.specs.declared.fault.EvalFault.{EvalFault}
-use Rattle.logic_evaluator.proofs.Results.{outcome}
+use Rattle.logic_eval.specs.Budget.{Progress}
+use Rattle.logic_values.specs.declared.fault.EvalFault.{EvalFault}
+use Rattle.logic_eval.proofs.Results.{outcome}
 
 pub scalar-outcome : (r : Result (Shape × Progress) EvalFault) → scalar_of (outcome r) ≡ outcome (scalar_of r)
 scalar-outcome (Ok x) = refl

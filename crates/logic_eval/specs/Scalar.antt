@@ -1,13 +1,13 @@
 -- What an expression evaluates to, for one who asks for no number, list or object.
-use Rattle.std.specs.Prelude.{List, Result, Ok, Err}
+use Rattle.std.specs.Prelude.{Result, Ok, Err}
 use Rattle.flag_text.specs.Outcome.{GivesUnless}
 use Rattle.flag_text.specs.Shape.{Shape, null, boolean, text, list, no_items}
 use Rattle.flag_text.specs.View.{view}
 use Rattle.flag_text.specs.declared.tree.Tree.{Tree}
-use Rattle.logic_evaluator.specs.Budget.{Progress, paid}
-use Rattle.logic_evaluator.specs.Run.{Reach, Run}
-use Rattle.logic_evaluator.specs.declared.fault.EvalFault.{EvalFault}
-use Rattle.logic_evaluator.specs.declared.fault.EvalFault.TheVariants.{WantOfMemory}
+use Rattle.logic_eval.specs.Budget.{Progress, paid}
+use Rattle.logic_eval.specs.Run.{Run}
+use Rattle.logic_values.specs.declared.fault.EvalFault.{EvalFault}
+use Rattle.logic_values.specs.declared.fault.EvalFault.TheVariants.{WantOfMemory}
 
 -- null, a boolean or a text; an empty list stands for any other value
 abbrev pub scalar_in : Shape → Shape

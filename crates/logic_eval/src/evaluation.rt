@@ -5,18 +5,21 @@ ghost use Rattle.flag_text.specs.Outcome.{GivesUnless};
 ghost use Rattle.flag_text.specs.Shape.{is_whole};
 ghost use Rattle.flag_text.specs.View.{view as tree_view};
 ghost use Rattle.logic_ast.specs.Expr.{view};
-ghost use Rattle.logic_evaluator.specs.declared.fault.EvalFault.TheVariants.{WantOfMemory};
-ghost use Rattle.logic_evaluator.specs.Budget.{Follows};
-ghost use Rattle.logic_evaluator.specs.Evaluation.{evaluation_of, meaning};
-ghost use Rattle.logic_evaluator.specs.Laws.{IsOfSite};
-ghost use Rattle.logic_evaluator.specs.Scope.{flagd as flagd_of, default_input, root_scope};
+ghost use Rattle.logic_values.specs.declared.fault.EvalFault.TheVariants.{WantOfMemory};
+ghost use Rattle.logic_eval.specs.Budget.{Follows};
+ghost use Rattle.logic_eval.specs.Evaluation.{evaluation_of, meaning};
+ghost use Rattle.logic_eval.specs.Laws.{IsOfSite};
+ghost use Rattle.logic_eval.specs.Scope.{flagd as flagd_of, default_input, root_scope};
 ghost use Rattle.logic_ast.specs.Sites.{sites};
 ghost use Rattle.logic_ast.specs.View.{node_view};
-ghost use Rattle.logic_evaluator.specs.Views.{progress, reach_view, situation};
+ghost use Rattle.logic_eval.specs.Views.{progress, reach_view, situation};
 
+use crate::context::Context;
+use crate::meter::{Meter, Reached};
+use crate::nodes::evaluate_node;
 use flag_text::Tree;
 use logic_ast::{Expr, Node};
-use logic_evaluator::{Context, EvalFault, Meter, Reached, evaluate_node};
+use logic_values::EvalFault;
 use std::alloc::Global;
 
 /// The units that an evaluation may cost.

@@ -1,5 +1,5 @@
 //! What holds of the definitions alone.
-ghost use Rattle.logic_evaluator.specs.Laws.{LiteralSiteChooses, TrueTestSkipsTheRest, FalseTestSkipsItsResult, FalseEndsAnd, TrueEndsOr, OneSiteReplaced, ReachedAreGiven};
+ghost use Rattle.logic_eval.specs.Laws.{LiteralSiteChooses, TrueTestSkipsTheRest, FalseTestSkipsItsResult, FalseEndsAnd, TrueEndsOr, OneSiteReplaced, ReachedAreGiven};
 
 /// A site whose entries are literal evaluates its bucketing expression alone, and gives what its rule chooses for the input.
 pub fn a_literal_site_chooses()

@@ -16,20 +16,36 @@
 //! assert!(rt; reached.len() == 2 && reached[0].input.as_str() == "test" && reached[0].total == 10);
 //! ```
 //!
-//! Proved, over the definitions in `logic_evaluator`'s `specs/`: value, reached list and fault are those of `evaluation_of`
-//! (`Evaluation`, `Operators`, `Run`), for every expression and context; the value is whole; what is reached is of the
-//! expression's sites. [`a_literal_site_chooses`] and [`a_branch_not_taken_is_not_evaluated`] say what the definition amounts to
-//! (`Laws`). The work is `logic_evaluator`'s, node by node; here stand the start at the root, the budget and the laws.
+//! It walks the nodes (`nodes`), looks paths up in their scope (`find`), pays from the `meter`, and lets each site choose
+//! (`choice`). The values, and the operators on values alone, are `logic_values`'s.
+//!
+//! Proved, over the definitions in `specs/`: value, reached list and fault are those of `evaluation_of` (`Evaluation`,
+//! `Operators`, `Scope`, `Fractional`, `Run`), for every expression and context; the value is whole; what is reached is of the
+//! expression's sites. [`eval_scalar`] gives the same of a value that is a text, a boolean or null (`Scalar`).
+//! [`a_literal_site_chooses`], [`a_branch_not_taken_is_not_evaluated`] and [`a_rule_that_chooses_alike_changes_nothing_else`]
+//! say what the definition amounts to (`Laws`).
 #![tactic(auto)]
 
+mod apply;
+mod choice;
+mod context;
 mod evaluation;
+mod find;
+mod fractional;
 mod laws;
+mod meter;
+mod missing;
+mod nodes;
 mod scalar;
+mod scope;
+mod variable;
 
+pub use context::Context;
 pub use evaluation::eval;
 pub use laws::{
     a_branch_not_taken_is_not_evaluated, a_literal_site_chooses,
     a_rule_that_chooses_alike_changes_nothing_else,
 };
-pub use logic_evaluator::{Context, EvalFault, Reached};
+pub use logic_values::{EvalFault, Value};
+pub use meter::Reached;
 pub use scalar::eval_scalar;

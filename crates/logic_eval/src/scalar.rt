@@ -5,15 +5,19 @@ ghost use Rattle.flag_text.specs.View.{view as tree_view};
 ghost use Rattle.logic_ast.specs.Expr.{view};
 ghost use Rattle.logic_ast.specs.View.{node_view};
 ghost use Rattle.logic_eval.specs.Scalar.{FollowsScalar, scalar_in, scalar_of};
-ghost use Rattle.logic_evaluator.specs.Evaluation.{evaluation_of, meaning};
-ghost use Rattle.logic_evaluator.specs.Scope.{flagd as flagd_of, default_input, root_scope};
-ghost use Rattle.logic_evaluator.specs.Views.{progress, reach_view, situation, value_view};
-ghost use Rattle.logic_evaluator.specs.declared.fault.EvalFault.TheVariants.{WantOfMemory};
+ghost use Rattle.logic_eval.specs.Evaluation.{evaluation_of, meaning};
+ghost use Rattle.logic_eval.specs.Scope.{flagd as flagd_of, default_input, root_scope};
+ghost use Rattle.logic_eval.specs.Views.{progress, reach_view, situation};
+ghost use Rattle.logic_values.specs.Views.{value_view};
+ghost use Rattle.logic_values.specs.declared.fault.EvalFault.TheVariants.{WantOfMemory};
 
+use crate::context::Context;
 use crate::evaluation::MOST_UNITS;
+use crate::meter::{Meter, Reached};
+use crate::nodes::evaluate_node;
 use flag_text::Tree;
 use logic_ast::{Expr, Node};
-use logic_evaluator::{Context, EvalFault, Meter, Reached, Value, evaluate_node};
+use logic_values::{EvalFault, Value};
 use std::alloc::{AllocError, Global};
 
 /// What the expression evaluates to in the context, and the sites that were reached, as [`eval`](crate::eval) gives them where

@@ -11,10 +11,10 @@ use Rattle.flag_defs.specs.Definition.{Definition}
 use Rattle.flag_defs.specs.Document.{Definitions}
 use Rattle.flag_defs.specs.Flag.{default_variant_of, is_broken, is_definition, is_enabled, targeting_in, variant_of, variants_in}
 use Rattle.logic_ast.specs.Expression.{Expression}
-use Rattle.logic_evaluator.specs.Evaluation.{evaluation_of}
-use Rattle.logic_evaluator.specs.Run.{Reach}
-use Rattle.logic_evaluator.specs.Scope.{Situation}
-use Rattle.logic_evaluator.specs.declared.fault.EvalFault.{EvalFault}
+use Rattle.logic_eval.specs.Evaluation.{evaluation_of}
+use Rattle.logic_eval.specs.Run.{Reach}
+use Rattle.logic_eval.specs.Scope.{Situation}
+use Rattle.logic_values.specs.declared.fault.EvalFault.{EvalFault}
 use Rattle.flag_defs.specs.Kind.{is_of_kind}
 use Rattle.flag_resolve.specs.Resolution.{Asked, failed, defaulted, variant_named, default_of, name_in, given, given_default, chosen, targeted, evaluated, enabled, defined, found, resolution_of}
 use Rattle.flag_resolve.specs.Resolved.{Resolved}

@@ -3,9 +3,9 @@ use Rattle.std.proofs.Common.{◌≡◌, ℕ, ◌==◌, true, false, List, [], �
 use Rattle.std.proofs.lemmas.Bool.{eqb-true}
 use Rattle.std.proofs.lemmas.List.{append-nil, map-append}
 use Rattle.std.specs.Prelude.{string_bytes}
-use Rattle.logic_evaluator.specs.Run.{Reach}
-use Rattle.logic_evaluator.specs.Views.{reach_view}
-use Rattle.logic_evaluator.specs.declared.meter.Reached.{Reached}
+use Rattle.logic_eval.specs.Run.{Reach}
+use Rattle.logic_eval.specs.Views.{reach_view}
+use Rattle.logic_eval.specs.declared.meter.Reached.{Reached}
 use Rattle.ofrep_answers.specs.Answer.{reached_view}
 use Rattle.ofrep_answers.specs.Evaluation.{reached_at}
 use Rattle.ofrep_answers.specs.declared.answer.FlagReached.{FlagReached}

@@ -9,8 +9,8 @@ use Rattle.flag_resolve.specs.declared.code.Code.{Code}
 use Rattle.flag_resolve.specs.declared.code.Code.TheVariants.{ParseError, InvalidContext}
 use Rattle.flag_text.specs.Printing.{text_of}
 use Rattle.flag_text.specs.Shape.{Shape}
-use Rattle.logic_evaluator.specs.Run.{Reach}
-use Rattle.logic_evaluator.specs.Views.{reach_view}
+use Rattle.logic_eval.specs.Run.{Reach}
+use Rattle.logic_eval.specs.Views.{reach_view}
 use Rattle.ofrep_answers.specs.Evaluation.{bodies, evaluation, reached_at, reached_in}
 use Rattle.ofrep_answers.specs.Request.{Asked}
 use Rattle.ofrep_answers.specs.declared.answer.Answer as program

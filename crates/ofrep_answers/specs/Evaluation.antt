@@ -7,7 +7,7 @@ use Rattle.flag_defs.specs.Document.{Definitions}
 use Rattle.flag_resolve.specs.Resolution.{resolved_by}
 use Rattle.flag_resolve.specs.Resolved.{Resolved}
 use Rattle.flag_text.specs.Shape.{Shape, null}
-use Rattle.logic_evaluator.specs.Run.{Reach}
+use Rattle.logic_eval.specs.Run.{Reach}
 use Rattle.ofrep_answers.specs.Kind.{flag_kind}
 use Rattle.ofrep_bodies.specs.Evaluation.{body_of, status_of}
 

@@ -1,6 +1,6 @@
 //! What a request is answered.
 ghost use Rattle.std.specs.Prelude.{◌≡◌, ◌++◌, map, option_copied, OnOk};
-ghost use Rattle.logic_evaluator.specs.Views.{reach_view};
+ghost use Rattle.logic_eval.specs.Views.{reach_view};
 ghost use Rattle.ofrep_answers.specs.Answer.{answer_view, bare, body_view, bytes_of, media_type, reached_view};
 ghost use Rattle.ofrep_answers.specs.Answer as spec;
 ghost use Rattle.ofrep_answers.specs.Evaluation.{reached_at};

@@ -2,7 +2,7 @@
 ghost use Rattle.std.specs.Prelude.{◌≡◌, ◌==◌, ◌||◌, ◌++◌, IfOk, OnOk, map, option_map};
 ghost use Rattle.flag_defs.specs.Flags.{flags_view};
 ghost use Rattle.logic_ast.specs.Expr.{view};
-ghost use Rattle.logic_evaluator.specs.Views.{reach_view};
+ghost use Rattle.logic_eval.specs.Views.{reach_view};
 ghost use Rattle.ofrep_answers.specs.Answer.{answer_view, reached_view};
 ghost use Rattle.ofrep_worker.specs.Notes.{note_at, notes_at, notes_by, notes_in, notes_of};
 
@@ -10,7 +10,7 @@ use book_share::{page_at, targeting_of};
 use flag_defs::Flags;
 use http::StatusCode;
 use logic_ast::Expr;
-use logic_evaluator::Reached;
+use logic_eval::Reached;
 use note_lines::Note;
 use ofrep_answers::{Answer, FlagReached};
 use std::alloc::{AllocError, Global};

@@ -10,7 +10,7 @@ use Rattle.flag_defs.specs.Definition.{Definition}
 use Rattle.flag_defs.specs.Document.{Definitions}
 use Rattle.flag_defs.specs.Flag.{is_broken, targeting_in}
 use Rattle.logic_ast.specs.Expression.{Expression}
-use Rattle.logic_evaluator.specs.Run.{Reach}
+use Rattle.logic_eval.specs.Run.{Reach}
 use Rattle.flag_resolve.specs.Resolution.{resolved_by}
 use Rattle.flag_defs.specs.declared.kind.Kind.TheVariants as kind
 use Rattle.book_core.specs.Page.{PageName}

@@ -6,7 +6,7 @@ ghost use Rattle.flag_text.specs.Shape.{is_whole};
 ghost use Rattle.flag_text.specs.View.{view};
 ghost use Rattle.flag_defs.specs.Flag.{flag_view, is_broken, targeting_in};
 ghost use Rattle.flag_defs.specs.Flags.{flags_view};
-ghost use Rattle.logic_evaluator.specs.Views.{reach_view};
+ghost use Rattle.logic_eval.specs.Views.{reach_view};
 ghost use Rattle.record_lines.specs.Scene.{scene_of};
 ghost use Rattle.record_lines.specs.Record.{IsSceneOf, PagesIn, reached_in, note_of};
 ghost use Rattle.record_lines.specs.Refusal.{refusal_for};

@@ -10,9 +10,9 @@ use Rattle.logic_ast.specs.Expression.{Expression}
 use Rattle.logic_ast.specs.Formed.{is_well_formed}
 use Rattle.logic_ast.specs.Sites.{Site, site_at, entries_at, entries_of, if_site, if_entries, with_entries, replaced}
 use Rattle.logic_ast.specs.declared.fault.LogicFault.{LogicFault}
-use Rattle.logic_evaluator.specs.Laws.{reached_in, with_total}
-use Rattle.logic_evaluator.specs.Scope.{Situation}
-use Rattle.logic_evaluator.proofs.Replacing.{one_site}
+use Rattle.logic_eval.specs.Laws.{reached_in, with_total}
+use Rattle.logic_eval.specs.Scope.{Situation}
+use Rattle.logic_eval.proofs.Replacing.{one_site}
 use Rattle.flag_defs.specs.Changes.{rules_with_site, with_site}
 use Rattle.flag_defs.specs.Definition.{Rules, Definition, broken, good, are_variants}
 use Rattle.flag_defs.specs.Document.{Definitions}

@@ -7,7 +7,7 @@ use Rattle.std.proofs.lemmas.List.Elements.{All-weaker, All-nil, All-cons}
 use Rattle.flag_defs.specs.Document.{Definitions, DocumentMeans}
 use Rattle.flag_defs.proofs.Meanings.{one_meaning}
 use Rattle.flag_resolve.specs.Resolution.{Asked, resolution_of}
-use Rattle.logic_evaluator.specs.Scope.{Situation}
+use Rattle.logic_eval.specs.Scope.{Situation}
 use Rattle.snap_core.specs.Hub.{Numbered}
 use Rattle.sync_frames.specs.Frames.{frame_of, Frames}
 use Rattle.sync_frames.specs.Resolves.{AreFramesOf, IsFirstSent, GivesWhatWasSent, ResolvesAsSent, first_sent}

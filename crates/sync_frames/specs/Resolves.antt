@@ -2,7 +2,7 @@
 use Rattle.std.specs.Prelude.{◌≡◌, ℕ, ◌++◌, ◌==◌, List, [], ◌∷◌, if◌then◌else◌, Option, Some, None}
 use Rattle.std.specs.List.{All}
 use Rattle.flag_defs.specs.Document.{Definitions}
-use Rattle.logic_evaluator.specs.Scope.{Situation}
+use Rattle.logic_eval.specs.Scope.{Situation}
 use Rattle.flag_resolve.specs.Resolution.{Asked, resolution_of}
 use Rattle.snap_core.specs.Hub.{Numbered}
 use Rattle.sync_frames.specs.Frames.{IsDocumentOf, Reads, frame_of}

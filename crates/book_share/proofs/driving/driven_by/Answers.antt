@@ -3,7 +3,7 @@ use Rattle.std.specs.Prelude.{sum_by}
 use Rattle.std.specs.VecDeque.{deque_items}
 use Rattle.flag_defs.specs.Flags.{flags_view}
 use Rattle.flag_resolve.specs.declared.resolution.Resolution.{Resolution}
-use Rattle.logic_evaluator.specs.Views.{reach_view}
+use Rattle.logic_eval.specs.Views.{reach_view}
 use Rattle.book_lock.specs.Told.{all_told}
 use Rattle.book_share.specs.Asked.{long_inputs, mentions}
 use Rattle.book_share.specs.Driven.{AreInTurn, AreNoted}

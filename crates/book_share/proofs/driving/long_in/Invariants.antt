@@ -1,5 +1,5 @@
 use Rattle.std.proofs.Common.{◌≡◌, ◌≤◌, map, take}
-use Rattle.logic_evaluator.specs.Views.{reach_view}
+use Rattle.logic_eval.specs.Views.{reach_view}
 use Rattle.book_share.specs.Asked.{long_inputs}
 use Rattle.book_share.proofs.driving.long_in.Given as goal
 

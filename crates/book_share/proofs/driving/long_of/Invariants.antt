@@ -1,6 +1,6 @@
 use Rattle.std.proofs.Common.{◌≡◌, ◌≤◌, ◌*◌, map, take}
 use Rattle.std.specs.Prelude.{sum_by}
-use Rattle.logic_evaluator.specs.Views.{reach_view}
+use Rattle.logic_eval.specs.Views.{reach_view}
 use Rattle.book_share.specs.Asked.{long_inputs}
 use Rattle.book_share.proofs.driving.long_of.Given as goal
 

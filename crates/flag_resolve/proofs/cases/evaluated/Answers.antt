@@ -2,8 +2,8 @@ use Rattle.std.proofs.Common.{◌≡◌, sym, ap, ◌∙◌}
 use Rattle.std.proofs.lemmas.Result.{IfOk-weaker}
 use Rattle.flag_defs.specs.Flag.{flag_view}
 use Rattle.logic_ast.specs.Expr.{view as expr_view}
-use Rattle.logic_evaluator.specs.Evaluation.{evaluation_of}
-use Rattle.logic_evaluator.specs.Views.{situation}
+use Rattle.logic_eval.specs.Evaluation.{evaluation_of}
+use Rattle.logic_eval.specs.Views.{situation}
 use Rattle.flag_resolve.specs.Resolution.{evaluated}
 use Rattle.flag_resolve.specs.Views.{asked_view, resolution_view}
 use Rattle.flag_resolve.proofs.Scalars.{evaluated-scalar}

@@ -2,7 +2,7 @@ use Rattle.std.proofs.Common.{option_map, subst, sym}
 use Rattle.std.proofs.lemmas.Result.{IfOk-weaker}
 use Rattle.flag_defs.specs.Flags.{flags_view}
 use Rattle.flag_text.specs.View.{view}
-use Rattle.logic_evaluator.specs.Scope.{Situation}
+use Rattle.logic_eval.specs.Scope.{Situation}
 use Rattle.flag_resolve.specs.Lawful.{IsLawful}
 use Rattle.flag_resolve.specs.Resolution.{Asked}
 use Rattle.flag_resolve.specs.Views.{resolution_view}

@@ -4,13 +4,13 @@ use Rattle.flag_text.specs.Shape.{is_whole}
 use Rattle.flag_text.specs.View.{view as tree_view}
 use Rattle.logic_ast.specs.Expr.{view}
 use Rattle.logic_ast.specs.View.{node_view}
-use Rattle.logic_evaluator.specs.Budget.{Progress}
-use Rattle.logic_evaluator.specs.Laws.{IsOfSite}
-use Rattle.logic_evaluator.specs.Scope.{default_input, root_scope}
-use Rattle.logic_evaluator.specs.Views.{reach_view, situation}
-use Rattle.logic_evaluator.proofs.Answered.{answer_of, reached_none, no_value}
-use Rattle.logic_evaluator.proofs.Exits.{exits}
-use Rattle.logic_evaluator.proofs.Results.{outcome, evaluation_of-paid}
+use Rattle.logic_eval.specs.Budget.{Progress}
+use Rattle.logic_eval.specs.Laws.{IsOfSite}
+use Rattle.logic_eval.specs.Scope.{default_input, root_scope}
+use Rattle.logic_eval.specs.Views.{reach_view, situation}
+use Rattle.logic_eval.proofs.Answered.{answer_of, reached_none, no_value}
+use Rattle.logic_eval.proofs.Exits.{exits}
+use Rattle.logic_eval.proofs.Results.{outcome, evaluation_of-paid}
 use Rattle.logic_eval.proofs.evaluation.eval.Goals as goal
 
 pub returns-in_err-tree : goal.returns-in_err-tree

@@ -1,4 +1,4 @@
-use Rattle.logic_evaluator.proofs.Branching.{true_test, false_test, false_argument, true_argument}
+use Rattle.logic_eval.proofs.Branching.{true_test, false_test, false_argument, true_argument}
 use Rattle.logic_eval.proofs.laws.a_branch_not_taken_is_not_evaluated.Goals as goal
 
 pub returns-clause-true_test : goal.returns-clause-true_test

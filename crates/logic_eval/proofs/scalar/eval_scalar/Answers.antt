@@ -1,12 +1,11 @@
-use Rattle.std.proofs.Common.{◌≡◌, map, ap, refl, ◌∙◌}
-use Rattle.flag_text.specs.View.{view as tree_view}
+use Rattle.std.proofs.Common.{map, ap, refl, ◌∙◌}
 use Rattle.logic_ast.specs.Expr.{view}
 use Rattle.logic_ast.specs.View.{node_view}
-use Rattle.logic_evaluator.specs.Budget.{Progress}
-use Rattle.logic_evaluator.specs.Scope.{default_input, root_scope}
-use Rattle.logic_evaluator.specs.Views.{reach_view, situation}
-use Rattle.logic_evaluator.proofs.Exits.{exits}
-use Rattle.logic_evaluator.proofs.Results.{outcome, evaluation_of-paid}
+use Rattle.logic_eval.specs.Budget.{Progress}
+use Rattle.logic_eval.specs.Scope.{default_input, root_scope}
+use Rattle.logic_eval.specs.Views.{reach_view, situation}
+use Rattle.logic_eval.proofs.Exits.{exits}
+use Rattle.logic_eval.proofs.Results.{outcome, evaluation_of-paid}
 use Rattle.logic_eval.specs.Scalar.{scalar_of}
 use Rattle.logic_eval.proofs.Scalars.{scalar-outcome}
 use Rattle.logic_eval.proofs.scalar.eval_scalar.Goals as goal

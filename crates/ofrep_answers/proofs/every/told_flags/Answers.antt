@@ -5,7 +5,7 @@ use Rattle.flag_defs.specs.Flag.{flag_view}
 use Rattle.flag_resolve.specs.Resolved.{Resolved}
 use Rattle.flag_text.specs.Shape.{Shape}
 use Rattle.flag_text.specs.View.{view}
-use Rattle.logic_evaluator.specs.Run.{Reach}
+use Rattle.logic_eval.specs.Run.{Reach}
 use Rattle.ofrep_answers.proofs.Loops.{flat_step}
 use Rattle.ofrep_answers.specs.Evaluation.{body_if_told, evaluation, reached_at}
 use Rattle.ofrep_answers.proofs.every.told_flags.Goals as goal

@@ -1,6 +1,6 @@
 use Rattle.std.proofs.Common.{◌≡◌, ◌++◌, map, take, option_map}
 use Rattle.logic_ast.specs.Expr.{view}
-use Rattle.logic_evaluator.specs.Views.{reach_view}
+use Rattle.logic_eval.specs.Views.{reach_view}
 use Rattle.ofrep_worker.specs.Notes.{notes_at}
 use Rattle.ofrep_worker.proofs.notes.push_all.Given as goal
 

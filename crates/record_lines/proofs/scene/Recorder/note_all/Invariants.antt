@@ -1,5 +1,5 @@
 use Rattle.std.proofs.Common.{◌≡◌, ◌++◌, drop, map, flat_map}
-use Rattle.logic_evaluator.specs.Views.{reach_view}
+use Rattle.logic_eval.specs.Views.{reach_view}
 use Rattle.record_lines.specs.Record.{note_of}
 use Rattle.record_lines.specs.Scene.{scene_of}
 use Rattle.record_lines.proofs.scene.Recorder.note_all.Given as goal

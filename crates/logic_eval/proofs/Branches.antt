@@ -1,0 +1,119 @@
+-- What an expression gives, by its first step.
+use Rattle.std.proofs.Common.{◌≡◌, ◌≢◌, ℕ, ◌+◌, ◌<◌, ◌≤◌, Bool, true, false, List, [], ◌∷◌, length, get_or, drop, Option, Ok, Err, Vec, Global, refl, ap, ◌∙◌, arith}
+use Rattle.std.proofs.lemmas.List.{drop_all, get_or_default}
+use Rattle.flag_text.specs.declared.tree.Tree.{Tree}
+use Rattle.flag_text.specs.Shape.{Shape, null}
+use Rattle.flag_text.specs.View.{view}
+use Rattle.logic_ast.specs.declared.node.Node.{Node, the_lemmas}
+use Rattle.logic_ast.specs.declared.node.Node.TheVariants as node
+use Rattle.logic_ast.specs.declared.operator.Operator.{Operator}
+use Rattle.logic_ast.specs.declared.operator.Operator.TheVariants as op
+use Rattle.logic_ast.specs.Expression.{Expression, literal, operation}
+use Rattle.logic_ast.specs.Expression as ast
+use Rattle.logic_ast.specs.View.{node_view, nodes_view}
+use Rattle.logic_values.specs.declared.fault.EvalFault.{EvalFault}
+use Rattle.logic_eval.specs.Budget.{Progress, paid}
+use Rattle.logic_values.specs.Comparison.{bool_eq}
+use Rattle.logic_eval.specs.Evaluation.{meaning, meanings}
+use Rattle.logic_eval.specs.Operators.{Meaning, operated, strict, conditional, first_of_truth, found}
+use Rattle.logic_eval.specs.Run.{spends, gives}
+use Rattle.logic_eval.specs.Scope.{size}
+use Rattle.logic_values.specs.Truth.{is_true}
+use Rattle.logic_eval.proofs.Budgets.{bind_ok, bind_err, cost_ok, cost_err, paid-gives}
+use Rattle.logic_values.proofs.Items.{drop_at}
+
+pub node_view-literal : (t : Tree) → node_view (node.Literal t) ≡ literal (view t)
+node_view-literal t = simp the_lemmas refl
+
+pub node_view-list : (v : Vec Node Global) → node_view (node.List v) ≡ ast.list (nodes_view v.items)
+node_view-list v = simp the_lemmas refl
+
+pub node_view-operation : (o : Operator) (v : Vec Node Global) → node_view (node.Operation o v) ≡ operation o (nodes_view v.items)
+node_view-operation o v = simp the_lemmas refl
+
+-- a node is paid for as the expression that it is
+pub as_seen : (d : Option (List ℕ)) (scope : Shape) (p : Progress) (n : Node) (e : Expression) → node_view n ≡ e → paid p (meaning d (node_view n) scope) ≡ paid p (meaning d e scope)
+as_seen d scope p n e is = ap (λ x. paid p (meaning d x scope)) is
+
+-- a value that was found is paid for by its size
+pub found_ok : (p q : Progress) (v : Shape) (u : Unit {0}) → paid p (spends (size v)) ≡ Ok (u, q) → paid p (found v) ≡ Ok (v, q)
+found_ok p q v u e = cost_ok p (size v) (gives v) u q e ∙ paid-gives q v
+
+pub found_err : (p : Progress) (v : Shape) (e : EvalFault) → paid p (spends (size v)) ≡ Err e → paid p (found v) ≡ Err e
+found_err p v e h = cost_err p (size v) (gives v) e h
+
+-- an operator that takes the values of all its arguments
+pub operated-other : (o : Operator) (ms : List Meaning) → o ≢ op.Var → o ≢ op.If → o ≢ op.And → o ≢ op.Or → o ≢ op.Map → o ≢ op.Filter → o ≢ op.AllOf → o ≢ op.SomeOf → o ≢ op.NoneOf → o ≢ op.Reduce
+    → operated o ms ≡ strict o ms
+operated-other op.Var ms a b c d e f g h i j = absurd (a refl)
+operated-other op.If ms a b c d e f g h i j = absurd (b refl)
+operated-other op.And ms a b c d e f g h i j = absurd (c refl)
+operated-other op.Or ms a b c d e f g h i j = absurd (d refl)
+operated-other op.Map ms a b c d e f g h i j = absurd (e refl)
+operated-other op.Filter ms a b c d e f g h i j = absurd (f refl)
+operated-other op.AllOf ms a b c d e f g h i j = absurd (g refl)
+operated-other op.SomeOf ms a b c d e f g h i j = absurd (h refl)
+operated-other op.NoneOf ms a b c d e f g h i j = absurd (i refl)
+operated-other op.Reduce ms a b c d e f g h i j = absurd (j refl)
+operated-other _ ms a b c d e f g h i j = refl
+
+-- `if`, where a pair is left
+two_at : (xs : List Node) (i : ℕ) (x y : Node) → i + 1 < length xs → x ≡ get_or xs i x → y ≡ get_or xs (i + 1) y → drop i xs ≡ x ∷ y ∷ drop (i + 2) xs
+two_at xs i x y h is js =
+    let e : i + 2 ≡ i + 1 + 1 = omega arith in
+    rw e (drop_at xs i x (omega arith) is ∙ ap (λ zs. x ∷ zs) (drop_at xs (i + 1) y h js))
+
+-- the second of a pair
+other_of : (xs : List Node) (i : ℕ) (x : Node) → i < length xs → get_or xs i x ≡ get_or xs i (get_or xs i x)
+other_of xs i x h = get_or_default xs i x (get_or xs i x) h
+
+pub conditional_err : (d : Option (List ℕ)) (scope : Shape) (xs : List Node) (i : ℕ) (x : Node) (p : Progress) (e : EvalFault) → i + 1 < length xs → x ≡ get_or xs i x
+    → paid p (meaning d (node_view x) scope) ≡ Err e
+    → paid p (conditional (meanings d (nodes_view (drop i xs))) scope) ≡ Err e
+conditional_err d scope xs i x p e h is f = rw (two_at xs i x (get_or xs (i + 1) x) h is (other_of xs (i + 1) x h)) (bind_err p _ _ e f)
+
+pub conditional_true : (d : Option (List ℕ)) (scope : Shape) (xs : List Node) (i : ℕ) (x y : Node) (p q : Progress) (v : Shape) → i + 1 < length xs → x ≡ get_or xs i x → y ≡ get_or xs (i + 1) y
+    → paid p (meaning d (node_view x) scope) ≡ Ok (v, q) → is_true v ≡ true
+    → paid p (conditional (meanings d (nodes_view (drop i xs))) scope) ≡ paid q (meaning d (node_view y) scope)
+conditional_true d scope xs i x y p q v h is js e t = rw (two_at xs i x y h is js) (bind_ok p _ _ v q e ∙ rw t refl)
+
+pub conditional_false : (d : Option (List ℕ)) (scope : Shape) (xs : List Node) (i : ℕ) (x : Node) (p q : Progress) (v : Shape) → i + 1 < length xs → x ≡ get_or xs i x
+    → paid p (meaning d (node_view x) scope) ≡ Ok (v, q) → is_true v ≡ false
+    → paid p (conditional (meanings d (nodes_view (drop i xs))) scope) ≡ paid q (conditional (meanings d (nodes_view (drop (i + 2) xs))) scope)
+conditional_false d scope xs i x p q v h is e t = rw (two_at xs i x (get_or xs (i + 1) x) h is (other_of xs (i + 1) x h)) (bind_ok p _ _ v q e ∙ rw t refl)
+
+-- the last argument alone, and none
+pub conditional_last : (d : Option (List ℕ)) (scope : Shape) (xs : List Node) (i : ℕ) (x : Node) → i + 1 ≡ length xs → x ≡ get_or xs i x
+    → conditional (meanings d (nodes_view (drop i xs))) scope ≡ meaning d (node_view x) scope
+conditional_last d scope xs i x h is = rw (drop_at xs i x (omega arith) is, drop_all (i + 1) xs (omega arith)) refl
+
+pub conditional_end : (d : Option (List ℕ)) (scope : Shape) (xs : List Node) (i : ℕ) → length xs ≤ i → conditional (meanings d (nodes_view (drop i xs))) scope ≡ gives null
+conditional_end d scope xs i h = rw (drop_all i xs h) refl
+
+-- `and` and `or`, where more than one is left
+pub first_of_truth_err : (w : Bool) (d : Option (List ℕ)) (scope : Shape) (xs : List Node) (i : ℕ) (x : Node) (p : Progress) (e : EvalFault) → i + 1 < length xs → x ≡ get_or xs i x
+    → paid p (meaning d (node_view x) scope) ≡ Err e
+    → paid p (first_of_truth w (meanings d (nodes_view (drop i xs))) scope) ≡ Err e
+first_of_truth_err w d scope xs i x p e h is f = rw (two_at xs i x (get_or xs (i + 1) x) h is (other_of xs (i + 1) x h)) (bind_err p _ _ e f)
+
+pub first_of_truth_found : (w : Bool) (d : Option (List ℕ)) (scope : Shape) (xs : List Node) (i : ℕ) (x : Node) (p q : Progress) (v : Shape) → i + 1 < length xs → x ≡ get_or xs i x
+    → paid p (meaning d (node_view x) scope) ≡ Ok (v, q) → bool_eq w (is_true v) ≡ true
+    → paid p (first_of_truth w (meanings d (nodes_view (drop i xs))) scope) ≡ Ok (v, q)
+first_of_truth_found w d scope xs i x p q v h is e t = rw (two_at xs i x (get_or xs (i + 1) x) h is (other_of xs (i + 1) x h)) (bind_ok p _ _ v q e ∙ rw t (paid-gives q v))
+
+pub first_of_truth_next : (w : Bool) (d : Option (List ℕ)) (scope : Shape) (xs : List Node) (i : ℕ) (x : Node) (p q : Progress) (v : Shape) → i + 1 < length xs → x ≡ get_or xs i x
+    → paid p (meaning d (node_view x) scope) ≡ Ok (v, q) → bool_eq w (is_true v) ≡ false
+    → paid p (first_of_truth w (meanings d (nodes_view (drop i xs))) scope) ≡ paid q (first_of_truth w (meanings d (nodes_view (drop (i + 1) xs))) scope)
+first_of_truth_next w d scope xs i x p q v h is e t =
+    let y = get_or xs (i + 1) x in
+    let js : y ≡ get_or xs (i + 1) y = other_of xs (i + 1) x h in
+    let two : i + 1 + 1 ≡ i + 2 = omega arith in
+    rw (two_at xs i x y h is js) (bind_ok p _ _ v q e ∙ rw (t, drop_at xs (i + 1) y h js, two) refl)
+
+pub first_of_truth_last : (w : Bool) (d : Option (List ℕ)) (scope : Shape) (xs : List Node) (i : ℕ) (x : Node) → i + 1 ≡ length xs → x ≡ get_or xs i x
+    → first_of_truth w (meanings d (nodes_view (drop i xs))) scope ≡ meaning d (node_view x) scope
+first_of_truth_last w d scope xs i x h is = rw (drop_at xs i x (omega arith) is, drop_all (i + 1) xs (omega arith)) refl
+
+pub first_of_truth_none : (w : Bool) (d : Option (List ℕ)) (scope : Shape) (xs : List Node) → length xs ≡ 0 → first_of_truth w (meanings d (nodes_view xs)) scope ≡ gives null
+first_of_truth_none w d scope [] h = refl
+first_of_truth_none w d scope (x ∷ xs) h = absurd (omega arith)

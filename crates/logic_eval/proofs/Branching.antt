@@ -1,0 +1,90 @@
+-- What isn't evaluated of `if`, `and`, `or` and a site whose entries are literal.
+use Rattle.std.proofs.Common.{◌≡◌, ℕ, ◌<◌, ◌^◌, pos, true, nat_lt, List, [], ◌∷◌, append-nil, Option, Some, None, option_map, option_and_then, Result, Ok, Err, refl, ap, ◌∙◌, arith}
+use Rattle.bucket_core.specs.Rule.{Entries, total_weight}
+use Rattle.bucket_core.proofs.Points.{total_weight-cons}
+use Rattle.flag_text.specs.Shape.{Shape, text, whole}
+use Rattle.logic_ast.specs.Expression.{no_expressions, expression, Buckets, no_buckets, bucket, literal_bucket, computed_bucket}
+use Rattle.logic_ast.specs.Sites.{entries_of}
+use Rattle.logic_values.specs.declared.fault.EvalFault.{EvalFault}
+use Rattle.logic_eval.specs.Evaluation.{pairs, bucket_meanings}
+use Rattle.logic_eval.specs.Fractional as buckets
+use Rattle.logic_eval.specs.Fractional.{buckets_of, not_too_heavy, by_input, by_buckets, decided}
+use Rattle.logic_eval.specs.Run.{Run, cost, ends, gives, after, after_trace, continues, ◌>>=◌}
+use Rattle.logic_eval.specs.Laws.{LiteralSiteChooses, TrueTestSkipsTheRest, FalseTestSkipsItsResult, FalseEndsAnd, TrueEndsOr}
+
+-- a run that gives a value, and runs after it that are the same at that value
+same_after : {A B : Type 0} (r : Run A) (f g : A → Run B) (v : A) → r.ending ≡ Ok v → f v ≡ g v → (r >>= f) ≡ (r >>= g)
+unfolding ◌>>=◌
+same_after r f g v e h = rw e (ap (after_trace r.trace) h)
+
+-- a run that gives a value, and nothing after it
+nothing_after : {A : Type 0} (r : Run A) (f : A → Run A) (v : A) → r.ending ≡ Ok v → f v ≡ gives v → (r >>= f) ≡ r
+unfolding ◌>>=◌ ends
+nothing_after {A} r f v e h =
+    let step : (r >>= f) ≡ after_trace r.trace (f v) = rw e refl in
+    step ∙ (ap (after_trace r.trace) h ∙ rw (append-nil r.trace, ← e) refl)
+
+-- nothing before a run
+gives-then : {A B : Type 0} (v : A) (f : A → Run B) → (gives v >>= f) ≡ f v
+unfolding ◌>>=◌ ends
+gives-then v f = refl
+
+pub true_test : TrueTestSkipsTheRest
+true_test default test result rest scope v e t = ap (after (cost 1)) (same_after _ _ _ v e (rw t refl))
+
+pub false_test : FalseTestSkipsItsResult
+false_test default test result other rest scope v e t = ap (after (cost 1)) (same_after _ _ _ v e (rw t refl))
+
+pub false_argument : FalseEndsAnd
+false_argument default first no_expressions scope v e t = refl
+false_argument default first (expression next rest) scope v e t = ap (after (cost 1)) (nothing_after _ _ v e (rw t refl))
+
+pub true_argument : TrueEndsOr
+true_argument default first no_expressions scope v e t = refl
+true_argument default first (expression next rest) scope v e t = ap (after (cost 1)) (nothing_after _ _ v e (rw t refl))
+
+-- ---- a site whose entries are literal
+
+-- the names and weights of entries
+abbrev pub shares_of : Entries → List (Shape × Shape)
+shares_of [] = []
+shares_of (e ∷ es) = (text e.0, whole (pos e.1)) ∷ shares_of es
+
+pairs-literal : (default : Option (List ℕ)) (bs : Buckets) (rule : Entries) (scope : Shape) → entries_of bs ≡ Some rule → pairs (bucket_meanings default bs) scope ≡ gives (shares_of rule)
+pairs-literal default no_buckets rule scope e = let none : [] ≡ rule = cc in ap (λ r. gives (shares_of r)) none
+pairs-literal default (bucket (literal_bucket name weight) bs) rule scope e = go (entries_of bs) refl e (λ es f. pairs-literal default bs es scope f)
+  where
+    go : (o : Option Entries) → entries_of bs ≡ o → option_map (λ es. (name, weight) ∷ es) o ≡ Some rule → ((es : Entries) → entries_of bs ≡ Some es → pairs (bucket_meanings default bs) scope ≡ gives (shares_of es))
+        → pairs (bucket_meanings default (bucket (literal_bucket name weight) bs)) scope ≡ gives (shares_of rule)
+    go None f g of_rest = absurd (cc)
+    go (Some es) f g of_rest =
+        let all : (name, weight) ∷ es ≡ rule = cc in
+        let rest = of_rest es f in
+        let one : Shape × Shape = (text name, whole (pos weight)) in
+        rw (gives-then (text name), gives-then (whole (pos weight)), gives-then one, rest, gives-then (shares_of es)) (ap (λ r. gives (shares_of r)) all)
+pairs-literal default (bucket (computed_bucket name weight) bs) rule scope e = absurd (cc)
+
+shares-entries : (rule : Entries) → total_weight rule < 2 ^ 31 → buckets.entries_of (shares_of rule) ≡ Some rule
+shares-entries [] h = refl
+shares-entries (e ∷ es) h =
+    let sum = total_weight-cons e es in
+    let small : nat_lt e.1 (2 ^ 31) ≡ true = grind arith in
+    rw (small, shares-entries es (omega arith)) refl
+
+shares-buckets : (rule : Entries) → total_weight rule < 2 ^ 31 → buckets_of (shares_of rule) ≡ Some rule
+shares-buckets rule h = let small : nat_lt (total_weight rule) (2 ^ 31) ≡ true = grind arith in ap (option_and_then not_too_heavy) (shares-entries rule h) ∙ rw small refl
+
+decided-literal : (n : ℕ) (i : Option (Result (List ℕ) EvalFault)) (rule : Entries) → total_weight rule < 2 ^ 31 → decided n i (shares_of rule) ≡ by_input n i rule
+decided-literal n i rule h = ap (by_buckets n i) (shares-buckets rule h)
+
+same_next : {A B : Type 0} (r : Run A) (f g : A → Run B) → ((v : A) → f v ≡ g v) → (r >>= f) ≡ (r >>= g)
+unfolding ◌>>=◌
+same_next {A} {B} r f g h = go r.ending
+  where
+    go : (e : Result A EvalFault) → continues r.trace e f ≡ continues r.trace e g
+    go (Ok v) = ap (after_trace r.trace) (h v)
+    go (Err e) = refl
+
+pub literal_site : LiteralSiteChooses
+literal_site default n b bs rule scope e h =
+    ap (after (cost 1)) (same_next _ _ _ (λ i. ap (λ r. r >>= decided n i) (pairs-literal default bs rule scope e) ∙ (gives-then (shares_of rule) (decided n i) ∙ decided-literal n i rule h)))

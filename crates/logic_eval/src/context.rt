@@ -1,0 +1,81 @@
+//! What an evaluation is given beside the expression.
+ghost use Rattle.std.specs.Prelude.{◌≡◌, ◌<◌, ◌^◌, true, IfOk, IsSome};
+ghost use Rattle.flag_text.specs.Readers.{as_object};
+ghost use Rattle.flag_text.specs.Shape.{is_whole, members_are_whole};
+ghost use Rattle.flag_text.specs.View.{view, members_view};
+
+use crate::scope::{Scope, Subject};
+use flag_text::{Tree, member_by_halving};
+use logic_values::Root;
+use std::alloc::{AllocError, Global};
+
+/// The evaluation context, the flag's key and the moment: the last two are seen as `$flagd`.
+///
+/// It borrows the context and the key. By its type the context is whole and the moment is below 2^53.
+#[derive(Drop)]
+pub struct Context<'a> {
+    members: &'a [(String, Tree)],
+    flag: &'a str,
+    moment: u64,
+    pub ghost whole: { members_are_whole (members_view members.now) ≡ true },
+    pub ghost small: { moment < 2 ^ 53 },
+}
+
+impl<'a> Context<'a> {
+    ghost use Rattle.logic_eval.specs.Scope.{flagd, root_scope, default_input};
+    ghost use Rattle.logic_eval.specs.Views.{scope_view, default_view, situation};
+
+    /// The context is an object of whole numbers, and the moment is at most 2^53-1.
+    pub fn make(context: &'a Tree, flag: &'a str, moment: u64) -> Context<'a>
+        requires object { IsSome (as_object (view context.now)) }
+        requires whole { is_whole (view context.now) ≡ true }
+        requires moment { moment < 2 ^ 53 }
+        ensures { situation result ≡ record { context = view context.now; flag = flag.now; moment = moment } }
+    {
+        match context {
+            Tree::Object(members) => Context {
+                members: members.as_slice(),
+                flag,
+                moment,
+            },
+            _ => unreachable!(),
+        }
+    }
+
+    /// What stands in place of the context's member `$flagd`.
+    pub(crate) fn make_flagd(&self, alloc: Global) -> Result<Tree, AllocError>
+        ensures { IfOk result (λ t. view t ≡ flagd (situation self.now)) }
+    {
+        let mut members = Vec::with_capacity(alloc, 2)?;
+        let name = String::from_str(alloc, "flagKey")?;
+        members.push((name, Tree::Text(String::from_str(alloc, self.flag)?)))?;
+        let name = String::from_str(alloc, "timestamp")?;
+        members.push((name, Tree::Whole(self.moment as i64)))?;
+        Ok(Tree::Object(members))
+    }
+
+    /// The scope of the whole expression.
+    pub(crate) fn scope<'s>(&'s self, made: &'s Tree) -> Scope<'s, 's>
+        requires { view made.now ≡ flagd (situation self.now) }
+        ensures { scope_view result ≡ root_scope (situation self.now) }
+    {
+        Scope::Root(Root {
+            members: self.members,
+            flagd: made,
+        })
+    }
+
+    /// What the default hash input is made of.
+    pub(crate) fn subject(&self) -> Subject<'_>
+        ensures { default_view result ≡ default_input (situation self.now) }
+    {
+        let key = match member_by_halving(self.members, "targetingKey") {
+            Some(Tree::Text(key)) => Some(key.as_str()),
+            _ => None,
+        };
+        Subject {
+            flag: self.flag,
+            key,
+        }
+    }
+}

@@ -1,5 +1,0 @@
-use Rattle.std.proofs.Common.{length}
-use Rattle.logic_evaluator.proofs.apply.+never_falls.Given as goal
-
-abbrev pub decreases-never_falls : goal.decreases-never_falls
-decreases-never_falls l = length l.values.now

@@ -1,7 +1,0 @@
-use Rattle.std.proofs.Common.{sym, arith}
-use Rattle.logic_evaluator.specs.Comparison.{is_less}
-use Rattle.logic_evaluator.proofs.Chains.{chain_short}
-use Rattle.logic_evaluator.proofs.apply.+rises.Goals as goal
-
-pub returns-in_default : goal.returns-in_default
-returns-in_default t c = sym (chain_short is_less c.args.values.now (omega arith))

@@ -1,7 +1,0 @@
-use Rattle.std.proofs.Common.{◌≡◌, ◌*ℤ◌, drop, map}
-use Rattle.logic_evaluator.specs.Arithmetic.{folded}
-use Rattle.logic_evaluator.specs.Views.{value_view}
-use Rattle.logic_evaluator.proofs.arithmetic.product.Given as goal
-
-abbrev pub invariant-loop-value : goal.invariant-loop-value
-invariant-loop-value l = folded ◌*ℤ◌ l.total (map value_view (drop l.value-index l.values)) ≡ folded ◌*ℤ◌ l.initial.total (map value_view l.values)

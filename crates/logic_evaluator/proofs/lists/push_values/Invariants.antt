@@ -1,6 +1,0 @@
-use Rattle.std.proofs.Common.{◌≡◌, ◌++◌, map}
-use Rattle.logic_evaluator.specs.Views.{value_view}
-use Rattle.logic_evaluator.proofs.lists.push_values.Given as goal
-
-abbrev pub invariant-loop-part : goal.invariant-loop-part
-invariant-loop-part l = map value_view l.items.items ++ map value_view l.part-iterator.rest.items ≡ map value_view l.initial.items.items ++ map value_view l.fn.parts.items

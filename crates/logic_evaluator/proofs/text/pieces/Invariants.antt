@@ -1,7 +1,0 @@
-use Rattle.std.proofs.Common.{◌≡◌, ◌++◌, drop, map, flat_map, string_bytes}
-use Rattle.logic_evaluator.specs.Text.{piece}
-use Rattle.logic_evaluator.specs.Views.{value_view}
-use Rattle.logic_evaluator.proofs.text.pieces.Given as goal
-
-abbrev pub invariant-loop-value : goal.invariant-loop-value
-invariant-loop-value l = string_bytes l.text ++ flat_map piece (map value_view (drop l.value-index l.values)) ≡ flat_map piece (map value_view l.values)

@@ -1,7 +1,0 @@
-use Rattle.std.proofs.Common.{◌≡◌, ◌++◌, map}
-use Rattle.flag_text.specs.View.{view}
-use Rattle.logic_evaluator.specs.Views.{value_view}
-use Rattle.logic_evaluator.proofs.tree.+tree.Given as goal
-
-abbrev pub invariant-trees_of-loop-value : goal.invariant-trees_of-loop-value
-invariant-trees_of-loop-value l = map view l.trees.items ++ map value_view l.value-iterator.rest.items ≡ map value_view l.fn.values.items

@@ -1,7 +1,0 @@
-use Rattle.std.proofs.Common.{◌≡◌, take, map}
-use Rattle.flag_text.specs.View.{view}
-use Rattle.logic_evaluator.specs.Views.{value_view}
-use Rattle.logic_evaluator.proofs.value.lent.Given as goal
-
-abbrev pub invariant-loop-tree : goal.invariant-loop-tree
-invariant-loop-tree l = map value_view l.values.items ≡ map view (take l.tree-index l.trees)

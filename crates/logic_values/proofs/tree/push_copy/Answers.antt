@@ -1,0 +1,5 @@
+use Rattle.logic_values.proofs.Members.{before_one_more}
+use Rattle.logic_values.proofs.tree.push_copy.Goals as goal
+
+pub returns : goal.returns
+returns c = before_one_more _ _ _ _ _ c.in_ok-push.ensures.items c.in_ok-name.ensures.cases c.in_ok-copy.ensures

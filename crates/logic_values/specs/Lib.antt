@@ -1,0 +1,10 @@
+pub mod Arithmetic
+pub mod Comparison
+pub mod Fault
+pub mod Lists
+pub mod Number
+pub mod Objects
+pub mod Text
+pub mod Truth
+pub mod Version
+pub mod Views
