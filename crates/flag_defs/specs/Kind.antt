@@ -1,5 +1,6 @@
 -- The kinds of values that a flag may be asked for (OpenFeature: boolean, string, number and structure evaluation).
-use Rattle.std.specs.Prelude.{ℕ, List, codes, Bool, is_some, Option, Some, None, if◌then◌else◌}
+use Rattle.std.specs.Prelude.{ℕ, List, [], ◌∷◌, codes, Bool, is_some, Option, Some, None, if◌then◌else◌}
+use Rattle.std.specs.List.{find}
 use Rattle.std.specs.Str.{bytes_eq}
 use Rattle.flag_text.specs.Readers.{as_bool, as_text, as_whole, as_object}
 use Rattle.flag_text.specs.Shape.{Shape}
@@ -12,6 +13,13 @@ is_of_kind kind.Bool t = is_some (as_bool t)
 is_of_kind kind.Text t = is_some (as_text t)
 is_of_kind kind.Whole t = is_some (as_whole t)
 is_of_kind kind.Object t = is_some (as_object t)
+
+abbrev pub kinds : List Kind
+kinds = kind.Bool ∷ kind.Text ∷ kind.Whole ∷ kind.Object ∷ []
+
+-- the kind that the value is of: a null, a list, and a number that is not whole are of none
+abbrev pub kind_of : Shape → Option Kind
+kind_of t = find (λ k. is_of_kind k t) kinds
 
 -- the word that asks for the kind
 abbrev pub word_of : Kind → List ℕ

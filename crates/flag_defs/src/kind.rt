@@ -2,7 +2,7 @@
 ghost use Rattle.std.specs.Prelude.{◌≡◌};
 ghost use Rattle.flag_text.specs.View.{view, members_view};
 ghost use Rattle.flag_defs.specs.Definition.{all_values, are_of_one_kind};
-ghost use Rattle.flag_defs.specs.Kind.{is_of_kind, kind_named, word_of};
+ghost use Rattle.flag_defs.specs.Kind.{is_of_kind, kind_named, kind_of, word_of};
 
 use flag_text::Tree;
 
@@ -43,6 +43,16 @@ impl Kind {
             Kind::Whole => "whole",
             Kind::Object => "object",
         }
+    }
+
+    /// The kind that the value is of, if it is of one.
+    pub fn of(value: &Tree) -> Option<Kind>
+        ensures { result ≡ kind_of (view value.now) }
+    {
+        [Kind::Bool, Kind::Text, Kind::Whole, Kind::Object]
+            .iter()
+            .copied()
+            .find(|kind| kind.is_of(value))
     }
 
     /// Whether the value is of this kind. A null and a list are of none.
