@@ -4,7 +4,7 @@ No contract can force an allocation to succeed, so a body that answers want of m
 proved. That none does is read here, off the sources of all crates but those of tests. A want is made by
 - an `AllocError`, an `AllocFailed` with its value, an `OutOfMemory` of std, a fault's `WantOfMemory`, the `Unloaded` of a
   refusal, the `Short` of a run of events or of a remark,
-- a call of `want`, which writes the line of one, and a field `wants` that is set, which has one written later,
+- a call of `want`, which writes the line of one, or of `out_of_memory`, which makes the refusal of one, and a field `wants` that is set, which has one written later,
 - a text with the words of one,
 - a request for memory that none can meet, as `Vec::with_capacity(alloc, usize::MAX)`,
 - another name for one of these, by `use .. as ..`.
@@ -33,16 +33,14 @@ TAKEN = {
     ("crates/flagops_streams/src/report.rt", 'if write_three(out, b"refused ", call.as_bytes(), b" 0 WantOfMemory\\n") {'): (1, "`want` writes the line; its calls are looked for"),
     ("crates/flagops_files/src/reports.rt", 'b" 0 WantOfMemory\\n",'): (1, "`want` writes the line; its calls are looked for"),
     ("crates/flagops_files/src/reports.rt", "tell(err, Remark::Short.text());"): (1, "`want` tells it; its calls are looked for"),
+    ("crates/flagops_files/src/refused.rt", "refusal: Refusal::WantOfMemory(call),"): (1, "`out_of_memory` makes it; its calls are looked for"),
+    ("crates/flagops_files/src/refused.rt", "remark: Remark::Short,"): (1, "the same"),
     ("crates/flagops_files/src/loading.rt", "Err(_) => Remark::Short,"): (1, "the rule was refused, so its text is a tree, and is read again"),
     ("crates/flagops_remarks/src/breaches.rt", 'return Err(AllocError);'): (1, "the document was read as flags, so it is a tree, and is read again"),
     ("crates/flagops_commands/src/program.rt", "Err(call) => want(out, err, call),"): (1, "`answer` gives a call there only where that call ran out of memory"),
     ("crates/flagops_books/src/command.rt", "Err(call) => want(out, err, call),"): (1, "`answer` gives a call there only where that call ran out of memory"),
-    ("crates/flagops_books/src/uniting.rt", "refusal: Refusal::WantOfMemory(Call::Book),"): (1, "`out_of_memory` tells of an `AllocError` or a fault's want; its calls are looked for"),
-    ("crates/flagops_books/src/uniting.rt", "remark: Remark::Short,"): (1, "the same"),
     ("crates/flagops_checks/src/command.rt", "Err(call) => want(out, err, call),"): (1, "`answer` gives a call there only where that call ran out of memory"),
     ("crates/flagops_checks/src/command.rt", "Some(Remark::Short)"): (1, "`is_short` is set only where there was no memory for lines"),
-    ("crates/flagops_checks/src/gathering.rt", "refusal: Refusal::WantOfMemory(Call::Check),"): (1, "`out_of_memory` tells of an `AllocError`; its calls are looked for"),
-    ("crates/flagops_checks/src/gathering.rt", "remark: Remark::Short,"): (1, "the same"),
     ("crates/flagops_checks/src/names.rt", "Err(_) => Err(AllocError),"): (1, "the document was read as flags, so it is a tree, and is read again"),
     ("crates/flagops/src/main.rt", "ExitCode::from(want(&mut out, &mut err, Call::Flagops))"): (1, "there is no memory for the stack that the commands run on"),
     ("crates/flagops_pictures/src/command.rt", "Err(call) => want(out, err, call),"): (1, "`answer` gives a call there only where that call ran out of memory"),
@@ -52,6 +50,8 @@ TAKEN = {
     ("crates/flagops_ramps/src/ramping.rt", 'finish(alloc, came, b"refused ramp 0 WantOfMemory\\n", out, err)'): (1, "the line that `finish` writes of what came where memory ran out"),
     ("crates/flagops_ramps/src/verifying.rt", 'let line = b"refused verify-ramp 0 WantOfMemory\\n";'): (1, "the line that `finish` writes of what came where memory ran out"),
     ("crates/flagops_ramps/src/reports.rt", 'tell(err, "error: out of memory\\n");'): (1, "`want` tells it; its calls are looked for"),
+    ("crates/flagops_ramps/src/judging.rt", "return Err(out_of_memory());"): (1, "the book was read before, so `count` fails only where memory ran out, as its clause says"),
+    ("crates/flagops_ramps/src/ramping.rt", "return Err(out_of_memory());"): (1, "the same"),
     ("crates/flagops_ramps/src/judging.rt", "refusal: RampRefusal::Verify(VerifyFault::Request(RolloutFault::WantOfMemory)),"): (1, "`out_of_memory` tells of an `AllocError`; its calls are looked for"),
     ("crates/flagops_ramps/src/judging.rt", "remark: Remark::Short,"): (1, "the same"),
     ("crates/flagops_filters/src/recording.rt", 'refuse(alloc, told, b"refused record 0 WantOfMemory\\n", out, err)'): (1, "the line that `refuse` writes where memory ran out"),
@@ -69,7 +69,7 @@ NAMES = r"AllocError|AllocFailed|WantOfMemory|OutOfMemory|Unloaded|Short"
 MADE = re.compile(
     r"\b(?:AllocError|WantOfMemory|OutOfMemory|" + WORDS + r")\b|\bAllocFailed(?=\s*\{)"
     r"|(?<!struct )\bShort(?=\s*\{)|\bRemark::Short\b|(?<!struct )(?<!&)\bUnloaded\b(?!\s*[<{])"
-    r"|(?<![\w.])(?<!fn )want(?=\s*\()|\bwants\b(?=\s*(?:\|?=(?!=)|:)(?!\s*(?:false|bool)\b))"
+    r"|(?<![\w.])(?<!fn )(?:want|out_of_memory)(?=\s*\()|\bwants\b(?=\s*(?:\|?=(?!=)|:)(?!\s*(?:false|bool)\b))"
 )
 NAMED = re.compile(r"\b(?:AllocError|AllocFailed|WantOfMemory|OutOfMemory)\b|\b(?:Refusal::Unloaded|Remark::Short)\b|\.is_memory\(\)|\.is_want\(\)")
 RENAMED = re.compile(r"\b(?:" + NAMES + r"|want)\s+as\s+\w")
@@ -293,6 +293,7 @@ PLANTED = [
     ("a guard that says the opposite", "fn f() -> R {\n    match g() {\n        Err(e) if e.kind() != ErrorKind::OutOfMemory => Err(Fault::WantOfMemory),\n        _ => Ok(1),\n    }\n}\n", [3]),
     ("none where there is nothing", "fn f() -> R {\n    let n = g().ok_or(AllocError)?;\n    Ok(n)\n}\n", [2]),
     ("the line of a want", "fn f(out: &mut O) -> u8 {\n    want(out, Call::Plan)\n}\n", [2]),
+    ("the refusal of a want", "fn f() -> R {\n    Err(Refused::out_of_memory(Call::Plan))\n}\n", [2]),
     ("a run cut short", "pub struct Short {\n    pub done: usize,\n}\nfn f() -> Result<u8, Short> {\n    match g() {\n        Ok(n) => Ok(n),\n        Err(_) => Err(Short { done: 0 }),\n    }\n}\n", [7]),
     ("a block behind an arm", "fn f() -> R {\n    match g() {\n        Ok(n) => {\n            Err(Fault::WantOfMemory)\n        }\n        Err(AllocError) => Err(Fault::WantOfMemory),\n    }\n}\n", [4]),
     ("the variant of a refusal", "fn f() -> Result<u8, Refusal> {\n    if g() {\n        return Err(Refusal::Unloaded);\n    }\n    match h() {\n        Ok(n) => Ok(n),\n        Err(_) => Err(Refusal::Unloaded),\n    }\n}\n", [3, 7]),
