@@ -1,6 +1,6 @@
 pub mod Asked
-pub mod Counted
 pub mod Driving
+pub mod Misfits
 pub mod Named
 pub mod PlainAsks
 pub mod PlainFile

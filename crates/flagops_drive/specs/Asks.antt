@@ -31,6 +31,10 @@ key_in t = option_and_then as_text (member_of (codes "key") t)
 abbrev pub want_in : Shape → Option Kind
 want_in t = option_and_then kind_named (option_and_then as_text (member_of (codes "want") t))
 
+-- the member `default`: any value
+abbrev pub default_in : Shape → Option Shape
+default_in t = member_of (codes "default") t
+
 -- an object
 abbrev pub if_object : Shape → Option Shape
 if_object (object ms) = Some (object ms)
@@ -60,7 +64,7 @@ unfoldable pub ask_in : Shape → Option Ask
 ask_in t = do
   key ← key_in t
   want ← want_in t
-  default ← member_of (codes "default") t
+  default ← default_in t
   context ← context_in t
   moment ← moment_in t
   Some (record { key = key; want = want; default = default; context = context; moment = moment })

@@ -3,6 +3,7 @@ pub mod Driven
 pub mod Fault
 pub mod File
 pub mod Lines
+pub mod Misfit
 pub mod Plain
 pub mod Tally
 pub mod Unread

@@ -10,6 +10,7 @@ ghost use Rattle.flagops_drive.specs.Plain.{plain_view};
 
 use crate::asks_file::AsksFile;
 use crate::fault::DriveRefusal;
+use crate::misfit::Misfit;
 use crate::plain_ask::PlainAsk;
 use crate::reading::ask_in;
 use book_share::Ask;
@@ -17,7 +18,7 @@ use flag_text::Tree;
 use std::alloc::Global;
 
 /// The most asks.
-const MOST_ASKS: usize = 4_294_967_295;
+pub(crate) const MOST_ASKS: usize = 4_294_967_295;
 
 /// The items of a list of asks: asks that were read, or trees.
 #[derive(Clone, Copy)]
@@ -28,7 +29,7 @@ pub(crate) enum AskItems<'a> {
 
 /// The asks that a file is, which they borrow. It is refused with BadAsks where the file is no list of asks, or has 2^32 or
 /// more, before memory is taken.
-pub fn asks_of<'a>(alloc: Global, file: &'a AsksFile<'a>) -> Result<Vec<Ask<'a>>, DriveRefusal>
+pub fn asks_of<'a>(alloc: Global, file: &'a AsksFile<'_>) -> Result<Vec<Ask<'a>>, DriveRefusal>
     requires { is_whole (file_view file.now) ≡ true }
     ensures exact { GivesUnless want (λ v. map ask_view v.items) result (if_asks (asks_of_shape (file_view file.now))) }
     ensures few { IfOk result (λ v. length v.items < 2 ^ 32) }
@@ -41,7 +42,7 @@ pub fn asks_of<'a>(alloc: Global, file: &'a AsksFile<'a>) -> Result<Vec<Ask<'a>>
 }
 
 /// The items of a file that is a list of asks, and of fewer than 2^32.
-pub(crate) fn ask_items<'a>(file: &'a AsksFile<'a>) -> Option<AskItems<'a>>
+pub(crate) fn ask_items<'a>(file: &'a AsksFile<'_>) -> Option<AskItems<'a>>
     requires { is_whole (file_view file.now) ≡ true }
     ensures are { is_some result ≡ is_some (asks_of_shape (file_view file.now)) }
     ensures items { IfSome result (λ items. asks_in (items_of items) ≡ asks_of_shape (file_view file.now)) }
@@ -60,37 +61,17 @@ pub(crate) fn ask_items<'a>(file: &'a AsksFile<'a>) -> Option<AskItems<'a>>
 }
 
 /// The items of a tree that is a list of asks, and of fewer than 2^32.
-#[tactic(auto, unfolding(crate::specs::Asks::asks_of))]
-fn tree_items<'a>(tree: &'a Tree) -> Option<&'a [Tree]>
+fn tree_items(tree: &Tree) -> Option<&[Tree]>
     requires { is_whole (view tree.now) ≡ true }
     ensures are { is_some result ≡ is_some (asks_of_shape (view tree.now)) }
     ensures items { IfSome result (λ items. asks_in (items_view items.now) ≡ asks_of_shape (view tree.now)) }
     ensures whole { IfSome result (λ items. items_are_whole (items_view items.now) ≡ true) }
     ensures few { IfSome result (λ items. length items.now < 2 ^ 32) }
 {
-    let Tree::List(items) = tree else {
-        return None;
-    };
-    if items.len() > MOST_ASKS {
+    if Misfit::of(tree).is_some() {
         return None;
     }
-    if !are_asks(items.as_slice()) {
-        return None;
-    }
-    Some(items.as_slice())
-}
-
-/// Whether each item is an ask.
-fn are_asks(items: &[Tree]) -> bool
-    requires { items_are_whole (items_view items.now) ≡ true }
-    ensures { result ≡ is_some (asks_in (items_view items.now)) }
-{
-    for item in items {
-        if ask_in(item).is_none() {
-            return false;
-        }
-    }
-    true
+    tree.as_list()
 }
 
 /// The asks of items, which they borrow.

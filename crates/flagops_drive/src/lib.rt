@@ -4,7 +4,8 @@
 //! documentation and no others, and else as a tree. [`asks_of`] gives the asks of what was read; [`drive_asks`] has
 //! `book_share::drive` answer them by so many workers, and gives the whole output of the command, a [`Drove`]: a line for each
 //! resolution, five counts, and the file of the book, with a [`Tally`] of how many asks ended in what. [`refusal_of`] is what
-//! is refused before an ask is answered, and [`has_unread_ask`] whether an ask has a member that nobody reads.
+//! is refused before an ask is answered, [`Misfit::of`] what keeps a tree from being a list of asks, and where, and
+//! [`has_unread_ask`] whether an ask has a member that nobody reads.
 //!
 //! ```rust
 //! use flag_defs::read_flags;
@@ -20,11 +21,11 @@
 //!
 //! Proved, over the definitions of `specs/`: what was read, in either form, is the tree that `flag_text` reads of the bytes
 //! (`File.file_view`), and is refused as that is; the asks are those of `Asks.asks_of`, and are refused with BadAsks exactly
-//! where it gives none; the lines are `Lines.drive_text` of what the flags resolve the asks to, in their order; and the file
-//! is that of a book which, where no page was full, has just the inputs that the asks reached, and those that a book had
-//! before if one is given (`Driven.IsDrove`). The tally is of the resolutions that are printed (`Tally.IsTallied`), and has
-//! as many inputs as the asks reached. It is refused with PageFull only where no book holds both. The gate lets each ask
-//! start at once, so Stalled does not come.
+//! where it gives none, and then there is a misfit to tell of (`Misfit.misfit_of`); the lines are `Lines.drive_text` of what
+//! the flags resolve the asks to, in their order; and the file is that of a book which, where no page was full, has just the
+//! inputs that the asks reached, and those that a book had before if one is given (`Driven.IsDrove`). The tally is of the
+//! resolutions that are printed (`Tally.IsTallied`), and has as many inputs as the asks reached. It is refused with PageFull
+//! only where no book holds both. The gate lets each ask start at once, so Stalled does not come.
 #![tactic(auto)]
 
 mod asks;
@@ -32,7 +33,9 @@ mod asks_file;
 mod command;
 mod fault;
 mod gate;
+mod laws;
 mod lines;
+mod misfit;
 mod plain_ask;
 mod plain_asks;
 mod plain_members;
@@ -45,6 +48,8 @@ pub use asks::asks_of;
 pub use asks_file::{AsksFile, read_asks};
 pub use command::{Drove, Rest, drive_asks, refusal_of};
 pub use fault::DriveRefusal;
+pub use laws::a_misfit_is_all_that_refuses;
+pub use misfit::{AskMember, Misfit};
 pub use plain_ask::PlainAsk;
 pub use tally::{Endings, Tally};
 pub use unread::has_unread_ask;

@@ -2,7 +2,7 @@
 ghost use Rattle.std.specs.Prelude.{◌≡◌, ◌<◌, ◌^◌, true, IfSome, option_copied, option_map};
 ghost use Rattle.flag_text.specs.Shape.{is_whole};
 ghost use Rattle.flag_text.specs.View.{view};
-ghost use Rattle.flagops_drive.specs.Asks.{ask_in, ask_view, context_in, if_moment, key_in, moment_in, want_in};
+ghost use Rattle.flagops_drive.specs.Asks.{ask_in, ask_view, context_in, default_in, if_moment, key_in, moment_in, want_in};
 
 use book_share::Ask;
 use flag_resolve::Kind;
@@ -19,7 +19,7 @@ pub(crate) fn ask_in<'a>(tree: &'a Tree) -> Option<Ask<'a>>
 {
     let key = key_in(tree)?;
     let want = want_in(tree)?;
-    let default = tree.member("default")?;
+    let default = default_in(tree)?;
     let context = context_in(tree)?;
     let moment = moment_in(tree)?;
     Some(Ask {
@@ -31,19 +31,25 @@ pub(crate) fn ask_in<'a>(tree: &'a Tree) -> Option<Ask<'a>>
     })
 }
 
-fn key_in<'a>(tree: &'a Tree) -> Option<&'a str>
+pub(crate) fn key_in(tree: &Tree) -> Option<&str>
     ensures { option_copied result ≡ key_in (view tree.now) }
 {
     tree.member("key")?.as_text()
 }
 
-fn want_in(tree: &Tree) -> Option<Kind>
+pub(crate) fn want_in(tree: &Tree) -> Option<Kind>
     ensures { result ≡ want_in (view tree.now) }
 {
     Kind::named(tree.member("want")?.as_text()?)
 }
 
-fn context_in<'a>(tree: &'a Tree) -> Option<&'a Tree>
+pub(crate) fn default_in(tree: &Tree) -> Option<&Tree>
+    ensures { option_map (λ t. view t.now) result ≡ default_in (view tree.now) }
+{
+    tree.member("default")
+}
+
+pub(crate) fn context_in(tree: &Tree) -> Option<&Tree>
     ensures { option_map (λ t. view t.now) result ≡ context_in (view tree.now) }
 {
     let context = tree.member("context")?;
@@ -53,7 +59,7 @@ fn context_in<'a>(tree: &'a Tree) -> Option<&'a Tree>
     }
 }
 
-fn moment_in(tree: &Tree) -> Option<u64>
+pub(crate) fn moment_in(tree: &Tree) -> Option<u64>
     ensures value { result ≡ moment_in (view tree.now) }
     ensures small { IfSome result (λ n. n < 2 ^ 53) }
 {

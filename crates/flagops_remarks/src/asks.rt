@@ -4,9 +4,9 @@ ghost use Rattle.flagops_remarks.specs.Named.{Names, NamesWord};
 
 use crate::lines::{Lines, Opening};
 use crate::unread::put_meant;
-use flag_defs::Kind;
 use flag_text::Tree;
-use limits::{LATEST_MOMENT, SEATS};
+use flagops_drive::{DriveRefusal, Misfit};
+use limits::SEATS;
 use std::alloc::{AllocError, Global};
 use std::fmt;
 use unread_members::Reader;
@@ -24,7 +24,10 @@ pub fn of_asks(alloc: Global, path: &str, tree: &Tree) -> Result<String, AllocEr
 {
     let mut lines = Lines::new(alloc);
     write!(lines, " is no list of asks: ");
-    put_fault(&mut lines, tree);
+    match Misfit::of(tree) {
+        Some(misfit) => put_misfit(&mut lines, tree, misfit),
+        None => write!(lines, "{}", DriveRefusal::BadAsks),
+    }
     write!(
         lines,
         "\n  an ask has a key, want (bool, text, whole or object), default, context (an object) and moment\n",
@@ -32,39 +35,26 @@ pub fn of_asks(alloc: Global, path: &str, tree: &Tree) -> Result<String, AllocEr
     lines.headed(Opening::Error, path)
 }
 
-/// The first ask that is none, with the first member that is not of its form.
-fn put_fault(lines: &mut Lines, tree: &Tree) {
-    let Tree::List(asks) = tree else {
-        return write!(lines, "it is {}", lines.value(tree));
-    };
-    for (place, ask) in asks.iter().enumerate() {
-        for name in ["key", "want", "default", "context", "moment"] {
-            match ask.member(name) {
-                Some(value) if is_sound(name, value) => {}
-                Some(value) => {
-                    return write!(lines, "at [{place}].{name} stands {}", lines.value(value));
-                }
-                None => {
-                    return write!(lines, "its item [{place}] has no {name}");
-                }
-            }
+fn put_misfit(lines: &mut Lines, tree: &Tree, misfit: Misfit) {
+    match misfit {
+        Misfit::NoList => write!(lines, "it is {}", lines.value(tree)),
+        Misfit::Lacks(place, member) => {
+            write!(lines, "its item [{place}] has no {}", member.name())
         }
+        Misfit::Misshapen(place, member) => put_misshapen(lines, tree, place, member.name()),
+        Misfit::TooMany => write!(lines, "it has too many"),
     }
-    write!(lines, "it has too many");
 }
 
-/// Whether a member of an ask is of its form.
-fn is_sound(name: &str, value: &Tree) -> bool {
-    name == "default"
-        || match value {
-            Tree::Text(text) => name == "key"
-                || name == "want" && Kind::named(text.as_str()).is_some(),
-            Tree::Object(_) => name == "context",
-            Tree::Whole(moment) => name == "moment"
-                && 0 <= *moment
-                && *moment <= LATEST_MOMENT as i64,
-            _ => false,
-        }
+/// A member that is there and not of its form.
+fn put_misshapen(lines: &mut Lines, tree: &Tree, place: usize, name: &str) {
+    if let Some(value) = member_at(tree, place, name) {
+        write!(lines, "at [{place}].{name} stands {}", lines.value(value));
+    }
+}
+
+fn member_at<'a>(tree: &'a Tree, place: usize, name: &str) -> Option<&'a Tree> {
+    tree.as_list()?.get(place)?.member(name)
 }
 
 /// Of asks that have a member that is not read: how many have one, and the first such member.

@@ -200,24 +200,10 @@ fn is_outcome<G: Gate, R: Threads + Wait + Sync>(
     want: &str,
 ) -> bool {
     let mut scratch = Scratch::new(alloc);
-    match read_asks(alloc, text.as_bytes(), 67_108_864, &mut scratch) {
-        Ok(file) => is_outcome_in(rt, alloc, &file, workers, gate, want),
-        Err(_) => false,
-    }
-}
-
-/// The same of a file that was read.
-fn is_outcome_in<G: Gate, R: Threads + Wait + Sync>(
-    rt: &R,
-    alloc: Global,
-    file: &AsksFile<'_>,
-    workers: usize,
-    gate: &G,
-    want: &str,
-) -> bool
-    requires { is_whole (file_view file.now) ≡ true }
-{
-    match asks_of(alloc, file) {
+    let Ok(file) = read_asks(alloc, text.as_bytes(), 67_108_864, &mut scratch) else {
+        return false;
+    };
+    match asks_of(alloc, &file) {
         Ok(asks) => is_outcome_of(rt, alloc, asks.as_slice(), workers, gate, want),
         Err(_) => false,
     }

@@ -1,22 +1,23 @@
-use Rattle.std.proofs.Common.{◌<◌, ◌≤◌, ◌^◌, ◌∙◌, arith, is_some, length, sym, ap}
-use Rattle.flagops_drive.proofs.Counted.{asked, unasked}
+use Rattle.std.proofs.Common.{◌≡◌, ◌∙◌, false, is_some, sym, ap}
+use Rattle.flag_text.specs.View.{view}
+use Rattle.flagops_drive.specs.Misfit.{misfit_of}
+use Rattle.flagops_drive.proofs.Misfits.{are-listed, few-listed, items-listed, unasked}
 use Rattle.flagops_drive.proofs.asks.tree_items.Goals as goal
 
-pub returns-then-len-gt-MOST_ASKS-clause-are : goal.returns-then-len-gt-MOST_ASKS-clause-are
-returns-then-len-gt-MOST_ASKS-clause-are c =
-    let many : 2 ^ 32 ≤ length c.in-List.items.items = omega (arith, c.len.ensures, c.if-len-gt-MOST_ASKS.true) in sym (ap is_some (unasked c.args.tree.now c.in-List.items c.in-List.is many))
-
-pub returns-then-not-are_asks-clause-are : goal.returns-then-not-are_asks-clause-are
-returns-then-not-are_asks-clause-are c =
-    let few : length c.in-List.items.items < 2 ^ 32 = omega (arith, c.len.ensures, c.if-len-gt-MOST_ASKS.false) in
-    sym c.if-not-are_asks.true ∙ (c.are_asks.ensures ∙ ap is_some (asked c.args.tree.now c.in-List.items c.as_slice.result.now c.in-List.is c.as_slice.ensures.value few))
+pub returns-then-is_some-clause-are : goal.returns-then-is_some-clause-are
+returns-then-is_some-clause-are c = unasked (view c.args.tree.now) (ap is_some (sym c.of.ensures) ∙ (sym c.is_some.ensures ∙ c.if-is_some.true))
 
 pub returns-clause-are : goal.returns-clause-are
 returns-clause-are c =
-    let few : length c.in-List.items.items < 2 ^ 32 = omega (arith, c.len.ensures, c.if-len-gt-MOST_ASKS.false) in
-    sym c.if-not-are_asks.false ∙ (c.are_asks.ensures ∙ ap is_some (asked c.args.tree.now c.in-List.items c.as_slice.result.now c.in-List.is c.as_slice.ensures.value few))
+    let none : is_some (misfit_of (view c.args.tree.now)) ≡ false = ap is_some (sym c.of.ensures) ∙ (sym c.is_some.ensures ∙ c.if-is_some.false) in
+    are-listed (view c.args.tree.now) c.as_list.result c.as_list.ensures none
 
 pub returns-clause-items : goal.returns-clause-items
 returns-clause-items c =
-    let few : length c.in-List.items.items < 2 ^ 32 = omega (arith, c.len.ensures, c.if-len-gt-MOST_ASKS.false) in
-    asked c.args.tree.now c.in-List.items c.as_slice-2.result.now c.in-List.is c.as_slice-2.ensures.value few
+    let none : is_some (misfit_of (view c.args.tree.now)) ≡ false = ap is_some (sym c.of.ensures) ∙ (sym c.is_some.ensures ∙ c.if-is_some.false) in
+    items-listed (view c.args.tree.now) c.as_list.result c.as_list.ensures none
+
+pub returns-clause-few : goal.returns-clause-few
+returns-clause-few c =
+    let none : is_some (misfit_of (view c.args.tree.now)) ≡ false = ap is_some (sym c.of.ensures) ∙ (sym c.is_some.ensures ∙ c.if-is_some.false) in
+    few-listed (view c.args.tree.now) c.as_list.result c.as_list.ensures none
