@@ -9,7 +9,7 @@ use crate::lines::Lines;
 use crate::quoting::quoted_step;
 use crate::referred::Referred;
 use crate::search::Sought;
-use flag_defs::{Breach, breaches};
+use flag_defs::{Breach, Kind, breaches};
 use flag_text::{Tree, read_doc};
 use limits::TEXT_BYTES;
 use std::alloc::{AllocError, Global};
@@ -35,7 +35,7 @@ struct Causes<'a> {
     numbers: Referred<'a>,
     unknown: Referred<'a>,
     parts: Referred<'a>,
-    operations: Referred<'a>,
+    misuses: Referred<'a>,
 }
 
 impl<'a> Causes<'a> {
@@ -44,7 +44,7 @@ impl<'a> Causes<'a> {
             numbers: Referred::new(alloc, &[], Sought::NotWhole),
             unknown: Referred::new(alloc, evaluators, Sought::Unknown(evaluators)),
             parts: Referred::new(alloc, evaluators, Sought::NotWhole),
-            operations: Referred::new(alloc, evaluators, Sought::Operation),
+            misuses: Referred::new(alloc, evaluators, Sought::Misuse),
         }
     }
 }
@@ -183,7 +183,7 @@ fn put_breach(
             " has more than 10,000 nodes or 100 levels, with its references replaced",
         ),
         Breach::TargetingPart => causes.parts.put(lines, value)?,
-        Breach::Expression => causes.operations.put(lines, value)?,
+        Breach::Expression => causes.misuses.put(lines, value)?,
     }
     Ok(())
 }
@@ -198,15 +198,17 @@ fn put_other(lines: &mut Lines, value: Option<&Tree>, what: &str) {
 
 /// The first variant that is of none of the four kinds, or of another kind than the first.
 fn put_kinds(lines: &mut Lines, variants: &[(String, Tree)]) {
-    let mut first: Option<&'static str> = None;
+    let mut first: Option<Kind> = None;
     for (name, value) in variants {
         let (step, shown) = (lines.step(name.as_str()), lines.value(value));
-        match (kind(value), first) {
+        match (Kind::of(value), first) {
             (Some(kind), None) => first = Some(kind),
             (Some(kind), Some(other)) if kind == other => {}
             (Some(kind), Some(other)) => return write!(
                 lines,
-                "{step} is {kind} and the first variant {other}; all are of one kind",
+                "{step} is {} and the first variant {}; all are of one kind",
+                in_words(kind),
+                in_words(other),
             ),
             (None, _) if matches!(value, Tree::Other) => {
                 return write!(lines, "{step} is {shown}");
@@ -220,12 +222,11 @@ fn put_kinds(lines: &mut Lines, variants: &[(String, Tree)]) {
     write!(lines, " are not of one kind");
 }
 
-fn kind(tree: &Tree) -> Option<&'static str> {
-    match tree {
-        Tree::Bool(_) => Some("a boolean"),
-        Tree::Text(_) => Some("a text"),
-        Tree::Whole(_) => Some("a whole number"),
-        Tree::Object(_) => Some("an object"),
-        Tree::Null | Tree::Other | Tree::List(_) => None,
+fn in_words(kind: Kind) -> &'static str {
+    match kind {
+        Kind::Bool => "a boolean",
+        Kind::Text => "a text",
+        Kind::Whole => "a whole number",
+        Kind::Object => "an object",
     }
 }

@@ -2,8 +2,9 @@
 //!
 //! One search for the whole document finds them, backward from the evaluators in which something is wrong: it looks at each
 //! reference twice, however many flags are told of.
-use crate::search::{Sought, first_wrong, position, reference};
+use crate::search::{Sought, first_wrong, position};
 use crate::way::Way;
+use flag_references::reference_of;
 use flag_text::Tree;
 use std::alloc::{AllocError, Global};
 
@@ -151,7 +152,7 @@ pub(crate) fn references(alloc: Global, tree: &Tree) -> Result<Vec<&str>, AllocE
 fn refer<'a>(names: &mut Vec<&'a str>, tree: &'a Tree) -> Result<(), AllocError> {
     match tree {
         Tree::List(items) => refer_items(names, items),
-        Tree::Object(members) => match reference(members.as_slice()) {
+        Tree::Object(members) => match reference_of(members.as_slice()) {
             Some(name) => Ok(names.push(name)?),
             None => refer_members(names, members),
         },

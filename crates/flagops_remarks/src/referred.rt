@@ -4,6 +4,7 @@ use crate::lines::Lines;
 use crate::search::{Sought, Wrong, first_wrong};
 use crate::way::Way;
 use flag_text::Tree;
+use logic_ast::Misuse;
 use std::alloc::{AllocError, Global};
 use std::collections::BTreeMap;
 
@@ -107,23 +108,28 @@ fn put_wrong(lines: &mut Lines, wrong: Wrong<'_>, which: &str, evaluators: &[(St
             lines.name(name),
             lines.listed(evaluators),
         ),
-        Wrong::Operator(name) => {
-            write!(lines, ": the operator {} is unknown", lines.name(name));
-        }
-        Wrong::Arguments(name, count) => {
-            let name = lines.name(name);
+        Wrong::Misuse(name, misuse) => put_misuse(lines, name, misuse),
+        Wrong::Levels => write!(lines, "{which} nests too deep"),
+    }
+}
+
+/// What is wrong with the operation of this name itself.
+fn put_misuse(lines: &mut Lines, name: &str, misuse: Misuse) {
+    let name = lines.name(name);
+    match misuse {
+        Misuse::Operator => write!(lines, ": the operator {name} is unknown"),
+        Misuse::Arguments(count) => {
             write!(
                 lines,
                 ": the operator {name} does not take {count} arguments"
             );
         }
-        Wrong::Bucket(place) => {
+        Misuse::Bucket(place) => {
             write!(
                 lines,
-                ": argument {place} of \"fractional\" is no bucket [name, weight]"
+                ": argument {place} of {name} is no bucket [name, weight]"
             );
         }
-        Wrong::Levels => write!(lines, "{which} nests too deep"),
     }
 }
 
@@ -132,7 +138,7 @@ fn unplaced(sought: Sought<'_>) -> &'static str {
     match sought {
         Sought::NotWhole => "a number that is not whole, or a $ref that is none",
         Sought::Unknown(_) => "a $ref back to itself, or to no evaluator",
-        Sought::Operation => "an operator that is unknown or has wrong arguments",
+        Sought::Misuse => "an operator that is unknown or has wrong arguments",
         Sought::Within(_) => "what is not taken",
     }
 }

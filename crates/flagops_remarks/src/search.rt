@@ -2,8 +2,9 @@
 //!
 //! One search finds both: where a part has the place, the step to the part is noted before those that lie in it.
 use crate::way::Way;
+use flag_references::{MisusePlace, misuse_place, reference_of};
 use flag_text::Tree;
-use logic_ast::{Operator, is_fractional};
+use logic_ast::Misuse;
 use text_spans::Step;
 
 /// What is looked for.
@@ -13,8 +14,8 @@ pub(crate) enum Sought<'a> {
     NotWhole,
     /// A reference whose name is none of these members', which are sorted.
     Unknown(&'a [(String, Tree)]),
-    /// An operation that is none: its operator is unknown, or it has arguments that it does not take.
-    Operation,
+    /// An operation that is wrong in itself.
+    Misuse,
     /// A list or an object that lies in so many levels of others.
     Within(usize),
 }
@@ -36,12 +37,8 @@ pub(crate) enum Wrong<'a> {
     Number,
     /// A reference to this name.
     Reference(&'a str),
-    /// No operator has this name.
-    Operator(&'a str),
-    /// The operator does not take so many arguments.
-    Arguments(&'a str, usize),
-    /// The argument of a `fractional` at this place is no bucket.
-    Bucket(usize),
+    /// An operation of this name, wrong in itself.
+    Misuse(&'a str, Misuse),
     /// It nests too deep.
     Levels,
 }
@@ -53,6 +50,9 @@ pub(crate) fn first_wrong<'a>(
     sought: Sought<'_>,
     way: &mut Way<'a>,
 ) -> Option<Wrong<'a>> {
+    if let Sought::Misuse = sought {
+        return first_misuse(tree, way);
+    }
     if let Some(wrong) = wrong_at(tree, sought) {
         return Some(wrong);
     }
@@ -84,10 +84,6 @@ fn first_in_members<'a>(
     sought: Sought<'_>,
     way: &mut Way<'a>,
 ) -> Option<Wrong<'a>> {
-    // no expression stands in the members of a literal object, and of a reference
-    if matches!(sought, Sought::Operation) && operation(members.as_slice()).is_none() {
-        return None;
-    }
     for (name, member) in members {
         if let Some(wrong) = first_wrong(member, sought, way) {
             way.begin_with(Step::Name(name.as_str()));
@@ -97,35 +93,41 @@ fn first_in_members<'a>(
     None
 }
 
+/// The first operation that is wrong in itself, the way to which is noted.
+#[cycle(first_misuse)]
+fn first_misuse<'a>(tree: &'a Tree, way: &mut Way<'a>) -> Option<Wrong<'a>> {
+    match (tree, misuse_place(tree)?) {
+        (Tree::List(items), MisusePlace::Inside(place)) => {
+            let wrong = first_misuse(items.get(place)?, way)?;
+            way.begin_with(Step::Index(place));
+            Some(wrong)
+        }
+        (Tree::Object(members), MisusePlace::Inside(place)) => {
+            let (name, member) = members.get(place)?;
+            let wrong = first_misuse(member, way)?;
+            way.begin_with(Step::Name(name.as_str()));
+            Some(wrong)
+        }
+        (Tree::Object(members), MisusePlace::Here(misuse)) => {
+            let (name, _) = members.first()?;
+            Some(Wrong::Misuse(name.as_str(), misuse))
+        }
+        _ => None,
+    }
+}
+
 /// What is wrong with a tree itself.
 fn wrong_at<'a>(tree: &'a Tree, sought: Sought<'_>) -> Option<Wrong<'a>> {
     match (sought, tree) {
         (Sought::NotWhole, Tree::Other) => Some(Wrong::Number),
         (Sought::Unknown(known), Tree::Object(members)) => {
-            let name = reference(members.as_slice())?;
+            let name = reference_of(members.as_slice())?;
             match position(known, name) {
                 Some(_) => None,
                 None => Some(Wrong::Reference(name)),
             }
         }
-        (Sought::Operation, Tree::Object(members)) => wrong_operation(members.as_slice()),
         (Sought::Within(0), Tree::List(_) | Tree::Object(_)) => Some(Wrong::Levels),
-        _ => None,
-    }
-}
-
-/// The name that an object refers to.
-pub(crate) fn reference(members: &[(String, Tree)]) -> Option<&str> {
-    match members {
-        [(key, Tree::Text(name))] if key.as_str() == "$ref" => Some(name.as_str()),
-        _ => None,
-    }
-}
-
-/// The operator and the arguments of an operation: the one member of an object that is no reference.
-fn operation(members: &[(String, Tree)]) -> Option<(&str, &Tree)> {
-    match members {
-        [(name, arguments)] if reference(members).is_none() => Some((name.as_str(), arguments)),
         _ => None,
     }
 }
@@ -135,34 +137,4 @@ pub(crate) fn position(members: &[(String, Tree)], name: &str) -> Option<usize> 
     members
         .binary_search_by(|(key, _)| key.as_str().cmp(name))
         .ok()
-}
-
-fn wrong_operation(members: &[(String, Tree)]) -> Option<Wrong<'_>> {
-    let (name, arguments) = operation(members)?;
-    if is_fractional(name) {
-        return wrong_bucket(arguments);
-    }
-    let count = match arguments {
-        Tree::List(items) => items.len(),
-        _ => 1,
-    };
-    match Operator::named(name) {
-        None => Some(Wrong::Operator(name)),
-        Some(operator) if operator.takes(count) => None,
-        Some(_) => Some(Wrong::Arguments(name, count)),
-    }
-}
-
-/// What is no bucket among the arguments of a `fractional`, of which the first is an expression unless it is a list.
-fn wrong_bucket(arguments: &Tree) -> Option<Wrong<'_>> {
-    for (place, item) in arguments.as_list()?.iter().enumerate() {
-        let is_bucket = match item {
-            Tree::List(parts) => parts.len() == 1 || parts.len() == 2,
-            _ => place == 0,
-        };
-        if !is_bucket {
-            return Some(Wrong::Bucket(place));
-        }
-    }
-    None
 }
