@@ -2,6 +2,7 @@ pub mod Buckets
 pub mod Ends
 pub mod Hashes
 pub mod Items
+pub mod Named
 pub mod Points
 pub mod Refined
 pub mod Runs

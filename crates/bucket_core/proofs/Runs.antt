@@ -1,6 +1,7 @@
 -- The one canonical rule of given points: a run of equal names for each entry.
-use Rattle.std.proofs.Common.{◌≡◌, ℕ, zero, suc, ◌<◌, ◌≤◌, ◌≢◌, inl, inr, List, [], ◌∷◌, ◌++◌, length, drop, get_or, replicate, true, false, eqb, if◌then◌else◌, refl, sym, ap, subst, ◌∙◌, one-add, append_assoc, arith}
+use Rattle.std.proofs.Common.{◌≡◌, ◌↔◌, MatchOption, ℕ, zero, suc, ◌<◌, ◌≤◌, ◌≢◌, inl, inr, Option, Some, None, Bor, List, [], ◌∷◌, ◌++◌, length, drop, get_or, replicate, true, false, eqb, if◌then◌else◌, refl, sym, ap, subst, ◌∙◌, one-add, append_assoc, arith}
 use Rattle.std.specs.List.{All, AllPairs, prefix_len}
+use Rattle.std.specs.Prelude.{⊤}
 use Rattle.std.specs.Str.{bytes_eq}
 use Rattle.std.proofs.lemmas.Bool.{cases_order, cases_Bool, eqb-true, eqb-false, eq-eqb}
 use Rattle.std.proofs.lemmas.List.{append-nil}
@@ -8,6 +9,40 @@ use Rattle.std.proofs.lemmas.List.Elements.{All-tail, All-head}
 use Rattle.std.proofs.lemmas.Slice.Eq.{bytes_eq-Decides}
 use Rattle.bucket_core.specs.Canonical.{BeginsApart, IsCanonical}
 use Rattle.bucket_core.specs.Rule.{Entries, points, names_at}
+
+-- ---- entries behind a name
+
+-- a name is another than the one before it
+abbrev pub IsApart : Option (Bor (List ℕ)) → List ℕ → Type 0
+IsApart before name = MatchOption before ⊤ (λ other. name ≢ other.now)
+
+-- no entry has weight 0, and neighbours have different names, the first and the name before it among them
+pub Follows : Option (Bor (List ℕ)) → Entries → Type 0
+Follows None es = IsCanonical es
+Follows (Some name) es = BeginsApart name.now es × IsCanonical es
+
+pub follows_none : (es : Entries) → IsCanonical es ↔ Follows None es
+unfolding Follows
+follows_none es = (λ h. h, λ h. h)
+
+pub follows_next : (before : Option (Bor (List ℕ))) (name : Bor (List ℕ)) (weight : ℕ) (es : Entries)
+    → Follows before ((name.now, weight) ∷ es) ↔ (IsApart before name.now × (0 < weight) × Follows (Some name) es)
+unfolding Follows
+follows_next None name weight es = (λ h. (tt, h.0, (h.1, h.2)), λ h. (h.1, h.2.0, h.2.1))
+follows_next (Some other) name weight es = (λ h. (h.0, h.1.0, (h.1.1, h.1.2)), λ h. (h.0, (h.1, h.2.0, h.2.1)))
+
+-- where the entries begin with one, it is apart from the name before, has weight, and the others follow it
+pub follows_step : {X : Type 0} (before : Option (Bor (List ℕ))) (es left : Entries) (name : Bor (List ℕ)) (weight : ℕ) → es ≡ (name.now, weight) ∷ left → (X ↔ Follows before es)
+    → X ↔ (IsApart before name.now × (0 < weight) × Follows (Some name) left)
+follows_step before es left name weight steps alike =
+    let same = rw steps at alike in
+    let next = follows_next before name weight left in
+    (λ h. next.0 (same.0 h), λ h. same.1 (next.1 h))
+
+pub follows_end : (before : Option (Bor (List ℕ))) → Follows before []
+unfolding Follows
+follows_end None = tt
+follows_end (Some other) = (tt, tt)
 
 -- ---- runs of names
 

@@ -1,6 +1,6 @@
 -- What a `Rule` is: names with weights, and the points that they hold (flagd's page on the fractional operation).
-use Rattle.std.specs.Prelude.{◌≡◌, ℕ, ◌<◌, ◌≤◌, ◌+◌, ◌*◌, ◌^◌, nat_lt, List, [], ◌∷◌, ◌++◌, map, replicate, sum_by, count_by, Option, option_map, slice_get, slice_index, slice_index_or, String, string_bytes}
-use Rattle.std.specs.List.{position_or_len}
+use Rattle.std.specs.Prelude.{◌≡◌, ℕ, ◌<◌, ◌≤◌, ◌+◌, ◌*◌, ◌^◌, nat_lt, List, [], ◌∷◌, ◌++◌, map, replicate, sum_by, count_by, length, Option, option_map, slice_get, slice_index, slice_index_or, String, string_bytes}
+use Rattle.std.specs.List.{All, position_or_len}
 use Rattle.std.specs.Str.{bytes_eq}
 use Rattle.std.specs.declared.alloc.Global.{Global}
 use Rattle.bucket_core.specs.Point.{point_of}
@@ -49,10 +49,27 @@ unfoldable pub ends_from : ℕ → Entries → List ℕ
 ends_from before [] = []
 ends_from before (e ∷ es) = (before + e.1) ∷ ends_from (before + e.1) es
 
--- the sums that stand beside the entries of a rule are those of its weights
-pub record AddsUp (r : Entries) (cumulative : List ℕ) (total : ℕ) : Type 0 where
-  pub ends : cumulative ≡ ends_from 0 r
-  pub sum : total ≡ total_weight r
+-- entries that have their names as numbers: each is the place of a name in a list
+abbrev pub Numbered : Type 0
+Numbered = List (ℕ × ℕ)
+
+-- each number is the place of a name
+abbrev pub AreNamed : List (List ℕ) → Numbered → Type 0
+AreNamed names es = All (λ e. e.0 < length names) es
+
+-- an entry with its name
+abbrev pub named : List (List ℕ) → ℕ × ℕ → List ℕ × ℕ
+named names e = (slice_index_or names e.0 [], e.1)
+
+-- the entries with their names
+abbrev pub all_named : List (List ℕ) → Numbered → Entries
+all_named names es = map (named names) es
+
+-- what a rule keeps: each entry has a name, and the sums beside the entries are those of their weights
+pub record IsRuleOf (names : List (List ℕ)) (es : Numbered) (cumulative : List ℕ) (total : ℕ) : Type 0 where
+  pub named : AreNamed names es
+  pub ends : cumulative ≡ ends_from 0 (all_named names es)
+  pub sum : total ≡ total_weight (all_named names es)
   pub allowed : IsRuleTotal total
 
 -- the point at which the entry's points end, and those of the next begin

@@ -19,13 +19,16 @@
 //! its order.
 #![tactic(auto)]
 
+mod entries;
 mod fault;
 mod from_points;
+mod names;
 mod placing;
 mod read;
 mod rule;
 mod weights;
 
+pub use entries::RuleEntries;
 pub use fault::RuleFault;
 pub use placing::{point, scale};
 pub use read::{literal_bucket, read_rule, weight_of};

@@ -4,10 +4,12 @@ ghost use Rattle.std.specs.List.{All, AllPairs};
 ghost use Rattle.flag_text.specs.Outcome.{GivesUnless};
 ghost use Rattle.bucket_core.specs.Canonical.{IsCanonical};
 ghost use Rattle.bucket_core.specs.Reading.{rule_of_entries};
-ghost use Rattle.bucket_core.specs.Rule.{Entries, IsRuleTotal, AddsUp, IsAround, IsRun, total_weight, points, at, total_of, choice, end_of, entry_at, entry_name, refinement, entries_view, names_view, names_at};
+ghost use Rattle.bucket_core.specs.Rule.{Entries, IsRuleOf, IsRuleTotal, AreNamed, IsAround, IsRun, total_weight, points, at, total_of, choice, end_of, entry_at, entry_name, refinement, all_named, entries_view, names_view, names_at};
 
+use crate::entries::RuleEntries;
 use crate::fault::RuleFault;
 use crate::from_points::runs_of;
+use crate::names::{copied, numbered};
 use crate::placing::point;
 use crate::weights::{ends_of, is_canonical, refined, weigh, weight_of};
 use std::alloc::{AllocError, Global};
@@ -19,7 +21,9 @@ pub const MAX_TOTAL: u32 = (1 << 31) - 1;
 /// Names with weights, whose sum is from 1 to 2147483647. Entries may share a name, and an entry of weight 0 is kept.
 #[derive(Drop)]
 pub struct Rule {
-    entries: Vec<(String, u64)>,
+    names: Vec<String>,
+    // the place of each entry's name, and its weight
+    entries: Vec<(usize, u64)>,
     // at each entry the sum of the weights up to it and its own, so that a point is found by halving
     ends: Vec<u32>,
     total: u32,
@@ -28,14 +32,15 @@ pub struct Rule {
 impl Model for Rule {
     ghost Value = { List (List ℕ × ℕ) };
 
-    ghost view = { λ r. entries_view r.entries.items };
+    ghost view = { λ r. all_named (names_view r.names.items) r.entries.items };
 
-    ghost invariant = { λ r. AddsUp (entries_view r.entries.items) r.ends.items r.total };
+    ghost invariant = { λ r. IsRuleOf (names_view r.names.items) r.entries.items r.ends.items r.total };
 }
 
 impl Rule {
     /// The rule of these entries, in their order. It refuses a sum of 0 with `NoWeight`, one above 2147483647 with
     /// `TooHeavy`.
+    #[tactic(auto, using(crate::proofs::Named::weight_view))]
     pub fn make(alloc: Global, entries: Vec<(String, u64)>) -> Result<Rule, RuleFault>
         ensures exact { GivesUnless RuleFault.WantOfMemory (λ r. r) result (rule_of_entries (entries_view entries.items)) }
         ensures ok { IfOk result (λ r. r ≡ entries_view entries.items) }
@@ -45,17 +50,46 @@ impl Rule {
         match weigh(entries.as_slice()) {
             None => Err(RuleFault::TooHeavy),
             Some(0) => Err(RuleFault::NoWeight),
-            Some(_) => Ok(Rule::of_entries(alloc, entries)?),
+            Some(_) => {
+                let (names, entries) = numbered(alloc, entries)?;
+                Ok(Rule::of_numbered(alloc, names, entries)?)
+            }
+        }
+    }
+
+    /// The rule of these entries, each by the place of its name among the names, with its weight. It refuses as `make`
+    /// does. So many entries can share one text. The condition is that each place is one of a name.
+    #[tactic(auto, using(crate::proofs::Named::weight_named))]
+    pub fn of_places(
+        alloc: Global,
+        names: Vec<String>,
+        entries: Vec<(usize, u64)>,
+    ) -> Result<Rule, RuleFault>
+        requires { AreNamed (names_view names.items) entries.items }
+        ensures exact { GivesUnless RuleFault.WantOfMemory (λ r. r) result (rule_of_entries (all_named (names_view names.items) entries.items)) }
+        ensures no_weight { IsErrOf result RuleFault.NoWeight ↔ (total_weight (all_named (names_view names.items) entries.items) ≡ 0) }
+        ensures too_heavy { IsErrOf result RuleFault.TooHeavy ↔ (2 ^ 31 ≤ total_weight (all_named (names_view names.items) entries.items)) }
+    {
+        match weigh(entries.as_slice()) {
+            None => Err(RuleFault::TooHeavy),
+            Some(0) => Err(RuleFault::NoWeight),
+            Some(_) => Ok(Rule::of_numbered(alloc, names, entries)?),
         }
     }
 
     /// The rule of entries whose weights are known to make one.
-    fn of_entries(alloc: Global, entries: Vec<(String, u64)>) -> Result<Rule, AllocError>
-        requires { IsRuleTotal (total_weight (entries_view entries.items)) }
-        ensures { IfOk result (λ r. r ≡ entries_view entries.items) }
+    fn of_numbered(
+        alloc: Global,
+        names: Vec<String>,
+        entries: Vec<(usize, u64)>,
+    ) -> Result<Rule, AllocError>
+        requires named { AreNamed (names_view names.items) entries.items }
+        requires total { IsRuleTotal (total_weight (all_named (names_view names.items) entries.items)) }
+        ensures { IfOk result (λ r. r ≡ all_named (names_view names.items) entries.items) }
     {
-        let (ends, total) = ends_of(alloc, entries.as_slice())?;
+        let (ends, total) = ends_of(alloc, RuleEntries::of(&names, &entries))?;
         Ok(Rule {
+            names,
             entries,
             ends,
             total,
@@ -73,14 +107,14 @@ impl Rule {
         ensures canonical { IfOk result IsCanonical }
         ensures only { IfOk result (λ r. (s : Entries) → IsCanonical s → points s ≡ points r → s ≡ r) }
     {
-        Rule::of_entries(alloc, runs_of(alloc, items, names)?)
+        Rule::of_numbered(alloc, copied(alloc, names)?, runs_of(alloc, items)?)
     }
 
     /// The names and weights, in their order.
-    pub fn entries(&self) -> &[(String, u64)]
-        ensures value { entries_view result.now ≡ self.now }
+    pub fn entries(&self) -> RuleEntries<'_>
+        ensures value { result ≡ self.now }
     {
-        self.entries.as_slice()
+        RuleEntries::of(&self.names, &self.entries)
     }
 
     /// The sum of the weights: how many points there are.
@@ -95,7 +129,7 @@ impl Rule {
     pub fn is_canonical(&self) -> bool
         ensures value { IsTrue result ↔ IsCanonical self.now }
     {
-        is_canonical(self.entries.as_slice())
+        is_canonical(self.entries())
     }
 
     /// The entry that holds the point, the first whose cumulative weight exceeds it. It takes `O(log n)` steps at n
@@ -125,7 +159,7 @@ impl Rule {
         requires { i < length self.now }
         ensures value { entry_name self.now i ≡ Some result.now }
     {
-        self.entries[i].0.as_str()
+        self.names[self.entries[i].0].as_str()
     }
 
     /// The name at the point, that of the first entry whose cumulative weight exceeds it. It takes `O(log n)` steps at
@@ -151,7 +185,7 @@ impl Rule {
         ensures value { result ≡ total_of self.now name.now }
         ensures bound { result ≤ total_weight self.now }
     {
-        weight_of(self.entries.as_slice(), name)
+        weight_of(RuleEntries::of(&self.names, &self.entries), name)
     }
 
     /// The rule with each weight times m, which gives each hash input the name that this one gives it. It refuses a sum
@@ -166,6 +200,7 @@ impl Rule {
         if u64::from(self.total()) * u64::from(m) > u64::from(MAX_TOTAL) {
             return Err(RuleFault::TooHeavy);
         }
-        Ok(Rule::of_entries(alloc, refined(alloc, self.entries(), m)?)?)
+        let names = copied(alloc, &self.names)?;
+        Ok(Rule::of_numbered(alloc, names, refined(alloc, &self.entries, m)?)?)
     }
 }

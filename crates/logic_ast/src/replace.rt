@@ -37,7 +37,7 @@ pub fn replace_site(alloc: Global, expr: &Expr, n: u32, rule: &Rule) -> Result<E
         return Err(LogicFault::Computed);
     }
     prove!(rule.total() < 1 << 31);
-    let root = with_entries(alloc, &expr.root, n, rule.entries())?;
+    let root = with_entries(alloc, &expr.root, n, rule)?;
     Ok(Expr { root })
 }
 
@@ -46,30 +46,30 @@ fn with_entries(
     alloc: Global,
     node: &Node,
     n: u32,
-    entries: &[(String, u64)],
+    rule: &Rule,
 ) -> Result<Node, AllocError>
-    requires { total_weight (entries_view entries.now) < 2 ^ 31 }
-    ensures { IfOk result (λ e. node_view e ≡ with_entries n (entries_view entries.now) (node_view node.now)) }
+    requires { total_weight rule.now < 2 ^ 31 }
+    ensures { IfOk result (λ e. node_view e ≡ with_entries n rule.now (node_view node.now)) }
 {
     match node {
         Node::Literal(tree) => Ok(Node::Literal(tree.copy(alloc)?)),
-        Node::List(items) => Ok(Node::List(all_with_entries(alloc, items, n, entries)?)),
+        Node::List(items) => Ok(Node::List(all_with_entries(alloc, items, n, rule)?)),
         Node::Operation(operator, arguments) => Ok(Node::Operation(
             *operator,
-            all_with_entries(alloc, arguments, n, entries)?,
+            all_with_entries(alloc, arguments, n, rule)?,
         )),
         Node::Fractional { site, by, buckets } => {
             if *site == n {
                 let by = by_lowered(alloc, by, 0)?;
-                let buckets = literal_buckets(alloc, entries)?;
+                let buckets = literal_buckets(alloc, rule)?;
                 return Ok(Node::Fractional {
                     site: *site,
                     by,
                     buckets,
                 });
             }
-            let by = by_with_entries(alloc, by, n, entries)?;
-            let buckets = buckets_with_entries(alloc, buckets, n, entries)?;
+            let by = by_with_entries(alloc, by, n, rule)?;
+            let buckets = buckets_with_entries(alloc, buckets, n, rule)?;
             Ok(Node::Fractional {
                 site: *site,
                 by,
@@ -81,15 +81,15 @@ fn with_entries(
 
 fn literal_buckets(
     alloc: Global,
-    entries: &[(String, u64)],
+    rule: &Rule,
 ) -> Result<Vec<Bucket<Node>>, AllocError>
-    requires { total_weight (entries_view entries.now) < 2 ^ 31 }
-    ensures { IfOk result (λ v. buckets_view v.items ≡ literal_buckets (entries_view entries.now)) }
+    requires { total_weight rule.now < 2 ^ 31 }
+    ensures { IfOk result (λ v. buckets_view v.items ≡ literal_buckets rule.now) }
 {
     let mut buckets = Vec::new(alloc);
-    for (name, weight) in entries {
-        let name = name.clone()?;
-        buckets.push(Bucket::Literal(name, *weight as u32))?;
+    for (name, weight) in rule.entries() {
+        let name = String::from_str(alloc, name)?;
+        buckets.push(Bucket::Literal(name, weight as u32))?;
     }
     Ok(buckets)
 }
@@ -99,14 +99,14 @@ fn all_with_entries(
     alloc: Global,
     nodes: &Vec<Node>,
     n: u32,
-    entries: &[(String, u64)],
+    rule: &Rule,
 ) -> Result<Vec<Node>, AllocError>
-    requires { total_weight (entries_view entries.now) < 2 ^ 31 }
-    ensures { IfOk result (λ v. nodes_view v.items ≡ all_with_entries n (entries_view entries.now) (nodes_view nodes.now.items)) }
+    requires { total_weight rule.now < 2 ^ 31 }
+    ensures { IfOk result (λ v. nodes_view v.items ≡ all_with_entries n rule.now (nodes_view nodes.now.items)) }
 {
     let mut copies = Vec::new(alloc);
     for node in nodes {
-        copies.push(with_entries(alloc, node, n, entries)?)?;
+        copies.push(with_entries(alloc, node, n, rule)?)?;
     }
     Ok(copies)
 }
@@ -116,14 +116,14 @@ fn by_with_entries(
     alloc: Global,
     by: &Option<Box<Node>>,
     n: u32,
-    entries: &[(String, u64)],
+    rule: &Rule,
 ) -> Result<Option<Box<Node>>, AllocError>
-    requires { total_weight (entries_view entries.now) < 2 ^ 31 }
-    ensures { IfOk result (λ b. boxed_view b ≡ by_with_entries n (entries_view entries.now) (boxed_view by.now)) }
+    requires { total_weight rule.now < 2 ^ 31 }
+    ensures { IfOk result (λ b. boxed_view b ≡ by_with_entries n rule.now (boxed_view by.now)) }
 {
     match by {
         None => Ok(None),
-        Some(by) => Ok(Some(Box::new(alloc, with_entries(alloc, by, n, entries)?)?)),
+        Some(by) => Ok(Some(Box::new(alloc, with_entries(alloc, by, n, rule)?)?)),
     }
 }
 
@@ -132,10 +132,10 @@ fn buckets_with_entries(
     alloc: Global,
     buckets: &Vec<Bucket<Node>>,
     n: u32,
-    entries: &[(String, u64)],
+    rule: &Rule,
 ) -> Result<Vec<Bucket<Node>>, AllocError>
-    requires { total_weight (entries_view entries.now) < 2 ^ 31 }
-    ensures { IfOk result (λ v. buckets_view v.items ≡ buckets_with_entries n (entries_view entries.now) (buckets_view buckets.now.items)) }
+    requires { total_weight rule.now < 2 ^ 31 }
+    ensures { IfOk result (λ v. buckets_view v.items ≡ buckets_with_entries n rule.now (buckets_view buckets.now.items)) }
 {
     let mut copies = Vec::new(alloc);
     for bucket in buckets {
@@ -144,8 +144,8 @@ fn buckets_with_entries(
                 copies.push(Bucket::Literal(name.clone()?, *weight))?;
             }
             Bucket::Computed(name, weight) => {
-                let name = with_entries(alloc, name, n, entries)?;
-                copies.push(Bucket::Computed(name, with_entries(alloc, weight, n, entries)?))?;
+                let name = with_entries(alloc, name, n, rule)?;
+                copies.push(Bucket::Computed(name, with_entries(alloc, weight, n, rule)?))?;
             }
         }
     }
