@@ -1,6 +1,6 @@
 //! Another rule at a site.
 ghost use Rattle.std.specs.Prelude.{◌≡◌, ◌≢◌, ◌<◌, ◌^◌, ℕ, None, Ok, Err, IfOk, IsErrOf};
-ghost use Rattle.bucket_core.specs.Rule.{Entries, total_weight, entries_view};
+ghost use Rattle.bucket_core.specs.Rule.{Entries, total_weight};
 ghost use Rattle.flag_text.specs.Outcome.{GivesUnless};
 ghost use Rattle.logic_ast.specs.Expr.{view};
 ghost use Rattle.logic_ast.specs.Sites.{site_at, entries_at, literal_buckets, with_entries, all_with_entries, by_with_entries, buckets_with_entries, replaced};
@@ -42,12 +42,7 @@ pub fn replace_site(alloc: Global, expr: &Expr, n: u32, rule: &Rule) -> Result<E
 }
 
 #[cycle(replace)]
-fn with_entries(
-    alloc: Global,
-    node: &Node,
-    n: u32,
-    rule: &Rule,
-) -> Result<Node, AllocError>
+fn with_entries(alloc: Global, node: &Node, n: u32, rule: &Rule) -> Result<Node, AllocError>
     requires { total_weight rule.now < 2 ^ 31 }
     ensures { IfOk result (λ e. node_view e ≡ with_entries n rule.now (node_view node.now)) }
 {
@@ -79,10 +74,7 @@ fn with_entries(
     }
 }
 
-fn literal_buckets(
-    alloc: Global,
-    rule: &Rule,
-) -> Result<Vec<Bucket<Node>>, AllocError>
+fn literal_buckets(alloc: Global, rule: &Rule) -> Result<Vec<Bucket<Node>>, AllocError>
     requires { total_weight rule.now < 2 ^ 31 }
     ensures { IfOk result (λ v. buckets_view v.items ≡ literal_buckets rule.now) }
 {

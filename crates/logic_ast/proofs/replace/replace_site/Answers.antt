@@ -26,7 +26,7 @@ returns-then-not-are_all_literal-clause-exact c =
     ∙ if_entries-none (entries_of bs) (with_entries c.args.n c.args.rule.now e) (sym c.are_all_literal.ensures ∙ c.if-not-are_all_literal.true)
 
 pub with_entries-requires : goal.with_entries-requires
-with_entries-requires c = rw c.entries.ensures.value (omega (arith, c.total.ensures.value, c.total.ensures.allowed))
+with_entries-requires c = omega (arith, c.total.ensures.value, c.total.ensures.allowed)
 
 pub invariant_of-result : goal.invariant_of-result
 invariant_of-result c =
@@ -38,7 +38,7 @@ invariant_of-result c =
     let place : n ≡ 0 + n = omega arith in
     let literal = literal-at 0 n n (preorder e) _ (numbered-preorder 0 e formed) place at.1 (sym c.are_all_literal.ensures ∙ c.if-not-are_all_literal.false) in
     let small = small-total c.args.rule.now (omega (arith, c.total.ensures.value, c.total.ensures.allowed)) in
-    record { well_formed = ap is_well_formed (c.in_ok-root.ensures ∙ ap (λ r. with_entries n r e) c.entries.ensures.value) ∙ is_well_formed-with n c.args.rule.now e small literal c.args.expr.now.well_formed }
+    record { well_formed = ap is_well_formed c.in_ok-root.ensures ∙ is_well_formed-with n c.args.rule.now e small literal c.args.expr.now.well_formed }
 
 pub returns-clause-exact : goal.returns-clause-exact
 returns-clause-exact c =
@@ -47,13 +47,13 @@ returns-clause-exact c =
     let bs = buckets_view c.in-Some.buckets.now.items in
     replaced-some n c.args.rule.now e (boxed_view c.in-Some.field-0-0.now) bs (left (is_formed 0 e) _ c.args.expr.now.well_formed) (sym c.find.ensures ∙ ap (option_map parts_view) c.in-Some.is)
     ∙ (if_entries-some (entries_of bs) (with_entries n c.args.rule.now e) (sym c.are_all_literal.ensures ∙ c.if-not-are_all_literal.false)
-    ∙ ap Ok (sym (c.in_ok-root.ensures ∙ ap (λ r. with_entries n r e) c.entries.ensures.value)))
+    ∙ ap Ok (sym c.in_ok-root.ensures))
 
 pub returns-clause-rest : goal.returns-clause-rest
 returns-clause-rest c =
     let n = c.args.n in
     let e = view c.args.expr.now in
-    λ q. ap (with_entries n q) (c.in_ok-root.ensures ∙ ap (λ r. with_entries n r e) c.entries.ensures.value) ∙ with_entries-again n q c.args.rule.now e
+    λ q. ap (with_entries n q) c.in_ok-root.ensures ∙ with_entries-again n q c.args.rule.now e
 
 pub returns-then-not-are_all_literal-clause-no_site : goal.returns-then-not-are_all_literal-clause-no_site
 returns-then-not-are_all_literal-clause-no_site c =
@@ -77,7 +77,7 @@ returns-clause-entries c =
     let e = view c.args.expr.now in
     let formed = left (is_formed 0 e) _ c.args.expr.now.well_formed in
     let at = at-some n e (boxed_view c.in-Some.field-0-0.now) (buckets_view c.in-Some.buckets.now.items) formed (sym c.find.ensures ∙ ap (option_map parts_view) c.in-Some.is) in
-    let made = c.in_ok-root.ensures ∙ ap (λ q. with_entries n q e) c.entries.ensures.value in
+    let made = c.in_ok-root.ensures in
     let place : n ≡ 0 + n = omega arith in
     let literal = literal-at 0 n n (preorder e) _ (numbered-preorder 0 e formed) place at.1 (sym c.are_all_literal.ensures ∙ c.if-not-are_all_literal.false) in
     let small = small-total r (omega (arith, c.total.ensures.value, c.total.ensures.allowed)) in
@@ -90,7 +90,7 @@ returns-clause-bucketing c =
     let e = view c.args.expr.now in
     let formed = left (is_formed 0 e) _ c.args.expr.now.well_formed in
     let at = at-some n e (boxed_view c.in-Some.field-0-0.now) (buckets_view c.in-Some.buckets.now.items) formed (sym c.find.ensures ∙ ap (option_map parts_view) c.in-Some.is) in
-    let made = c.in_ok-root.ensures ∙ ap (λ q. with_entries n q e) c.entries.ensures.value in
+    let made = c.in_ok-root.ensures in
     let place : n ≡ 0 + n = omega arith in
     let literal = literal-at 0 n n (preorder e) _ (numbered-preorder 0 e formed) place at.1 (sym c.are_all_literal.ensures ∙ c.if-not-are_all_literal.false) in
     let small = small-total r (omega (arith, c.total.ensures.value, c.total.ensures.allowed)) in
@@ -103,7 +103,7 @@ returns-clause-others c =
     let e = view c.args.expr.now in
     let formed = left (is_formed 0 e) _ c.args.expr.now.well_formed in
     let at = at-some n e (boxed_view c.in-Some.field-0-0.now) (buckets_view c.in-Some.buckets.now.items) formed (sym c.find.ensures ∙ ap (option_map parts_view) c.in-Some.is) in
-    let made = c.in_ok-root.ensures ∙ ap (λ q. with_entries n q e) c.entries.ensures.value in
+    let made = c.in_ok-root.ensures in
     let place : n ≡ 0 + n = omega arith in
     let literal = literal-at 0 n n (preorder e) _ (numbered-preorder 0 e formed) place at.1 (sym c.are_all_literal.ensures ∙ c.if-not-are_all_literal.false) in
     let small = small-total r (omega (arith, c.total.ensures.value, c.total.ensures.allowed)) in
