@@ -1,5 +1,5 @@
 //! A rule: its making and its readers.
-ghost use Rattle.std.specs.Prelude.{◌≡◌, ◌≤◌, ◌<◌, ◌^◌, ◌*◌, ◌+◌, ◌↔◌, ◌≢◌, List, ℕ, Some, IfOk, IsErrOf, IsTrue, length};
+ghost use Rattle.std.specs.Prelude.{◌≡◌, ◌≤◌, ◌<◌, ◌^◌, ◌*◌, ◌+◌, ◌↔◌, ◌≢◌, List, ℕ, Some, IfOk, IsErrOf, IsTrue, length, slice_get};
 ghost use Rattle.std.specs.List.{All, AllPairs};
 ghost use Rattle.flag_text.specs.Outcome.{GivesUnless};
 ghost use Rattle.bucket_core.specs.Canonical.{IsCanonical};
@@ -154,12 +154,21 @@ impl Rule {
         self.ends[i]
     }
 
+    /// Entry i: its name and its weight.
+    pub fn entry(&self, i: usize) -> (&str, u64)
+        requires { i < length self.now }
+        ensures value { slice_get self.now i ≡ Some (result.0.now, result.1) }
+    {
+        let (place, weight) = self.entries[i];
+        (self.names[place].as_str(), weight)
+    }
+
     /// The name of entry i.
     pub fn entry_name(&self, i: usize) -> &str
         requires { i < length self.now }
         ensures value { entry_name self.now i ≡ Some result.now }
     {
-        self.names[self.entries[i].0].as_str()
+        self.entry(i).0
     }
 
     /// The name at the point, that of the first entry whose cumulative weight exceeds it. It takes `O(log n)` steps at
