@@ -1,10 +1,9 @@
 -- The weights of a rule, added up by name, are the totals of its names.
-use Rattle.std.proofs.Common.{◌≡◌, ℕ, zero, suc, ◌+◌, ◌<◌, ◌≤◌, List, [], ◌∷◌, map, drop, length, get_or, String, string_bytes, Global, Bool, true, false, cond, Option, Some, unwrap_or, refl, sym, ap, ◌∙◌, subst, add-one, arith}
-use Rattle.std.proofs.Math.Seq.{drop-cons}
+use Rattle.std.proofs.Common.{◌≡◌, ℕ, zero, suc, ◌+◌, ◌<◌, ◌≤◌, List, [], ◌∷◌, map, drop, length, Bool, true, false, cond, Option, Some, unwrap_or, refl, sym, ap, ◌∙◌, subst, arith}
 use Rattle.std.specs.BTreeMap.{insert_entry, is_at}
 use Rattle.std.specs.BTreeSet.{insert_key}
 use Rattle.std.specs.Cmp.Lexicographic.{slice_cmp}
-use Rattle.std.specs.List.{AllByRecursion}
+use Rattle.std.specs.List.{AllByRecursion, slice_get}
 use Rattle.std.specs.List.Sorted.{IsStrictlySortedBy}
 use Rattle.std.specs.Map.{keys_of, lookup}
 use Rattle.std.specs.Ordering.{nat_cmp, match_ordering, on}
@@ -14,10 +13,11 @@ use Rattle.std.specs.declared.cmp.Ordering.TheVariants.{Less, Equal, Greater}
 use Rattle.std.proofs.lemmas.Cmp.{nat_list_cmp_total, tied_itself}
 use Rattle.std.proofs.lemmas.Map.Lookups.{exact_bytes}
 use Rattle.std.proofs.lemmas.Map.Text.{is_eq-slice_cmp}
+use Rattle.std.proofs.lemmas.Option.{none-some, same_Some}
 use Rattle.std.proofs.lemmas.Slice.Eq.{bytes_eq-Decides}
 use Rattle.std.proofs.lemmas.Bool.{false_from_ne_true}
 use denote.Ref.{Bor}
-use Rattle.bucket_core.specs.Rule.{Entries, total_weight, total_of, entry_view, entries_view}
+use Rattle.bucket_core.specs.Rule.{Entries, total_weight, total_of}
 use Rattle.bucket_core.proofs.Points.{total_of-nil, total_of-cons, total_of-le, total_weight-cons}
 use Rattle.price_core.proofs.Inserts.{insert-seen, rise_seen}
 use Rattle.flagops_commands.specs.Totals.{names_in_order, totals_by_name}
@@ -150,16 +150,20 @@ totals_all ts es a sorted = each_found ts sorted ∙ (λ i. map {B = List ℕ ×
 
 -- ---- the same of the program's map
 
-pub map_more : (entries : List (String Global × ℕ)) (left i : ℕ) (x : String Global × ℕ) (es more : List Named) (k : Bor (List ℕ)) (v : ℕ)
-    → left ≡ i + 1 → i < length entries → x ≡ get_or entries i x → k.now ≡ string_bytes x.0 → v ≡ total_in (named_totals es) k.now + x.1 → more ≡ insert_entry name_cmp es k v
-    → AreTotals (named_totals es) (entries_view (drop left entries)) → AreTotals (named_totals more) (entries_view (drop i entries))
-map_more entries left i x es more k v next inside is key value put a =
-    let front : drop i entries ≡ x ∷ drop (i + 1) entries = rw add-one (drop-cons entries i x inside ∙ ap (λ y. y ∷ drop (suc i) entries) (sym is)) in
-    let rest : entries_view (drop left entries) ≡ entries_view (drop (i + 1) entries) = ap (λ n. entries_view (drop n entries)) next in
-    let step = totals_more (named_totals es) (entries_view (drop (i + 1) entries)) (entry_view x) (subst (AreTotals (named_totals es)) rest a) in
-    let made : named_totals more ≡ insert_entry (slice_cmp nat_cmp) (named_totals es) (string_bytes x.0) (total_in (named_totals es) (string_bytes x.0) + x.1) =
+-- the entries from one on begin with it
+from_entry : (r : Entries) (i : ℕ) (e : List ℕ × ℕ) → slice_get r i ≡ Some e → drop i r ≡ e ∷ drop (i + 1) r
+from_entry [] i e is = absurd (none-some e is)
+from_entry (x ∷ r) zero e is = ap (λ y. y ∷ r) (same_Some x e is)
+from_entry (x ∷ r) (suc i) e is = from_entry r i e is
+
+pub map_more : (r : Entries) (left i : ℕ) (x : List ℕ × ℕ) (es more : List Named) (k : Bor (List ℕ)) (v : ℕ)
+    → left ≡ i + 1 → slice_get r i ≡ Some x → k.now ≡ x.0 → v ≡ total_in (named_totals es) k.now + x.1 → more ≡ insert_entry name_cmp es k v
+    → AreTotals (named_totals es) (drop left r) → AreTotals (named_totals more) (drop i r)
+map_more r left i x es more k v next is key value put a =
+    let step = totals_more (named_totals es) (drop (i + 1) r) x (subst (AreTotals (named_totals es)) (ap (λ n. drop n r) next) a) in
+    let made : named_totals more ≡ insert_entry (slice_cmp nat_cmp) (named_totals es) x.0 (total_in (named_totals es) x.0 + x.1) =
     ap named_totals put ∙ (insert-seen (λ (b : Bor (List ℕ)). b.now) (slice_cmp nat_cmp) es k v ∙ (λ j. insert_entry (slice_cmp nat_cmp) (named_totals es) (key j) ((value ∙ ap (λ n. total_in (named_totals es) n + x.1) key) j))) in
-    subst (λ ts. AreTotals ts (entries_view (drop i entries))) (sym made) (subst (AreTotals (insert_entry (slice_cmp nat_cmp) (named_totals es) (string_bytes x.0) (total_in (named_totals es) (string_bytes x.0) + x.1))) (ap entries_view (sym front)) step)
+    subst (λ ts. AreTotals ts (drop i r)) (sym made) (subst (AreTotals (insert_entry (slice_cmp nat_cmp) (named_totals es) x.0 (total_in (named_totals es) x.0 + x.1))) (sym (from_entry r i x is)) step)
 
 pub map_all : (es : List Named) (r : Entries) → AreTotals (named_totals es) r → IsStrictlySortedBy name_cmp (keys_of es) → named_totals es ≡ totals_by_name r
 map_all es r a sorted = totals_all (named_totals es) r a (rise_seen (λ (b : Bor (List ℕ)). b.now) (slice_cmp nat_cmp) es sorted)
@@ -168,16 +172,15 @@ pub lookup-borrowed : (q : List ℕ) (es : List Named) → lookup (is_at (λ (k 
 lookup-borrowed q [] = refl
 lookup-borrowed q (e ∷ es) = λ i. cond (is_eq-slice_cmp q e.0.now i) (Some e.1) (lookup-borrowed q es i)
 
-drop_le : (i : ℕ) (xs : List (String Global × ℕ)) → total_weight (entries_view (drop i xs)) ≤ total_weight (entries_view xs)
-drop_le zero xs = omega arith
+drop_le : (i : ℕ) (r : Entries) → total_weight (drop i r) ≤ total_weight r
+drop_le zero r = omega arith
 drop_le (suc i) [] = omega arith
-drop_le (suc i) (x ∷ xs) = omega (arith, drop_le i xs, total_weight-cons (entry_view x) (entries_view xs))
+drop_le (suc i) (x ∷ r) = omega (arith, drop_le i r, total_weight-cons x r)
 
 -- a weight and what those after it weigh are no more than all weights
-pub sum_small : (entries : List (String Global × ℕ)) (left i : ℕ) (x : String Global × ℕ) (before : ℕ) → left ≡ i + 1 → i < length entries → x ≡ get_or entries i x
-    → before ≤ total_weight (entries_view (drop left entries)) → before + x.1 ≤ total_weight (entries_view entries)
-sum_small entries left i x before next inside is small =
-    let front : drop i entries ≡ x ∷ drop (i + 1) entries = rw add-one (drop-cons entries i x inside ∙ ap (λ y. y ∷ drop (suc i) entries) (sym is)) in
-    let whole : total_weight (entries_view (drop i entries)) ≡ x.1 + total_weight (entries_view (drop (i + 1) entries)) = ap (λ es. total_weight (entries_view es)) front ∙ total_weight-cons (entry_view x) (entries_view (drop (i + 1) entries)) in
-    let rest : total_weight (entries_view (drop left entries)) ≡ total_weight (entries_view (drop (i + 1) entries)) = ap (λ n. total_weight (entries_view (drop n entries))) next in
-    omega (arith, drop_le i entries)
+pub sum_small : (r : Entries) (left i : ℕ) (x : List ℕ × ℕ) (before : ℕ) → left ≡ i + 1 → slice_get r i ≡ Some x
+    → before ≤ total_weight (drop left r) → before + x.1 ≤ total_weight r
+sum_small r left i x before next is small =
+    let whole : total_weight (drop i r) ≡ x.1 + total_weight (drop (i + 1) r) = ap total_weight (from_entry r i x is) ∙ total_weight-cons x (drop (i + 1) r) in
+    let rest : total_weight (drop left r) ≡ total_weight (drop (i + 1) r) = ap (λ n. total_weight (drop n r)) next in
+    omega (arith, drop_le i r)

@@ -69,7 +69,7 @@ fn put_rule_fault(
         _ => put_numbers_fault(lines, certificate.cost, fault),
     }
     let groups = certificate.alpha.as_slice();
-    if entries.as_slice() == rule.entries() {
+    if has_entries(rule, entries.as_slice()) {
         write!(
             lines,
             "\n  the site has the rule of this plan already: the document may have moved on",
@@ -90,6 +90,16 @@ fn put_rule_fault(
         );
     }
     Ok(())
+}
+
+/// Whether a rule has just these entries.
+fn has_entries(rule: &Rule, entries: &[(String, u64)]) -> bool {
+    for ((name, weight), (other, points)) in rule.entries().zip(entries) {
+        if name != other.as_str() || weight != *points {
+            return false;
+        }
+    }
+    rule.entries().len() == entries.len()
 }
 
 /// The first variant that has points in the entries and is of no group, or the other way round: so it is where the rule of the
@@ -157,8 +167,17 @@ fn put_forbidden(lines: &mut Lines, entries: &[(String, u64)], rule: &Rule, poin
         lines,
         "point {point} changes from {} to {}, which the request forbids",
         lines.name(name_at(entries, factor, point)),
-        lines.name(name_at(rule.entries(), 1, point)),
+        lines.name(variant_at(rule, point)),
     );
+}
+
+/// The name at a point of a rule.
+fn variant_at(rule: &Rule, point: u32) -> &str {
+    if point < rule.total() {
+        rule.variant_at(point)
+    } else {
+        ""
+    }
 }
 
 /// The name at a point of entries whose weights are taken so many times.

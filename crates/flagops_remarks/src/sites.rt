@@ -68,7 +68,7 @@ pub fn of_applied(
     let mut lines = Lines::new(alloc);
     write!(lines, ": ");
     if fault == RolloutFault::UnknownVariant && flags.get(key).is_some() {
-        put_unknown(&mut lines, place, &Tree::Null, rule.entries())?;
+        put_unknown_in(&mut lines, place, rule)?;
         write!(lines, "\n  it may be a plan for another flag");
     } else {
         put_place(&mut lines, place, fault);
@@ -150,17 +150,37 @@ fn put_unknown(
     entries: &[(String, u64)],
 ) -> Result<(), AllocError> {
     let variants = place.variants()?;
-    match unknown_name(variants.as_slice(), tree, entries) {
+    let name = unknown_name(variants.as_slice(), tree, entries);
+    put_no_variant(lines, place.key, variants.as_slice(), name);
+    Ok(())
+}
+
+/// The first name of a rule that is none of the flag's variants.
+fn put_unknown_in(lines: &mut Lines, place: Place<'_>, rule: &Rule) -> Result<(), AllocError> {
+    let variants = place.variants()?;
+    let mut unknown = None;
+    for (name, _) in rule.entries() {
+        if !is_among(variants.as_slice(), name) {
+            unknown = Some(name);
+            break;
+        }
+    }
+    put_no_variant(lines, place.key, variants.as_slice(), unknown);
+    Ok(())
+}
+
+/// That a name is none of the variants of the flag of a key, which are listed.
+fn put_no_variant(lines: &mut Lines, key: &str, variants: &[String], name: Option<&str>) {
+    match name {
         Some(name) => write!(lines, "{}", lines.name(name)),
         None => write!(lines, "a name"),
     }
     write!(
         lines,
         " is no variant of {}\n  there are {}",
-        lines.name(place.key),
-        lines.listed(variants.as_slice()),
+        lines.name(key),
+        lines.listed(variants),
     );
-    Ok(())
 }
 
 fn unknown_name<'a>(

@@ -1,11 +1,12 @@
 //! The text of a rule's entries, as they stand in a list of buckets.
 ghost use Rattle.std.specs.Prelude.{◌≡◌, ◌<◌, ◌^◌, ◌++◌, pos, false, string_bytes, OnOk, IfOk};
-ghost use Rattle.bucket_core.specs.Rule.{entries_view, total_weight};
+ghost use Rattle.bucket_core.specs.Rule.{total_weight};
 ghost use Rattle.flag_text.specs.Shape.{text, whole};
 ghost use Rattle.flag_text.specs.View.{view};
 ghost use Rattle.logic_ast.specs.Writing.{pair};
 ghost use Rattle.kept_document.specs.Kept.{entries_text, entry_text};
 
+use bucket_core::Rule;
 use flag_text::{Tree, print_tree};
 use std::alloc::{AllocError, Global};
 
@@ -14,16 +15,18 @@ pub(crate) fn push_entries(
     alloc: Global,
     out: &mut Vec<u8>,
     mark: &[u8],
-    entries: &[(String, u64)],
+    rule: &Rule,
 ) -> Result<(), AllocError>
-    requires { total_weight (entries_view entries.now) < 2 ^ 31 }
-    ensures { OnOk result (out.new.items ≡ out.old.items ++ entries_text mark.now false (entries_view entries.now)) }
+    requires { total_weight rule.now < 2 ^ 31 }
+    ensures { OnOk result (out.new.items ≡ out.old.items ++ entries_text mark.now false rule.now) }
 {
-    for (index, (name, weight)) in entries.iter().enumerate() {
-        if index > 0 {
+    let mut is_first = true;
+    for (name, weight) in rule.entries() {
+        if !is_first {
             out.extend_from_slice(mark)?;
         }
-        push_entry(alloc, out, name, *weight)?;
+        push_entry(alloc, out, name, weight)?;
+        is_first = false;
     }
     Ok(())
 }
@@ -32,11 +35,11 @@ pub(crate) fn push_entries(
 fn push_entry(
     alloc: Global,
     out: &mut Vec<u8>,
-    name: &String,
+    name: &str,
     weight: u64,
 ) -> Result<(), AllocError>
     requires { weight < 2 ^ 53 }
-    ensures { OnOk result (out.new.items ≡ out.old.items ++ entry_text (string_bytes name.now, weight)) }
+    ensures { OnOk result (out.new.items ≡ out.old.items ++ entry_text (name.now, weight)) }
 {
     let tree = entry_tree(alloc, name, weight)?;
     let text = print_tree(alloc, &tree)?;
@@ -44,10 +47,11 @@ fn push_entry(
 }
 
 /// The bucket that an entry is written as.
-fn entry_tree(alloc: Global, name: &String, weight: u64) -> Result<Tree, AllocError>
+fn entry_tree(alloc: Global, name: &str, weight: u64) -> Result<Tree, AllocError>
     requires { weight < 2 ^ 53 }
-    ensures { IfOk result (λ t. view t ≡ pair (text (string_bytes name.now)) (whole (pos weight))) }
+    ensures { IfOk result (λ t. view t ≡ pair (text name.now) (whole (pos weight))) }
 {
-    let parts = [Tree::Text(name.clone()?), Tree::Whole(weight as i64)];
+    let name = String::from_str(alloc, name)?;
+    let parts = [Tree::Text(name), Tree::Whole(weight as i64)];
     Ok(Tree::List(Vec::from_array(alloc, parts)?))
 }

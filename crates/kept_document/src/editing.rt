@@ -51,7 +51,7 @@ fn joined(
     let _total = rule.total();
     let mut kept = Vec::new(alloc);
     kept.extend_from_slice(&bytes[..start])?;
-    push_entries(alloc, &mut kept, mark, rule.entries())?;
+    push_entries(alloc, &mut kept, mark, rule)?;
     kept.extend_from_slice(&bytes[end..])?;
     Ok(kept)
 }

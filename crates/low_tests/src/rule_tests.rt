@@ -28,8 +28,8 @@ fn is_rule(alloc: Global, text: &str, holds: RuleHolds) -> bool
 
 /// Whether the rule has exactly these entries.
 fn has_entries(rule: &Rule, entries: &[(&str, u64)]) -> bool {
-    for (have, want) in rule.entries().iter().zip(entries) {
-        if have.0.as_str() != want.0 || have.1 != want.1 {
+    for (have, want) in rule.entries().zip(entries) {
+        if have != *want {
             return false;
         }
     }

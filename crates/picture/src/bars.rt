@@ -50,12 +50,12 @@ pub(crate) fn add_bar<'a>(
     let total = u64::from(rule.total());
     let mut begin = 0u64;
     for (name, weight) in rule.entries() {
-        let end = begin.saturating_add(*weight);
+        let end = begin.saturating_add(weight);
         let left = edge(begin, total);
         let width = edge(end, total).saturating_sub(left);
         let piece = Piece {
-            name: name.as_str(),
-            look: look_of(limits, name.as_str()),
+            name,
+            look: look_of(limits, name),
             place: Place { x: left, y },
             extent: Extent { width, height: BAR },
             label: letters(width),

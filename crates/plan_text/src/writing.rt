@@ -4,7 +4,7 @@ ghost use Rattle.std.specs.List.{AllByRecursion};
 ghost use Rattle.json.specs.Tree.{json_tokens};
 ghost use Rattle.flag_text.specs.Grammar.{written};
 ghost use Rattle.flag_text.specs.Shape.{list, text};
-ghost use Rattle.bucket_core.specs.Rule.{entries_view, entry_view, names_view};
+ghost use Rattle.bucket_core.specs.Rule.{names_view};
 ghost use Rattle.transport_instance.specs.Certificate.{alpha_row, alpha_view, beta_row, beta_view, certificate_view};
 ghost use Rattle.plan_text.specs.Answer.{emit, none_exists, FitsFile, planned_view};
 ghost use Rattle.plan_text.specs.PlanFile.{items_by, alpha_written, beta_written, entry_written, planned_written};
@@ -45,7 +45,7 @@ fn write_rule(out: &mut Writer, rule: &Rule, certificate: &Certificate) -> Resul
     out.key("plan")?;
     out.u64(1)?;
     out.key("rule")?;
-    write_entries(out, rule.entries())?;
+    write_entries(out, rule)?;
     out.end_object()
 }
 
@@ -137,25 +137,24 @@ fn write_beta_row(out: &mut Writer, row: &(String, i64)) -> Result<(), AllocErro
 }
 
 /// The entries of the rule.
-fn write_entries(out: &mut Writer, entries: &[(String, u64)]) -> Result<(), AllocError>
-    ensures ok { OnOk result (out.new.tokens ≡ out.old.tokens ++ json_tokens (written (list (items_by entry_written (entries_view entries.now))))) }
+fn write_entries(out: &mut Writer, rule: &Rule) -> Result<(), AllocError>
+    ensures ok { OnOk result (out.new.tokens ≡ out.old.tokens ++ json_tokens (written (list (items_by entry_written rule.now)))) }
     ensures before { out.new.before ≡ out.old.before }
 {
     out.begin_array()?;
-    for row in entries {
-        write_entry(out, row)?;
+    for (name, weight) in rule.entries() {
+        write_entry(out, name, weight)?;
     }
     out.end_array()
 }
 
-fn write_entry(out: &mut Writer, row: &(String, u64)) -> Result<(), AllocError>
-    ensures ok { OnOk result (out.new.tokens ≡ out.old.tokens ++ json_tokens (written (entry_written (entry_view row.now)))) }
+fn write_entry(out: &mut Writer, name: &str, weight: u64) -> Result<(), AllocError>
+    ensures ok { OnOk result (out.new.tokens ≡ out.old.tokens ++ json_tokens (written (entry_written (name.now, weight)))) }
     ensures before { out.new.before ≡ out.old.before }
 {
-    let (name, weight) = row;
     out.begin_array()?;
-    out.string(name.as_str())?;
-    out.u64(*weight)?;
+    out.string(name)?;
+    out.u64(weight)?;
     out.end_array()
 }
 

@@ -15,7 +15,7 @@ use Rattle.std.proofs.lemmas.Option.{same_Some, none-some, slice_get-get_or, sli
 use Rattle.std.proofs.lemmas.Slice.Eq.{bytes_eq-Decides}
 use Rattle.murmur_core.specs.Murmur.{hash as hash_of}
 use Rattle.bucket_core.specs.Point.{scale, point_of}
-use Rattle.bucket_core.specs.Rule.{Entries, at, choice, entry_name, entry_view, entries_view as rule_entries, total_weight}
+use Rattle.bucket_core.specs.Rule.{Entries, at, choice, entry_name, total_weight}
 use Rattle.price_core.specs.Cost.{name_of_input}
 use Rattle.price_core.specs.Numbering.{Numbers, numbers_view, number_of, IsNumbering, Keeps, AreFirstNumbers, AreNumbersOf, is_between, AreBetween, pair_of_numbers, price_between, is_barred_between, IsSwitching}
 use Rattle.price_core.specs.Pricing.{Pair, Pricing, is_same_pair, price_of, is_forbidden, change_view, entries_view}
@@ -111,8 +111,12 @@ firsts_more before after r numbers name n keeps firsts here is = λ i other insi
         let same : name ≡ other = same_Some name other (sym here ∙ (ap (entry_name r) (sym last) ∙ there)) in
         ap (number_of after) (sym same) ∙ (is ∙ (sym (slice_get-last numbers n) ∙ ap (slice_get (numbers ++ n ∷ [])) (sym last)))
 
-pub entry_name_at : (es : List (String Global × ℕ)) (i : ℕ) (e : String Global × ℕ) → i < length es → e ≡ get_or es i e → entry_name (rule_entries es) i ≡ Some (string_bytes e.0)
-entry_name_at es i e h is = ap (option_map (λ (x : List ℕ × ℕ). x.0)) (slice_get-map entry_view es i ∙ ap (option_map entry_view) (slice_get_read es (length es) i e refl h is))
+-- where the entries from one on begin with an entry, it is that one, and the next ones are the others
+pub entry_here : (r : Entries) (i : ℕ) (e : List ℕ × ℕ) (rest : Entries) → drop i r ≡ e ∷ rest → (entry_name r i ≡ Some e.0) × (drop (i + 1) r ≡ rest)
+entry_here [] zero e rest is = absurd (omega (arith, ap length is))
+entry_here [] (suc i) e rest is = absurd (omega (arith, ap length is))
+entry_here (x ∷ r) zero e rest is = cc (ap (λ (es : Entries). slice_get es 0) is, ap (λ (es : Entries). drop 1 es) is)
+entry_here (x ∷ r) (suc i) e rest is = entry_here r i e rest is
 
 pub numbers_kept : (before after : Numbers) (r : Entries) (numbers : List ℕ) → Keeps before after → AreNumbersOf before r numbers → AreNumbersOf after r numbers
 numbers_kept before after r numbers keeps are = record {

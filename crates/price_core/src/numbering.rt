@@ -2,11 +2,11 @@
 ghost use Rattle.std.specs.Prelude.{◌≡◌, IfOk, Some};
 ghost use Rattle.std.specs.Map.{lookup};
 ghost use Rattle.std.specs.Str.{bytes_eq};
-ghost use Rattle.bucket_core.specs.Rule.{entries_view as rule_entries};
 ghost use Rattle.price_core.specs.Pricing.{change_view, entries_view};
 ghost use Rattle.price_core.specs.Numbering.{IsNumbering, Keeps, AreNumbersOf, AreBetween, pair_of_numbers};
 
 use crate::change::Change;
+use bucket_core::Rule;
 use std::alloc::{AllocError, Global};
 use std::collections::HashMap;
 use std::marker::Model;
@@ -69,14 +69,15 @@ impl<'a> Numbering<'a> {
     pub(crate) fn add_all(
         &mut self,
         alloc: Global,
-        entries: &'a [(String, u64)],
+        rule: &'a Rule,
     ) -> Result<Vec<usize>, AllocError>
-        ensures numbered { IfOk result (λ v. AreNumbersOf self.new (rule_entries entries.now) v.items) }
+        ensures numbered { IfOk result (λ v. AreNumbersOf self.new rule.now v.items) }
         ensures keeps { Keeps self.old self.new }
     {
+        let entries = rule.entries();
         let mut numbers = Vec::with_capacity(alloc, entries.len())?;
         for (name, _) in entries {
-            numbers.push(self.add(name.as_str())?)?;
+            numbers.push(self.add(name)?)?;
         }
         Ok(numbers)
     }

@@ -54,8 +54,8 @@ impl<'a> Switching<'a> {
         ensures lawful { IfOk result (λ s. IsPricing s.2) }
     {
         let mut numbering = Numbering::new(alloc);
-        let old_numbers = numbering.add_all(alloc, old.entries())?;
-        let new_numbers = numbering.add_all(alloc, new.entries())?;
+        let old_numbers = numbering.add_all(alloc, old)?;
+        let new_numbers = numbering.add_all(alloc, new)?;
         let by_numbers = numbering.between(alloc, prices.named())?;
         let barred = numbering.between(alloc, prices.barred())?;
         Ok(Switching {

@@ -1,20 +1,21 @@
 //! A rule put in the place of a site's.
-ghost use Rattle.std.specs.Prelude.{◌≡◌, [], ◌∷◌, ◌++◌, None, Some, Err, IfOk, IsErrOf};
+ghost use Rattle.std.specs.Prelude.{◌≡◌, [], ◌∷◌, ◌++◌, false, None, Some, Err, IfOk, IsErrOf};
 ghost use Rattle.std.specs.Map.{lookup};
 ghost use Rattle.std.specs.Str.{bytes_eq};
 ghost use Rattle.flag_text.specs.Outcome.{GivesUnless};
 ghost use Rattle.flag_defs.specs.Changes.{by_key, with_site};
-ghost use Rattle.flag_defs.specs.Definition.{Definition};
+ghost use Rattle.flag_defs.specs.Definition.{Definition, is_broken};
 ghost use Rattle.flag_defs.specs.Document.{limited};
 ghost use Rattle.flag_defs.specs.Flag.{entries_view, flag_view};
 ghost use Rattle.flag_defs.specs.Flags.{flags_view};
 ghost use Rattle.rollout.specs.Applied.{applied};
+ghost use Rattle.rollout_checks.specs.Lawful.{has_names_of};
 ghost use Rattle.rollout.specs.Change.{IsChanged, OthersStay, ResolveAsBefore};
 
 use bucket_core::Rule;
 use flag_defs::{DefFault, Flag, Flags};
 use logic_ast::LogicFault;
-use rollout_checks::{RolloutFault, has_names_of};
+use rollout_checks::RolloutFault;
 use std::alloc::{AllocError, Global};
 
 /// The flags with the entries of the rule as the buckets of a site. The bucketing expression stays, and so do all other
@@ -44,13 +45,26 @@ pub fn apply(
         return Err(RolloutFault::UnknownFlag);
     };
     let changed = flag.with_site(alloc, site, rule)?;
-    if !has_names_of(flag, rule.entries()) {
+    if !has_names_of(flag, rule) {
         return Err(RolloutFault::UnknownVariant);
     }
     // what is proved of the other flags and of resolutions rests on both
     prove!(flags.len() <= 10_000);
     prove!(rule.total() > 0);
     Ok(with_flag(alloc, flags, key, changed)?)
+}
+
+/// Whether each name of the rule is a variant of the flag.
+fn has_names_of(flag: &Flag, rule: &Rule) -> bool
+    requires { is_broken (flag_view flag.now) ≡ false }
+    ensures { result ≡ has_names_of (flag_view flag.now) rule.now }
+{
+    for (name, _) in rule.entries() {
+        if flag.variant(name).is_none() {
+            return false;
+        }
+    }
+    true
 }
 
 /// The flags with this one in the place of the one of its key.

@@ -10,7 +10,7 @@
 //! - [`verify_tally`] and [`verify_tally_refined`] do the same on a tally, for all inputs of which so many fall on each point
 //!   (`Tallied`).
 //! - [`problem_of`] gives what a lawful request asks, or its first refusal (`Lawful`, `Refined`), and [`problem_of_tally`] what
-//!   it asks of a tally (`Tallied`); [`has_names_of`] tells whether each name of a rule's entries is a variant of the flag.
+//!   it asks of a tally (`Tallied`).
 //! - [`read_book_for`] gives the book of a file, or that file's first fault, and has counted what a request asks of it.
 #![tactic(auto)]
 
@@ -24,7 +24,6 @@ mod verify_fault;
 
 pub use asked::read_book_for;
 pub use fault::RolloutFault;
-pub use place::has_names_of;
 pub use problem::{Problem, problem_of, problem_of_tally};
 pub use refining::Refining;
 pub use verification::{verify, verify_refined, verify_tally, verify_tally_refined};

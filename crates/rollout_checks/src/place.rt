@@ -63,7 +63,7 @@ pub(crate) fn limits_for(
 }
 
 /// Whether each name of the entries is a variant of the flag.
-pub fn has_names_of(flag: &Flag, entries: &[(String, u64)]) -> bool
+fn has_names_of(flag: &Flag, entries: &[(String, u64)]) -> bool
     requires { is_broken (flag_view flag.now) ≡ false }
     ensures { result ≡ has_names_of (flag_view flag.now) (entries_view entries.now) }
 {

@@ -116,33 +116,25 @@ whole-lent : (rows : List Lent) → whole_amount (totals_view rows) ≡ whole_am
 whole-lent [] = refl
 whole-lent (r ∷ rs) = omega (arith, sum_by-cons (λ (x : List ℕ × ℕ). x.1) (lent_view r) (totals_view rs), sum_by-cons (λ (x : Lent). x.1) r rs, whole-lent rs)
 
--- the first of the entries that are left
-pub rest_front : (entries : List (String Global × ℕ)) (i : ℕ) (e : String Global × ℕ) → i < length entries → e ≡ get_or entries i e → entries_view (drop i entries) ≡ entry_view e ∷ entries_view (drop (i + 1) entries)
-rest_front entries i e inside is =
-    let front : drop i entries ≡ e ∷ drop (i + 1) entries = rw add-one (drop-cons entries i e inside ∙ ap (λ x. x ∷ drop (suc i) entries) (sym is)) in
-    ap entries_view front
-
 -- what is summed up and what is left are all
-abbrev pub SumsUp : List Lent → List (String Global × ℕ) → List (String Global × ℕ) → Type 0
-SumsUp rows left entries = (test : List ℕ → Bool) → passed test (totals_view rows) + passed test (entries_view left) ≡ passed test (entries_view entries)
+abbrev pub SumsUp : List Lent → Entries → Entries → Type 0
+SumsUp rows left entries = (test : List ℕ → Bool) → passed test (totals_view rows) + passed test left ≡ passed test entries
 
-pub sums_none : (rows : List Lent) (entries : List (String Global × ℕ)) → rows ≡ [] → SumsUp rows entries entries
+pub sums_none : (rows : List Lent) (entries : Entries) → rows ≡ [] → SumsUp rows entries entries
 sums_none rows entries none = λ test. let nothing : passed test (totals_view rows) ≡ 0 = ap (λ rs. passed test (totals_view rs)) none in omega (arith, nothing)
 
 -- there is room for the first of the entries that are left
-pub sums_fit : (rows : List Lent) (entries : List (String Global × ℕ)) (i : ℕ) (e : String Global × ℕ) → i < length entries → e ≡ get_or entries i e → SumsUp rows (drop i entries) entries
-    → whole_amount rows + e.1 ≤ total_weight (entries_view entries)
-sums_fit rows entries i e inside is sums =
+pub sums_fit : (rows : List Lent) (entries left rest : Entries) (e : List ℕ × ℕ) → left ≡ e ∷ rest → SumsUp rows left entries → whole_amount rows + e.1 ≤ total_weight entries
+sums_fit rows entries left rest e is sums =
     let all = sums (λ name. true) in
-    let front = ap (λ es. passed (λ name. true) es) (rest_front entries i e inside is) ∙ passed-cons (λ name. true) (entry_view e) (entries_view (drop (i + 1) entries)) in
+    let front = ap (λ es. passed (λ name. true) es) is ∙ passed-cons (λ name. true) e rest in
     omega (arith, all, front, whole-lent rows)
 
-pub sums_more : (rows more : List Lent) (entries : List (String Global × ℕ)) (i : ℕ) (e : String Global × ℕ) (name : List ℕ) → i < length entries → e ≡ get_or entries i e → name ≡ string_bytes e.0 → SumsUp rows (drop i entries) entries
-    → ((test : List ℕ → Bool) → passed test (totals_view more) ≡ passed test (totals_view rows) + cond (test name) e.1 0) → SumsUp more (drop (i + 1) entries) entries
-sums_more rows more entries i e name inside is named sums added = λ test.
-    let here : cond (test name) e.1 0 ≡ cond (test (string_bytes e.0)) e.1 0 = ap (λ (n : List ℕ). let k : ℕ = cond (test n) e.1 0 in k) named in
-    let front = ap (λ es. passed test es) (rest_front entries i e inside is) ∙ passed-cons test (entry_view e) (entries_view (drop (i + 1) entries)) in
-    omega (arith, sums test, added test, here, front)
+pub sums_more : (rows more : List Lent) (entries left rest : Entries) (e : List ℕ × ℕ) → left ≡ e ∷ rest → SumsUp rows left entries
+    → ((test : List ℕ → Bool) → passed test (totals_view more) ≡ passed test (totals_view rows) + cond (test e.0) e.1 0) → SumsUp more rest entries
+sums_more rows more entries left rest e is sums added = λ test.
+    let front = ap (λ es. passed test es) is ∙ passed-cons test e rest in
+    omega (arith, sums test, added test, front)
 
 -- rows and others are all
 abbrev pub AreAll : List Lent → List Lent → List Lent → Type 0
@@ -154,18 +146,18 @@ row_fits rows r left all are = omega (arith, are (λ name. true), passed-cons (�
 pub row_added : (rows more : List Lent) (r : Lent) (left all : List Lent) → AreAll rows (r ∷ left) all → ((test : List ℕ → Bool) → passed test (totals_view more) ≡ passed test (totals_view rows) + cond (test r.0.now) r.1 0) → AreAll more left all
 row_added rows more r left all are added = λ test. omega (arith, are test, added test, passed-cons test (lent_view r) (totals_view left))
 
-pub totals_summed : (rule : Entries) (entries : List (String Global × ℕ)) (sums rows : List Lent) (i : ℕ) → entries_view entries ≡ rule → length entries ≤ i → SumsUp sums (drop i entries) entries
+pub totals_summed : (rule : Entries) (sums rows : List Lent) (left : Entries) → left ≡ [] → SumsUp sums left rule
     → IsStrictlySortedBy (slice_cmp nat_cmp) (keys_of (totals_view rows)) → ((test : List ℕ → Bool) → passed test (totals_view rows) ≡ passed test (totals_view sums)) → AreTotals rule (totals_view rows)
-totals_summed rule entries sums rows i is all whole rise same = record {
+totals_summed rule sums rows left none whole rise same = record {
   rise = rise;
   counts = λ test.
-      let none : passed test (entries_view (drop i entries)) ≡ 0 = ap (λ es. passed test (entries_view es)) (drop_all i entries all) in
-      omega (arith, same test, whole test, none) ∙ (ap (passed test) is ∙ passed-points test rule);
+      let nothing : passed test left ≡ 0 = ap (λ es. passed test es) none in
+      omega (arith, same test, whole test, nothing) ∙ passed-points test rule;
 }
 
 -- all are summed up
-pub sums_all : (rows : List Lent) (entries : List (String Global × ℕ)) (i : ℕ) → length entries ≤ i → SumsUp rows (drop i entries) entries → whole_amount rows ≤ total_weight (entries_view entries)
-sums_all rows entries i all sums = omega (arith, sums (λ name. true), whole-lent rows)
+pub sums_all : (rows : List Lent) (entries left : Entries) → left ≡ [] → SumsUp rows left entries → whole_amount rows ≤ total_weight entries
+sums_all rows entries left none sums = omega (arith, sums (λ name. true), whole-lent rows)
 
 -- ---- what is listed of a name
 
@@ -207,15 +199,6 @@ lows-le (l ∷ ls) bound name le =
     (λ (apart : bytes_eq name (string_bytes l.name) ≡ false).
     omega (arith, ap (λ (o : Option (ℕ × ℕ)). (unwrap_or o (0, 0)).0) (cond-false (bytes_eq name (string_bytes l.name)) (Some (l.low, l.high)) found apart), lows-le ls bound name (λ k d below. le (suc k) d (omega arith))))
     (cases_Bool (bytes_eq name (string_bytes l.name)))
-
--- ---- an entry weighs at most all of them
-
-sum-entries : (es : List (String Global × ℕ)) → total_weight (entries_view es) ≡ sum_by (λ e. e.1) es
-sum-entries [] = refl
-sum-entries (e ∷ es) = omega (arith, sum_by-cons (λ (x : List ℕ × ℕ). x.1) (entry_view e) (entries_view es), sum_by-cons (λ (x : String Global × ℕ). x.1) e es, sum-entries es)
-
-pub weight-le : (es : List (String Global × ℕ)) (i : ℕ) (e : String Global × ℕ) → i < length es → e ≡ get_or es i e → e.1 ≤ total_weight (entries_view es)
-weight-le es i e below is = omega (arith, sum-entries es, get_or-le-sum_by (λ (x : String Global × ℕ). x.1) es i e below, ap (λ x. x.1) is)
 
 -- ---- limits, from the listed totals
 

@@ -3,7 +3,7 @@ ghost use Rattle.std.specs.Prelude.{◌≡◌, ◌≢◌, ◌<◌, ◌≤◌, �
 ghost use Rattle.std.specs.List.{All, Contains, list_any, list_all};
 ghost use Rattle.std.specs.Map.{keys_of};
 ghost use Rattle.std.specs.Str.{bytes_eq};
-ghost use Rattle.bucket_core.specs.Rule.{Entries, entries_view, names_view};
+ghost use Rattle.bucket_core.specs.Rule.{Entries, names_view};
 ghost use Rattle.price_core.specs.Limits.{limits_view};
 ghost use Rattle.transport_instance.specs.Deficient.{may_become, is_among, IsDeficient, Outnumbers};
 ghost use Rattle.transport_instance.specs.Fits.{Fits};
@@ -73,12 +73,12 @@ pub(crate) fn are_listed(names: &[String], limits: &[Limit]) -> bool
     true
 }
 
-/// Whether each name of the entries has limits.
-pub(crate) fn names_are_listed(entries: &[(String, u64)], limits: &[Limit]) -> bool
-    ensures { result ≡ list_all (λ name. list_any (bytes_eq name) (keys_of (limits_view limits.now))) (keys_of (entries_view entries.now)) }
+/// Whether each name of a rule has limits.
+pub(crate) fn names_are_listed(rule: &Rule, limits: &[Limit]) -> bool
+    ensures { result ≡ list_all (λ name. list_any (bytes_eq name) (keys_of (limits_view limits.now))) (keys_of rule.now) }
 {
-    for (name, _) in entries {
-        if !is_listed(name.as_str(), limits) {
+    for (name, _) in rule.entries() {
+        if !is_listed(name, limits) {
             return false;
         }
     }

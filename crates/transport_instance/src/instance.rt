@@ -74,7 +74,7 @@ impl<'a> Instance<'a> {
     pub fn lists(old: &Rule, totals: &Totals) -> bool
         ensures { IsTrue result ↔ AreListed old.now totals.now }
     {
-        names_are_listed(old.entries(), totals.entries())
+        names_are_listed(old, totals.entries())
     }
 
     /// The groups, by name and then by number of inputs, each with its number of points.

@@ -31,10 +31,9 @@ pub(crate) fn totals<'a>(alloc: Global, rule: &'a Rule) -> Result<Vec<(&'a str, 
 {
     // Called for what its contract says: no sum of a rule's weights is above 2^31-1.
     let _total = rule.total();
-    let entries = rule.entries();
     let mut sums = HashMap::new(alloc);
-    for (name, weight) in entries {
-        count_points(&mut sums, name.as_str(), *weight as u32)?;
+    for (name, weight) in rule.entries() {
+        count_points(&mut sums, name, weight as u32)?;
     }
     by_name(alloc, sums)
 }

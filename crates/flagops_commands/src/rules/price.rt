@@ -351,7 +351,7 @@ fn answer(
     ensures { IfOk result (λ s. string_bytes s
         ≡ (if json then price_json old.now new.now prices.now (texts_view inputs.now) else price_text old.now new.now prices.now (texts_view inputs.now))) }
 {
-    let totals = totals_by_name(alloc, new.entries())?;
+    let totals = totals_by_name(alloc, new)?;
     let forbidden = first_forbidden(old, new, prices);
     let cost = switch_cost_of(rt, alloc, old, new, inputs, prices)?;
     if json {

@@ -1,8 +1,9 @@
 //! The totals of a rule's names.
 ghost use Rattle.std.specs.Prelude.{◌≡◌, ◌<◌, ◌^◌, IfOk, map};
-ghost use Rattle.bucket_core.specs.Rule.{total_weight, entries_view};
+ghost use Rattle.bucket_core.specs.Rule.{total_weight};
 ghost use Rattle.flagops_commands.specs.Totals.{totals_by_name};
 
+use bucket_core::Rule;
 use std::alloc::{AllocError, Global};
 use std::collections::BTreeMap;
 
@@ -10,19 +11,18 @@ use std::collections::BTreeMap;
 /// up by name, in `O(n log n)` steps at n entries.
 pub fn totals_by_name(
     alloc: Global,
-    entries: &[(String, u64)],
+    rule: &Rule,
 ) -> Result<Vec<(&str, u64)>, AllocError>
-    requires { total_weight (entries_view entries.now) < 2 ^ 31 }
-    ensures { IfOk result (λ v. map (λ e. (e.0.now, e.1)) v.items ≡ totals_by_name (entries_view entries.now)) }
+    requires { total_weight rule.now < 2 ^ 31 }
+    ensures { IfOk result (λ v. map (λ e. (e.0.now, e.1)) v.items ≡ totals_by_name rule.now) }
 {
     let mut by_name = BTreeMap::new(alloc);
-    let mut left = entries.len();
+    let mut left = rule.entries().len();
     while left > 0 {
         left -= 1;
-        let (name, weight) = &entries[left];
-        let name = name.as_str();
+        let (name, weight) = rule.entry(left);
         let before = by_name.get(name).copied().unwrap_or(0);
-        by_name.insert(name, before + *weight)?;
+        by_name.insert(name, before + weight)?;
     }
     let mut totals = Vec::new(alloc);
     for total in by_name {

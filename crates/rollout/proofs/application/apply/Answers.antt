@@ -3,7 +3,6 @@ use Rattle.bucket_core.specs.Rule.{IsRuleTotal}
 use Rattle.flag_defs.specs.Flag.{flag_view}
 use Rattle.flag_defs.specs.Flags.{flags_view}
 use Rattle.rollout.specs.Applied.{by_document}
-use Rattle.rollout_checks.specs.Lawful.{has_names_of}
 use Rattle.rollout.proofs.Changed.{changed, others}
 use Rattle.rollout.proofs.Resolved.{as_before}
 use Rattle.rollout.proofs.Sites.{site_good, applied_with}
@@ -14,7 +13,7 @@ has_names_of-requires c = site_good c.args.site c.args.rule.now (flag_view c.in-
 
 pub returns-clause-exact : goal.returns-clause-exact
 returns-clause-exact c =
-    let named = ap (has_names_of (flag_view c.in-Some.flag.now)) (sym c.entries.ensures.value) ∙ (sym c.has_names_of.ensures ∙ c.if-not-has_names_of.false) in
+    let named = sym c.has_names_of.ensures ∙ c.if-not-has_names_of.false in
     applied_with (flags_view c.args.flags.now) c.args.key.now c.args.site c.args.rule.now (flag_view c.in-Some.flag.now) (flag_view c.in_ok-changed.changed) (sym c.in-Some.ensures) c.in_ok-changed.ensures.exact named
     ∙ ap by_document c.in_ok-with_flag.ensures.exact
 

@@ -1,12 +1,11 @@
 use Rattle.std.proofs.Common.{◌≡◌, ◌≤◌, ◌++◌, length, drop}
-use Rattle.bucket_core.specs.Rule.{entries_view}
 use Rattle.flagops_commands.proofs.AddedUp.{AreTotals, named_totals}
 use Rattle.flagops_commands.proofs.rules.totals.totals_by_name.Given as goal
 
 abbrev pub invariant-loop-left : goal.invariant-loop-left
 invariant-loop-left l = record {
-  inside : l.left ≤ length l.entries;
-  added : AreTotals (named_totals l.by_name.entries) (entries_view (drop l.left l.entries));
+  inside : l.left ≤ length l.rule;
+  added : AreTotals (named_totals l.by_name.entries) (drop l.left l.rule);
 }
 
 abbrev pub decreases-loop-left : goal.decreases-loop-left

@@ -12,8 +12,8 @@ invariant_of-result c =
     let new = c.args.new.now in
     let froms = c.in_ok-old_numbers.old_numbers.items in
     let tos = c.in_ok-new_numbers.new_numbers.items in
-    let of_old : AreNumbersOf first old froms = subst (λ r. AreNumbersOf first r froms) c.entries.ensures.value c.in_ok-old_numbers.ensures.numbered in
-    let of_new : AreNumbersOf both new tos = subst (λ r. AreNumbersOf both r tos) c.entries-2.ensures.value c.in_ok-new_numbers.ensures.numbered in
+    let of_old : AreNumbersOf first old froms = c.in_ok-old_numbers.ensures.numbered in
+    let of_new : AreNumbersOf both new tos = c.in_ok-new_numbers.ensures.numbered in
     let priced = subst (λ es. AreBetween both es c.in_ok-by_numbers.by_numbers) c.named.ensures.value c.in_ok-by_numbers.ensures.found in
     switching_of both old new c.args.prices.now froms tos c.in_ok-by_numbers.by_numbers c.in_ok-barred.barred (entries_view c.barred.result.now) c.in_ok-by_numbers.ensures.lawful (numbers_kept first both old froms c.in_ok-new_numbers.ensures.keeps of_old) of_new priced
     c.in_ok-barred.ensures.found c.barred.ensures

@@ -1,16 +1,14 @@
 -- The test says it of the lists.
 use Rattle.std.proofs.Common.{List, ℕ, sym, ap, ◌∙◌}
 use Rattle.std.specs.Map.{keys_of}
-use Rattle.bucket_core.specs.Rule.{entries_view}
 use Rattle.price_core.specs.Limits.{Limits}
 use Rattle.transport_instance.proofs.Deficits.{all_listed, listed_from_test, test_from_listed}
 use Rattle.transport_instance.proofs.instance.Instance.lists.Goals as goal
 
 pub returns : goal.returns
 returns c =
-    let names = ap keys_of c.entries.ensures.value in
-    let limits = ap (λ (ls : Limits). keys_of ls) c.entries-2.ensures.value in
-    let same = c.names_are_listed.ensures ∙ (ap (λ (ks : List (List ℕ)). all_listed ks (keys_of (entries_view c.entries.result.now))) limits ∙ ap (all_listed (keys_of c.args.totals.now)) names) in (
+    let limits = ap (λ (ls : Limits). keys_of ls) c.entries.ensures.value in
+    let same = c.names_are_listed.ensures ∙ ap (λ (ks : List (List ℕ)). all_listed ks (keys_of c.args.old.now)) limits in (
       λ told. listed_from_test (keys_of c.args.totals.now) (keys_of c.args.old.now) (sym same ∙ told),
       λ listed. same ∙ test_from_listed (keys_of c.args.totals.now) (keys_of c.args.old.now) listed,
     )
