@@ -117,6 +117,14 @@ impl Rule {
         RuleEntries::of(&self.names, &self.entries)
     }
 
+    /// The names, each once or more often, and the entries in their order: the place of its name, and its weight.
+    pub fn by_places(&self) -> (&[String], &[(usize, u64)])
+        ensures value { all_named (names_view result.0.now) result.1.now ≡ self.now }
+        ensures named { AreNamed (names_view result.0.now) result.1.now }
+    {
+        (self.names.as_slice(), self.entries.as_slice())
+    }
+
     /// The sum of the weights: how many points there are.
     pub fn total(&self) -> u32
         ensures value { result ≡ total_weight self.now }
