@@ -1,23 +1,24 @@
 -- Numbers of names: one name more, and prices looked up by numbers.
-use Rattle.std.proofs.Common.{◌≡◌, ℕ, zero, suc, ◌+◌, ◌<◌, ◌≤◌, ◌==◌, Bool, not, true, false, ◌&&◌, cond, List, [], ◌∷◌, ◌++◌, length, get_or, ◌⊎◌, inl, inr, Option, Some, None, is_some, unwrap_or, option_map, option_and_then, drop, add-one, refl, sym, ap, ◌∙◌, arith, String, Global, string_bytes}
+use Rattle.std.proofs.Common.{◌≡◌, ℕ, zero, suc, ◌+◌, ◌<◌, ◌≤◌, ◌==◌, Bool, not, true, false, ◌&&◌, cond, List, [], ◌∷◌, ◌++◌, length, get_or, ◌⊎◌, inl, inr, Option, Some, None, is_some, unwrap_or, map, option_map, option_and_then, drop, add-one, refl, sym, ap, ◌∙◌, arith, String, Global, string_bytes}
 use denote.Ref.{Bor}
 use Rattle.std.proofs.Math.Seq.{drop-cons}
 use Rattle.std.specs.HashMap as hash
 use Rattle.std.specs.HashMap.{HashMap, get_by}
-use Rattle.std.specs.List.{slice_get, list_any}
+use Rattle.std.specs.List.{slice_get, slice_index, list_any}
 use Rattle.std.specs.Map.{keys_of, lookup}
 use Rattle.std.specs.Str.{bytes_eq}
 use Rattle.std.proofs.lemmas.Bool.{and_left, and_right, cases_Bool, cases_lt, cond-true, cond-false, eq-eqb, ne_eqb, false_from_ne_true}
 use Rattle.std.proofs.lemmas.Bool.Decides.{same_from_decides, Decides-eqb, Decides-like}
-use Rattle.std.proofs.lemmas.List.{length_push}
+use Rattle.std.proofs.lemmas.List.{length-map, length_push}
+use Rattle.std.proofs.lemmas.List.Elements.{All-head, All-tail}
 use Rattle.std.proofs.lemmas.Map.Text.{hash_map_updates_str}
 use Rattle.std.proofs.lemmas.Option.{same_Some, none-some, slice_get-get_or, slice_get-map, slice_get_read, get_or_from_slice_get}
 use Rattle.std.proofs.lemmas.Slice.Eq.{bytes_eq-Decides}
 use Rattle.murmur_core.specs.Murmur.{hash as hash_of}
 use Rattle.bucket_core.specs.Point.{scale, point_of}
-use Rattle.bucket_core.specs.Rule.{Entries, at, choice, entry_name, total_weight}
+use Rattle.bucket_core.specs.Rule.{AreNamed, Entries, Numbered, all_named, at, choice, entry_name, named, names_view, total_weight}
 use Rattle.price_core.specs.Cost.{name_of_input}
-use Rattle.price_core.specs.Numbering.{Numbers, numbers_view, number_of, IsNumbering, Keeps, AreFirstNumbers, AreNumbersOf, is_between, AreBetween, pair_of_numbers, price_between, is_barred_between, IsSwitching}
+use Rattle.price_core.specs.Numbering.{Numbers, numbers_view, number_of, IsNumbering, Keeps, AreFirstNumbers, AreNamesNumbers, AreNumbersOf, is_between, AreBetween, pair_of_numbers, price_between, is_barred_between, IsSwitching}
 use Rattle.price_core.specs.Pricing.{Pair, Pricing, is_same_pair, price_of, is_forbidden, change_view, entries_view}
 use Rattle.price_core.specs.declared.change.Change.{Change}
 use Rattle.price_core.proofs.Pricings.{barred-lookup}
@@ -99,29 +100,45 @@ slice_get-last : {X : Type 0} (xs : List X) (y : X) → slice_get (xs ++ y ∷ [
 slice_get-last [] y = refl
 slice_get-last (x ∷ xs) y = slice_get-last xs y
 
-pub firsts_more : (before after : Numbers) (r : Entries) (numbers : List ℕ) (name : List ℕ) (n : ℕ) → Keeps before after → AreFirstNumbers before r numbers → entry_name r (length numbers) ≡ Some name → number_of after name ≡ Some n → AreFirstNumbers after r (numbers ++ n ∷ [])
-firsts_more before after r numbers name n keeps firsts here is = λ i other inside there. by i other there (omega (arith, inside, length_push numbers n)) (cases_lt i (length numbers))
+pub firsts_more : (before after : Numbers) (names : List (List ℕ)) (numbers : List ℕ) (name : List ℕ) (n : ℕ) → Keeps before after → AreFirstNumbers before names numbers → slice_get names (length numbers) ≡ Some name → number_of after name ≡ Some n → AreFirstNumbers after names (numbers ++ n ∷ [])
+firsts_more before after names numbers name n keeps firsts here is = λ i other inside there. by i other there (omega (arith, inside, length_push numbers n)) (cases_lt i (length numbers))
   where
-    by : (i : ℕ) (other : List ℕ) → entry_name r i ≡ Some other → i < length numbers + 1 → (i < length numbers) ⊎ (length numbers ≤ i) → number_of after other ≡ slice_get (numbers ++ n ∷ []) i
+    by : (i : ℕ) (other : List ℕ) → slice_get names i ≡ Some other → i < length numbers + 1 → (i < length numbers) ⊎ (length numbers ≤ i) → number_of after other ≡ slice_get (numbers ++ n ∷ []) i
     by i other there inside (inl h) =
         let read = slice_get-get_or numbers i 0 h in
         keeps other (get_or numbers i 0) (firsts i other h there ∙ read) ∙ (sym read ∙ sym (slice_get-left numbers (n ∷ []) i h))
     by i other there inside (inr h) =
         let last : i ≡ length numbers = omega arith in
-        let same : name ≡ other = same_Some name other (sym here ∙ (ap (entry_name r) (sym last) ∙ there)) in
+        let same : name ≡ other = same_Some name other (sym here ∙ (ap (slice_get names) (sym last) ∙ there)) in
         ap (number_of after) (sym same) ∙ (is ∙ (sym (slice_get-last numbers n) ∙ ap (slice_get (numbers ++ n ∷ [])) (sym last)))
 
--- where the entries from one on begin with an entry, it is that one, and the next ones are the others
-pub entry_here : (r : Entries) (i : ℕ) (e : List ℕ × ℕ) (rest : Entries) → drop i r ≡ e ∷ rest → (entry_name r i ≡ Some e.0) × (drop (i + 1) r ≡ rest)
-entry_here [] zero e rest is = absurd (omega (arith, ap length is))
-entry_here [] (suc i) e rest is = absurd (omega (arith, ap length is))
-entry_here (x ∷ r) zero e rest is = cc (ap (λ (es : Entries). slice_get es 0) is, ap (λ (es : Entries). drop 1 es) is)
-entry_here (x ∷ r) (suc i) e rest is = entry_here r i e rest is
+-- a name of the program, read where it stands
+pub name_at : (names : List (String Global)) (i : ℕ) (name : String Global) → i < length names → name ≡ get_or names i name → slice_get (names_view names) i ≡ Some (string_bytes name)
+name_at names i name h is = slice_get-map string_bytes names i ∙ ap (option_map string_bytes) (slice_get_read names (length names) i name refl h is)
+
+-- the number at the place of an entry's name is that of the name
+module _ (ns : Numbers) (names : List (List ℕ)) (numbers : List ℕ) (are : AreNamesNumbers ns names numbers) where
+  at_place : (e : ℕ × ℕ) (name : List ℕ) → e.0 < length names → Some (get_or names e.0 []) ≡ Some name → number_of ns name ≡ Some (get_or numbers e.0 0)
+  at_place e name inside is =
+      let within : e.0 < length numbers = omega (arith, inside, are.as_many) in
+      are.firsts e.0 name within (slice_get-get_or names e.0 [] inside ∙ is) ∙ slice_get-get_or numbers e.0 0 within
+
+  each_place : (es : Numbered) (i : ℕ) (name : List ℕ) → AreNamed names es → i < length es → entry_name (all_named names es) i ≡ Some name
+      → number_of ns name ≡ slice_get (map (λ (e : ℕ × ℕ). slice_index numbers e.0) es) i
+  each_place [] i name all inside is = absurd (omega arith)
+  each_place (e ∷ es) zero name all inside is = at_place e name (All-head (λ (e : ℕ × ℕ). e.0 < length names) e es all) is
+  each_place (e ∷ es) (suc i) name all inside is = each_place es i name (All-tail (λ (e : ℕ × ℕ). e.0 < length names) e es all) (omega arith) is
+
+  pub numbers_spread : (es : Numbered) → AreNamed names es → AreNumbersOf ns (all_named names es) (map (λ (e : ℕ × ℕ). slice_index numbers e.0) es)
+  numbers_spread es all = record {
+    as_many = length-map es (λ (e : ℕ × ℕ). slice_index numbers e.0) ∙ sym (length-map es (named names));
+    each = λ i name inside is. each_place es i name all (omega (arith, inside, length-map es (λ (e : ℕ × ℕ). slice_index numbers e.0))) is;
+  }
 
 pub numbers_kept : (before after : Numbers) (r : Entries) (numbers : List ℕ) → Keeps before after → AreNumbersOf before r numbers → AreNumbersOf after r numbers
 numbers_kept before after r numbers keeps are = record {
   as_many = are.as_many;
-  firsts = λ i name inside here. let read = slice_get-get_or numbers i 0 inside in keeps name (get_or numbers i 0) (are.firsts i name inside here ∙ read) ∙ sym read;
+  each = λ i name inside here. let read = slice_get-get_or numbers i 0 inside in keeps name (get_or numbers i 0) (are.each i name inside here ∙ read) ∙ sym read;
 }
 
 -- ---- what is said of changes, by numbers
@@ -162,7 +179,7 @@ one_before es left i e next inside is =
 number_at : (ns : Numbers) (r : Entries) (numbers : List ℕ) (i : ℕ) (name : List ℕ) → AreNumbersOf ns r numbers → entry_name r i ≡ Some name → i < length r → number_of ns name ≡ Some (get_or numbers i 0)
 number_at ns r numbers i name are here inside =
     let within : i < length numbers = omega (arith, inside, are.as_many) in
-    are.firsts i name within here ∙ slice_get-get_or numbers i 0 within
+    are.each i name within here ∙ slice_get-get_or numbers i 0 within
 
 pub named_within : (r : Entries) (i : ℕ) (name : List ℕ) → entry_name r i ≡ Some name → i < length r
 named_within [] i name h = absurd (none-some name h)

@@ -36,14 +36,19 @@ pub record IsNumbering (ns : Numbers) : Type 0 where
 abbrev pub Keeps : Numbers → Numbers → Type 0
 Keeps before after = (name : List ℕ) (n : ℕ) → number_of before name ≡ Some n → number_of after name ≡ Some n
 
--- the numbers of the names of the first entries
-abbrev pub AreFirstNumbers : Numbers → Entries → List ℕ → Type 0
-AreFirstNumbers ns r numbers = (i : ℕ) (name : List ℕ) → i < length numbers → entry_name r i ≡ Some name → number_of ns name ≡ slice_get numbers i
+-- the numbers of the first names
+abbrev pub AreFirstNumbers : Numbers → List (List ℕ) → List ℕ → Type 0
+AreFirstNumbers ns names numbers = (i : ℕ) (name : List ℕ) → i < length numbers → slice_get names i ≡ Some name → number_of ns name ≡ slice_get numbers i
+
+-- the number of each name
+pub record AreNamesNumbers (ns : Numbers) (names : List (List ℕ)) (numbers : List ℕ) : Type 0 where
+  pub as_many : length numbers ≡ length names
+  pub firsts : AreFirstNumbers ns names numbers
 
 -- the number of each entry's name
 pub record AreNumbersOf (ns : Numbers) (r : Entries) (numbers : List ℕ) : Type 0 where
   pub as_many : length numbers ≡ length r
-  pub firsts : AreFirstNumbers ns r numbers
+  pub each : (i : ℕ) (name : List ℕ) → i < length numbers → entry_name r i ≡ Some name → number_of ns name ≡ slice_get numbers i
 
 -- whether the key is this pair of numbers
 abbrev pub is_between : ℕ → ℕ → ℕ × ℕ → Bool

@@ -1,9 +1,11 @@
 //! Numbers for names, so that changes are told apart without comparing texts.
-ghost use Rattle.std.specs.Prelude.{◌≡◌, IfOk, Some};
+ghost use Rattle.std.specs.Prelude.{◌≡◌, ◌<◌, IfOk, Some, length, map, slice_index};
+ghost use Rattle.std.specs.List.{All};
 ghost use Rattle.std.specs.Map.{lookup};
 ghost use Rattle.std.specs.Str.{bytes_eq};
+ghost use Rattle.bucket_core.specs.Rule.{names_view};
 ghost use Rattle.price_core.specs.Pricing.{change_view, entries_view};
-ghost use Rattle.price_core.specs.Numbering.{IsNumbering, Keeps, AreNumbersOf, AreBetween, pair_of_numbers};
+ghost use Rattle.price_core.specs.Numbering.{IsNumbering, Keeps, AreNamesNumbers, AreNumbersOf, AreBetween, pair_of_numbers};
 
 use crate::change::Change;
 use bucket_core::Rule;
@@ -74,10 +76,23 @@ impl<'a> Numbering<'a> {
         ensures numbered { IfOk result (λ v. AreNumbersOf self.new rule.now v.items) }
         ensures keeps { Keeps self.old self.new }
     {
-        let entries = rule.entries();
-        let mut numbers = Vec::with_capacity(alloc, entries.len())?;
-        for (name, _) in entries {
-            numbers.push(self.add(name)?)?;
+        let (names, entries) = rule.by_places();
+        let numbers = self.add_names(alloc, names)?;
+        numbers_at(alloc, entries, numbers.as_slice())
+    }
+
+    /// The number of each name.
+    fn add_names(
+        &mut self,
+        alloc: Global,
+        names: &'a [String],
+    ) -> Result<Vec<usize>, AllocError>
+        ensures numbered { IfOk result (λ v. AreNamesNumbers self.new (names_view names.now) v.items) }
+        ensures keeps { Keeps self.old self.new }
+    {
+        let mut numbers = Vec::with_capacity(alloc, names.len())?;
+        for name in names {
+            numbers.push(self.add(name.as_str())?)?;
         }
         Ok(numbers)
     }
@@ -104,4 +119,20 @@ impl<'a> Numbering<'a> {
         }
         Ok(by_numbers)
     }
+}
+
+/// The number at the place of each entry's name.
+fn numbers_at(
+    alloc: Global,
+    entries: &[(usize, u64)],
+    numbers: &[usize],
+) -> Result<Vec<usize>, AllocError>
+    requires { All (λ e. e.0 < length numbers.now) entries.now }
+    ensures { IfOk result (λ v. v.items ≡ map (λ e. slice_index numbers.now e.0) entries.now) }
+{
+    let mut found = Vec::with_capacity(alloc, entries.len())?;
+    for (place, _) in entries {
+        found.push(numbers[*place])?;
+    }
+    Ok(found)
 }
