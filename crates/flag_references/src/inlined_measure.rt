@@ -75,10 +75,9 @@ fn items_extent(items: &Vec<Tree>, table: &Table<'_>) -> Option<Extent>
     ensures { result ≡ option_map parts_extent (parts_measured (known (members_view table.now.members) table.now.measures) (items_view items.now.items)) }
 {
     let mut parts = Extent::NOTHING;
-    // From the back, as the definition adds them up: it folds from the right.
-    for i in (0..items.len()).rev() {
+    for i in 0..items.len() {
         let item = item_extent(&items[i], table)?;
-        parts = item.beside(parts);
+        parts = parts.beside(item);
     }
     Some(parts)
 }

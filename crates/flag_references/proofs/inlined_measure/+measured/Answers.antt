@@ -1,4 +1,4 @@
-use Rattle.std.proofs.Common.{◌≡◌, ◌<◌, ◌-◌, length, drop, option_map, rules, Some, None, false, sym, ap, ◌∙◌, arith}
+use Rattle.std.proofs.Common.{◌≡◌, ◌<◌, length, drop, option_map, rules, Some, None, false, sym, ap, ◌∙◌, subst, arith}
 use Rattle.flag_text.proofs.Halving.{name_of}
 use Rattle.flag_text.specs.Shape.{list}
 use Rattle.flag_text.specs.View.{view, items_view, members_view}
@@ -7,7 +7,7 @@ use Rattle.logic_ast.specs.Operator.{is_fractional}
 use Rattle.flag_references.specs.Measure.{known, parts_measured, members_measured, measured, list_measure, literal_measure, operation_measure}
 use Rattle.flag_references.specs.Extent.{extent, operation_extent}
 use Rattle.flag_references.proofs.Expansions.{view-list}
-use Rattle.flag_references.proofs.Extents.{items-next, items-without, operation-extent, operation-object}
+use Rattle.flag_references.proofs.Extents.{Adds, adds-first, adds-next, adds-all, items-without, operation-extent, operation-object}
 use Rattle.flag_references.proofs.Objects.{item_count-items, object_measured-one, object_measured-many}
 use Rattle.flag_references.proofs.inlined_measure.+measured.Goals as goal
 
@@ -50,7 +50,7 @@ object_extent-returns-then-len-eq1 t c =
     let m = c.index.result.now in
     let first = ap (λ x. option_map (operation_measure (name_of x)) (measured refer (view x.1))) c.index.ensures in
     let one = object_measured-one refer ms m (omega (arith, c.len.ensures)) in
-    c.operation_extent.ensures ∙ rw c.as_str.ensures.value (ap (option_map extent) (first ∙ sym one))
+    c.operation_extent.ensures ∙ rw c.as_str.ensures.value (ap (option_map extent) first ∙ ap (option_map extent) (sym one))
 
 pub object_extent-returns : goal.object_extent-returns
 object_extent-returns t c =
@@ -62,18 +62,26 @@ items_extent-returns-in_err-item t c =
     let refer = known (members_view c.args.table.now.members) c.args.table.now.measures in
     let none : c.item_extent.result ≡ None = search rules in
     let left : c.from_residual.result ≡ None = search rules in
-    let within : c.loop-i.i - 1 < length c.args.items.now.items = search rules in
+    let within : c.loop-i.i < length c.args.items.now.items = search rules in
     let item = ap (λ x. option_map extent (measured refer (view x))) (sym c.index.ensures) ∙ (sym c.item_extent.ensures ∙ none) in
-    left ∙ sym (items-without refer c.args.items.now.items (c.loop-i.i - 1) c.index.result.now within item)
+    left ∙ sym (items-without refer c.args.items.now.items (c.loop-i.i) c.index.result.now within item)
+
+pub items_extent-loop-i-init : goal.items_extent-loop-i-init
+items_extent-loop-i-init t c = adds-first (known (members_view c.args.table.now.members) c.args.table.now.measures) c.args.items.now.items
 
 pub items_extent-loop-i-preserved : goal.items_extent-loop-i-preserved
 items_extent-loop-i-preserved t c =
     let refer = known (members_view c.args.table.now.members) c.args.table.now.measures in
+    let items = c.args.items.now.items in
     let some : c.item_extent.result ≡ Some c.in_ok-item.item = search rules in
-    let within : c.loop-i.i - 1 < length c.args.items.now.items = search rules in
+    let within : c.loop-i.i < length items = search rules in
     let item = ap (λ x. option_map extent (measured refer (view x))) (sym c.index.ensures) ∙ (sym c.item_extent.ensures ∙ some) in
-    items-next refer c.args.items.now.items (c.loop-i.i - 1) c.loop-i.i c.index.result.now c.in_ok-item.item c.loop-i.parts (omega arith) within item c.loop-i.invariant
-    ∙ ap Some (sym c.beside-parts.ensures)
+    subst (Adds refer items _) (sym c.beside-parts.ensures) (adds-next refer items c.loop-i.i c.index.result.now c.loop-i.parts c.in_ok-item.item within item c.loop-i.invariant)
+
+pub items_extent-returns : goal.items_extent-returns
+items_extent-returns t c =
+    let refer = known (members_view c.args.table.now.members) c.args.table.now.measures in
+    sym (adds-all refer c.args.items.now.items c.loop-i.i c.loop-i.parts (omega (arith, c.len-i-end.ensures)) c.loop-i.invariant)
 
 pub operation_extent-returns-in_ok-items_extent-in-List : goal.operation_extent-returns-in_ok-items_extent-in-List
 operation_extent-returns-in_ok-items_extent-in-List t c =
