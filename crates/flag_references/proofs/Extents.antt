@@ -1,13 +1,13 @@
 -- How large what is measured is.
-use Rattle.std.proofs.Common.{◌≡◌, ℕ, zero, suc, ◌+◌, ◌<◌, List, [], ◌∷◌, length, drop, get_or, Bool, true, false, not, ◌&&◌, max, pos, negsuc, Option, Some, None, option_map, refl, sym, ap, ◌∙◌, arith}
+use Rattle.std.proofs.Common.{◌≡◌, ℕ, zero, suc, ◌+◌, ◌<◌, List, [], ◌∷◌, length, drop, get_or, Bool, true, false, not, ◌&&◌, max, ℤ, pos, negsuc, Option, Some, None, option_map, refl, sym, ap, ◌∙◌, arith}
 use Rattle.std.proofs.lemmas.List.{drop_all}
-use Rattle.flag_text.specs.Shape.{Shape, null, boolean, whole, other, text, list, object}
+use Rattle.flag_text.specs.Shape.{Shape, null, boolean, whole, other, text, list, object, item, no_items}
 use Rattle.flag_text.specs.View.{view, items_view}
 use Rattle.flag_text.specs.declared.tree.Tree.{Tree}
 use Rattle.logic_ast.specs.Operator.{operator_of, is_fractional}
 use Rattle.flag_references.specs.Extent.{extent, parts_extent, extent_of_nothing, beside_extent, list_extent, operation_extent, object_of_extent, scalar_extent}
 use Rattle.flag_references.specs.Inlining.{is_reference_name}
-use Rattle.flag_references.specs.Measure.{plus, measured, parts_measured, list_measure, operation_measure, operation_reading, item_in_front, both, when, takes_count}
+use Rattle.flag_references.specs.Measure.{plus, no_parts, measure, measured, parts_measured, list_measure, operation_measure, operation_reading, item_in_front, both, when, takes_count}
 use Rattle.flag_references.specs.declared.extent.Extent.{Extent}
 use Rattle.flag_references.specs.declared.measure.Measure.{Measure}
 use Rattle.flag_references.specs.declared.measure.Parts.{Parts}
@@ -171,3 +171,13 @@ operation-extent k n (Some p) h = ap Some (one_operation k n p h)
 pub operation-object : (k : List ℕ) (o : Option Measure) → option_map object_of_extent (option_map extent (option_map (operation_measure k) o)) ≡ option_map (operation_measure k) o
 operation-object k None = refl
 operation-object k (Some m) = refl
+
+-- a number is measured so whatever is known of references
+measured-whole : (refer : List ℕ → Option Measure) (z : ℤ) → measured refer (whole z) ≡ Some (measure (whole z))
+measured-whole refer (pos n) = refl
+measured-whole refer (negsuc n) = refl
+
+-- a list of a name and a weight
+pub measured-pair : (refer : List ℕ → Option Measure) (s : List ℕ) (z : ℤ)
+    → measured refer (list (item (text s) (item (whole z) no_items))) ≡ Some (list_measure 2 (item_in_front (measure (text s)) (item_in_front (measure (whole z)) no_parts)))
+measured-pair refer s z = rw (measured-whole refer z) refl

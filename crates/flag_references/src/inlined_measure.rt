@@ -1,8 +1,8 @@
 //! Measuring a tree with a measure in the place of each reference.
-ghost use Rattle.std.specs.Prelude.{◌≡◌, option_map};
-ghost use Rattle.flag_text.specs.Shape.{whole, text, list};
+ghost use Rattle.std.specs.Prelude.{◌≡◌, ℕ, List, Option, Some, IfSome, option_map};
+ghost use Rattle.flag_text.specs.Shape.{whole, text, list, item, no_items};
 ghost use Rattle.flag_text.specs.View.{view, items_view, members_view};
-ghost use Rattle.flag_references.specs.Measure.{known, measure, measured, object_measured, parts_measured, members_measured, both, list_measure, literal_measure, item_in_front, member_in_front, operation_reading, operation_measure, takes_count};
+ghost use Rattle.flag_references.specs.Measure.{known, measure, measured, object_measured, parts_measured, members_measured, both, list_measure, literal_measure, no_parts, item_in_front, member_in_front, operation_reading, operation_measure, takes_count};
 ghost use Rattle.flag_references.specs.Extent.{extent, parts_extent};
 
 use crate::extent::{Extent, extent_of, object_of, scalar_extent, takes_count};
@@ -33,7 +33,10 @@ pub(crate) fn measured(tree: &Tree, table: &Table<'_>) -> Option<Measure>
         Tree::Whole(n) => Some(whole_measure(*n)),
         Tree::Other => Some(Measure::scalar(false, false, false, 0)),
         Tree::Text(text) => Some(text_measure(text.as_str())),
-        Tree::List(items) => list_measured(items, table),
+        Tree::List(items) => match bucket_measure(items.as_slice()) {
+            Some(measure) => Some(measure),
+            None => list_measured(items, table),
+        },
         Tree::Object(members) => match reference_of(members.as_slice()) {
             Some(name) => known(table, name),
             None => object_measured(members, table),
@@ -222,6 +225,32 @@ fn whole_measure(n: i64) -> Measure
 {
     let is_weight = 0 <= n && n <= i64::from(MAX_TOTAL);
     Measure::scalar(is_in_range(n), false, is_weight, 0)
+}
+
+/// The measure of a list of a name and a weight, as buckets mostly are written.
+fn bucket_measure(items: &[Tree]) -> Option<Measure>
+    ensures { IfSome result (λ m. (refer : List ℕ → Option Measure) → measured refer (list (items_view items.now)) ≡ Some m) }
+{
+    match items {
+        [name, weight] => pair_measure(name, weight),
+        _ => None,
+    }
+}
+
+fn pair_measure(name: &Tree, weight: &Tree) -> Option<Measure>
+    ensures { IfSome result (λ m. (refer : List ℕ → Option Measure) → measured refer (list (item (view name.now) (item (view weight.now) no_items))) ≡ Some m) }
+{
+    match (name, weight) {
+        (Tree::Text(name), Tree::Whole(weight)) => Some(weighted(name.as_str(), *weight)),
+        _ => None,
+    }
+}
+
+fn weighted(name: &str, weight: i64) -> Measure
+    ensures { result ≡ list_measure 2 (item_in_front (measure (text name.now)) (item_in_front (measure (whole weight)) no_parts)) }
+{
+    let parts = Parts::NONE.with_front(whole_measure(weight));
+    Measure::list(2, parts.with_front(text_measure(name)))
 }
 
 fn text_measure(content: &str) -> Measure

@@ -8,7 +8,7 @@ use Rattle.flag_references.specs.Measure.{known, parts_measured, members_measure
 use Rattle.flag_references.specs.Extent.{extent, operation_extent}
 use Rattle.flag_references.proofs.Expansions.{view-list}
 use Rattle.flag_references.proofs.Extents.{Adds, adds-first, adds-next, adds-all, items-without, operation-extent, operation-object}
-use Rattle.flag_references.proofs.Objects.{item_count-items, object_measured-one, object_measured-many}
+use Rattle.flag_references.proofs.Objects.{item_count-items, one-operation, object_measured-many}
 use Rattle.flag_references.proofs.inlined_measure.+measured.Goals as goal
 
 pub list_measured-returns : goal.list_measured-returns
@@ -24,11 +24,9 @@ list_measured-returns t c =
 pub object_measured-returns-then-len-eq1 : goal.object_measured-returns-then-len-eq1
 object_measured-returns-then-len-eq1 t c =
     let refer = known (members_view c.args.table.now.members) c.args.table.now.measures in
-    let ms = c.args.members.now.items in
     let m = c.index.result.now in
-    let first = ap (λ x. option_map (operation_measure (name_of x)) (measured refer (view x.1))) c.index.ensures in
-    let one = object_measured-one refer ms m (omega (arith, c.len.ensures)) in
-    c.object_of.ensures ∙ rw (c.operation_extent.ensures, c.as_str.ensures.value) (operation-object (name_of m) (measured refer (view m.1)) ∙ (first ∙ sym one))
+    let one = one-operation refer c.args.members.now.items m c.index.ensures (omega (arith, c.len.ensures)) in
+    c.object_of.ensures ∙ rw (c.operation_extent.ensures, c.as_str.ensures.value) (operation-object (name_of m) (measured refer (view m.1)) ∙ one)
 
 pub object_measured-returns : goal.object_measured-returns
 object_measured-returns t c =
@@ -46,11 +44,8 @@ literal_measured-returns t c =
 pub object_extent-returns-then-len-eq1 : goal.object_extent-returns-then-len-eq1
 object_extent-returns-then-len-eq1 t c =
     let refer = known (members_view c.args.table.now.members) c.args.table.now.measures in
-    let ms = c.args.members.now.items in
-    let m = c.index.result.now in
-    let first = ap (λ x. option_map (operation_measure (name_of x)) (measured refer (view x.1))) c.index.ensures in
-    let one = object_measured-one refer ms m (omega (arith, c.len.ensures)) in
-    c.operation_extent.ensures ∙ rw c.as_str.ensures.value (ap (option_map extent) first ∙ ap (option_map extent) (sym one))
+    let one = one-operation refer c.args.members.now.items c.index.result.now c.index.ensures (omega (arith, c.len.ensures)) in
+    c.operation_extent.ensures ∙ rw c.as_str.ensures.value (ap (option_map extent) one)
 
 pub object_extent-returns : goal.object_extent-returns
 object_extent-returns t c =
