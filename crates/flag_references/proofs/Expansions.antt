@@ -146,7 +146,7 @@ MembersAreInlined-more evaluators (m ∷ ms) (v ∷ ns) (suc i) d n h f e p = (f
 
 -- ---- trees by what they are made of
 
-view-list : (v : Vec Tree Global) → view (variant.List v) ≡ list (items_view v.items)
+pub view-list : (v : Vec Tree Global) → view (variant.List v) ≡ list (items_view v.items)
 view-list v = search (rules, tree_lemmas)
 
 -- the form of a list at the end of the references, from those of its items

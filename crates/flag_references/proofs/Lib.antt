@@ -1,4 +1,5 @@
 pub mod Expansions
+pub mod Extents
 pub mod Faults
 pub mod Heads
 pub mod InPlace

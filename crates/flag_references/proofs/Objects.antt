@@ -1,5 +1,6 @@
 -- Lists and objects by how many parts they have.
-use Rattle.std.proofs.Common.{◌≡◌, ◌≢◌, ℕ, suc, ◌<◌, List, [], ◌∷◌, length, get_or, Option, option_map, refl, ap, arith}
+use Rattle.std.proofs.Common.{◌≡◌, ◌≢◌, ℕ, suc, ◌<◌, List, [], ◌∷◌, length, get_or, Option, option_map, refl, sym, ap, ◌∙◌, arith}
+use Rattle.flag_text.specs.Shape.{item, no_items}
 use Rattle.flag_text.specs.View.{view, items_view, members_view}
 use Rattle.flag_text.specs.declared.tree.Tree.{Tree}
 use Rattle.flag_text.proofs.Views.{Named}
@@ -28,3 +29,14 @@ pub object_measured-many : (refer : List ℕ → Option Measure) (ms : List Name
 object_measured-many refer [] h = refl
 object_measured-many refer (m ∷ []) h = absurd (omega arith)
 object_measured-many refer (m ∷ n ∷ ms) h = refl
+
+-- what is measured of an object of one member is the measure of the operation
+pub one-operation : (refer : List ℕ → Option Measure) (ms : List Named) (m : Named) → m ≡ get_or ms 0 m → length ms ≡ 1
+    → option_map (operation_measure (name_of m)) (measured refer (view m.1)) ≡ object_measured refer (members_view ms)
+one-operation refer ms m e h = ap (λ x. option_map (operation_measure (name_of x)) (measured refer (view x.1))) e ∙ sym (object_measured-one refer ms m h)
+
+pub two_items : (ts : List Tree) (x y : Tree) → length ts ≡ 2 → x ≡ get_or ts 0 x → y ≡ get_or ts 1 y → item (view x) (item (view y) no_items) ≡ items_view ts
+two_items [] x y n a b = absurd (omega arith)
+two_items (t ∷ []) x y n a b = absurd (omega arith)
+two_items (t ∷ u ∷ []) x y n a b = ap (λ v. item (view v) (item (view y) no_items)) a ∙ ap (λ v. item (view t) (item (view v) no_items)) b
+two_items (t ∷ u ∷ w ∷ ts) x y n a b = absurd (omega arith)

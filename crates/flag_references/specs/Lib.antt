@@ -1,3 +1,4 @@
+pub mod Extent
 pub mod Forms
 pub mod Inlining
 pub mod Least

@@ -17,6 +17,7 @@
 
 mod ends;
 mod expansion;
+mod extent;
 mod forms;
 mod inlined_measure;
 mod laws;
