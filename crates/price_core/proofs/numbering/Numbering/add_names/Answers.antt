@@ -13,7 +13,7 @@ loop-name-preserved c =
     let n = c.in_ok-add.field-0 in
     let items : c.push.new.self.items ≡ l.numbers.items ++ n ∷ [] = c.in_ok-push.ensures.items in
     let here : slice_get names (length l.numbers.items) ≡ Some c.as_str.result.now =
-    ap (slice_get names) l.invariant.as_many ∙ (name_at c.args.names.now l.name-index _ (omega arith) c.loop-name-item.is ∙ ap (λ (s : List ℕ). Some s) (sym c.as_str.ensures.value)) in
+    ap (slice_get names) l.invariant.as_many ∙ (name_at c.args.names.now l.name-index _ (omega arith) c.name-item.is ∙ ap (λ (s : List ℕ). Some s) (sym c.as_str.ensures.value)) in
     record {
       keeps = λ name k h. c.in_ok-add.ensures.keeps name k (l.invariant.keeps name k h);
       as_many = omega (arith, ap length items, length_push l.numbers.items n, l.invariant.as_many);
