@@ -1,5 +1,5 @@
 -- A row of another length than it should have stands for nothing.
-use Rattle.std.proofs.Common.{◌≡◌, ◌<◌, List, [], ◌∷◌, length, Bool, false, None, refl, arith}
+use Rattle.std.proofs.Common.{◌≡◌, ◌<◌, List, [], ◌∷◌, length, false, None, refl, arith}
 use Rattle.flag_text.specs.declared.tree.Tree.{Tree}
 use Rattle.flag_text.specs.View.{items_view}
 use Rattle.plan_text.specs.Misfit.{is_group_row, is_bucket}

@@ -1,15 +1,14 @@
 -- A misfit is all that keeps a tree from being a plan.
-use Rattle.std.proofs.Common.{◌≡◌, ℕ, ◌+◌, ◌<◌, ◌^◌, ℤ, pos, negsuc, nat_lt, nat_eq, Bool, true, false, not, ◌&&◌, ◌||◌, cond, List, [], ◌∷◌, map, codes, Option, Some, None, is_some, is_none, IfSome, option_map, option_and_then, Ordering, Ok, Err, refl, subst, sym, ap, ◌∙◌}
+use Rattle.std.proofs.Common.{◌≡◌, ℕ, ◌+◌, ◌^◌, ℤ, pos, negsuc, nat_lt, nat_eq, Bool, true, false, not, ◌&&◌, ◌||◌, cond, List, [], ◌∷◌, map, codes, Option, Some, None, is_some, is_none, IfSome, option_map, option_and_then, Ordering, Ok, Err, refl, subst, sym, ap, ◌∙◌}
 use Rattle.std.specs.Cmp.Lexicographic.{slice_cmp}
 use Rattle.std.specs.Map.{keys_of}
 use Rattle.std.specs.Option.{option_or}
 use Rattle.std.specs.Ordering.{nat_cmp}
 use Rattle.std.specs.Result.{result_ok}
-use Rattle.std.specs.Str.{bytes_eq}
 use Rattle.std.proofs.lemmas.List.Sums.{sum_by-cons}
 use Rattle.flag_text.specs.Readers.{as_whole, as_text, as_list, member_of}
 use Rattle.flag_text.specs.Shape.{Shape, null, boolean, whole, other, text, list, object, Items, no_items, item}
-use Rattle.bucket_core.specs.Reading.{in_weights, weight_of}
+use Rattle.bucket_core.specs.Reading.{in_weights}
 use Rattle.bucket_core.specs.Rule.{Entries, total_weight}
 use Rattle.bucket_core.specs.declared.fault.RuleFault.TheVariants as rule_fault
 use Rattle.price_core.specs.Request.{number_below}
@@ -17,14 +16,14 @@ use Rattle.transport_instance.specs.Groups.{GroupKey, group_cmp}
 use Rattle.transport_instance.specs.declared.certificate.CutKind.{CutKind}
 use Rattle.transport_instance.specs.declared.certificate.CutKind.TheVariants.{Over, Under}
 use Rattle.plan_text.specs.Answer.{Answer, emit, none_exists}
-use Rattle.plan_text.specs.Misfit.{is_list_of, is_group_row, is_bucket, is_formed, is_free, group_of, row_name, next, precedes, stands_apart, first_failing, weight_or_none, weights_of, unweighed, unless, misshapen_of, unheld_of, misfit_of}
-use Rattle.plan_text.specs.PlanFile.{comes_before, rises, begins_apart, is_canonical, each, alpha_parts, alpha_of, beta_of, entry_parts, entry_of, if_alpha_rises, if_beta_rises, if_names_rise, if_canonical, canonical_rule, first_form, second_form, form_of, answer_by, planned_of, is_under}
+use Rattle.plan_text.specs.Misfit.{is_group_row, is_bucket, is_formed, is_free, group_of, row_name, next, precedes, stands_apart, first_failing, weight_or_none, weights_of, unweighed, unless, misshapen_of, unheld_of, misfit_of}
+use Rattle.plan_text.specs.PlanFile.{comes_before, rises, begins_apart, is_canonical, each, alpha_parts, alpha_of, beta_of, entry_parts, entry_of, if_alpha_rises, if_beta_rises, if_names_rise, if_canonical, canonical_rule, form_of, answer_by, planned_of, is_under}
 use Rattle.plan_text.specs.declared.form.Form.{Form}
 use Rattle.plan_text.specs.declared.form.Form.TheVariants.{Rule, Set}
 use Rattle.plan_text.specs.declared.misfit.ItemFault.{ItemFault}
 use Rattle.plan_text.specs.declared.misfit.ItemFault.TheVariants.{Misshapen, OutOfRange, OutOfOrder}
 use Rattle.plan_text.specs.declared.misfit.Misfit.{Misfit}
-use Rattle.plan_text.specs.declared.misfit.Misfit.TheVariants.{NoObject, Plan, NoList, Cost, Item, UnknownForm, RuleMember, CostRange, NoWeight, TooHeavy}
+use Rattle.plan_text.specs.declared.misfit.Misfit.TheVariants.{Plan, NoList, Cost, Item, UnknownForm, RuleMember, CostRange, NoWeight, TooHeavy}
 use Rattle.plan_text.specs.declared.misfit.PlanList.{PlanList}
 use Rattle.plan_text.specs.declared.misfit.PlanList.TheVariants.{Names, Alpha, Beta, Buckets}
 
@@ -47,6 +46,10 @@ none_unless false x = refl
 told_last : {A : Type 0} (o : Option A) (m : A) → is_some (option_or o (Some m)) ≡ true
 told_last None m = refl
 told_last (Some x) m = refl
+
+IfSome-from : {A : Type 0} (P Q : A → Type 0) (o : Option A) → ((x : A) → P x → Q x) → IfSome o P → IfSome o Q
+IfSome-from P Q None h p = tt
+IfSome-from P Q (Some x) h p = h x p
 
 IfSome-both : {A : Type 0} (P Q R : A → Type 0) (o : Option A) → ((x : A) → P x → Q x → R x) → IfSome o P → IfSome o Q → IfSome o R
 IfSome-both P Q R None h p q = tt
@@ -234,19 +237,19 @@ alpha_faults ts =
     let risen = by_key (λ (a : GroupKey × ℤ). a.0) (λ ks. faults OutOfOrder Alpha ts ≡ not (rises group_cmp ks)) (each group_of ts) (each alpha_of ts) (each_key (λ (a : GroupKey × ℤ). a.0) alpha_of ts) (unrisen group_cmp group_of 0 ts) in
     by_list if_alpha_rises (faults Misshapen Alpha ts) (faults OutOfRange Alpha ts) (faults OutOfOrder Alpha ts) (each alpha_of ts) (unread alpha_of 0 ts)
     (unformed (is_formed Alpha) (λ t. is_some (alpha_of t)) alpha_formed 0 ts)
-    (IfSome-both (λ rows. faults OutOfOrder Alpha ts ≡ not (rises group_cmp (keys_of rows))) (λ rows. faults OutOfOrder Alpha ts ≡ not (rises group_cmp (keys_of rows))) _ (each alpha_of ts) (λ rows h k. h ∙ sym (none_unless (rises group_cmp (keys_of rows)) rows)) risen risen)
+    (IfSome-from (λ rows. faults OutOfOrder Alpha ts ≡ not (rises group_cmp (keys_of rows))) _ (each alpha_of ts) (λ rows h. h ∙ sym (none_unless (rises group_cmp (keys_of rows)) rows)) risen)
 
 beta_faults : (ts : Items) → is_none (option_and_then if_beta_rises (each beta_of ts)) ≡ (faults Misshapen Beta ts || faults OutOfOrder Beta ts)
 beta_faults ts =
     let risen = by_key (λ (b : List ℕ × ℤ). b.0) (λ ks. faults OutOfOrder Beta ts ≡ not (rises (slice_cmp nat_cmp) ks)) (each row_name ts) (each beta_of ts) (each_key (λ (b : List ℕ × ℤ). b.0) beta_of ts) (unrisen (slice_cmp nat_cmp) row_name 0 ts) in
     by_list if_beta_rises false (faults Misshapen Beta ts) (faults OutOfOrder Beta ts) (each beta_of ts) (unread beta_of 0 ts) (λ no. absurd cc)
-    (IfSome-both (λ rows. faults OutOfOrder Beta ts ≡ not (rises (slice_cmp nat_cmp) (keys_of rows))) (λ rows. faults OutOfOrder Beta ts ≡ not (rises (slice_cmp nat_cmp) (keys_of rows))) _ (each beta_of ts) (λ rows h k. h ∙ sym (none_unless (rises (slice_cmp nat_cmp) (keys_of rows)) rows)) risen risen)
+    (IfSome-from (λ rows. faults OutOfOrder Beta ts ≡ not (rises (slice_cmp nat_cmp) (keys_of rows))) _ (each beta_of ts) (λ rows h. h ∙ sym (none_unless (rises (slice_cmp nat_cmp) (keys_of rows)) rows)) risen)
 
 names_faults : (ts : Items) → is_none (option_and_then if_names_rise (each as_text ts)) ≡ (faults Misshapen Names ts || faults OutOfOrder Names ts)
 names_faults ts =
     let risen = unrisen (slice_cmp nat_cmp) as_text 0 ts in
     by_list if_names_rise false (faults Misshapen Names ts) (faults OutOfOrder Names ts) (each as_text ts) (unread as_text 0 ts) (λ no. absurd cc)
-    (IfSome-both (λ names. faults OutOfOrder Names ts ≡ not (rises (slice_cmp nat_cmp) names)) (λ names. faults OutOfOrder Names ts ≡ not (rises (slice_cmp nat_cmp) names)) _ (each as_text ts) (λ names h k. h ∙ sym (none_unless (rises (slice_cmp nat_cmp) names) names)) risen risen)
+    (IfSome-from (λ names. faults OutOfOrder Names ts ≡ not (rises (slice_cmp nat_cmp) names)) _ (each as_text ts) (λ names h. h ∙ sym (none_unless (rises (slice_cmp nat_cmp) names) names)) risen)
 
 rule_faults : (ts : Items) → is_none (option_and_then canonical_rule (each entry_of ts)) ≡ (faults Misshapen Buckets ts || (faults OutOfRange Buckets ts || (is_some (unweighed (weights_of ts)) || faults OutOfOrder Buckets ts)))
 rule_faults ts =
@@ -303,10 +306,6 @@ module _ (alpha beta rule : Option Items) (number : Option ℤ) (cost : Option �
 
   abbrev read_with : Option Answer
   read_with = emit_with (option_and_then if_alpha_rises (option_and_then (each alpha_of) alpha)) (option_and_then if_beta_rises (option_and_then (each beta_of) beta)) cost (option_and_then canonical_rule (option_and_then (each entry_of) rule))
-
--- what is read of a member that is missing
-lacking : (a b c : Bool) (x : Bool) → x ≡ (a || (b || (c || true))) → true ≡ x
-lacking a b c x is = or_true_third a b c ∙ sym is
 
 ruled : (alpha beta rule : Option Items) (number : Option ℤ) (cost : Option ℕ) → (is_some cost ≡ true → is_some number ≡ true)
     → is_some (option_or (option_or (unkind_with alpha beta rule number cost) (misshapen_with alpha beta rule number cost)) (unruled_with alpha beta rule number cost)) ≡ is_none (read_with alpha beta rule number cost)
