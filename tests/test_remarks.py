@@ -84,6 +84,26 @@ REFUSED = [
         '{"plan":1,"alpha":[["a",0,0],["a",1]],"beta":[],"cost":0,"rule":[]}',
         'error: "f" is no plan: alpha[1] is no [VARIANT,USERS,n]',
     ),
+    (
+        "plan",
+        '{"plan":1,"alpha":[["a",-1,0]],"beta":[],"cost":"x","rule":[]}',
+        'error: "f" is no plan: "cost" is "x"',
+    ),
+    (
+        "plan",
+        '{"plan":3,"alpha":[["a",-1,0]],"beta":[["a",0,0]],"cost":0,"rule":[]}',
+        'error: "f" is no plan: beta[0] is no [VARIANT,n]',
+    ),
+    (
+        "plan",
+        '{"plan":1,"alpha":[],"beta":[],"cost":-1,"rule":[["a"],["b",1,1]]}',
+        'error: "f" is no plan: rule[1] is no bucket [VARIANT,WEIGHT]',
+    ),
+    (
+        "plan",
+        '{"plan":1,"alpha":[["a",-1,0]],"beta":[],"cost":0,"rule":[["a",1]]}',
+        'error: "f" is no plan: a list is out of order, or an item misshaped',
+    ),
     ("document", "", 'error: "f" is empty, and no JSON'),
     ("document", "\ufeff{}", 'error: "f" begins with a byte order mark, and is no JSON'),
     ("document", '{"flags":[]}', 'error: "f" is no flag document: "flags" is a list, no object'),

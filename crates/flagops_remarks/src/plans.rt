@@ -3,11 +3,10 @@ ghost use Rattle.std.specs.Prelude.{IfOk, codes, string_bytes};
 ghost use Rattle.flagops_remarks.specs.Named.{Names, NamesWord};
 
 use crate::lines::{Lines, Opening};
-use crate::requests::pairs;
 use crate::texts::of_text;
 use flag_text::{Tree, read_tree};
 use limits::FILE_BYTES;
-use plan_text::PlanFileFault;
+use plan_text::{ItemFault, Misfit, PlanFileFault, PlanList};
 use std::alloc::{AllocError, Global};
 
 /// Of bytes that are no plan.
@@ -23,7 +22,7 @@ pub fn of_plan_file(
     write!(lines, " is no plan: ");
     if fault == PlanFileFault::BadPlan {
         match read_tree(alloc, bytes, FILE_BYTES) {
-            Ok(tree) => put_misshaped(&mut lines, &tree),
+            Ok(tree) => put_misfit(&mut lines, &tree),
             Err(fault) => return of_text(alloc, path, bytes, FILE_BYTES, fault),
         }
     } else {
@@ -36,61 +35,36 @@ pub fn of_plan_file(
     lines.headed(Opening::Error, path)
 }
 
-/// The first member that is missing, or of another kind than a list, or than a number where it is one.
-fn put_misshaped(lines: &mut Lines, tree: &Tree) {
-    if tree.as_object().is_none() {
-        return write!(lines, "it is {}", lines.value(tree));
+/// What keeps a tree from being a plan.
+fn put_misfit(lines: &mut Lines, tree: &Tree) {
+    match Misfit::of(tree) {
+        Some(Misfit::NoObject) => write!(lines, "it is {}", lines.value(tree)),
+        Some(Misfit::Plan) => put_member(lines, tree, "plan"),
+        Some(Misfit::NoList(list)) => put_member(lines, tree, list.name()),
+        Some(Misfit::Cost) => put_member(lines, tree, "cost"),
+        Some(Misfit::Item(ItemFault::Misshapen, list, place)) => put_item(lines, list, place),
+        _ => write!(lines, "a list is out of order, or an item misshaped"),
     }
-    let names: &[&str] = if tree.member("none").is_some() {
-        &["plan", "none"]
-    } else {
-        &["plan", "alpha", "beta", "cost", "rule"]
+}
+
+/// A member that is missing or of another kind.
+fn put_member(lines: &mut Lines, tree: &Tree, name: &str) {
+    match tree.member(name) {
+        Some(value) => write!(lines, "\"{name}\" is {}", lines.value(value)),
+        None => write!(lines, "\"{name}\" is missing"),
+    }
+}
+
+/// An item that is not of the form of its list.
+fn put_item(lines: &mut Lines, list: PlanList, place: usize) {
+    let name = list.name();
+    let form = match list {
+        PlanList::Names => "name of a variant",
+        PlanList::Alpha => "[VARIANT,USERS,n]",
+        PlanList::Beta => "[VARIANT,n]",
+        PlanList::Buckets => "bucket [VARIANT,WEIGHT]",
     };
-    for name in names {
-        let is_number = *name == "plan" || *name == "cost";
-        match tree.member(name) {
-            Some(Tree::Whole(_)) if is_number => {}
-            Some(Tree::List(_)) if !is_number => {}
-            Some(value) => {
-                return write!(lines, "\"{name}\" is {}", lines.value(value));
-            }
-            None => {
-                return write!(lines, "\"{name}\" is missing");
-            }
-        }
-    }
-    put_wrong_list(lines, tree);
-}
-
-/// The first item of a list that is not of its form; else the order is wrong.
-fn put_wrong_list(lines: &mut Lines, tree: &Tree) {
-    for (name, takes) in [
-        ("none", "name of a variant"),
-        ("alpha", "[VARIANT,USERS,n]"),
-        ("beta", "[VARIANT,n]"),
-        ("rule", "bucket [VARIANT,WEIGHT]"),
-    ] {
-        for (place, item) in pairs(tree, name).iter().enumerate() {
-            if !is_item(item, name) {
-                return write!(lines, "{name}[{place}] is no {takes}");
-            }
-        }
-    }
-    write!(lines, "a list is out of order, or an item misshaped");
-}
-
-/// Whether an item is of the form of its list.
-fn is_item(item: &Tree, name: &str) -> bool {
-    match item {
-        Tree::Text(_) => name == "none",
-        Tree::List(parts) => match parts.as_slice() {
-            [Tree::Text(_), Tree::Whole(_), Tree::Whole(_)] => name == "alpha",
-            [Tree::Text(_), Tree::Whole(_)] => name == "beta" || name == "rule",
-            [Tree::Text(_)] => name == "rule",
-            _ => false,
-        },
-        _ => false,
-    }
+    write!(lines, "{name}[{place}] is no {form}");
 }
 
 /// Of an answer that no plan file takes.

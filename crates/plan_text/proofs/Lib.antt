@@ -1,5 +1,6 @@
 pub mod Lengths
 mod LineEnds
+mod Misfits
 pub mod Orders
 mod PlanLines
 pub mod ReadBack

@@ -63,7 +63,8 @@ pub(crate) fn has_rule_member(tree: &Tree) -> bool
     has(tree, "alpha") || has(tree, "beta") || has(tree, "cost") || has(tree, "rule")
 }
 
-fn has(tree: &Tree, name: &str) -> bool
+/// Whether the member of this name is there.
+pub(crate) fn has(tree: &Tree, name: &str) -> bool
     ensures { result ≡ has name.now (view tree.now) }
 {
     tree.member(name).is_some()

@@ -14,11 +14,14 @@
 //! Proved, over the definitions of `specs/`: [`print_planned`] writes the text of `PlanFile` and [`print_planned_line`] the same
 //! with a line end, [`read_planned`] reads exactly the files that `PlanFile` says, with each refusal in its order, what is
 //! printed of an answer in order (`IsOrdered`), alone or as a line, reads as the answer, and what is read is in order and may
-//! be printed (`IsWhole`).
+//! be printed (`IsWhole`). [`Misfit::of`] says what keeps a tree from being a plan, and where, as `Misfit.misfit_of`; there is
+//! a misfit exactly where the tree is refused.
 #![tactic(auto)]
 
 mod fault;
 mod form;
+mod laws;
+mod misfit;
 mod order;
 mod plain;
 mod planned;
@@ -29,6 +32,8 @@ mod scan;
 mod writing;
 
 pub use fault::PlanFileFault;
+pub use laws::a_misfit_is_all_that_refuses;
+pub use misfit::{ItemFault, Misfit, PlanList};
 pub use planned::Planned;
 pub use print::{print_planned, print_planned_line};
 pub use read::read_planned;

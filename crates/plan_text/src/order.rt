@@ -2,7 +2,7 @@
 ghost use Rattle.std.specs.Prelude.{◌≡◌};
 ghost use Rattle.std.specs.Cmp.Lexicographic.{slice_cmp};
 ghost use Rattle.std.specs.Map.{keys_of};
-ghost use Rattle.std.specs.Ordering.{nat_cmp};
+ghost use Rattle.std.specs.Ordering.{nat_cmp, is_lt};
 ghost use Rattle.bucket_core.specs.Rule.{names_view};
 ghost use Rattle.transport_instance.specs.Certificate.{alpha_view, beta_view};
 ghost use Rattle.transport_instance.specs.Groups.{group_cmp};
@@ -27,8 +27,15 @@ fn group_comes_before(name: &str, count: u32, others: &[(String, u32, i64)]) -> 
 {
     match others {
         [] => true,
-        [(other, number, _), ..] => name.cmp(other.as_str()).then(count.cmp(number)).is_lt(),
+        [(other, number, _), ..] => is_group_before(name, count, other.as_str(), *number),
     }
+}
+
+/// Whether a group comes before another, by name and then by number.
+pub(crate) fn is_group_before(name: &str, count: u32, other: &str, number: u32) -> bool
+    ensures { result ≡ is_lt (group_cmp (name.now, count) (other.now, number)) }
+{
+    name.cmp(other).then(count.cmp(&number)).is_lt()
 }
 
 /// Whether the names rise strictly.

@@ -70,7 +70,7 @@ fn set_in(alloc: Global, tree: &Tree, kind: CutKind) -> Result<Planned, PlanFile
 }
 
 /// The items of the list of this name.
-fn items_in<'a>(tree: &'a Tree, name: &str) -> Option<&'a [Tree]>
+pub(crate) fn items_in<'a>(tree: &'a Tree, name: &str) -> Option<&'a [Tree]>
     ensures { option_map (λ ts. items_view ts.now) result ≡ items_in name.now (view tree.now) }
 {
     tree.member(name)?.as_list()
@@ -104,7 +104,8 @@ fn beta_in(alloc: Global, tree: &Tree) -> Result<Vec<(String, i64)>, PlanFileFau
     }
 }
 
-fn cost_in(tree: &Tree) -> Option<u64>
+/// The cost, below 2^53.
+pub(crate) fn cost_in(tree: &Tree) -> Option<u64>
     ensures { result ≡ cost_in (view tree.now) }
 {
     match tree.member("cost") {

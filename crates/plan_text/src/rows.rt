@@ -1,11 +1,12 @@
 //! The rows of a plan file, read one by one.
-ghost use Rattle.std.specs.Prelude.{◌≡◌, ◌^◌, string_bytes};
+ghost use Rattle.std.specs.Prelude.{◌≡◌, ◌<◌, ◌^◌, IfSome, option_map};
 ghost use Rattle.flag_text.specs.Outcome.{GivesUnless};
 ghost use Rattle.flag_text.specs.Readers.{as_text};
 ghost use Rattle.flag_text.specs.View.{view, items_view};
-ghost use Rattle.bucket_core.specs.Rule.{entry_view, entries_view, names_view};
+ghost use Rattle.bucket_core.specs.Rule.{entries_view, names_view};
 ghost use Rattle.price_core.specs.Request.{number_below};
-ghost use Rattle.transport_instance.specs.Certificate.{alpha_row, alpha_view, beta_row, beta_view};
+ghost use Rattle.transport_instance.specs.Certificate.{alpha_view, beta_view};
+ghost use Rattle.plan_text.specs.Misfit.{lent, lent_alpha};
 ghost use Rattle.plan_text.specs.PlanFile.{each, alpha_of, alpha_parts, beta_of, beta_parts, entry_of, entry_parts, if_plan};
 
 use crate::fault::PlanFileFault;
@@ -24,34 +25,33 @@ pub(crate) fn read_alpha(
 {
     let mut alpha = Vec::with_capacity(alloc, items.len())?;
     for item in items {
-        alpha.push(alpha_of(item)?)?;
+        let Some((name, count, n)) = alpha_of(item) else {
+            return Err(PlanFileFault::BadPlan);
+        };
+        alpha.push((String::from_str(alloc, name)?, count, n))?;
     }
     Ok(alpha)
 }
 
-fn alpha_of(item: &Tree) -> Result<(String, u32, i64), PlanFileFault>
-    ensures { GivesUnless PlanFileFault.WantOfMemory alpha_row result (if_plan (alpha_of (view item.now))) }
+/// The parts of `[name, count, n]`, the count of 32 bits.
+pub(crate) fn alpha_of(item: &Tree) -> Option<(&str, u32, i64)>
+    ensures { option_map lent_alpha result ≡ alpha_of (view item.now) }
 {
     match item {
         Tree::List(parts) => alpha_parts(parts.as_slice()),
-        _ => Err(PlanFileFault::BadPlan),
+        _ => None,
     }
 }
 
-fn alpha_parts(parts: &[Tree]) -> Result<(String, u32, i64), PlanFileFault>
-    ensures { GivesUnless PlanFileFault.WantOfMemory alpha_row result (if_plan (alpha_parts (items_view parts.now))) }
+fn alpha_parts(parts: &[Tree]) -> Option<(&str, u32, i64)>
+    ensures { option_map lent_alpha result ≡ alpha_parts (items_view parts.now) }
 {
     match parts {
-        [] => Err(PlanFileFault::BadPlan),
-        [_] => Err(PlanFileFault::BadPlan),
-        [_, _] => Err(PlanFileFault::BadPlan),
-        [name, count, n] => {
-            let name = text_of(name)?;
-            let count = count_of(count).ok_or(PlanFileFault::BadPlan)?;
-            let n = n.as_whole().ok_or(PlanFileFault::BadPlan)?;
-            Ok((name, count, n))
-        }
-        [_, _, _, _, ..] => Err(PlanFileFault::BadPlan),
+        [] => None,
+        [_] => None,
+        [_, _] => None,
+        [name, count, n] => Some((name.as_text()?, count_of(count)?, n.as_whole()?)),
+        [_, _, _, _, ..] => None,
     }
 }
 
@@ -70,32 +70,32 @@ pub(crate) fn read_beta(alloc: Global, items: &[Tree]) -> Result<Vec<(String, i6
 {
     let mut beta = Vec::with_capacity(alloc, items.len())?;
     for item in items {
-        beta.push(beta_of(item)?)?;
+        let Some((name, n)) = beta_of(item) else {
+            return Err(PlanFileFault::BadPlan);
+        };
+        beta.push((String::from_str(alloc, name)?, n))?;
     }
     Ok(beta)
 }
 
-fn beta_of(item: &Tree) -> Result<(String, i64), PlanFileFault>
-    ensures { GivesUnless PlanFileFault.WantOfMemory beta_row result (if_plan (beta_of (view item.now))) }
+/// The parts of `[name, n]`.
+pub(crate) fn beta_of(item: &Tree) -> Option<(&str, i64)>
+    ensures { option_map lent result ≡ beta_of (view item.now) }
 {
     match item {
         Tree::List(parts) => beta_parts(parts.as_slice()),
-        _ => Err(PlanFileFault::BadPlan),
+        _ => None,
     }
 }
 
-fn beta_parts(parts: &[Tree]) -> Result<(String, i64), PlanFileFault>
-    ensures { GivesUnless PlanFileFault.WantOfMemory beta_row result (if_plan (beta_parts (items_view parts.now))) }
+fn beta_parts(parts: &[Tree]) -> Option<(&str, i64)>
+    ensures { option_map lent result ≡ beta_parts (items_view parts.now) }
 {
     match parts {
-        [] => Err(PlanFileFault::BadPlan),
-        [_] => Err(PlanFileFault::BadPlan),
-        [name, n] => {
-            let name = text_of(name)?;
-            let n = n.as_whole().ok_or(PlanFileFault::BadPlan)?;
-            Ok((name, n))
-        }
-        [_, _, _, ..] => Err(PlanFileFault::BadPlan),
+        [] => None,
+        [_] => None,
+        [name, n] => Some((name.as_text()?, n.as_whole()?)),
+        [_, _, _, ..] => None,
     }
 }
 
@@ -108,32 +108,34 @@ pub(crate) fn read_entries(
 {
     let mut entries = Vec::with_capacity(alloc, items.len())?;
     for item in items {
-        entries.push(entry_of(item)?)?;
+        let Some((name, weight)) = entry_of(item) else {
+            return Err(PlanFileFault::BadPlan);
+        };
+        entries.push((String::from_str(alloc, name)?, weight))?;
     }
     Ok(entries)
 }
 
-fn entry_of(item: &Tree) -> Result<(String, u64), PlanFileFault>
-    ensures { GivesUnless PlanFileFault.WantOfMemory entry_view result (if_plan (entry_of (view item.now))) }
+/// The parts of `[name, weight]`.
+pub(crate) fn entry_of(item: &Tree) -> Option<(&str, u64)>
+    ensures value { option_map lent result ≡ entry_of (view item.now) }
+    ensures small { IfSome result (λ e. e.1 < 2 ^ 31) }
 {
     match item {
         Tree::List(parts) => entry_parts(parts.as_slice()),
-        _ => Err(PlanFileFault::BadPlan),
+        _ => None,
     }
 }
 
-fn entry_parts(parts: &[Tree]) -> Result<(String, u64), PlanFileFault>
-    ensures { GivesUnless PlanFileFault.WantOfMemory entry_view result (if_plan (entry_parts (items_view parts.now))) }
+fn entry_parts(parts: &[Tree]) -> Option<(&str, u64)>
+    ensures value { option_map lent result ≡ entry_parts (items_view parts.now) }
+    ensures small { IfSome result (λ e. e.1 < 2 ^ 31) }
 {
     match parts {
-        [] => Err(PlanFileFault::BadPlan),
-        [_] => Err(PlanFileFault::BadPlan),
-        [name, weight] => {
-            let name = text_of(name)?;
-            let weight = weight_of(weight).ok_or(PlanFileFault::BadPlan)?;
-            Ok((name, weight))
-        }
-        [_, _, _, ..] => Err(PlanFileFault::BadPlan),
+        [] => None,
+        [_] => None,
+        [name, weight] => Some((name.as_text()?, weight_of(weight)?)),
+        [_, _, _, ..] => None,
     }
 }
 
@@ -143,16 +145,10 @@ pub(crate) fn read_names(alloc: Global, items: &[Tree]) -> Result<Vec<String>, P
 {
     let mut names = Vec::with_capacity(alloc, items.len())?;
     for item in items {
-        names.push(text_of(item)?)?;
+        let Some(name) = item.as_text() else {
+            return Err(PlanFileFault::BadPlan);
+        };
+        names.push(String::from_str(alloc, name)?)?;
     }
     Ok(names)
-}
-
-fn text_of(tree: &Tree) -> Result<String, PlanFileFault>
-    ensures { GivesUnless PlanFileFault.WantOfMemory (λ s. string_bytes s) result (if_plan (as_text (view tree.now))) }
-{
-    match tree {
-        Tree::Text(text) => Ok(text.clone()?),
-        _ => Err(PlanFileFault::BadPlan),
-    }
 }
