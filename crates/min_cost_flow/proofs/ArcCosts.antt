@@ -9,7 +9,7 @@ use Rattle.min_cost_flow.specs.declared.problem.FlowProblem.{FlowProblem}
 use Rattle.min_cost_flow.proofs.Cells.{cell_in}
 use Rattle.min_cost_flow.proofs.Entering.{there_is}
 use Rattle.min_cost_flow.specs.Flow.{IsFlowAt, groups_of}
-use Rattle.shortest_path.specs.Network.{IsWithin, arc_at, max_cost}
+use Rattle.shortest_path.specs.Network.{HasCostsWithin, arc_at, max_cost}
 use Rattle.shortest_path.specs.declared.arc.Arc.{Arc}
 use Rattle.min_cost_flow.proofs.OptimalLaws.{none_there}
 
@@ -64,5 +64,5 @@ module _ (p : FlowProblem) (ok : IsFlowProblem p) (numbers sums : List ℕ) (cel
       (cases_lt w (names_of p)))
       (cases_lt v (names_of p))
 
-  pub cheap_arcs : IsWithin (names_of p + 1) (arc_at cells (names_of p + 1)) max_cost
+  pub cheap_arcs : HasCostsWithin (names_of p + 1) (arc_at cells (names_of p + 1)) max_cost
   cheap_arcs = record { low = λ v w a v_in w_in is. (cheap v w a v_in w_in is).0; high = λ v w a v_in w_in is. (cheap v w a v_in w_in is).1 }

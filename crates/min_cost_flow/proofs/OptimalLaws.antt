@@ -2,7 +2,7 @@
 use Rattle.std.proofs.Common.{◌≡◌, ◌≢◌, ℕ, ◌+◌, ◌<◌, ◌≤◌, ⊎_elim, ℤ, ◌+ℤ◌, ◌≤ℤ◌, true, Option, Some, None, sym, ap, ◌∙◌, arith}
 use Rattle.std.proofs.lemmas.Bool.{cases_eq, cases_lt}
 use Rattle.std.proofs.lemmas.Int.{ints}
-use Rattle.shortest_path.specs.Network.{IsReduced}
+use Rattle.shortest_path.specs.Network.{HasNonNegativeReducedCosts}
 use Rattle.shortest_path.specs.declared.arc.Arc.{Arc}
 use Rattle.min_cost_flow.specs.Optimal.{Flows, AreLeast, IsOptimal, AreResidual, Pushes}
 
@@ -33,7 +33,7 @@ module _ (f : Flows) (arc : ℕ → ℕ → Option Arc) (potential : ℕ → ℤ
       omega (arith, ints, optimal.room v v_in r.0, r.1, ap potential same))
       (cases_lt w f.names)
 
-  pub reduced_from_optimal : IsOptimal f potential → IsReduced (f.names + 1) arc potential
+  pub reduced_from_optimal : IsOptimal f potential → HasNonNegativeReducedCosts (f.names + 1) arc potential
   reduced_from_optimal optimal = record {
     least = λ v w a v_in w_in is.
         ⊎_elim
@@ -44,7 +44,7 @@ module _ (f : Flows) (arc : ℕ → ℕ → Option Arc) (potential : ℕ → ℤ
         (cases_lt v f.names);
   }
 
-  pub optimal_from_reduced : IsReduced (f.names + 1) arc potential → IsOptimal f potential
+  pub optimal_from_reduced : HasNonNegativeReducedCosts (f.names + 1) arc potential → IsOptimal f potential
   optimal_from_reduced reduced = record {
     least = λ g v w g_in v_in w_in some allowed.
         let a = residual.least g v w g_in v_in w_in some allowed in

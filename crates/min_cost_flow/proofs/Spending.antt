@@ -7,7 +7,7 @@ use Rattle.min_cost_flow.specs.declared.problem.FlowProblem.{FlowProblem}
 use Rattle.min_cost_flow.specs.Flow.{IsFlow, placed_at, total_at}
 use Rattle.min_cost_flow.specs.declared.flow.Flow.{Flow}
 use Rattle.min_cost_flow.proofs.Sums.{sum_adds, sum_at_most, sum_one, sum_same}
-use Rattle.shortest_path.specs.Spent.{Settles, Spent}
+use Rattle.shortest_path.specs.Spent.{HasSettledAtMost, Spent}
 use Rattle.min_cost_flow.specs.Effort.{Searches, points_of}
 use Rattle.min_cost_flow.specs.Meeting.{missing}
 use Rattle.min_cost_flow.specs.Placing.{excess}
@@ -19,21 +19,21 @@ module _ (n : ℕ) where
   searches_none spent = record { augmentations = omega arith; settlings = omega arith }
 
   -- a search that no augmentation follows
-  pub searches_last : (old mid new : Spent) → Searches n 0 old mid → Settles n mid new → Searches n 1 old new
+  pub searches_last : (old mid new : Spent) → Searches n 0 old mid → HasSettledAtMost n mid new → Searches n 1 old new
   searches_last old mid new before search = record {
     augmentations = omega (arith, before.augmentations, search.augmentations);
     settlings = omega (arith, before.settlings, search.settlings, ap (λ a. n * a) search.augmentations);
   }
 
   -- one that is followed by an augmentation
-  pub searches_then : (old mid found new : Spent) → Searches n 0 old mid → Settles n mid found → new.augmentations ≡ found.augmentations + 1 → new.settlings ≡ found.settlings → Searches n 0 old new
+  pub searches_then : (old mid found new : Spent) → Searches n 0 old mid → HasSettledAtMost n mid found → new.augmentations ≡ found.augmentations + 1 → new.settlings ≡ found.settlings → Searches n 0 old new
   searches_then old mid found new before search more same = record {
     augmentations = omega (arith, before.augmentations, search.augmentations, more);
     settlings = omega (arith, before.settlings, search.settlings, same, ap (λ a. n * a) search.augmentations, ap (λ a. n * a) more);
   }
 
   -- one after which memory ran out
-  pub searches_short : (old mid found new : Spent) → Searches n 0 old mid → Settles n mid found → new.augmentations ≡ found.augmentations → new.settlings ≡ found.settlings → Searches n 1 old new
+  pub searches_short : (old mid found new : Spent) → Searches n 0 old mid → HasSettledAtMost n mid found → new.augmentations ≡ found.augmentations → new.settlings ≡ found.settlings → Searches n 1 old new
   searches_short old mid found new before search kept same = record {
     augmentations = omega (arith, before.augmentations, search.augmentations, kept);
     settlings = omega (arith, before.settlings, search.settlings, same, ap (λ a. n * a) search.augmentations, ap (λ a. n * a) kept);

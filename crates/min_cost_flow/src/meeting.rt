@@ -4,7 +4,7 @@ ghost use Rattle.min_cost_flow.specs.Effort.{Searches, nodes_of};
 ghost use Rattle.min_cost_flow.specs.Flow.{IsFlow, total_at};
 ghost use Rattle.min_cost_flow.specs.Meeting.{IsBelow, IsMeeting, IsStuckBelow, IsStuckIfBelow, IsWayBelow, MeetsLow, WantsBelow, missing};
 ghost use Rattle.min_cost_flow.specs.Problem.{IsFlowProblem, names_of};
-ghost use Rattle.shortest_path.specs.Spent.{Settles};
+ghost use Rattle.shortest_path.specs.Spent.{HasSettledAtMost};
 
 use crate::augmenting::augment;
 use crate::flow::Flow;
@@ -92,7 +92,7 @@ fn find_below<L: Ledger>(
     requires wanted { WantsBelow problem.now flow.now wanted.now }
     ensures way { MatchOption result
         (IsStuckIfBelow problem.now flow.now search.new) (λ last. IsWayBelow problem.now flow.now search.new last) }
-    ensures effort { Settles (nodes_of problem.now) effort.old effort.new }
+    ensures effort { HasSettledAtMost (nodes_of problem.now) effort.old effort.new }
 {
     search.find(flow.arcs.as_slice(), wanted, problem.high.len(), effort)
 }

@@ -4,7 +4,7 @@ ghost use Rattle.min_cost_flow.specs.Effort.{Searches, nodes_of};
 ghost use Rattle.min_cost_flow.specs.Flow.{IsFlow, total_at};
 ghost use Rattle.min_cost_flow.specs.Placing.{IsMidway, IsStuckAbove, MeetsHigh, WantsLimits, excess, IsEmptied, IsWay, StayPlaced};
 ghost use Rattle.min_cost_flow.specs.Problem.{IsFlowProblem, names_of};
-ghost use Rattle.shortest_path.specs.Spent.{Settles};
+ghost use Rattle.shortest_path.specs.Spent.{HasSettledAtMost};
 
 use crate::augmenting::augment;
 use crate::flow::Flow;
@@ -115,7 +115,7 @@ fn find_room<L: Ledger>(
     requires from { from < names_of problem.now }
     requires above { slice_index problem.now.high.items from < total_at flow.now from }
     ensures way { MatchOption result (IsStuckAbove problem.now flow.now search.new) (λ last. IsWay problem.now flow.now search.new from last) }
-    ensures effort { Settles (nodes_of problem.now) effort.old effort.new }
+    ensures effort { HasSettledAtMost (nodes_of problem.now) effort.old effort.new }
 {
     match search.find(flow.arcs.as_slice(), wanted, from, effort) {
         Some(limits) => Some(search.predecessors[limits]),

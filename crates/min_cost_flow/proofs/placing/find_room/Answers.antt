@@ -6,7 +6,7 @@ use Rattle.min_cost_flow.specs.Problem.{names_of}
 use Rattle.min_cost_flow.specs.Flow.{flows_of}
 use Rattle.min_cost_flow.proofs.ArcCosts.{cheap_arcs}
 use Rattle.shortest_path.specs.Found.{HasFound, HasSize, IsStuck, predecessor_of, potential_of, rank_of}
-use Rattle.shortest_path.specs.Network.{IsReduced, IsWithin, arc_at, max_cost}
+use Rattle.shortest_path.specs.Network.{HasNonNegativeReducedCosts, HasCostsWithin, arc_at, max_cost}
 use Rattle.shortest_path.specs.declared.arc.Arc.{Arc}
 use Rattle.min_cost_flow.proofs.Filled.{short_potential, stuck_of, way_of}
 use Rattle.min_cost_flow.proofs.placing.find_room.Goals as goal
@@ -22,16 +22,16 @@ pub find-requires-clause-costs : goal.find-requires-clause-costs
 find-requires-clause-costs g c =
     let p = c.args.problem.now in
     let f = c.args.flow.now in
-    subst (λ n. IsWithin n (arc_at c.as_slice.result.now n) max_cost) (sym c.requires.wanted.size)
-    (subst (λ xs. IsWithin (names_of p + 1) (arc_at xs (names_of p + 1)) max_cost) (sym c.as_slice.ensures.value) (cheap_arcs p c.requires.problem f.placed.items f.totals.items f.arcs.items c.requires.midway.flow.tables))
+    subst (λ n. HasCostsWithin n (arc_at c.as_slice.result.now n) max_cost) (sym c.requires.wanted.size)
+    (subst (λ xs. HasCostsWithin (names_of p + 1) (arc_at xs (names_of p + 1)) max_cost) (sym c.as_slice.ensures.value) (cheap_arcs p c.requires.problem f.placed.items f.totals.items f.arcs.items c.requires.midway.flow.tables))
 
 pub find-requires-clause-reduced : goal.find-requires-clause-reduced
 find-requires-clause-reduced g c =
     let p = c.args.problem.now in
     let f = c.args.flow.now in
     let price = potential_of c.args.search.now in
-    subst (λ n. IsReduced n (arc_at c.as_slice.result.now n) price) (sym c.requires.wanted.size)
-    (subst (λ xs. IsReduced (names_of p + 1) (arc_at xs (names_of p + 1)) price) (sym c.as_slice.ensures.value) (reduced_from_optimal (flows_of p f) (arc_at f.arcs.items (names_of p + 1)) price c.requires.midway.flow.tables.residual c.requires.midway.optimal))
+    subst (λ n. HasNonNegativeReducedCosts n (arc_at c.as_slice.result.now n) price) (sym c.requires.wanted.size)
+    (subst (λ xs. HasNonNegativeReducedCosts (names_of p + 1) (arc_at xs (names_of p + 1)) price) (sym c.as_slice.ensures.value) (reduced_from_optimal (flows_of p f) (arc_at f.arcs.items (names_of p + 1)) price c.requires.midway.flow.tables.residual c.requires.midway.optimal))
 
 pub returns-in-Some-clause-way : goal.returns-in-Some-clause-way
 returns-in-Some-clause-way g c =

@@ -3,7 +3,7 @@ use Rattle.std.proofs.Common.{◌≡◌, ℕ, ℤ, pos, Bool, Option, List, leng
 use Rattle.std.specs.Vec.{with_items}
 use Rattle.std.proofs.lemmas.List.{with_items_is}
 use Rattle.shortest_path.specs.Network.{arc_at}
-use Rattle.shortest_path.specs.Spent.{Settled}
+use Rattle.shortest_path.specs.Spent.{HasSettled}
 use Rattle.shortest_path.specs.Found.{HasFound, IsStuck, settled_nodes}
 use Rattle.shortest_path.specs.declared.arc.Arc.{Arc}
 use Rattle.shortest_path.proofs.search.Search.find.Goals as goal
@@ -42,5 +42,5 @@ returns-clause-settled g c =
     let s = c.args.self.now in
     let t = c.search_from in
     let settle_order : t.new.settle_order ≡ (with_items s.settle_order t.new.settle_order).items = sym (with_items_is s.settle_order t.new.settle_order (t.auto.settle_order ∙ (ap length c.deref_mut-4.ensures.value ∙ sym s.settle_order.ok.0))) in
-    subst (λ (rs : List ℕ). Settled (settled_nodes (length c.args.wanted.now) rs t.result) c.args.effort.now t.new.effort) settle_order
-    (subst (λ n. Settled (settled_nodes n t.new.settle_order t.result) c.args.effort.now t.new.effort) (ap length c.deref_mut-4.ensures.value ∙ c.requires.size.settle_order) t.ensures.settled)
+    subst (λ (rs : List ℕ). HasSettled (settled_nodes (length c.args.wanted.now) rs t.result) c.args.effort.now t.new.effort) settle_order
+    (subst (λ n. HasSettled (settled_nodes n t.new.settle_order t.result) c.args.effort.now t.new.effort) (ap length c.deref_mut-4.ensures.value ∙ c.requires.size.settle_order) t.ensures.settled)
