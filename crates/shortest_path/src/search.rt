@@ -59,66 +59,32 @@ impl Search {
         ensures settled { HasSettled (settled_nodes (length wanted.now) self.new.settle_order.items result) effort.old effort.new }
         ensures effort { HasSettledAtMost (length wanted.now) effort.old effort.new }
     {
-        search_from(
-            &mut self.potentials,
-            &mut self.distances,
-            &mut self.predecessors,
-            &mut self.settle_order,
+        let potentials = self.potentials.as_mut_slice();
+        let distances = self.distances.as_mut_slice();
+        let predecessors = self.predecessors.as_mut_slice();
+        let settle_order = self.settle_order.as_mut_slice();
+        begin(distances, settle_order, source);
+        match settle(
+            distances,
+            predecessors,
+            settle_order,
             arcs,
+            potentials,
             wanted,
             source,
             effort,
-        )
-    }
-}
-
-/// [`Search::find`] over the tables of the search as slices.
-fn search_from<L: Ledger>(
-    potentials: &mut [i64],
-    distances: &mut [Option<i64>],
-    predecessors: &mut [usize],
-    settle_order: &mut [usize],
-    arcs: &[Option<Arc>],
-    wanted: &[bool],
-    source: usize,
-    effort: &mut Effort<L>,
-) -> Option<usize>
-    requires few { length settle_order.old ≤ max_nodes }
-    requires distances { length distances.old ≡ length settle_order.old }
-    requires predecessors { length predecessors.old ≡ length settle_order.old }
-    requires potentials { length potentials.old ≡ length settle_order.old }
-    requires wanted { length wanted.now ≡ length settle_order.old }
-    requires arcs { length arcs.now ≡ length settle_order.old * length settle_order.old }
-    requires source { source < length settle_order.old }
-    requires short { (v : ℕ) → v < length settle_order.old → IsShort (slice_index_or potentials.old v (pos 0)) }
-    requires costs { HasCostsWithin (length settle_order.old) (arc_at arcs.now (length settle_order.old)) max_cost }
-    requires reduced { HasNonNegativeReducedCosts (length settle_order.old) (arc_at arcs.now (length settle_order.old)) (potential_in potentials.old) }
-    ensures found { Finds (length settle_order.old) arcs.now wanted.now source
-        (potential_in potentials.old) (potential_in potentials.new) (slice_index predecessors.new) (slice_index settle_order.new) result }
-    ensures settled { HasSettled (settled_nodes (length settle_order.old) settle_order.new result) effort.old effort.new }
-    ensures effort { HasSettledAtMost (length settle_order.old) effort.old effort.new }
-{
-    begin(distances, settle_order, source);
-    match settle(
-        distances,
-        predecessors,
-        settle_order,
-        arcs,
-        potentials,
-        wanted,
-        source,
-        effort,
-    ) {
-        Some((node, node_distance)) => {
-            lower(potentials, distances, settle_order, node, node_distance);
-            Some(node)
+        ) {
+            Some((node, node_distance)) => {
+                lower(potentials, distances, settle_order, node, node_distance);
+                Some(node)
+            }
+            None => None,
         }
-        None => None,
     }
 }
 
-/// HasSettledAtMost nodes in the order of their distance by reduced costs, up to the first that is wanted. Answers that one, with
-/// the length of the path to it.
+/// Settles nodes in the order of their distance by reduced costs, up to the first that is wanted. Answers that one with its
+/// distance.
 fn settle<L: Ledger>(
     distances: &mut [Option<i64>],
     predecessors: &mut [usize],
