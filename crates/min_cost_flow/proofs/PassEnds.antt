@@ -22,7 +22,7 @@ first_midway p f s flow optimal size zero = record {
     spare = λ v v_in more. omega (arith, ints, zero v (omega (arith, v_in)), zero (names_of p) (omega arith));
   };
   size = size;
-  limits = zero (names_of p) (omega arith);
+  root = zero (names_of p) (omega arith);
   low = λ v v_in. omega (arith, ints, zero v v_in);
   high = λ v v_in. omega (arith, ints, zero v v_in);
 }
@@ -36,7 +36,7 @@ then_meeting p ok f s midway placed = record {
   placed = placed;
   low = midway.low;
   high = midway.high;
-  below = λ v v_in under. omega (arith, ints, midway.limits, midway.optimal.room v v_in (omega (arith, under, ok.ordered v v_in)));
+  below = λ v v_in under. omega (arith, ints, midway.root, midway.optimal.room v v_in (omega (arith, under, ok.ordered v v_in)));
 }
 
 pub at_last : (p : FlowProblem) (f : Flow) (s : Search) → IsMeeting p f s → ((v : ℕ) → v < names_of p → get_or p.low.items v 0 ≤ total_at f v) → IsCheapest p f s

@@ -17,7 +17,7 @@ use Rattle.shortest_path.specs.Found.{HasFound, HasSize, IsStuck, predecessor_of
 use Rattle.shortest_path.specs.Network.{arc_at, max_cost}
 use Rattle.shortest_path.specs.declared.arc.Arc.{Arc}
 use Rattle.shortest_path.specs.declared.search.Search.{Search}
-use Rattle.min_cost_flow.specs.Meeting.{IsMeeting, IsStuckBelow, IsWayBelow, WantsBelow, missing}
+use Rattle.min_cost_flow.specs.Meeting.{IsMeeting, IsStuckBelow, IsPathToDeficit, WantsBelow, deficit}
 use Rattle.min_cost_flow.specs.Placing.{reach}
 use Rattle.min_cost_flow.proofs.Wanted.{less_from, less_true}
 
@@ -26,7 +26,7 @@ pub wants_name : (p : FlowProblem) (f : Flow) (wanted : List Bool) → WantsBelo
 wants_name p f wanted wants v v_in is =
     let here : get_or wanted v false ≡ true = get_or_from_slice_get wanted v true false is in
     ⊎_elim
-    (λ (last : v ≡ names_of p). absurd (false≢true (sym wants.limits ∙ (ap (λ i. get_or wanted i false) (sym last) ∙ here))))
+    (λ (last : v ≡ names_of p). absurd (false≢true (sym wants.root ∙ (ap (λ i. get_or wanted i false) (sym last) ∙ here))))
     (λ (not : v ≡ names_of p → ⊥).
     let name : v < names_of p = omega (arith, v_in, not) in
     (name, less_from (total_at f v) (get_or p.low.items v 0) (sym (wants.each v name) ∙ here)))
@@ -45,9 +45,9 @@ near_below n arc wanted source pot pot' predecessor rank node few found node_low
     (λ (not : n ≤ rank v). (omega (arith, ints, found.kept v v_in not, low), omega (arith, ints, found.kept v v_in not, high)))
     (cases_lt (rank v) n)
 
-pub way_below : (p : FlowProblem) (ok : IsFlowProblem p) (f : Flow) (s s' : Search) (wanted : List Bool) (node : ℕ) → IsMeeting p f s → WantsBelow p f wanted → HasSize (names_of p + 1) s'
-    → HasFound (names_of p + 1) (arc_at f.arcs.items (names_of p + 1)) wanted (names_of p) (potential_of s) (potential_of s') (predecessor_of s') (rank_of s') node → IsWayBelow p f s' node
-way_below p ok f s s' wanted node meeting wants size found =
+pub path_below : (p : FlowProblem) (ok : IsFlowProblem p) (f : Flow) (s s' : Search) (wanted : List Bool) (node : ℕ) → IsMeeting p f s → WantsBelow p f wanted → HasSize (names_of p + 1) s'
+    → HasFound (names_of p + 1) (arc_at f.arcs.items (names_of p + 1)) wanted (names_of p) (potential_of s) (potential_of s') (predecessor_of s') (rank_of s') node → IsPathToDeficit p f s' node
+path_below p ok f s s' wanted node meeting wants size found =
     let n : ℕ = names_of p + 1 in
     let few : n ≤ 65 = omega (arith, ok.names) in
     let here = wants_name p f wanted wants node found.within found.is_wanted in
@@ -99,27 +99,27 @@ stuck_below p f s s' wanted meeting wants size stuck below within under =
 -- what a search over the flow's arcs tells
 pub found_below : (p : FlowProblem) (ok : IsFlowProblem p) (f : Flow) (s s' : Search) (wanted : List Bool) (r : Option ℕ) (arcs : List (Option Arc)) (n k : ℕ) → IsMeeting p f s → WantsBelow p f wanted → arcs ≡ f.arcs.items → n ≡ names_of p + 1 → k ≡ names_of p → HasSize n s'
     → MatchOption r (IsStuck n (arc_at arcs n) wanted k (potential_of s) (potential_of s') (rank_of s')) (HasFound n (arc_at arcs n) wanted k (potential_of s) (potential_of s') (predecessor_of s') (rank_of s'))
-    → MatchOption r ((v : ℕ) → v < names_of p → total_at f v < get_or p.low.items v 0 → IsStuckBelow p f s') (λ last. IsWayBelow p f s' last)
+    → MatchOption r ((v : ℕ) → v < names_of p → total_at f v < get_or p.low.items v 0 → IsStuckBelow p f s') (λ last. IsPathToDeficit p f s' last)
 found_below p ok f s s' wanted None arcs n k meeting wants arcs_are n_is k_is size known =
     stuck_below p f s s' wanted meeting wants (subst (λ m. HasSize m s') n_is size)
     (subst (λ x. IsStuck (names_of p + 1) (arc_at f.arcs.items (names_of p + 1)) wanted x (potential_of s) (potential_of s') (rank_of s')) k_is
     (subst (λ (xs : List (Option Arc)). IsStuck (names_of p + 1) (arc_at xs (names_of p + 1)) wanted k (potential_of s) (potential_of s') (rank_of s')) arcs_are
     (subst (λ m. IsStuck m (arc_at arcs m) wanted k (potential_of s) (potential_of s') (rank_of s')) n_is known)))
 found_below p ok f s s' wanted (Some node) arcs n k meeting wants arcs_are n_is k_is size known =
-    way_below p ok f s s' wanted node meeting wants (subst (λ m. HasSize m s') n_is size)
+    path_below p ok f s s' wanted node meeting wants (subst (λ m. HasSize m s') n_is size)
     (subst (λ x. HasFound (names_of p + 1) (arc_at f.arcs.items (names_of p + 1)) wanted x (potential_of s) (potential_of s') (predecessor_of s') (rank_of s') node) k_is
     (subst (λ (xs : List (Option Arc)). HasFound (names_of p + 1) (arc_at xs (names_of p + 1)) wanted k (potential_of s) (potential_of s') (predecessor_of s') (rank_of s') node) arcs_are
     (subst (λ m. HasFound m (arc_at arcs m) wanted k (potential_of s) (potential_of s') (predecessor_of s') (rank_of s') node) n_is known)))
 
-module _ (p : FlowProblem) (ok : IsFlowProblem p) (old new : Flow) (s : Search) (last : ℕ) (way : IsWayBelow p old s last) (flow : IsFlow p new) (least : AreLeast (flows_of p new) (potential_of s))
+module _ (p : FlowProblem) (ok : IsFlowProblem p) (old new : Flow) (s : Search) (last : ℕ) (path : IsPathToDeficit p old s last) (flow : IsFlow p new) (least : AreLeast (flows_of p new) (potential_of s))
     (aug : IsAugmented p old new (potential_of s) (rank_of s) p.low.items (names_of p) last) where
-  -- the first name is as dear as the limits
+  -- the first name has the potential of the root
   first_level : potential_of s aug.first ≡ potential_of s (names_of p)
   first_level =
       ⊎_elim
       (λ (is : aug.first ≡ names_of p). absurd (omega (arith, is, aug.begins)))
       (λ (next : (a : Arc) × (arc_at old.arcs.items (names_of p + 1) (names_of p) aug.first ≡ Some a) × (potential_of s aug.first ≡ (potential_of s (names_of p) +ℤ a.cost))).
-      omega (arith, ints, next.2, (way.meeting.flow.tables.residual.spare aug.first next.0 aug.begins next.1).1))
+      omega (arith, ints, next.2, (path.meeting.flow.tables.residual.spare aug.first next.0 aug.begins next.1).1))
       aug.start
 
   optimal_met : IsOptimal (flows_of p new) (potential_of s)
@@ -130,8 +130,8 @@ module _ (p : FlowProblem) (ok : IsFlowProblem p) (old new : Flow) (s : Search) 
         (λ (is : v ≡ aug.first). omega (arith, ints, first_level, ap (potential_of s) is))
         (λ (not_first : v ≡ aug.first → ⊥).
         ⊎_elim
-        (λ (is : v ≡ last). way.meeting.optimal.room v v_in (omega (arith, less, aug.entered, ap (total_at new) is, ap (total_at old) is)))
-        (λ (not_last : v ≡ last → ⊥). way.meeting.optimal.room v v_in (omega (arith, less, aug.others v not_first not_last)))
+        (λ (is : v ≡ last). path.meeting.optimal.room v v_in (omega (arith, less, aug.entered, ap (total_at new) is, ap (total_at old) is)))
+        (λ (not_last : v ≡ last → ⊥). path.meeting.optimal.room v v_in (omega (arith, less, aug.others v not_first not_last)))
         (cases_eq v last))
         (cases_eq v aug.first);
     spare = λ v v_in more.
@@ -140,7 +140,7 @@ module _ (p : FlowProblem) (ok : IsFlowProblem p) (old new : Flow) (s : Search) 
         (λ (not_first : v ≡ aug.first → ⊥).
         ⊎_elim
         (λ (is : v ≡ last). absurd (omega (arith, more, aug.below, ap (total_at new) is, ap (λ x. get_or p.low.items x 0) is)))
-        (λ (not_last : v ≡ last → ⊥). way.meeting.optimal.spare v v_in (omega (arith, more, aug.others v not_first not_last)))
+        (λ (not_last : v ≡ last → ⊥). path.meeting.optimal.spare v v_in (omega (arith, more, aug.others v not_first not_last)))
         (cases_eq v last))
         (cases_eq v aug.first);
   }
@@ -161,19 +161,19 @@ module _ (p : FlowProblem) (ok : IsFlowProblem p) (old new : Flow) (s : Search) 
   meeting_after = record {
     flow = flow;
     optimal = optimal_met;
-    size = way.meeting.size;
+    size = path.meeting.size;
     placed = λ v v_in.
         ⊎_elim
-        (λ (is : v ≡ aug.first). omega (arith, way.meeting.placed v v_in, aug.left, ap (total_at new) is, ap (total_at old) is))
+        (λ (is : v ≡ aug.first). omega (arith, path.meeting.placed v v_in, aug.left, ap (total_at new) is, ap (total_at old) is))
         (λ (not_first : v ≡ aug.first → ⊥).
         ⊎_elim
         (λ (is : v ≡ last). omega (arith, aug.below, ok.ordered v v_in, ap (total_at new) is, ap (λ x. get_or p.low.items x 0) is))
-        (λ (not_last : v ≡ last → ⊥). omega (arith, way.meeting.placed v v_in, aug.others v not_first not_last))
+        (λ (not_last : v ≡ last → ⊥). omega (arith, path.meeting.placed v v_in, aug.others v not_first not_last))
         (cases_eq v last))
         (cases_eq v aug.first);
-    low = way.meeting.low;
-    high = way.meeting.high;
-    below = λ v v_in under. way.meeting.below v v_in (was_below v under);
+    low = path.meeting.low;
+    high = path.meeting.high;
+    below = λ v v_in under. path.meeting.below v v_in (was_below v under);
   }
 
   same_deficit : (v : ℕ) → v < names_of p → (v ≡ last → ⊥) → (get_or p.low.items v 0 - total_at new v) ≡ (get_or p.low.items v 0 - total_at old v)
@@ -183,13 +183,13 @@ module _ (p : FlowProblem) (ok : IsFlowProblem p) (old new : Flow) (s : Search) 
       (λ (not_first : v ≡ aug.first → ⊥). ap (λ t. get_or p.low.items v 0 - t) (aug.others v not_first not_last))
       (cases_eq v aug.first)
 
-  pub fewer_missing : missing p new < missing p old
-  fewer_missing =
+  pub less_deficit : deficit p new < deficit p old
+  less_deficit =
       omega (
         arith,
-        sum_one (names_of p) (λ v. get_or p.low.items v 0 - total_at old v) (λ v. get_or p.low.items v 0 - total_at new v) last way.within same_deficit,
+        sum_one (names_of p) (λ v. get_or p.low.items v 0 - total_at old v) (λ v. get_or p.low.items v 0 - total_at new v) last path.within same_deficit,
         aug.entered,
         aug.some,
         aug.below,
-        way.under,
+        path.under,
       )

@@ -9,7 +9,7 @@ use Rattle.min_cost_flow.specs.declared.flow.Flow.{Flow}
 use Rattle.min_cost_flow.proofs.Sums.{sum_adds, sum_at_most, sum_one, sum_same}
 use Rattle.shortest_path.specs.Spent.{HasSettledAtMost, Spent}
 use Rattle.min_cost_flow.specs.Effort.{Searches, points_of}
-use Rattle.min_cost_flow.specs.Meeting.{missing}
+use Rattle.min_cost_flow.specs.Meeting.{deficit}
 use Rattle.min_cost_flow.specs.Placing.{excess}
 
 -- ---- searches and augmentations
@@ -88,5 +88,5 @@ module _ (p : FlowProblem) (f : Flow) (flow : IsFlow p f) where
   pub excess_few : excess p f ≤ points_of p
   excess_few = omega (arith, sum_at_most (names_of p) (λ v. total_at f v - get_or p.high.items v 0) (total_at f) (λ v v_in. omega arith), all_points)
 
-pub missing_few : (p : FlowProblem) (f : Flow) → IsFlowProblem p → missing p f ≤ points_of p
-missing_few p f ok = omega (arith, sum_at_most (names_of p) (λ v. get_or p.low.items v 0 - total_at f v) (λ v. get_or p.low.items v 0) (λ v v_in. omega arith), ok.asked)
+pub deficit_few : (p : FlowProblem) (f : Flow) → IsFlowProblem p → deficit p f ≤ points_of p
+deficit_few p f ok = omega (arith, sum_at_most (names_of p) (λ v. get_or p.low.items v 0 - total_at f v) (λ v. get_or p.low.items v 0) (λ v v_in. omega arith), ok.asked)

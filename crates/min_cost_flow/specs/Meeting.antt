@@ -27,21 +27,22 @@ pub record IsMeeting (p : FlowProblem) (f : Flow) (s : Search) : Type 0 where
 pub record WantsBelow (p : FlowProblem) (f : Flow) (wanted : List Bool) : Type 0 where
   pub size : length wanted ≡ names_of p + 1
   pub each : (v : ℕ) → v < names_of p → slice_index_or wanted v false ≡ nat_lt (total_at f v) (slice_index p.low.items v)
-  pub limits : slice_index_or wanted (names_of p) false ≡ false
+  pub root : slice_index_or wanted (names_of p) false ≡ false
 
--- the points that the names are below their low limits
-abbrev pub missing : FlowProblem → Flow → ℕ
-missing p f = sum_to (names_of p) (λ v. slice_index p.low.items v - total_at f v)
+-- the deficit of a flow: how many points, in all, the names are below their low limits
+abbrev pub deficit : FlowProblem → Flow → ℕ
+deficit p f = sum_to (names_of p) (λ v. slice_index p.low.items v - total_at f v)
 
--- no name is below its low limit; this one is
+-- no name is below its low limit
 abbrev pub MeetsLow : FlowProblem → Flow → Type 0
 MeetsLow p f = (v : ℕ) → v < names_of p → slice_index p.low.items v ≤ total_at f v
 
+-- this name is below its low limit
 abbrev pub IsBelow : FlowProblem → Flow → ℕ → Type 0
 IsBelow p f v = (v < names_of p) × (total_at f v < slice_index p.low.items v)
 
--- a search has found the shortest path from the limits to a name below its low limit, and its potentials keep the flow optimal
-pub record IsWayBelow (p : FlowProblem) (f : Flow) (s : Search) (last : ℕ) : Type 0 where
+-- a search has found the shortest path from the root to a name below its low limit, and the flow is optimal by the new potentials
+pub record IsPathToDeficit (p : FlowProblem) (f : Flow) (s : Search) (last : ℕ) : Type 0 where
   pub meeting : IsMeeting p f s
   pub within : last < names_of p
   pub under : total_at f last < slice_index p.low.items last
@@ -60,6 +61,6 @@ pub record IsStuckBelow (p : FlowProblem) (f : Flow) (s : Search) : Type 0 where
   pub bare : (v : ℕ) → v < names_of p → names_of p + 1 ≤ rank_of s v → total_at f v ≤ slice_index p.low.items v
   pub closed : IsClosed p f s
 
--- the search is stuck so, where there is a name below its low limit
+-- the search is stuck so where a name is below its low limit
 abbrev pub IsStuckIfBelow : FlowProblem → Flow → Search → Type 0
 IsStuckIfBelow p f s = (v : ℕ) → v < names_of p → total_at f v < slice_index p.low.items v → IsStuckBelow p f s

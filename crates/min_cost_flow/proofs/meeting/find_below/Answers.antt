@@ -29,11 +29,11 @@ pub find-requires-clause-reduced : goal.find-requires-clause-reduced
 find-requires-clause-reduced g c =
     let p = c.args.problem.now in
     let f = c.args.flow.now in
-    let price = potential_of c.args.search.now in
-    subst (λ n. HasNonNegativeReducedCosts n (arc_at c.as_slice.result.now n) price) (sym c.requires.wanted.size)
-    (subst (λ xs. HasNonNegativeReducedCosts (names_of p + 1) (arc_at xs (names_of p + 1)) price) (sym c.as_slice.ensures.value) (reduced_from_optimal (flows_of p f) (arc_at f.arcs.items (names_of p + 1)) price c.requires.meeting.flow.tables.residual c.requires.meeting.optimal))
+    let potential = potential_of c.args.search.now in
+    subst (λ n. HasNonNegativeReducedCosts n (arc_at c.as_slice.result.now n) potential) (sym c.requires.wanted.size)
+    (subst (λ xs. HasNonNegativeReducedCosts (names_of p + 1) (arc_at xs (names_of p + 1)) potential) (sym c.as_slice.ensures.value) (reduced_from_optimal (flows_of p f) (arc_at f.arcs.items (names_of p + 1)) potential c.requires.meeting.flow.tables.residual c.requires.meeting.optimal))
 
-pub returns-clause-way : goal.returns-clause-way
-returns-clause-way g c =
+pub returns-clause-path : goal.returns-clause-path
+returns-clause-path g c =
     found_below c.args.problem.now c.requires.problem c.args.flow.now c.args.search.now c.find.new.self c.args.wanted.now c.find.result c.as_slice.result.now (length c.args.wanted.now) c.len.result c.requires.meeting c.requires.wanted c.as_slice.ensures.value c.requires.wanted.size
     (c.len.ensures ∙ c.args.problem.now.high.ok.0) c.find.ensures.size c.find.ensures.found

@@ -1,15 +1,15 @@
 -- The arcs from the name are a part of all arcs.
 use Rattle.std.proofs.Common.{◌≡◌, ℕ, ◌+◌, ◌<◌, sym, ◌∙◌, subst, arith}
-use Rattle.min_cost_flow.specs.Problem.{ArePrices, cost_at, may_take, names_of}
-use Rattle.min_cost_flow.specs.Residual.{IsWidened}
+use Rattle.min_cost_flow.specs.Problem.{AreSwitchCosts, cost_at, may_take, names_of}
+use Rattle.min_cost_flow.specs.Residual.{TakesMoves}
 use Rattle.min_cost_flow.specs.Residual.{ChangesRow, HasArcs}
 use Rattle.min_cost_flow.proofs.RowParts.{part_entered, put_row}
 use Rattle.min_cost_flow.proofs.WrittenArcs.{part_size, row_changes}
 use Rattle.shortest_path.specs.Network.{arc_at}
 use Rattle.min_cost_flow.proofs.residual.enter_from.Goals as goal
 
-pub enter-requires-clause-prices : goal.enter-requires-clause-prices
-enter-requires-clause-prices c =
+pub enter-requires-clause-costs : goal.enter-requires-clause-costs
+enter-requires-clause-costs c =
     let p = c.args.problem.now in
     let name = c.args.name in
     let arcs = c.args.arcs.now in
@@ -17,7 +17,7 @@ enter-requires-clause-prices c =
     let k_is : k ≡ names_of p = c.len-names.ensures ∙ p.high.ok.0 in
     let name_in : name < k = omega (arith, k_is, c.requires.name) in
     let size : HasArcs k arcs = subst (λ n. HasArcs n arcs) (sym k_is) c.requires.arcs in
-    subst (λ n. ArePrices n c.deref-2.result.now) (sym (part_size k name arcs name_in size ∙ k_is)) (subst (λ x. ArePrices (names_of p) x) (sym c.deref-2.ensures.value) c.requires.problem.prices)
+    subst (λ n. AreSwitchCosts n c.deref-2.result.now) (sym (part_size k name arcs name_in size ∙ k_is)) (subst (λ x. AreSwitchCosts (names_of p) x) (sym c.deref-2.ensures.value) c.requires.problem.costs)
 
 pub returns-clause-row : goal.returns-clause-row
 returns-clause-row c =
@@ -32,9 +32,9 @@ returns-clause-row c =
     let ps = c.deref-2.result.now in
     let name_in : name < k = omega (arith, k_is, c.requires.name) in
     let size : HasArcs k arcs = subst (λ n. HasArcs n arcs) (sym k_is) c.requires.arcs in
-    subst (λ n. IsWidened n (may_take p.groups.items p.prices.items n) (cost_at p.groups.items p.prices.items n) group name (arc_at arcs (n + 1) name) (arc_at (put_row k name arcs row) (n + 1) name)) k_is
-    (subst (λ x. IsWidened k (may_take p.groups.items x k) (cost_at p.groups.items x k) group name (arc_at arcs (k + 1) name) (arc_at (put_row k name arcs row) (k + 1) name)) c.deref-2.ensures.value
-    (subst (λ x. IsWidened k (may_take x ps k) (cost_at x ps k) group name (arc_at arcs (k + 1) name) (arc_at (put_row k name arcs row) (k + 1) name)) c.deref.ensures.value
+    subst (λ n. TakesMoves n (may_take p.groups.items p.costs.items n) (cost_at p.groups.items p.costs.items n) group name (arc_at arcs (n + 1) name) (arc_at (put_row k name arcs row) (n + 1) name)) k_is
+    (subst (λ x. TakesMoves k (may_take p.groups.items x k) (cost_at p.groups.items x k) group name (arc_at arcs (k + 1) name) (arc_at (put_row k name arcs row) (k + 1) name)) c.deref-2.ensures.value
+    (subst (λ x. TakesMoves k (may_take x ps k) (cost_at x ps k) group name (arc_at arcs (k + 1) name) (arc_at (put_row k name arcs row) (k + 1) name)) c.deref.ensures.value
     (part_entered k name arcs row name_in size c.enter.auto.row gs ps group c.enter.ensures)))
 
 pub returns-clause-others : goal.returns-clause-others

@@ -1,10 +1,10 @@
 -- Each turn of the loop narrows one span, and its ends enter the arcs.
 use Rattle.std.proofs.Common.{◌≡◌, ℕ, ◌+◌, ◌*◌, ◌<◌, None, Option, length, get_or, set, refl, sym, subst, arith}
 use Rattle.std.proofs.lemmas.Int.{ints}
-use Rattle.min_cost_flow.specs.Problem.{cost_at, group_at, may_take, price_at}
+use Rattle.min_cost_flow.specs.Problem.{cost_at, group_at, may_take, switch_cost_at}
 use Rattle.min_cost_flow.specs.Spans.{AreSpans}
 use Rattle.min_cost_flow.proofs.Cells.{cell_in}
-use Rattle.min_cost_flow.proofs.CheapestArcs.{cheapest, no_ways}
+use Rattle.min_cost_flow.proofs.CheapestArcs.{cheapest, no_moves}
 use Rattle.min_cost_flow.proofs.VariantTurns.{IsTurn, RowBelow, row_after, spans_after}
 use Rattle.shortest_path.specs.declared.arc.Arc.{Arc}
 use Rattle.min_cost_flow.proofs.residual.enter_groups.Goals as goal
@@ -13,9 +13,9 @@ pub loop-variant-init : goal.loop-variant-init
 loop-variant-init c =
     let n : ℕ = length c.args.row.now in
     let groups = c.args.groups.now in
-    let prices = c.args.prices.now in (
+    let costs = c.args.costs.now in (
       record {
-        ways = no_ways (length groups) n (may_take groups prices n) (cost_at groups prices n) (λ g. get_or c.args.placed.now (g * n + c.args.name) 0) c.args.name (λ w. get_or c.args.row.now w None) c.requires.none;
+        moves = no_moves (length groups) n (may_take groups costs n) (cost_at groups costs n) (λ g. get_or c.args.placed.now (g * n + c.args.name) 0) c.args.name (λ w. get_or c.args.row.now w None) c.requires.none;
         firsts = λ g g_in below some. absurd (omega (arith, below));
         lasts = λ g g_in below some. absurd (omega (arith, below));
       },
@@ -26,7 +26,7 @@ pub loop-variant-preserved : goal.loop-variant-preserved
 loop-variant-preserved c =
     let n : ℕ = length c.args.row.now in
     let groups = c.args.groups.now in
-    let prices = c.args.prices.now in
+    let costs = c.args.costs.now in
     let placed = c.args.placed.now in
     let v = c.args.name in
     let a = c.loop-variant.variant in
@@ -35,8 +35,8 @@ loop-variant-preserved c =
     let spans = c.loop-variant.spans in
     let span = c.narrowed-span.result in
     let many : length row ≡ n = c.loop-variant.auto.row in
-    let turn : IsTurn groups prices placed n v a spans span row row' =
-    subst (λ k. IsTurn groups prices placed k v a spans span row row') many
+    let turn : IsTurn groups costs placed n v a spans span row row' =
+    subst (λ k. IsTurn groups costs placed k v a spans span row row') many
     (record {
       end = c.narrowed-span.ensures.end;
       keeps = c.narrowed-span.ensures.keeps;
@@ -45,16 +45,16 @@ loop-variant-preserved c =
       some = c.enter_ends.ensures.some;
       none = c.enter_ends.ensures.none;
     }) in
-    subst (λ k. RowBelow groups prices placed n v (a + 1) row' × AreSpans groups n placed (set spans (v * k + a) span)) (sym many) (
-      row_after groups prices placed n v a spans span row row' c.requires.name c.loop-variant-test.true c.requires.groups c.loop-variant.invariant.1 turn c.loop-variant.invariant.0,
-      spans_after groups prices placed n v a spans span row row' c.requires.name c.loop-variant-test.true c.requires.groups c.loop-variant.invariant.1 turn,
+    subst (λ k. RowBelow groups costs placed n v (a + 1) row' × AreSpans groups n placed (set spans (v * k + a) span)) (sym many) (
+      row_after groups costs placed n v a spans span row row' c.requires.name c.loop-variant-test.true c.requires.groups c.loop-variant.invariant.1 turn c.loop-variant.invariant.0,
+      spans_after groups costs placed n v a spans span row row' c.requires.name c.loop-variant-test.true c.requires.groups c.loop-variant.invariant.1 turn,
     )
 
 pub returns-clause-row : goal.returns-clause-row
 returns-clause-row c =
     let n : ℕ = length c.args.row.now in
     let groups = c.args.groups.now in
-    let prices = c.args.prices.now in
+    let costs = c.args.costs.now in
     let placed = c.args.placed.now in
     let v = c.args.name in
     let variant : ℕ → ℕ = λ g. (group_at groups g).variant in
@@ -62,6 +62,6 @@ returns-clause-row c =
     let done = c.loop-variant.invariant.0 in
     let arc : ℕ → Option Arc = λ w. get_or row w None in
     let below : (g : ℕ) → g < length groups → variant g < c.loop-variant.variant = λ g g_in. omega (arith, c.requires.groups.variant g g_in, c.loop-variant-test.false) in
-    cheapest (length groups) n variant (λ g. (group_at groups g).count) (price_at prices n) (may_take groups prices n) (cost_at groups prices n) (λ g. get_or placed (g * n + v) 0) v c.requires.name arc arc (λ g w. refl) (λ g w. refl)
-    (λ g w z g_in w_in is. c.requires.prices.each (variant g * n + w) z (cell_in n n (variant g) w (c.requires.groups.variant g g_in) w_in) is)
-    c.requires.free done.ways (λ g g_in some. done.firsts g g_in (below g g_in) some) (λ w known w_in was. (known, was, omega (arith, ints))) (λ g g_in some. done.lasts g g_in (below g g_in) some)
+    cheapest (length groups) n variant (λ g. (group_at groups g).count) (switch_cost_at costs n) (may_take groups costs n) (cost_at groups costs n) (λ g. get_or placed (g * n + v) 0) v c.requires.name arc arc (λ g w. refl) (λ g w. refl)
+    (λ g w z g_in w_in is. c.requires.costs.each (variant g * n + w) z (cell_in n n (variant g) w (c.requires.groups.variant g g_in) w_in) is)
+    c.requires.free done.moves (λ g g_in some. done.firsts g g_in (below g g_in) some) (λ w known w_in was. (known, was, omega (arith, ints))) (λ g g_in some. done.lasts g g_in (below g g_in) some)

@@ -2,7 +2,7 @@ use Rattle.std.proofs.Common.{◌≡◌, ℕ, ◌<◌, ◌≤◌, ◌⊎◌, get
 use Rattle.min_cost_flow.specs.Flow.{placed_at}
 use Rattle.min_cost_flow.specs.declared.augmenting.Step.{Step}
 use Rattle.min_cost_flow.proofs.MovedAlong.{no_step}
-use Rattle.min_cost_flow.proofs.augmenting.narrowest.Given as goal
+use Rattle.min_cost_flow.proofs.augmenting.bottleneck.Given as goal
 
 abbrev pub invariant-loop-step : goal.invariant-loop-step
 invariant-loop-step l = record {

@@ -8,7 +8,7 @@ use Rattle.min_cost_flow.specs.Flow.{placed_at}
 use Rattle.min_cost_flow.specs.declared.flow.Flow.{Flow}
 use Rattle.min_cost_flow.specs.declared.augmenting.Step.{Step}
 use Rattle.min_cost_flow.proofs.MovedAlong.{any_default, no_step}
-use Rattle.min_cost_flow.proofs.augmenting.narrowest.Goals as goal
+use Rattle.min_cost_flow.proofs.augmenting.bottleneck.Goals as goal
 
 -- the least of what was least so far and of what the next step takes
 narrower : (p : FlowProblem) (f : Flow) (steps : List Step) (i most before after there : ℕ)
