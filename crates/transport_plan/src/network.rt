@@ -1,4 +1,4 @@
-//! A planning problem in numbers: names and groups by their places, and the price of each switch as a table.
+//! A planning problem in numbers: names and groups by their places, and the price of each switch as a cost.
 ghost use Rattle.std.specs.Cmp.Lexicographic.{slice_cmp};
 ghost use Rattle.std.specs.List.Sorted.{IsStrictlySortedBy};
 ghost use Rattle.std.specs.List.{All, Contains, flat_map};
@@ -26,12 +26,12 @@ pub(crate) fn flow_problem(
 {
     let limits = instance.totals().entries();
     let groups = groups(alloc, instance.groups(), limits)?;
-    let prices = price_table(alloc, limits, instance.prices())?;
+    let costs = price_table(alloc, limits, instance.prices())?;
     let low = low_limits(alloc, limits)?;
     let high = high_limits(alloc, limits)?;
     Ok(FlowProblem {
         groups,
-        prices,
+        costs,
         low,
         high,
     })
@@ -57,7 +57,7 @@ fn high_limits(alloc: Global, limits: &[Limit]) -> Result<Vec<u32>, AllocError>
     Ok(high)
 }
 
-/// The groups, with their old variants as indices of the limits, which stand in the same order.
+/// The groups, with the places of their old variants among the names, which stand in the same order.
 fn groups(
     alloc: Global,
     rows: &[((&str, u32), u32)],
@@ -106,7 +106,7 @@ fn index_of(limits: &[Limit], name: &str) -> usize
     place
 }
 
-/// What each switch costs, by rows of the old names.
+/// The price of each switch, by rows of the old names.
 fn price_table(
     alloc: Global,
     limits: &[Limit],
@@ -122,7 +122,7 @@ fn price_table(
     Ok(table)
 }
 
-/// Adds what each switch from one name costs.
+/// Adds the price of each switch from one name.
 fn push_row(
     table: &mut Vec<Option<i64>>,
     old: &str,
@@ -139,7 +139,7 @@ fn push_row(
     Ok(())
 }
 
-/// What a switch costs an input, and none where it is forbidden.
+/// The price of a switch for an input, and none where it is forbidden.
 fn switch(prices: &Prices, old: &str, new: &str) -> Option<i64>
     ensures value { result ≡ switch_price prices.now old.now new.now }
     ensures priced { IsPriced result }

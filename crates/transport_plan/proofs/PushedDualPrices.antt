@@ -4,10 +4,10 @@ use Rattle.std.proofs.lemmas.Bool.{cases_eq}
 use Rattle.std.proofs.lemmas.List.{get_or_append_left}
 use Rattle.std.proofs.Math.Seq.{get_or-append_seam}
 use Rattle.transport_plan.specs.Offers.{HasSlack, IsTight, MayTake}
-use Rattle.min_cost_flow.specs.Problem.{AreGroups, ArePrices, group_at}
+use Rattle.min_cost_flow.specs.Problem.{AreGroups, AreSwitchCosts, group_at}
 use Rattle.min_cost_flow.specs.declared.problem.Group.{Group}
 use Rattle.min_cost_flow.proofs.Cells.{part_at, part_length, part_of}
-use Rattle.transport_plan.specs.Prices.{IsLeastAt}
+use Rattle.transport_plan.specs.DualPrices.{IsLeastAt}
 
 -- what holds of each number so far holds with one more
 pub pushed : (P : ℕ → ℤ → Type 0) (xs : List ℤ) (x : ℤ) (n : ℕ) → length xs ≡ n → ((i : ℕ) → i < n → P i (get_or xs i (pos 0))) → P n x → (length (xs ++ x ∷ []) ≡ n + 1) × ((i : ℕ) → i < n + 1 → P i (get_or (xs ++ x ∷ []) i (pos 0)))
@@ -25,19 +25,19 @@ pushed P xs x n size each here = (
 )
 
 -- the least offer over the row of a group's old variant
-pub least_at : (groups : List Group) (prices : List (Option ℤ)) (names : List ℤ) (g : ℕ) (alpha : ℤ) → AreGroups (length names) prices groups → ArePrices (length names) prices → g < length groups
-    → ((v : ℕ) (c : ℤ) → MayTake (part_of (length names) (group_at groups g).variant prices) v c → HasSlack names (group_at groups g).count alpha v c)
-    → (v : ℕ) × ((c : ℤ) × (MayTake (part_of (length names) (group_at groups g).variant prices) v c × IsTight names (group_at groups g).count alpha v c))
-    → IsLeastAt groups prices (length names) names g alpha
-least_at groups prices names g alpha are priced g_in slack tight =
+pub least_at : (groups : List Group) (costs : List (Option ℤ)) (names : List ℤ) (g : ℕ) (alpha : ℤ) → AreGroups (length names) costs groups → AreSwitchCosts (length names) costs → g < length groups
+    → ((v : ℕ) (c : ℤ) → MayTake (part_of (length names) (group_at groups g).variant costs) v c → HasSlack names (group_at groups g).count alpha v c)
+    → (v : ℕ) × ((c : ℤ) × (MayTake (part_of (length names) (group_at groups g).variant costs) v c × IsTight names (group_at groups g).count alpha v c))
+    → IsLeastAt groups costs (length names) names g alpha
+least_at groups costs names g alpha are priced g_in slack tight =
     let k = length names in
     let variant = (group_at groups g).variant in
     let v_in = are.variant g g_in in
-    let long = part_length k k variant prices priced.size v_in in
+    let long = part_length k k variant costs priced.size v_in in
     record {
-      slack = λ w c w_in is. slack w c (record { place = omega (arith, w_in, long); price_at = part_at k k variant prices priced.size v_in w None w_in ∙ is });
+      slack = λ w c w_in is. slack w c (record { place = omega (arith, w_in, long); switch_cost_at = part_at k k variant costs priced.size v_in w None w_in ∙ is });
       tight =
           let t = tight.1.1 in
           let w_in : tight.0 < k = omega (arith, t.0.place, long) in
-          (tight.0, tight.1.0, w_in, sym (part_at k k variant prices priced.size v_in tight.0 None w_in) ∙ t.0.price_at, t.1);
+          (tight.0, tight.1.0, w_in, sym (part_at k k variant costs priced.size v_in tight.0 None w_in) ∙ t.0.switch_cost_at, t.1);
     }

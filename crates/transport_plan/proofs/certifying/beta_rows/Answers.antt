@@ -11,7 +11,7 @@ use Rattle.transport_instance.specs.Certificate.{beta_row}
 use Rattle.transport_instance.proofs.Arcs.{element_here}
 use Rattle.transport_instance.proofs.Ranges.{from_here}
 use Rattle.transport_plan.proofs.PushedRows.{all_pushed, one_more}
-use Rattle.transport_plan.proofs.certifying.beside_names.Goals as goal
+use Rattle.transport_plan.proofs.certifying.beta_rows.Goals as goal
 
 abbrev keys : List Limit → List (List ℕ)
 keys limits = keys_of (limits_view limits)
@@ -22,19 +22,19 @@ row_is text name z shown text_is shown_is = cc
 pub loop-place-preserved : goal.loop-place-preserved
 loop-place-preserved c =
     let limits = c.args.limits.now in
-    let prices = c.args.prices.now in
+    let duals = c.args.duals.now in
     let i = c.loop-place.place in
     let l = c.index-limits-place.result in
-    let z = get_or prices i (pos 0) in
+    let z = get_or duals i (pos 0) in
     let fits : FitsSigned w64 z = search rules in
     let at_keys = ap keys (from_here limits i l (omega (arith, c.loop-place-test.true, c.requires)) c.index-limits-place.is) in
-    let at_prices = element_here prices i (pos 0) c.loop-place-test.true in
-    one_more beta_row c.loop-place.rows.items (zip (keys limits) prices) c.push.new.self.items _ (string_bytes l.name) z (keys (drop i limits)) (keys (drop (i + 1) limits)) (drop i prices) (drop (i + 1) prices) at_keys at_prices c.in_ok-push.ensures.items
+    let at_duals = element_here duals i (pos 0) c.loop-place-test.true in
+    one_more beta_row c.loop-place.rows.items (zip (keys limits) duals) c.push.new.self.items _ (string_bytes l.name) z (keys (drop i limits)) (keys (drop (i + 1) limits)) (drop i duals) (drop (i + 1) duals) at_keys at_duals c.in_ok-push.ensures.items
     (row_is c.in_ok-clone.field-0 (string_bytes l.name) z (to_z w64 (of_z w64 z)) (c.in_ok-clone.ensures.cases ∙ ap (λ (x : Limit). string_bytes x.name) (sym c.index-limits-place.is)) (to_z-of_z w64 z fits)) c.loop-place.invariant
 
 pub returns : goal.returns
 returns c =
     let limits = c.args.limits.now in
-    let prices = c.args.prices.now in
+    let duals = c.args.duals.now in
     let i = c.loop-place.place in
-    all_pushed beta_row c.loop-place.rows.items (zip (keys limits) prices) (keys (drop i limits)) (drop i prices) (ap keys (drop_of_length-le limits (omega (arith, c.loop-place-test.false, c.requires)))) c.loop-place.invariant
+    all_pushed beta_row c.loop-place.rows.items (zip (keys limits) duals) (keys (drop i limits)) (drop i duals) (ap keys (drop_of_length-le limits (omega (arith, c.loop-place-test.false, c.requires)))) c.loop-place.invariant
