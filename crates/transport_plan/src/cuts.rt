@@ -26,7 +26,7 @@ use transport_instance::Instance;
 
 /// The names of a cut over high limits: the old names of the points that stand at the names that the last search settled. It takes
 /// `O(groups * k)` steps at k names.
-pub(crate) fn names_above(
+pub(crate) fn names_over(
     alloc: Global,
     instance: &Instance<'_>,
     problem: &FlowProblem,
@@ -41,35 +41,15 @@ pub(crate) fn names_above(
     ensures ordered { IfOk result (λ v. IsStrictlySortedBy (slice_cmp nat_cmp) (names_view v.items)) }
 {
     let limits = instance.totals().entries();
-    let mut marks = vec![in alloc; false; flow.totals.len()]?;
-    held(alloc, limits, &mut marks, problem, flow, search)
-}
-
-/// The names that are marked as held.
-fn held(
-    alloc: Global,
-    limits: &[Limit],
-    marks: &mut [bool],
-    problem: &FlowProblem,
-    flow: &Flow,
-    search: &Search,
-) -> Result<Vec<String>, AllocError>
-    requires size { length marks.old ≡ names_of problem.now }
-    requires limits { length limits.now ≡ names_of problem.now }
-    requires none { (u : ℕ) → u < length marks.old → slice_index_or marks.old u false ≡ false }
-    requires lawful { IsFlowProblem problem.now }
-    requires flow { IsFlow problem.now flow.now }
-    requires stuck { IsStuckAbove problem.now flow.now search.now }
-    ensures held { AreHeld problem.now flow.now search.now marks.new }
-    ensures named { IfOk result (λ v. names_view v.items ≡ chosen (keys_of (limits_view limits.now)) (λ i. slice_index_or marks.new i false)) }
-{
+    let mut held = vec![in alloc; false; flow.totals.len()]?;
+    let marks = held.as_mut_slice();
     mark_held(marks, problem, flow, search);
     marked(alloc, limits, marks)
 }
 
 /// The names of a cut under low limits: those that the last search did not settle. All points stand within the high limits, so no
 /// set of names is over these. It takes `O(k)` steps at k names.
-pub(crate) fn names_below(
+pub(crate) fn names_under(
     alloc: Global,
     instance: &Instance<'_>,
     problem: &FlowProblem,
@@ -85,24 +65,8 @@ pub(crate) fn names_below(
     ensures ordered { IfOk result (λ v. IsStrictlySortedBy (slice_cmp nat_cmp) (names_view v.items)) }
 {
     let limits = instance.totals().entries();
-    let mut marks = vec![in alloc; false; flow.totals.len()]?;
-    unsettled(alloc, limits, &mut marks, problem, search)
-}
-
-/// The names that are marked as not settled.
-fn unsettled(
-    alloc: Global,
-    limits: &[Limit],
-    marks: &mut [bool],
-    problem: &FlowProblem,
-    search: &Search,
-) -> Result<Vec<String>, AllocError>
-    requires size { length marks.old ≡ names_of problem.now }
-    requires limits { length limits.now ≡ names_of problem.now }
-    requires search { HasSize (names_of problem.now + 1) search.now }
-    ensures unsettled { AreUnsettled problem.now search.now marks.new }
-    ensures named { IfOk result (λ v. names_view v.items ≡ chosen (keys_of (limits_view limits.now)) (λ i. slice_index_or marks.new i false)) }
-{
+    let mut unsettled = vec![in alloc; false; flow.totals.len()]?;
+    let marks = unsettled.as_mut_slice();
     mark_unsettled(marks, problem, search);
     marked(alloc, limits, marks)
 }

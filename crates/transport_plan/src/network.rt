@@ -16,7 +16,7 @@ use price_core::{Limit, Prices};
 use std::alloc::{AllocError, Global};
 use transport_instance::Instance;
 
-/// The problem of an instance in numbers: a name is an index of the limits, and groups stand by old variant and then by count.
+/// The problem of an instance in numbers: each name by its place among the limits, and groups by old variant and then by count.
 pub(crate) fn flow_problem(
     alloc: Global,
     instance: &Instance<'_>,
@@ -37,6 +37,7 @@ pub(crate) fn flow_problem(
     })
 }
 
+/// The low limit of each name.
 fn low_limits(alloc: Global, limits: &[Limit]) -> Result<Vec<u32>, AllocError>
     ensures { IfOk result (λ v. v.items ≡ map (λ l. l.1.0) (limits_view limits.now)) }
 {
@@ -47,6 +48,7 @@ fn low_limits(alloc: Global, limits: &[Limit]) -> Result<Vec<u32>, AllocError>
     Ok(low)
 }
 
+/// The high limit of each name.
 fn high_limits(alloc: Global, limits: &[Limit]) -> Result<Vec<u32>, AllocError>
     ensures { IfOk result (λ v. v.items ≡ map (λ l. l.1.1) (limits_view limits.now)) }
 {
@@ -96,14 +98,12 @@ fn index_of(limits: &[Limit], name: &str) -> usize
     requires listed { Contains (keys_of (limits_view limits.now)) name.now }
     ensures { slice_get (keys_of (limits_view limits.now)) result ≡ Some name.now }
 {
-    let mut place = 0;
-    for limit in limits {
+    for (place, limit) in limits.iter().enumerate() {
         if limit.name.as_str() == name {
             return place;
         }
-        place += 1;
     }
-    place
+    limits.len()
 }
 
 /// The price of each switch, by rows of the old names.

@@ -17,7 +17,7 @@ ghost use Rattle.transport_plan.specs.Numbered.{IsNumbered};
 ghost use Rattle.transport_plan.specs.Solved.{IfPlan, IfNone, IsPlan, IsCut, IsNeverOver};
 
 use crate::certifying::certificate;
-use crate::cuts::{names_above, names_below};
+use crate::cuts::{names_over, names_under};
 use crate::network::flow_problem;
 use min_cost_flow::{Flow, FlowProblem, Outcome, Passed, cheapest_flow};
 use shortest_path::{Effort, Search};
@@ -130,7 +130,7 @@ fn cut_over(
 {
     Ok(Solved::None(Cut {
         kind: CutKind::Over,
-        names: names_above(alloc, instance, problem, flow, search)?,
+        names: names_over(alloc, instance, problem, flow, search)?,
     }))
 }
 
@@ -153,6 +153,6 @@ fn cut_under(
 {
     Ok(Solved::None(Cut {
         kind: CutKind::Under,
-        names: names_below(alloc, instance, problem, flow, search)?,
+        names: names_under(alloc, instance, problem, flow, search)?,
     }))
 }

@@ -12,10 +12,10 @@ use Rattle.transport_instance.specs.Groups.{AreSizes}
 use Rattle.transport_plan.specs.Chosen.{chosen}
 use Rattle.transport_plan.proofs.Below.{never_over, under_set}
 use Rattle.transport_plan.proofs.Choosing.{chosen_rise}
-use Rattle.transport_plan.proofs.cuts.names_below.Goals as goal
+use Rattle.transport_plan.proofs.cuts.names_under.Goals as goal
 
-pub returns-in_err-marks-clause-never : goal.returns-in_err-marks-clause-never
-returns-in_err-marks-clause-never c =
+pub returns-in_err-unsettled-clause-never : goal.returns-in_err-unsettled-clause-never
+returns-in_err-unsettled-clause-never c =
     let lawful : AreLimits c.args.instance.now.limits = subst AreLimits c.totals.ensures.value c.entries-limits.ensures.lawful in
     λ old inputs names sizes over. never_over c.args.instance.now c.args.problem.now lawful c.requires.lawful c.requires.numbered c.args.flow.now c.args.search.now c.requires.stuck old inputs names sizes over
 
@@ -27,19 +27,19 @@ returns-clause-never c =
 pub returns-clause-under : goal.returns-clause-under
 returns-clause-under c =
     let p = c.args.instance.now in
-    let marks = c.unsettled.new.marks in
+    let marks = c.mark_unsettled.new.marks in
     let same : limits_view c.entries-limits.result.now ≡ p.limits = c.entries-limits.ensures.value ∙ c.totals.ensures.value in
     let lawful : AreLimits p.limits = subst AreLimits c.totals.ensures.value c.entries-limits.ensures.lawful in
-    IfOk-weaker c.unsettled.result (λ v. names_view v.items ≡ chosen (keys_of (limits_view c.entries-limits.result.now)) (λ i. get_or marks i false)) (λ v. (old : Entries) (inputs : List (List ℕ)) → AreSizes old inputs p.groups → IsUnder old p.limits p.pricing (names_view v.items))
+    IfOk-weaker c.marked.result (λ v. names_view v.items ≡ chosen (keys_of (limits_view c.entries-limits.result.now)) (λ i. get_or marks i false)) (λ v. (old : Entries) (inputs : List (List ℕ)) → AreSizes old inputs p.groups → IsUnder old p.limits p.pricing (names_view v.items))
     (λ v is old inputs sizes.
     subst (λ ns. IsUnder old p.limits p.pricing ns) (sym (is ∙ ap (λ ls. chosen (keys_of ls) (λ i. get_or marks i false)) same))
-    (under_set p c.args.problem.now lawful c.requires.lawful c.requires.numbered c.args.flow.now c.args.search.now c.requires.stuck marks c.unsettled.ensures.unsettled old inputs sizes))
-    c.unsettled.ensures.named
+    (under_set p c.args.problem.now lawful c.requires.lawful c.requires.numbered c.args.flow.now c.args.search.now c.requires.stuck marks c.mark_unsettled.ensures old inputs sizes))
+    c.marked.ensures
 
 pub returns-clause-ordered : goal.returns-clause-ordered
 returns-clause-ordered c =
-    let marks = c.unsettled.new.marks in
+    let marks = c.mark_unsettled.new.marks in
     let lawful : AreLimits (limits_view c.entries-limits.result.now) = subst AreLimits (sym c.entries-limits.ensures.value) c.entries-limits.ensures.lawful in
-    IfOk-weaker c.unsettled.result (λ v. names_view v.items ≡ chosen (keys_of (limits_view c.entries-limits.result.now)) (λ i. get_or marks i false)) (λ v. IsStrictlySortedBy (slice_cmp nat_cmp) (names_view v.items))
+    IfOk-weaker c.marked.result (λ v. names_view v.items ≡ chosen (keys_of (limits_view c.entries-limits.result.now)) (λ i. get_or marks i false)) (λ v. IsStrictlySortedBy (slice_cmp nat_cmp) (names_view v.items))
     (λ v is. subst (IsStrictlySortedBy (slice_cmp nat_cmp)) (sym is) (chosen_rise (keys_of (limits_view c.entries-limits.result.now)) (λ i. get_or marks i false) lawful.rise))
-    c.unsettled.ensures.named
+    c.marked.ensures
