@@ -23,7 +23,7 @@ module _ (names g v count : ℕ) (here : ℤ) (switch_cost : ℕ → Option ℤ)
   move_of w a w_in is o =
       let same : o.arc ≡ a = same_Some o.arc a (sym o.taken ∙ is) in
       record {
-        by = ap (λ (x : Arc). x.group) (sym same) ∙ o.by;
+        same_group = ap (λ (x : Arc). x.group) (sym same) ∙ o.same_group;
         allowed = may_is w ∙ ap is_allowed o.allowed;
         cost = omega (arith, ints, pays_more count here o.to here_cost (costs w o.to w_in o.allowed), charged v here here_is, charged w o.to o.allowed, o.cost, ap (λ (x : Arc). x.cost) same);
       }

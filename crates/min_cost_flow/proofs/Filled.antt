@@ -16,7 +16,7 @@ use Rattle.shortest_path.specs.Network.{IsShort, arc_at, max_cost}
 use Rattle.shortest_path.specs.Searched.{IsTight}
 use Rattle.shortest_path.specs.declared.arc.Arc.{Arc}
 use Rattle.shortest_path.specs.declared.search.Search.{Search}
-use Rattle.min_cost_flow.specs.Placing.{IsMidway, IsStuckAbove, IsPathToRoom, StayPlaced, WantsRoot, reach}
+use Rattle.min_cost_flow.specs.Placing.{IsInFirstPass, IsStuckAbove, IsPathToRoom, StayPlaced, WantsRoot, reach}
 
 -- the bounds of potentials after a search whose node is the root
 pub near_after : (n : ℕ) (arc : ℕ → ℕ → Option Arc) (wanted : List Bool) (source : ℕ) (pot pot' : ℕ → ℤ) (predecessor rank : ℕ → ℕ) (k : ℕ) → n ≤ 65 → HasFound n arc wanted source pot pot' predecessor rank k → pot k ≡ pos 0
@@ -116,55 +116,55 @@ module _ (p : FlowProblem) (f : Flow) (flow : IsFlow p f) (wanted : List Bool) (
   pub root_unsettled : rank (names_of p) < names_of p + 1 → ⊥
   root_unsettled settled = omega (arith, settled, found.unsettled)
 
--- the potentials of a search that found the root are those of a flow midway
-pub path_of : (p : FlowProblem) (ok : IsFlowProblem p) (f : Flow) (s s' : Search) (wanted : List Bool) (source last : ℕ) → IsMidway p f s → source < names_of p → HasSize (names_of p + 1) s'
+-- the potentials of a search that found the root are those of a flow in the first pass
+pub path_of : (p : FlowProblem) (ok : IsFlowProblem p) (f : Flow) (s s' : Search) (wanted : List Bool) (source last : ℕ) → IsInFirstPass p f s → source < names_of p → HasSize (names_of p + 1) s'
     → HasFound (names_of p + 1) (arc_at f.arcs.items (names_of p + 1)) wanted source (potential_of s) (potential_of s') (predecessor_of s') (rank_of s') (names_of p) → last ≡ predecessor_of s' (names_of p) → IsPathToRoom p f s' source last
-path_of p ok f s s' wanted source last midway source_in size found last_is =
+path_of p ok f s s' wanted source last first_pass source_in size found last_is =
     let n : ℕ = names_of p + 1 in
     let few : n ≤ 65 = omega (arith, ok.names) in
-    let near = near_after n (arc_at f.arcs.items n) wanted source (potential_of s) (potential_of s') (predecessor_of s') (rank_of s') (names_of p) few found midway.root midway.low midway.high in
+    let near = near_after n (arc_at f.arcs.items n) wanted source (potential_of s) (potential_of s') (predecessor_of s') (rank_of s') (names_of p) few found first_pass.root first_pass.low first_pass.high in
     record {
-      midway = record {
-        flow = midway.flow;
-        optimal = optimal_from_reduced (flows_of p f) (arc_at f.arcs.items n) (potential_of s') midway.flow.tables.residual found.reduced;
+      first_pass = record {
+        flow = first_pass.flow;
+        optimal = optimal_from_reduced (flows_of p f) (arc_at f.arcs.items n) (potential_of s') first_pass.flow.tables.residual found.reduced;
         size = size;
-        root = found.kept (names_of p) (omega arith) found.unsettled ∙ midway.root;
+        root = found.kept (names_of p) (omega arith) found.unsettled ∙ first_pass.root;
         low = λ v v_in. (near v v_in).0;
         high = λ v v_in. (near v v_in).1;
       };
-      within = omega (arith, last_is, last_in p f midway.flow wanted source source_in (potential_of s) (potential_of s') (predecessor_of s') (rank_of s') found);
-      room = subst (λ v. total_at f v < get_or p.high.items v 0) (sym last_is) (last_below p f midway.flow wanted source source_in (potential_of s) (potential_of s') (predecessor_of s') (rank_of s') found);
-      level = ap (potential_of s') last_is ∙ last_level p f midway.flow wanted source source_in (potential_of s) (potential_of s') (predecessor_of s') (rank_of s') found;
-      unsettled = λ settled. root_unsettled p f midway.flow wanted source source_in (potential_of s) (potential_of s') (predecessor_of s') (rank_of s') found settled;
+      within = omega (arith, last_is, last_in p f first_pass.flow wanted source source_in (potential_of s) (potential_of s') (predecessor_of s') (rank_of s') found);
+      room = subst (λ v. total_at f v < get_or p.high.items v 0) (sym last_is) (last_below p f first_pass.flow wanted source source_in (potential_of s) (potential_of s') (predecessor_of s') (rank_of s') found);
+      level = ap (potential_of s') last_is ∙ last_level p f first_pass.flow wanted source source_in (potential_of s) (potential_of s') (predecessor_of s') (rank_of s') found;
+      unsettled = λ settled. root_unsettled p f first_pass.flow wanted source source_in (potential_of s) (potential_of s') (predecessor_of s') (rank_of s') found settled;
       traced = λ v v_in on.
           ⊎_elim
           (λ (settled : rank_of s' v < n). found.tight v v_in (inl settled))
-          (λ (is : v ≡ last). found.tight v v_in (inl (omega (arith, ap (rank_of s') (is ∙ last_is), last_settled p f midway.flow wanted source source_in (potential_of s) (potential_of s') (predecessor_of s') (rank_of s') found))))
+          (λ (is : v ≡ last). found.tight v v_in (inl (omega (arith, ap (rank_of s') (is ∙ last_is), last_settled p f first_pass.flow wanted source source_in (potential_of s) (potential_of s') (predecessor_of s') (rank_of s') found))))
           on;
     }
 
-pub stuck_of : (p : FlowProblem) (f : Flow) (s s' : Search) (wanted : List Bool) (source : ℕ) → IsMidway p f s → WantsRoot p wanted → source < names_of p → get_or p.high.items source 0 < total_at f source → HasSize (names_of p + 1) s'
+pub stuck_of : (p : FlowProblem) (f : Flow) (s s' : Search) (wanted : List Bool) (source : ℕ) → IsInFirstPass p f s → WantsRoot p wanted → source < names_of p → get_or p.high.items source 0 < total_at f source → HasSize (names_of p + 1) s'
     → IsStuck (names_of p + 1) (arc_at f.arcs.items (names_of p + 1)) wanted source (potential_of s) (potential_of s') (rank_of s') → IsStuckAbove p f s'
-stuck_of p f s s' wanted source midway wants source_in over size stuck = record {
+stuck_of p f s s' wanted source first_pass wants source_in over size stuck = record {
   size = size;
   above = source;
   within = source_in;
   settled = stuck.source_in;
   over = over;
-  full = stuck_full p f midway.flow wanted source (potential_of s) (potential_of s') (rank_of s') wants.root stuck;
-  closed = stuck_closed p f midway.flow wanted source (potential_of s) (potential_of s') (rank_of s') wants.root stuck;
+  full = stuck_full p f first_pass.flow wanted source (potential_of s) (potential_of s') (rank_of s') wants.root stuck;
+  closed = stuck_closed p f first_pass.flow wanted source (potential_of s) (potential_of s') (rank_of s') wants.root stuck;
 }
 
--- the flow after an augmentation is midway
+-- the flow is in the first pass after an augmentation
 pub filled : (p : FlowProblem) (ok : IsFlowProblem p) (old new : Flow) (s : Search) (source last : ℕ) → IsPathToRoom p old s source last → IsFlow p new → AreLeast (flows_of p new) (potential_of s)
-    → IsAugmented p old new (potential_of s) (rank_of s) p.high.items source last → IsMidway p new s
+    → IsAugmented p old new (potential_of s) (rank_of s) p.high.items source last → IsInFirstPass p new s
 filled p ok old new s source last path flow least aug = record {
   flow = flow;
-  optimal = optimal_after p ok old new (potential_of s) (rank_of s) source last path.midway.optimal least aug path.level;
-  size = path.midway.size;
-  root = path.midway.root;
-  low = path.midway.low;
-  high = path.midway.high;
+  optimal = optimal_after p ok old new (potential_of s) (rank_of s) source last path.first_pass.optimal least aug path.level;
+  size = path.first_pass.size;
+  root = path.first_pass.root;
+  low = path.first_pass.low;
+  high = path.first_pass.high;
 }
 
 pub fewer_after : (p : FlowProblem) (old new : Flow) (s : Search) (source last : ℕ) → IsPathToRoom p old s source last → IsAugmented p old new (potential_of s) (rank_of s) p.high.items source last → total_at new source < total_at old source
@@ -180,8 +180,8 @@ short_potential z low high = record { low = omega (arith, ints, low); high = ome
 
 -- what holds before each turn
 pub record Emptying (p : FlowProblem) (start f : Flow) (s : Search) : Type 0 where
-  pub midway : IsMidway p f s
+  pub first_pass : IsInFirstPass p f s
   pub placed : StayPlaced p start f
 
-pub emptying_more : (p : FlowProblem) (start old new : Flow) (s s' : Search) → Emptying p start old s → IsMidway p new s' → StayPlaced p old new → Emptying p start new s'
-emptying_more p start old new s s' before midway placed = record { midway = midway; placed = λ v within. placed v (before.placed v within) }
+pub emptying_more : (p : FlowProblem) (start old new : Flow) (s s' : Search) → Emptying p start old s → IsInFirstPass p new s' → StayPlaced p old new → Emptying p start new s'
+emptying_more p start old new s s' before first_pass placed = record { first_pass = first_pass; placed = λ v within. placed v (before.placed v within) }

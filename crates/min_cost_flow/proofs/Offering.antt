@@ -34,7 +34,7 @@ module _ (here : ℤ) (group count : ℕ) (costs : List (Option ℤ)) (row row' 
 
   pub takes : (to : ℤ) (a : Arc) → row'' ≡ set row' v (Some a) → get_or costs v None ≡ Some to → a.group ≡ group → a.cost ≡ pos count *ℤ (to -ℤ here)
       → ((known : Arc) → get_or row' v None ≡ Some known → a.cost ≤ℤ known.cost) → OffersBelow here group count costs row row'' (v + 1)
-  takes to a written allowed by cost less =
+  takes to a written allowed same_group cost less =
       let other : (w : ℕ) → (w ≡ v → ⊥) → get_or row'' w None ≡ get_or row' w None = λ w not. ap (λ xs. get_or xs w None) written ∙ get_or-set_other row' v w (Some a) None not in
       record {
         size = ap length written ∙ (length-set row' v (Some a) ∙ before.size);
@@ -48,7 +48,7 @@ module _ (here : ℤ) (group count : ℕ) (costs : List (Option ℤ)) (row row' 
                 arc = a;
                 allowed = ap (λ k. get_or costs k None) is ∙ allowed;
                 taken = now;
-                by = by;
+                same_group = same_group;
                 cost = cost;
                 less = λ known known_is. less known (ap (λ k. get_or row' k None) (sym is) ∙ (before.rest w (omega (arith, is)) ∙ known_is));
               });

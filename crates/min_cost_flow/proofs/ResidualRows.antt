@@ -27,13 +27,13 @@ module _ (groups names : ℕ) (may : ℕ → ℕ → Bool) (charge : ℕ → ℕ
   row_takes group group_in row some changes wide =
       let keeps : (g : ℕ) → 0 < old g → 0 < now g = λ g had. ⊎_elim (λ (is : g ≡ group). omega (arith, ap now is, some)) (λ (not : g ≡ group → ⊥). omega (arith, changes g not, had)) (cases_eq g group) in
       record {
-        group = λ w a w_in is. ⊎_elim (λ (was : arc w ≡ Some a). row.group w a w_in was) (λ (move : IsMove may charge group v w a). omega (arith, move.by, group_in)) (wide.change w a w_in is);
-        there = λ w a w_in is. ⊎_elim (λ (was : arc w ≡ Some a). keeps a.group (row.there w a w_in was)) (λ (move : IsMove may charge group v w a). omega (arith, ap now move.by, some)) (wide.change w a w_in is);
-        allowed = λ w a w_in is. ⊎_elim (λ (was : arc w ≡ Some a). row.allowed w a w_in was) (λ (move : IsMove may charge group v w a). ap (λ g. may g w) move.by ∙ move.allowed) (wide.change w a w_in is);
+        group = λ w a w_in is. ⊎_elim (λ (was : arc w ≡ Some a). row.group w a w_in was) (λ (move : IsMove may charge group v w a). omega (arith, move.same_group, group_in)) (wide.change w a w_in is);
+        there = λ w a w_in is. ⊎_elim (λ (was : arc w ≡ Some a). keeps a.group (row.there w a w_in was)) (λ (move : IsMove may charge group v w a). omega (arith, ap now move.same_group, some)) (wide.change w a w_in is);
+        allowed = λ w a w_in is. ⊎_elim (λ (was : arc w ≡ Some a). row.allowed w a w_in was) (λ (move : IsMove may charge group v w a). ap (λ g. may g w) move.same_group ∙ move.allowed) (wide.change w a w_in is);
         cost = λ w a w_in is.
             ⊎_elim
             (λ (was : arc w ≡ Some a). row.cost w a w_in was)
-            (λ (move : IsMove may charge group v w a). omega (arith, ints, move.cost, ap (λ g. charge g v) move.by, ap (λ g. charge g w) move.by))
+            (λ (move : IsMove may charge group v w a). omega (arith, ints, move.cost, ap (λ g. charge g v) move.same_group, ap (λ g. charge g w) move.same_group))
             (wide.change w a w_in is);
         least = λ g w g_in w_in here allowed.
             ⊎_elim

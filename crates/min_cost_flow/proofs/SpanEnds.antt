@@ -24,17 +24,17 @@ module _ (groups names : ℕ) (variant count : ℕ → ℕ) (may : ℕ → ℕ �
     group = λ w a w_in is.
         ⊎_elim
         (λ (was : old w ≡ Some a). moves.group w a w_in was)
-        (λ (move : IsMove may charge g v w a). omega (arith, move.by, g_in))
+        (λ (move : IsMove may charge g v w a). omega (arith, move.same_group, g_in))
         (wide.change w a w_in is);
     there = λ w a w_in is.
         ⊎_elim
         (λ (was : old w ≡ Some a). moves.there w a w_in was)
-        (λ (move : IsMove may charge g v w a). omega (arith, ap here move.by, some))
+        (λ (move : IsMove may charge g v w a). omega (arith, ap here move.same_group, some))
         (wide.change w a w_in is);
     move = λ w a w_in is.
         ⊎_elim
         (λ (was : old w ≡ Some a). moves.move w a w_in was)
-        (λ (move : IsMove may charge g v w a). subst (λ x. IsMove may charge x v w a) (sym move.by) move)
+        (λ (move : IsMove may charge g v w a). subst (λ x. IsMove may charge x v w a) (sym move.same_group) move)
         (wide.change w a w_in is);
   }
 

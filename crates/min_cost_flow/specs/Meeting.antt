@@ -1,4 +1,4 @@
--- A flow within the high limits that is brought to meet the low ones.
+-- The second pass: a flow within the high limits is brought to meet the low ones.
 use Rattle.std.specs.Prelude.{◌≡◌, ℕ, ◌+◌, ◌-◌, ◌<◌, ◌≤◌, pos, ◌≤ℤ◌, false, Bool, List, length, nat_lt, slice_index, slice_index_or}
 use Rattle.std.proofs.Common.{neg_ℤ}
 use Rattle.min_cost_flow.specs.Paths.{AreTraced}
@@ -12,9 +12,9 @@ use Rattle.shortest_path.specs.Network.{arc_at}
 use Rattle.shortest_path.specs.declared.search.Search.{Search}
 use Rattle.min_cost_flow.specs.Placing.{IsClosed, reach}
 
--- The flow is within the high limits and optimal by the potentials, which are not above 0 and near it; those of names below their
--- low limits are 0.
-pub record IsMeeting (p : FlowProblem) (f : Flow) (s : Search) : Type 0 where
+-- In the second pass the flow is within the high limits, and optimal by the potentials, which are not above 0 and near it; those of
+-- names below their low limits are 0.
+pub record IsInSecondPass (p : FlowProblem) (f : Flow) (s : Search) : Type 0 where
   pub flow : IsFlow p f
   pub optimal : IsOptimal (flows_of p f) (potential_of s)
   pub size : HasSize (names_of p + 1) s
@@ -43,7 +43,7 @@ IsBelow p f v = (v < names_of p) × (total_at f v < slice_index p.low.items v)
 
 -- a search has found the shortest path from the root to a name below its low limit, and the flow is optimal by the new potentials
 pub record IsPathToDeficit (p : FlowProblem) (f : Flow) (s : Search) (last : ℕ) : Type 0 where
-  pub meeting : IsMeeting p f s
+  pub second_pass : IsInSecondPass p f s
   pub within : last < names_of p
   pub under : total_at f last < slice_index p.low.items last
   pub traced : AreTraced (names_of p) (arc_at f.arcs.items (names_of p + 1)) (potential_of s) (predecessor_of s) (rank_of s) (names_of p) last

@@ -16,7 +16,7 @@ pub record IsOffer (here : ℤ) (group count : ℕ) (switch_cost : Option ℤ) (
   pub arc : Arc
   pub allowed : switch_cost ≡ Some to
   pub taken : new ≡ Some arc
-  pub by : arc.group ≡ group
+  pub same_group : arc.group ≡ group
   pub cost : arc.cost ≡ pos count *ℤ (to -ℤ here)
   pub less : (known : Arc) → old ≡ Some known → arc.cost ≤ℤ known.cost
 

@@ -18,7 +18,7 @@ pub record IsRow (groups names : ℕ) (may : ℕ → ℕ → Bool) (charge : ℕ
 
 -- the arc is a move of a point of the group
 pub record IsMove (may : ℕ → ℕ → Bool) (charge : ℕ → ℕ → ℤ) (g v w : ℕ) (a : Arc) : Type 0 where
-  pub by : a.group ≡ g
+  pub same_group : a.group ≡ g
   pub allowed : may g w ≡ true
   pub cost : (charge g v +ℤ a.cost) ≡ charge g w
 

@@ -4,7 +4,7 @@ ghost use Rattle.min_cost_flow.specs.Cheapest.{IsCheapest};
 ghost use Rattle.min_cost_flow.specs.Effort.{Searches, nodes_of, points_of};
 ghost use Rattle.min_cost_flow.specs.Flow.{IsFlow};
 ghost use Rattle.min_cost_flow.specs.Meeting.{IsStuckBelow};
-ghost use Rattle.min_cost_flow.specs.Placing.{IsMidway, IsStuckAbove};
+ghost use Rattle.min_cost_flow.specs.Placing.{IsInFirstPass, IsStuckAbove};
 ghost use Rattle.min_cost_flow.specs.Problem.{IsFlowProblem};
 
 use crate::flow::Flow;
@@ -69,7 +69,7 @@ fn pass<L: Ledger>(
     effort: &mut Effort<L>,
 ) -> Result<Outcome, AllocError>
     requires problem { IsFlowProblem problem.now }
-    requires midway { IsMidway problem.now flow.old search.old }
+    requires first_pass { IsInFirstPass problem.now flow.old search.old }
     ensures flow { OnOk result (IsFlow problem.now flow.new) }
     ensures cheapest { IfOk result (λ outcome. outcome ≡ Outcome.Cheapest → IsCheapest problem.now flow.new search.new) }
     ensures over { IfOk result (λ outcome. outcome ≡ Outcome.Over → IsStuckAbove problem.now flow.new search.new) }

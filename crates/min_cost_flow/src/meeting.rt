@@ -2,7 +2,7 @@
 ghost use Rattle.std.specs.Prelude.{◌≡◌, ◌≤◌, ◌<◌, ◌+◌, IfOk, IsTrue, MatchBool, MatchOption, MatchResult, OnOk, false, length, nat_lt, slice_index, slice_index_or};
 ghost use Rattle.min_cost_flow.specs.Effort.{Searches, nodes_of};
 ghost use Rattle.min_cost_flow.specs.Flow.{IsFlow, total_at};
-ghost use Rattle.min_cost_flow.specs.Meeting.{IsBelow, IsMeeting, IsStuckBelow, IsStuckIfBelow, IsPathToDeficit, MeetsLow, WantsBelow, deficit};
+ghost use Rattle.min_cost_flow.specs.Meeting.{IsBelow, IsInSecondPass, IsStuckBelow, IsStuckIfBelow, IsPathToDeficit, MeetsLow, WantsBelow, deficit};
 ghost use Rattle.min_cost_flow.specs.Problem.{IsFlowProblem, names_of};
 ghost use Rattle.shortest_path.specs.Spent.{HasSettledAtMost};
 
@@ -23,9 +23,9 @@ pub(crate) fn meet_low<L: Ledger>(
     effort: &mut Effort<L>,
 ) -> Result<bool, AllocError>
     requires problem { IsFlowProblem problem.now }
-    requires meeting { IsMeeting problem.now flow.old search.old }
+    requires second_pass { IsInSecondPass problem.now flow.old search.old }
     ensures met { IfOk result (λ met. MatchBool met
-        (IsMeeting problem.now flow.new search.new × MeetsLow problem.now flow.new)
+        (IsInSecondPass problem.now flow.new search.new × MeetsLow problem.now flow.new)
         (IsStuckBelow problem.now flow.new search.new)) }
     ensures augmentations { effort.new.augmentations ≤ effort.old.augmentations + deficit problem.now flow.old }
     ensures searches { Searches (nodes_of problem.now) 1 effort.old effort.new }
@@ -88,7 +88,7 @@ fn find_below<L: Ledger>(
     effort: &mut Effort<L>,
 ) -> Option<usize>
     requires problem { IsFlowProblem problem.now }
-    requires meeting { IsMeeting problem.now flow.now search.old }
+    requires second_pass { IsInSecondPass problem.now flow.now search.old }
     requires wanted { WantsBelow problem.now flow.now wanted.now }
     ensures path { MatchOption result
         (IsStuckIfBelow problem.now flow.now search.new) (λ last. IsPathToDeficit problem.now flow.now search.new last) }
@@ -108,7 +108,7 @@ fn fill_below<L: Ledger>(
 ) -> Result<(), AllocError>
     requires problem { IsFlowProblem problem.now }
     requires path { IsPathToDeficit problem.now flow.old search.now last }
-    ensures meeting { OnOk result (IsMeeting problem.now flow.new search.now) }
+    ensures second_pass { OnOk result (IsInSecondPass problem.now flow.new search.now) }
     ensures fewer { OnOk result (deficit problem.now flow.new < deficit problem.now flow.old) }
     ensures augmentations { MatchResult result (λ _. effort.new.augmentations ≡ effort.old.augmentations + 1) (λ _. effort.new.augmentations ≡ effort.old.augmentations) }
     ensures settlings { effort.new.settlings ≡ effort.old.settlings }

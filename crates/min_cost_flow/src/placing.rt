@@ -2,7 +2,7 @@
 ghost use Rattle.std.specs.Prelude.{◌≤◌, ◌+◌, IfOk, IsTrue, MatchBool, ◌≡◌, ◌<◌, ℕ, MatchOption, MatchResult, OnOk, slice_index};
 ghost use Rattle.min_cost_flow.specs.Effort.{Searches, nodes_of};
 ghost use Rattle.min_cost_flow.specs.Flow.{IsFlow, total_at};
-ghost use Rattle.min_cost_flow.specs.Placing.{IsMidway, IsStuckAbove, MeetsHigh, WantsRoot, excess, IsEmptied, IsPathToRoom, StayPlaced};
+ghost use Rattle.min_cost_flow.specs.Placing.{IsInFirstPass, IsStuckAbove, MeetsHigh, WantsRoot, excess, IsEmptied, IsPathToRoom, StayPlaced};
 ghost use Rattle.min_cost_flow.specs.Problem.{IsFlowProblem, names_of};
 ghost use Rattle.shortest_path.specs.Spent.{HasSettledAtMost};
 
@@ -23,9 +23,9 @@ pub(crate) fn place_within_high<L: Ledger>(
     effort: &mut Effort<L>,
 ) -> Result<bool, AllocError>
     requires problem { IsFlowProblem problem.now }
-    requires midway { IsMidway problem.now flow.old search.old }
+    requires first_pass { IsInFirstPass problem.now flow.old search.old }
     ensures placed { IfOk result (λ placed. MatchBool placed
-        (IsMidway problem.now flow.new search.new × MeetsHigh problem.now flow.new)
+        (IsInFirstPass problem.now flow.new search.new × MeetsHigh problem.now flow.new)
         (IsStuckAbove problem.now flow.new search.new × IsFlow problem.now flow.new)) }
     ensures augmentations { effort.new.augmentations ≤ effort.old.augmentations + excess problem.now flow.old }
     ensures searches { Searches (nodes_of problem.now) 1 effort.old effort.new }
@@ -70,7 +70,7 @@ pub(crate) fn empty_to_high<L: Ledger>(
     effort: &mut Effort<L>,
 ) -> Result<bool, AllocError>
     requires problem { IsFlowProblem problem.now }
-    requires midway { IsMidway problem.now flow.old search.old }
+    requires first_pass { IsInFirstPass problem.now flow.old search.old }
     requires wanted { WantsRoot problem.now wanted.now }
     requires from { from < names_of problem.now }
     ensures emptied { IfOk result (λ emptied. MatchBool emptied
@@ -110,7 +110,7 @@ fn find_room<L: Ledger>(
     effort: &mut Effort<L>,
 ) -> Option<usize>
     requires problem { IsFlowProblem problem.now }
-    requires midway { IsMidway problem.now flow.now search.old }
+    requires first_pass { IsInFirstPass problem.now flow.now search.old }
     requires wanted { WantsRoot problem.now wanted.now }
     requires from { from < names_of problem.now }
     requires above { slice_index problem.now.high.items from < total_at flow.now from }
@@ -136,7 +136,7 @@ fn fill<L: Ledger>(
     requires problem { IsFlowProblem problem.now }
     requires path { IsPathToRoom problem.now flow.old search.now from last }
     requires above { slice_index problem.now.high.items from < total_at flow.old from }
-    ensures midway { OnOk result (IsMidway problem.now flow.new search.now) }
+    ensures first_pass { OnOk result (IsInFirstPass problem.now flow.new search.now) }
     ensures fewer { OnOk result (total_at flow.new from < total_at flow.old from) }
     ensures placed { OnOk result (StayPlaced problem.now flow.old flow.new) }
     ensures excess { OnOk result (excess problem.now flow.new < excess problem.now flow.old) }

@@ -33,7 +33,7 @@ pub(crate) fn rebuild(
     ensures spans { AreSpans groups.now (length row.old) placed.now spans.new }
 {
     clear(row);
-    enter_groups(row, spans, groups, costs, placed, name);
+    take_moves_of_groups(row, spans, groups, costs, placed, name);
 }
 
 /// Takes all arcs away.
@@ -47,7 +47,7 @@ fn clear(row: &mut [Option<Arc>])
 
 /// The arcs from a name take the moves of the first and the last group of each old variant with points there, and spans are
 /// narrowed to these.
-fn enter_groups(
+fn take_moves_of_groups(
     row: &mut [Option<Arc>],
     spans: &mut [Span],
     groups: &[Group],
@@ -69,12 +69,12 @@ fn enter_groups(
         let at = name * row.len() + variant;
         let span = narrowed(groups, placed, row.len(), name, variant, spans[at]);
         spans[at] = span;
-        enter_ends(row, groups, costs, span, name);
+        take_moves_of_ends(row, groups, costs, span, name);
     }
 }
 
 /// The arcs from a name take the moves of the first and the last group of a span, if it has any.
-fn enter_ends(
+fn take_moves_of_ends(
     row: &mut [Option<Arc>],
     groups: &[Group],
     costs: &[Option<i64>],
@@ -91,13 +91,13 @@ fn enter_ends(
     ensures none { span.end ≤ span.first → row.new ≡ row.old }
 {
     if span.first < span.end {
-        enter(row, groups, costs, span.first, name);
-        enter(row, groups, costs, span.end - 1, name);
+        take_moves(row, groups, costs, span.first, name);
+        take_moves(row, groups, costs, span.end - 1, name);
     }
 }
 
 /// The arcs from a name take the moves of a group that has points there, where these are cheaper. `O(k)` at k names.
-pub(crate) fn enter(
+pub(crate) fn take_moves(
     row: &mut [Option<Arc>],
     groups: &[Group],
     costs: &[Option<i64>],
@@ -194,7 +194,7 @@ pub(crate) fn rebuild_from(
 }
 
 /// The same of the arcs of a whole flow.
-fn enter_from(arcs: &mut [Option<Arc>], problem: &FlowProblem, group: usize, name: usize)
+fn take_moves_from(arcs: &mut [Option<Arc>], problem: &FlowProblem, group: usize, name: usize)
     requires problem { IsFlowProblem problem.now }
     requires arcs { HasArcs (names_of problem.now) arcs.old }
     requires name { name < names_of problem.now }
@@ -206,7 +206,7 @@ fn enter_from(arcs: &mut [Option<Arc>], problem: &FlowProblem, group: usize, nam
 {
     let names = problem.high.len();
     let first = name * (names + 1);
-    enter(
+    take_moves(
         &mut arcs[first..first + names],
         &problem.groups,
         &problem.costs,
@@ -258,7 +258,7 @@ pub(crate) fn arrive(
     ensures others { ChangesRow (names_of problem.now) name arcs.old arcs.new }
 {
     if before == 0 {
-        enter_from(arcs, problem, group, name);
+        take_moves_from(arcs, problem, group, name);
     }
 }
 

@@ -1,12 +1,12 @@
 use Rattle.std.proofs.Common.{◌≡◌, ◌+◌, ◌≤◌, false, length, get_or}
 use Rattle.min_cost_flow.specs.Problem.{names_of}
 use Rattle.min_cost_flow.specs.Effort.{Searches, nodes_of}
-use Rattle.min_cost_flow.specs.Meeting.{IsMeeting, deficit}
+use Rattle.min_cost_flow.specs.Meeting.{IsInSecondPass, deficit}
 use Rattle.min_cost_flow.proofs.meeting.meet_low.Given as goal
 
 abbrev pub invariant-points : goal.invariant-points
 invariant-points g l = record {
-  meeting : IsMeeting l.problem l.flow l.search;
+  second_pass : IsInSecondPass l.problem l.flow l.search;
   size : length l.wanted.items ≡ names_of l.problem + 1;
   root : get_or l.wanted.items (names_of l.problem) false ≡ false;
   deficit : l.effort.augmentations + deficit l.problem l.flow ≤ l.initial.effort.augmentations + deficit l.problem l.initial.flow;

@@ -15,8 +15,8 @@ augment-requires-clause-above g c =
     (λ h. absurd (c.requires.path.unsettled h.0))
     on
 
-pub returns-clause-midway : goal.returns-clause-midway
-returns-clause-midway g c =
+pub returns-clause-first_pass : goal.returns-clause-first_pass
+returns-clause-first_pass g c =
     let p = c.args.problem.now in
     let s = c.args.search.now in
     let old = c.args.flow.now in

@@ -11,4 +11,4 @@ returns-then-before-eq0-clause-row c =
     let p = c.args.problem.now in
     λ old now was some changes row.
     row_takes (groups_of p) (names_of p) (may_take p.groups.items p.costs.items (names_of p)) (cost_at p.groups.items p.costs.items (names_of p)) c.args.name old now (arc_at c.args.arcs.now (names_of p + 1) c.args.name)
-    (arc_at c.enter_from.new.arcs (names_of p + 1) c.args.name) c.args.group c.requires.group row some changes c.enter_from.ensures.row
+    (arc_at c.take_moves_from.new.arcs (names_of p + 1) c.args.name) c.args.group c.requires.group row some changes c.take_moves_from.ensures.row

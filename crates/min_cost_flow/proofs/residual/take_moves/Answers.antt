@@ -7,7 +7,7 @@ use Rattle.min_cost_flow.specs.Problem.{AreSwitchCosts, group_at, switch_cost_at
 use Rattle.min_cost_flow.proofs.Cells.{cell_in}
 use Rattle.min_cost_flow.proofs.Cells.{part_length, part_at}
 use Rattle.min_cost_flow.proofs.Entering.{widened}
-use Rattle.min_cost_flow.proofs.residual.enter.Goals as goal
+use Rattle.min_cost_flow.proofs.residual.take_moves.Goals as goal
 
 shown : (z : ℤ) → IsSwitchCost z → to_z w64 (of_z w64 z) ≡ z
 shown z p = omega (arith, ints, p.low, p.high)

@@ -7,7 +7,7 @@ use Rattle.min_cost_flow.proofs.Cells.{cell_in}
 use Rattle.min_cost_flow.proofs.CheapestArcs.{cheapest, no_moves}
 use Rattle.min_cost_flow.proofs.VariantTurns.{IsTurn, RowBelow, row_after, spans_after}
 use Rattle.shortest_path.specs.declared.arc.Arc.{Arc}
-use Rattle.min_cost_flow.proofs.residual.enter_groups.Goals as goal
+use Rattle.min_cost_flow.proofs.residual.take_moves_of_groups.Goals as goal
 
 pub loop-variant-init : goal.loop-variant-init
 loop-variant-init c =
@@ -31,7 +31,7 @@ loop-variant-preserved c =
     let v = c.args.name in
     let a = c.loop-variant.variant in
     let row = c.loop-variant.row in
-    let row' = c.enter_ends.new.row in
+    let row' = c.take_moves_of_ends.new.row in
     let spans = c.loop-variant.spans in
     let span = c.narrowed-span.result in
     let many : length row ≡ n = c.loop-variant.auto.row in
@@ -42,8 +42,8 @@ loop-variant-preserved c =
       keeps = c.narrowed-span.ensures.keeps;
       first = c.narrowed-span.ensures.first;
       last = c.narrowed-span.ensures.last;
-      some = c.enter_ends.ensures.some;
-      none = c.enter_ends.ensures.none;
+      some = c.take_moves_of_ends.ensures.some;
+      none = c.take_moves_of_ends.ensures.none;
     }) in
     subst (λ k. RowBelow groups costs placed n v (a + 1) row' × AreSpans groups n placed (set spans (v * k + a) span)) (sym many) (
       row_after groups costs placed n v a spans span row row' c.requires.name c.loop-variant-test.true c.requires.groups c.loop-variant.invariant.1 turn c.loop-variant.invariant.0,
