@@ -182,6 +182,3 @@ short_potential z low high = record { low = omega (arith, ints, low); high = ome
 pub record Emptying (p : FlowProblem) (start f : Flow) (s : Search) : Type 0 where
   pub first_pass : IsInFirstPass p f s
   pub placed : StayPlaced p start f
-
-pub emptying_more : (p : FlowProblem) (start old new : Flow) (s s' : Search) → Emptying p start old s → IsInFirstPass p new s' → StayPlaced p old new → Emptying p start new s'
-emptying_more p start old new s s' before first_pass placed = record { first_pass = first_pass; placed = λ v within. placed v (before.placed v within) }

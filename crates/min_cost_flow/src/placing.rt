@@ -1,5 +1,5 @@
 //! The first pass: all points are placed within the high limits.
-ghost use Rattle.std.specs.Prelude.{◌≤◌, ◌+◌, IfOk, IsTrue, MatchBool, ◌≡◌, ◌<◌, ℕ, MatchOption, MatchResult, OnOk, slice_index};
+ghost use Rattle.std.specs.Prelude.{◌≤◌, ◌+◌, IfOk, IsTrue, MatchBool, ◌≡◌, ◌<◌, MatchOption, MatchResult, OnOk, slice_index};
 ghost use Rattle.min_cost_flow.specs.Effort.{Searches, nodes_of};
 ghost use Rattle.min_cost_flow.specs.Flow.{IsFlow, total_at};
 ghost use Rattle.min_cost_flow.specs.Placing.{IsInFirstPass, IsStuckAbove, MeetsHigh, WantsRoot, excess, IsEmptied, IsPathToRoom, StayPlaced};
