@@ -1,25 +1,19 @@
 //! The names of the cut that a failed search leaves.
 ghost use Rattle.std.specs.Cmp.Lexicographic.{slice_cmp};
 ghost use Rattle.std.specs.List.Sorted.{IsStrictlySortedBy};
-ghost use Rattle.std.specs.Map.{keys_of};
 ghost use Rattle.std.specs.Ordering.{nat_cmp};
-ghost use Rattle.std.specs.Prelude.{◌≡◌, ◌<◌, ◌+◌, ℕ, IfOk, List, false, length, slice_index_or};
+ghost use Rattle.std.specs.Prelude.{◌<◌, ℕ, IfOk, List, false};
 ghost use Rattle.bucket_core.specs.Rule.{Entries, names_view};
 ghost use Rattle.min_cost_flow.specs.Flow.{IsFlow};
 ghost use Rattle.min_cost_flow.specs.Meeting.{IsStuckBelow};
 ghost use Rattle.min_cost_flow.specs.Placing.{IsStuckAbove};
-ghost use Rattle.min_cost_flow.specs.Problem.{IsFlowProblem, names_of};
-ghost use Rattle.price_core.specs.Limits.{limits_view};
-ghost use Rattle.shortest_path.specs.Found.{HasSize};
+ghost use Rattle.min_cost_flow.specs.Problem.{IsFlowProblem};
 ghost use Rattle.transport_instance.specs.Deficient.{IsOver, IsUnder};
 ghost use Rattle.transport_instance.specs.Groups.{AreSizes};
-ghost use Rattle.transport_plan.specs.Chosen.{chosen};
-ghost use Rattle.transport_plan.specs.Marked.{AreHeld, AreUnsettled};
 ghost use Rattle.transport_plan.specs.Numbered.{IsNumbered};
 
 use crate::marks::{mark_held, mark_unsettled, marked};
 use min_cost_flow::{Flow, FlowProblem};
-use price_core::Limit;
 use shortest_path::Search;
 use std::alloc::{AllocError, Global};
 use transport_instance::Instance;

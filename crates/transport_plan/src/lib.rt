@@ -36,12 +36,11 @@
 //!   above the points that have or may take one of them, and then no set of names is over its high limits.
 //! - `laws`: functions that compute nothing, whose contracts say what a flow's dual prices prove and what a failed search shows,
 //!   over the definitions of the planning problem and of nothing that holds a flow.
-//! - `placing`, `stretches`, `bounds`, `dealing`, `spreading`: the rule of an assignment. Which of a group's points have which
+//! - `placing`, `stretches`, `thresholds`, `dealing`, `spreading`: the rule of an assignment. Which of a group's points have which
 //!   name is no promise. They are chosen so that the rule has few entries: stretches of points of one group change whole, first
 //!   those between two neighbours that have the new name, then those beside one, then the others, the longest first.
 #![tactic(auto)]
 
-mod bounds;
 mod certifying;
 mod cost;
 mod cuts;
@@ -54,6 +53,7 @@ mod placing;
 mod solving;
 mod spreading;
 mod stretches;
+mod thresholds;
 
 pub use laws::{
     a_failed_search_leaves_a_cut, an_optimal_flow_is_optimal, an_optimal_flow_is_proved,

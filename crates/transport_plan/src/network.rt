@@ -1,10 +1,7 @@
 //! A planning problem in numbers: names and groups by their places, and the price of each switch as a cost.
-ghost use Rattle.std.specs.Cmp.Lexicographic.{slice_cmp};
-ghost use Rattle.std.specs.List.Sorted.{IsStrictlySortedBy};
 ghost use Rattle.std.specs.List.{All, Contains, flat_map};
 ghost use Rattle.std.specs.Map.{keys_of};
-ghost use Rattle.std.specs.Ordering.{nat_cmp};
-ghost use Rattle.std.specs.Prelude.{◌≡◌, ◌++◌, ◌∷◌, [], ℕ, IfOk, OnOk, Some, true, map, slice_get};
+ghost use Rattle.std.specs.Prelude.{◌≡◌, ◌++◌, IfOk, OnOk, Some, map, slice_get};
 ghost use Rattle.min_cost_flow.specs.Problem.{IsFlowProblem};
 ghost use Rattle.price_core.specs.Limits.{limits_view};
 ghost use Rattle.transport_instance.specs.Groups.{rows_view};

@@ -66,7 +66,7 @@ pub fn solve<L: Ledger>(
     }
 }
 
-/// The cheapest flow of an instance's problem, and what it takes by the instance's points and names.
+/// The cheapest flow of an instance's problem, with its effort bounded by the points, groups and names of the instance.
 fn find_flow<L: Ledger>(
     alloc: Global,
     instance: &Instance<'_>,
@@ -111,7 +111,7 @@ fn planned(
     Ok(Solved::Plan(Assignment { numbers }, certificate))
 }
 
-/// The cut over the high limits that the search of the first pass left.
+/// The cut over the high limits that the failed search of the first pass left.
 fn cut_over(
     alloc: Global,
     instance: &Instance<'_>,
@@ -134,7 +134,7 @@ fn cut_over(
     }))
 }
 
-/// The cut under the low limits that the search of the second pass left. All points are within the high limits by then.
+/// The cut under the low limits that the failed search of the second pass left. All points are within the high limits by then.
 fn cut_under(
     alloc: Global,
     instance: &Instance<'_>,

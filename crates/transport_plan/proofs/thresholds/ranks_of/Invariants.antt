@@ -1,6 +1,6 @@
 use Rattle.std.proofs.Common.{◌≡◌, ◌≤◌, ◌*◌, ◌-◌, length}
 use Rattle.std.specs.List.{All}
-use Rattle.transport_plan.proofs.bounds.ranks_of.Given as goal
+use Rattle.transport_plan.proofs.thresholds.ranks_of.Given as goal
 
 abbrev pub invariant-loop-start : goal.invariant-loop-start
 invariant-loop-start l = record {

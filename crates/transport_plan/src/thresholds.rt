@@ -1,21 +1,21 @@
 //! Which points of a group change: those of its stretches whose change costs the fewest entries.
 ghost use Rattle.std.specs.List.{All};
-ghost use Rattle.std.specs.Prelude.{◌≡◌, ◌≤◌, ◌<◌, ◌*◌, ◌^◌, ℕ, IfOk, length, sum};
+ghost use Rattle.std.specs.Prelude.{◌≡◌, ◌≤◌, ◌<◌, ◌*◌, ◌^◌, IfOk, length, sum};
 
 use crate::stretches::{RANKS, Stretch, other};
 use std::alloc::{AllocError, Global};
 
 /// Which points of a group change: all of a rank below `rank`, and `more` points of rank `rank`.
 #[derive(Clone, Copy)]
-pub(crate) struct Limit {
+pub(crate) struct Threshold {
     rank: usize,
     more: usize,
     /// The first name that the group gives but its base.
     other: usize,
 }
 
-impl Limit {
-    /// How many of the points of a stretch of this rank change, which are counted.
+impl Threshold {
+    /// How many of the points of a stretch of this rank change; those of the rank of the threshold are counted off.
     pub(crate) fn changes(&mut self, rank: usize, points: usize) -> usize
         ensures { result ≤ points }
     {
@@ -36,15 +36,15 @@ impl Limit {
     }
 }
 
-/// The limit of each group, and the rank of each stretch of the groups of which any points change, in order. The points that
-/// change are those that are given another name than their group's base.
-pub(crate) fn limits_of(
+/// The threshold of each group, and the rank of each stretch of the groups of which any points change, in order. The points that
+/// change are those that are given another name than the base of their group.
+pub(crate) fn thresholds_of(
     alloc: Global,
     points: &[u32],
     numbers: &[u32],
     bases: &[usize],
     names: usize,
-) -> Result<(Vec<Limit>, Vec<u8>), AllocError>
+) -> Result<(Vec<Threshold>, Vec<u8>), AllocError>
     requires shape { length numbers.now ≡ length bases.now * names }
     requires few { names ≤ 64 }
     requires small { length points.now < 2 ^ 32 }
@@ -53,22 +53,22 @@ pub(crate) fn limits_of(
     requires named { All (λ w. w < names) bases.now }
     ensures many { IfOk result (λ v. length v.0.items ≡ length bases.now) }
 {
-    let mut limits = Vec::with_capacity(alloc, bases.len())?;
+    let mut thresholds = Vec::with_capacity(alloc, bases.len())?;
     for (group, base) in bases.iter().enumerate() {
         let start = group * names;
         let row = &numbers[start..start + names];
-        limits.push(Limit {
+        thresholds.push(Threshold {
             rank: 0,
             more: others(row, *base),
             other: other(row, *base),
         })?;
     }
-    let (sizes, ranks) = ranks_of(alloc, points, numbers, bases, names, limits.as_slice())?;
-    raise(limits.as_mut_slice(), sizes.as_slice());
-    Ok((limits, ranks))
+    let (sizes, ranks) = ranks_of(alloc, points, numbers, bases, names, thresholds.as_slice())?;
+    raise(thresholds.as_mut_slice(), sizes.as_slice());
+    Ok((thresholds, ranks))
 }
 
-/// The sum of the numbers but for this name's.
+/// The sum of the numbers of all names but this one.
 fn others(row: &[u32], base: usize) -> usize
     requires { length row.now ≤ 64 }
 {
@@ -88,26 +88,26 @@ fn ranks_of(
     numbers: &[u32],
     bases: &[usize],
     names: usize,
-    limits: &[Limit],
+    thresholds: &[Threshold],
 ) -> Result<(Vec<u32>, Vec<u8>), AllocError>
     requires shape { length numbers.now ≡ length bases.now * names }
     requires small { length points.now < 2 ^ 32 }
     requires short { length bases.now < 2 ^ 32 }
     requires groups { All (λ g. g < length bases.now) points.now }
     requires named { All (λ w. w < names) bases.now }
-    requires limits { length limits.now ≡ length bases.now }
+    requires thresholds { length thresholds.now ≡ length bases.now }
     ensures many { IfOk result (λ v. length v.0.items ≡ length bases.now * RANKS) }
 {
     let mut sizes = vec![in alloc; 0u32; bases.len() * RANKS]?;
     let mut ranks = Vec::new(alloc);
     let mut start = 0;
     while start < points.len() {
-        if limits[points[start] as usize].has_any() {
+        if thresholds[points[start] as usize].has_any() {
             let before = bases[points[start.saturating_sub(1)] as usize];
             let stretch = Stretch::first(&points[start..], bases, before);
             let group = stretch.group;
             let row = group * names;
-            let rank = stretch.rank(&numbers[row..row + names], limits[group].other);
+            let rank = stretch.rank(&numbers[row..row + names], thresholds[group].other);
             ranks.push(rank as u8)?;
             sizes[group * RANKS + rank] += stretch.points as u32;
             start += stretch.points;
@@ -118,15 +118,18 @@ fn ranks_of(
     Ok((sizes, ranks))
 }
 
-/// Moves each limit up to the rank at which the points that are to change run out.
-fn raise(limits: &mut [Limit], sizes: &[u32])
-    requires { length sizes.now ≡ length limits.old * RANKS }
-    ensures { length limits.new ≡ length limits.old }
+/// Moves each threshold up to the rank at which the points that are to change run out.
+fn raise(thresholds: &mut [Threshold], sizes: &[u32])
+    requires { length sizes.now ≡ length thresholds.old * RANKS }
+    ensures { length thresholds.new ≡ length thresholds.old }
 {
-    for (group, limit) in limits.iter_mut().enumerate() {
-        if limit.has_any() {
+    for (group, threshold) in thresholds.iter_mut().enumerate() {
+        if threshold.has_any() {
             let start = group * RANKS;
-            (limit.rank, limit.more) = reached(&sizes[start..start + RANKS], limit.more);
+            (threshold.rank, threshold.more) = reached(
+                &sizes[start..start + RANKS],
+                threshold.more,
+            );
         }
     }
 }
