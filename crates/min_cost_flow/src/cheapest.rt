@@ -35,8 +35,8 @@ pub struct Passed {
 }
 
 /// The cheapest flow within all limits, or one that shows that there is none. Augmentations and settlings are counted: each of the
-/// two passes makes at most as many augmentations as there are points, and there is at most one search more than augmentations,
-/// which settles each name and the root at most once. A search takes `O(k^2)` steps at k names.
+/// two passes makes at most as many augmentations as there are points. There is at most one search more than augmentations, and
+/// each search settles each name and the root at most once, in `O(k^2)` steps at k names.
 pub fn cheapest_flow<L: Ledger>(
     alloc: Global,
     problem: &FlowProblem,

@@ -13,8 +13,8 @@ use std::sync::ledger::Ledger;
 #[derive(Drop)]
 pub struct Search {
     pub potentials: Vec<i64>,
-    /// The distance of each node from the source by the costs of the arcs, of the shortest path that was found; none where no
-    /// settled node has an arc to it.
+    /// The distance of each node from the source, by the costs of the arcs on the shortest path that was found to it; none where
+    /// it was not reached.
     pub distances: Vec<Option<i64>>,
     /// The predecessor of each settled node on the shortest path to it.
     pub predecessors: Vec<usize>,
