@@ -5,8 +5,8 @@ use Rattle.min_cost_flow.specs.Optimal.{AreResidual}
 use Rattle.min_cost_flow.specs.Problem.{cost_at, may_take, names_of}
 use Rattle.min_cost_flow.specs.declared.problem.FlowProblem.{FlowProblem}
 use Rattle.min_cost_flow.specs.Flow.{cell_at, flows_at, groups_of}
-use Rattle.min_cost_flow.specs.Residual.{ChangesGroup, ChangesLimits, ChangesRow, HasLimits, HasRow}
-use Rattle.min_cost_flow.proofs.ResidualRows.{limits_of, limits_stay, residual_of, row_of, row_stays}
+use Rattle.min_cost_flow.specs.Residual.{ChangesGroup, ChangesRootArcs, ChangesRow, HasRootArcs, HasRow}
+use Rattle.min_cost_flow.proofs.ResidualRows.{root_arcs_of, root_arcs_stay, residual_of, row_of, row_stays}
 use Rattle.shortest_path.specs.Network.{arc_at}
 use Rattle.shortest_path.specs.declared.arc.Arc.{Arc}
 
@@ -19,9 +19,9 @@ module _ (p : FlowProblem) (numbers sums numbers' sums' : List ℕ) (c0 c1 c2 c3
     (leave_others : ChangesRow (names_of p) from c0 c1)
     (arrive_row : (old now : ℕ → ℕ) → old group ≡ cell_at numbers (names_of p) group to → 0 < now group → ChangesGroup group old now → HasRow p old to c1 → HasRow p now to c2)
     (arrive_others : ChangesRow (names_of p) to c1 c2)
-    (from_limits : HasLimits p (get_or sums' from 0) from c3) (from_others : ChangesLimits (names_of p) from c2 c3)
-    (to_limits : HasLimits p (get_or sums' to 0) to c4) (to_others : ChangesLimits (names_of p) to c3 c4) where
-  -- arcs between names are not those of the limits
+    (from_root : HasRootArcs p (get_or sums' from 0) from c3) (from_others : ChangesRootArcs (names_of p) from c2 c3)
+    (to_root : HasRootArcs p (get_or sums' to 0) to c4) (to_others : ChangesRootArcs (names_of p) to c3 c4) where
+  -- arcs between names are not those of the root
   between : (v w : ℕ) → v < names_of p → w < names_of p → arc_at c4 (names_of p + 1) v w ≡ arc_at c2 (names_of p + 1) v w
   between v w v_in w_in =
       to_others v w (omega (arith, v_in)) (omega (arith, w_in)) (λ _ last. absurd (omega (arith, w_in, last))) (λ last _. absurd (omega (arith, v_in, last)))
@@ -32,23 +32,23 @@ module _ (p : FlowProblem) (numbers sums numbers' sums' : List ℕ) (c0 c1 c2 c3
 
   to_row : HasRow p (λ g. cell_at numbers' (names_of p) g to) to c4
   to_row =
-      let first = row_stays (groups_of p) (names_of p) (may_take p.groups.items p.prices.items (names_of p)) (cost_at p.groups.items p.prices.items (names_of p)) to (λ g. cell_at numbers (names_of p) g to) (λ g. cell_at numbers (names_of p) g to)
+      let first = row_stays (groups_of p) (names_of p) (may_take p.groups.items p.costs.items (names_of p)) (cost_at p.groups.items p.costs.items (names_of p)) to (λ g. cell_at numbers (names_of p) g to) (λ g. cell_at numbers (names_of p) g to)
       (arc_at c0 (names_of p + 1) to) (arc_at c1 (names_of p + 1) to) (row_of p numbers sums c0 residual to to_in) (λ g some. some) (λ g some. some)
       (λ w w_in. leave_others to w (omega (arith, to_in)) (omega (arith, w_in)) (λ is _. apart (sym is))) in
-      row_stays (groups_of p) (names_of p) (may_take p.groups.items p.prices.items (names_of p)) (cost_at p.groups.items p.prices.items (names_of p)) to (λ g. cell_at numbers' (names_of p) g to) (λ g. cell_at numbers' (names_of p) g to)
+      row_stays (groups_of p) (names_of p) (may_take p.groups.items p.costs.items (names_of p)) (cost_at p.groups.items p.costs.items (names_of p)) to (λ g. cell_at numbers' (names_of p) g to) (λ g. cell_at numbers' (names_of p) g to)
       (arc_at c2 (names_of p + 1) to) (arc_at c4 (names_of p + 1) to) (arrive_row (λ g. cell_at numbers (names_of p) g to) (λ g. cell_at numbers' (names_of p) g to) refl is_now (changed to to_in) first)
       (λ g some. some) (λ g some. some) (λ w w_in. between to w to_in w_in)
 
   from_row : HasRow p (λ g. cell_at numbers' (names_of p) g from) from c4
   from_row =
-      row_stays (groups_of p) (names_of p) (may_take p.groups.items p.prices.items (names_of p)) (cost_at p.groups.items p.prices.items (names_of p)) from (λ g. cell_at numbers' (names_of p) g from) (λ g. cell_at numbers' (names_of p) g from)
+      row_stays (groups_of p) (names_of p) (may_take p.groups.items p.costs.items (names_of p)) (cost_at p.groups.items p.costs.items (names_of p)) from (λ g. cell_at numbers' (names_of p) g from) (λ g. cell_at numbers' (names_of p) g from)
       (arc_at c1 (names_of p + 1) from) (arc_at c4 (names_of p + 1) from)
       (leave_row (λ g. cell_at numbers (names_of p) g from) was (changed from from_in) (row_of p numbers sums c0 residual from from_in))
       (λ g some. some) (λ g some. some) (λ w w_in. between from w from_in w_in ∙ arrive_others from w (omega (arith, from_in)) (omega (arith, w_in)) (λ is _. apart is))
 
   other_row : (v : ℕ) → v < names_of p → v ≢ from → v ≢ to → HasRow p (λ g. cell_at numbers' (names_of p) g v) v c4
   other_row v v_in not_from not_to =
-      row_stays (groups_of p) (names_of p) (may_take p.groups.items p.prices.items (names_of p)) (cost_at p.groups.items p.prices.items (names_of p)) v (λ g. cell_at numbers (names_of p) g v) (λ g. cell_at numbers' (names_of p) g v)
+      row_stays (groups_of p) (names_of p) (may_take p.groups.items p.costs.items (names_of p)) (cost_at p.groups.items p.costs.items (names_of p)) v (λ g. cell_at numbers (names_of p) g v) (λ g. cell_at numbers' (names_of p) g v)
       (arc_at c0 (names_of p + 1) v) (arc_at c4 (names_of p + 1) v) (row_of p numbers sums c0 residual v v_in)
       (λ g some. omega (arith, some, stays g v v_in (λ _. not_from) (λ _. not_to))) (λ g some. omega (arith, some, stays g v v_in (λ _. not_from) (λ _. not_to)))
       (λ w w_in. between v w v_in w_in ∙ (arrive_others v w (omega (arith, v_in)) (omega (arith, w_in)) (λ is _. not_to is) ∙ leave_others v w (omega (arith, v_in)) (omega (arith, w_in)) (λ is _. not_from is)))
@@ -64,7 +64,7 @@ module _ (p : FlowProblem) (numbers sums numbers' sums' : List ℕ) (c0 c1 c2 c3
       (cases_eq v to))
       (cases_eq v from)
 
-  -- the arcs of other nodes with the limits
+  -- the arcs between other nodes and the root
   far : (v w : ℕ) → v ≤ names_of p → w ≤ names_of p → v ≢ from → v ≢ to → w ≢ from → w ≢ to → arc_at c4 (names_of p + 1) v w ≡ arc_at c0 (names_of p + 1) v w
   far v w v_in w_in not_from not_to w_not_from w_not_to =
       to_others v w v_in w_in (λ is _. not_to is) (λ _ is. w_not_to is)
@@ -76,19 +76,19 @@ module _ (p : FlowProblem) (numbers sums numbers' sums' : List ℕ) (c0 c1 c2 c3
   not_last : (v : ℕ) → v < names_of p → v ≢ names_of p
   not_last v v_in is = omega (arith, v_in, is)
 
-  limits : (v : ℕ) → v < names_of p → HasLimits p (get_or sums' v 0) v c4
-  limits v v_in =
+  root : (v : ℕ) → v < names_of p → HasRootArcs p (get_or sums' v 0) v c4
+  root v v_in =
       ⊎_elim
-      (λ (is : v ≡ to). subst (λ x. HasLimits p (get_or sums' x 0) x c4) (sym is) to_limits)
+      (λ (is : v ≡ to). subst (λ x. HasRootArcs p (get_or sums' x 0) x c4) (sym is) to_root)
       (λ (not_to : v ≡ to → ⊥).
       ⊎_elim
       (λ (is : v ≡ from).
-      subst (λ x. HasLimits p (get_or sums' x 0) x c4) (sym is)
-      (limits_stay p (get_or sums' from 0) (get_or sums' from 0) from c3 c4 from_limits refl
+      subst (λ x. HasRootArcs p (get_or sums' x 0) x c4) (sym is)
+      (root_arcs_stay p (get_or sums' from 0) (get_or sums' from 0) from c3 c4 from_root refl
       (to_others from (names_of p) (omega (arith, from_in)) (omega arith) (λ i _. apart i) (λ i _. absurd (not_last from from_in i)))
       (to_others (names_of p) from (omega arith) (omega (arith, from_in)) (λ i _. absurd (last_not to to_in i)) (λ _ i. apart i))))
       (λ (not_from : v ≡ from → ⊥).
-      limits_stay p (get_or sums v 0) (get_or sums' v 0) v c0 c4 (limits_of p numbers sums c0 residual v v_in) (sum_others v not_from not_to)
+      root_arcs_stay p (get_or sums v 0) (get_or sums' v 0) v c0 c4 (root_arcs_of p numbers sums c0 residual v v_in) (sum_others v not_from not_to)
       (far v (names_of p) (omega (arith, v_in)) (omega arith) not_from not_to (last_not from from_in) (last_not to to_in))
       (far (names_of p) v (omega arith) (omega (arith, v_in)) (last_not from from_in) (last_not to to_in) not_from not_to))
       (cases_eq v from))
@@ -96,5 +96,5 @@ module _ (p : FlowProblem) (numbers sums numbers' sums' : List ℕ) (c0 c1 c2 c3
 
   pub residual_after : AreResidual (flows_at p numbers' sums') (arc_at c4 (names_of p + 1))
   residual_after =
-      residual_of p numbers' sums' c4 rows limits
+      residual_of p numbers' sums' c4 rows root
       (far (names_of p) (names_of p) (omega arith) (omega arith) (last_not from from_in) (last_not to to_in) (last_not from from_in) (last_not to to_in) ∙ residual.none)

@@ -1,35 +1,35 @@
 -- What an arc of a flow costs at the most.
-use Rattle.std.proofs.Common.{◌≡◌, ℕ, ◌+◌, ◌*◌, ◌<◌, ◌≤◌, ⊎_elim, ℤ, pos, negsuc, neg_ℤ, ◌*ℤ◌, ◌≤ℤ◌, true, List, Option, Some, None, sym, ap, ◌∙◌, arith}
+use Rattle.std.proofs.Common.{◌≡◌, ℕ, ◌+◌, ◌*◌, ◌<◌, ◌≤◌, ⊎_elim, ℤ, pos, negsuc, neg_ℤ, ◌*ℤ◌, ◌≤ℤ◌, true, List, Option, Some, sym, ap, ◌∙◌, arith}
 use Rattle.std.proofs.Math.Nat.{mul-le-mul}
 use Rattle.std.proofs.lemmas.Bool.{cases_lt}
 use Rattle.std.proofs.lemmas.Int.{ints}
-use Rattle.min_cost_flow.specs.Offered.{IsPrice}
-use Rattle.min_cost_flow.specs.Problem.{IsFlowProblem, cost_at, group_at, max_count, may_take, names_of, or_free, price_at}
+use Rattle.min_cost_flow.specs.Offered.{IsSwitchCost}
+use Rattle.min_cost_flow.specs.Problem.{IsFlowProblem, cost_at, group_at, max_count, may_take, names_of, cost_or_zero, switch_cost_at}
 use Rattle.min_cost_flow.specs.declared.problem.FlowProblem.{FlowProblem}
 use Rattle.min_cost_flow.proofs.Cells.{cell_in}
 use Rattle.min_cost_flow.proofs.Entering.{there_is}
 use Rattle.min_cost_flow.specs.Flow.{IsFlowAt, groups_of}
-use Rattle.shortest_path.specs.Network.{IsWithin, arc_at, max_cost}
+use Rattle.shortest_path.specs.Network.{HasCostsWithin, arc_at, max_cost}
 use Rattle.shortest_path.specs.declared.arc.Arc.{Arc}
 use Rattle.min_cost_flow.proofs.OptimalLaws.{none_there}
 
 -- what a name costs a point
-charge_small : (c : ℕ) (o : Option ℤ) (z : ℤ) → c ≤ max_count → o ≡ Some z → IsPrice z → (pos 0 ≤ℤ (pos c *ℤ or_free o)) × ((pos c *ℤ or_free o) ≤ℤ pos max_cost)
-charge_small c o (pos n) few is price =
-    let low : n ≤ 1000000 = omega (arith, ints, price.high) in
+charge_small : (c : ℕ) (o : Option ℤ) (z : ℤ) → c ≤ max_count → o ≡ Some z → IsSwitchCost z → (pos 0 ≤ℤ (pos c *ℤ cost_or_zero o)) × ((pos c *ℤ cost_or_zero o) ≤ℤ pos max_cost)
+charge_small c o (pos n) few is switch_cost =
+    let low : n ≤ 1000000 = omega (arith, ints, switch_cost.high) in
     let small : c * n ≤ max_count * 1000000 = mul-le-mul few low in
-    let value : (pos c *ℤ or_free o) ≡ pos (c * n) = ap (λ x. pos c *ℤ or_free x) is in
+    let value : (pos c *ℤ cost_or_zero o) ≡ pos (c * n) = ap (λ x. pos c *ℤ cost_or_zero x) is in
     (omega (arith, ints, value), omega (arith, ints, value, small))
-charge_small c o (negsuc n) few is price = absurd (omega (arith, ints, price.low))
+charge_small c o (negsuc n) few is switch_cost = absurd (omega (arith, ints, switch_cost.low))
 
 module _ (p : FlowProblem) (ok : IsFlowProblem p) (numbers sums : List ℕ) (cells : List (Option Arc)) (flow : IsFlowAt p numbers sums cells) where
-  charge_in : (g w : ℕ) → g < groups_of p → w < names_of p → may_take p.groups.items p.prices.items (names_of p) g w ≡ true
-      → (pos 0 ≤ℤ cost_at p.groups.items p.prices.items (names_of p) g w) × (cost_at p.groups.items p.prices.items (names_of p) g w ≤ℤ pos max_cost)
+  charge_in : (g w : ℕ) → g < groups_of p → w < names_of p → may_take p.groups.items p.costs.items (names_of p) g w ≡ true
+      → (pos 0 ≤ℤ cost_at p.groups.items p.costs.items (names_of p) g w) × (cost_at p.groups.items p.costs.items (names_of p) g w ≤ℤ pos max_cost)
   charge_in g w g_in w_in allowed =
       let variant = (group_at p.groups.items g).variant in
-      let z = there_is (price_at p.prices.items (names_of p) variant w) allowed in
-      charge_small (group_at p.groups.items g).count (price_at p.prices.items (names_of p) variant w) z.0 (ok.groups.count g g_in) z.1
-      (ok.prices.each (variant * names_of p + w) z.0 (cell_in (names_of p) (names_of p) variant w (ok.groups.variant g g_in) w_in) z.1)
+      let z = there_is (switch_cost_at p.costs.items (names_of p) variant w) allowed in
+      charge_small (group_at p.groups.items g).count (switch_cost_at p.costs.items (names_of p) variant w) z.0 (ok.groups.count g g_in) z.1
+      (ok.costs.each (variant * names_of p + w) z.0 (cell_in (names_of p) (names_of p) variant w (ok.groups.variant g g_in) w_in) z.1)
 
   between_cheap : (v w : ℕ) (a : Arc) → v < names_of p → w < names_of p → arc_at cells (names_of p + 1) v w ≡ Some a → (neg_ℤ (pos max_cost) ≤ℤ a.cost) × (a.cost ≤ℤ pos max_cost)
   between_cheap v w a v_in w_in is =
@@ -64,5 +64,5 @@ module _ (p : FlowProblem) (ok : IsFlowProblem p) (numbers sums : List ℕ) (cel
       (cases_lt w (names_of p)))
       (cases_lt v (names_of p))
 
-  pub cheap_arcs : IsWithin (names_of p + 1) (arc_at cells (names_of p + 1)) max_cost
+  pub cheap_arcs : HasCostsWithin (names_of p + 1) (arc_at cells (names_of p + 1)) max_cost
   cheap_arcs = record { low = λ v w a v_in w_in is. (cheap v w a v_in w_in is).0; high = λ v w a v_in w_in is. (cheap v w a v_in w_in is).1 }

@@ -16,9 +16,9 @@ use Rattle.shortest_path.specs.Network.{IsShort, arc_at, max_cost}
 use Rattle.shortest_path.specs.Searched.{IsTight}
 use Rattle.shortest_path.specs.declared.arc.Arc.{Arc}
 use Rattle.shortest_path.specs.declared.search.Search.{Search}
-use Rattle.min_cost_flow.specs.Placing.{IsMidway, IsStuckAbove, IsWay, StayPlaced, WantsLimits, reach}
+use Rattle.min_cost_flow.specs.Placing.{IsInFirstPass, IsStuckAbove, IsPathToRoom, StayPlaced, WantsRoot, reach}
 
--- the bounds of potentials after a search whose node is the limits
+-- the bounds of potentials after a search whose node is the root
 pub near_after : (n : ℕ) (arc : ℕ → ℕ → Option Arc) (wanted : List Bool) (source : ℕ) (pot pot' : ℕ → ℤ) (predecessor rank : ℕ → ℕ) (k : ℕ) → n ≤ 65 → HasFound n arc wanted source pot pot' predecessor rank k → pot k ≡ pos 0
     → ((v : ℕ) → v < n → neg_ℤ (pos reach) ≤ℤ pot v) → ((v : ℕ) → v < n → pot v ≤ℤ pos 0) → (v : ℕ) → v < n → (neg_ℤ (pos reach) ≤ℤ pot' v) × (pot' v ≤ℤ pos 0)
 near_after n arc wanted source pot pot' predecessor rank k few found zero low high v v_in =
@@ -28,7 +28,7 @@ near_after n arc wanted source pot pot' predecessor rank k few found zero low hi
     (λ (not : n ≤ rank v). (omega (arith, ints, found.kept v v_in not, low v v_in), omega (arith, ints, found.kept v v_in not, high v v_in)))
     (cases_lt (rank v) n)
 
--- points that came to a name with room, where the limits cost as much, and left one that is still not below its limit
+-- points that came to a name with room, where the root has the same potential, and left one that is still not below its limit
 pub optimal_after : (p : FlowProblem) (ok : IsFlowProblem p) (old new : Flow) (potential : ℕ → ℤ) (rank : ℕ → ℕ) (source last : ℕ) → IsOptimal (flows_of p old) potential → AreLeast (flows_of p new) potential
     → IsAugmented p old new potential rank p.high.items source last → potential last ≡ potential (names_of p) → IsOptimal (flows_of p new) potential
 optimal_after p ok old new potential rank source last optimal least aug level = record {
@@ -67,7 +67,7 @@ placed_after p old new potential rank source last aug v within =
 
 module _ (p : FlowProblem) (f : Flow) (flow : IsFlow p f) (wanted : List Bool) (source : ℕ) (pot pot' : ℕ → ℤ) (rank : ℕ → ℕ) (wants : slice_get wanted (names_of p) ≡ Some true)
     (stuck : IsStuck (names_of p + 1) (arc_at f.arcs.items (names_of p + 1)) wanted source pot pot' rank) where
-  -- a settled name has no room, since the limits would be settled
+  -- a settled name has no room, since the root would be settled
   pub stuck_full : (v : ℕ) → v < names_of p → rank v < names_of p + 1 → get_or p.high.items v 0 ≤ total_at f v
   stuck_full v v_in settled =
       ⊎_elim
@@ -77,101 +77,101 @@ module _ (p : FlowProblem) (f : Flow) (flow : IsFlow p f) (wanted : List Bool) (
       (λ (full : get_or p.high.items v 0 ≤ total_at f v). full)
       (cases_lt (total_at f v) (get_or p.high.items v 0))
 
-  pub stuck_closed : (g v w : ℕ) → g < groups_of p → v < names_of p → w < names_of p → 0 < placed_at p f g v → rank v < names_of p + 1 → may_take p.groups.items p.prices.items (names_of p) g w ≡ true → rank w < names_of p + 1
+  pub stuck_closed : (g v w : ℕ) → g < groups_of p → v < names_of p → w < names_of p → 0 < placed_at p f g v → rank v < names_of p + 1 → may_take p.groups.items p.costs.items (names_of p) g w ≡ true → rank w < names_of p + 1
   stuck_closed g v w g_in v_in w_in some settled may =
       let a = flow.tables.residual.least g v w g_in v_in w_in some may in
       stuck.closed v w a.0 (omega (arith, v_in)) (omega (arith, w_in)) settled a.1
 
--- what is known when the limits are found
+-- what is known when the root is found
 module _ (p : FlowProblem) (f : Flow) (flow : IsFlow p f) (wanted : List Bool) (source : ℕ) (source_in : source < names_of p) (pot pot' : ℕ → ℤ) (predecessor rank : ℕ → ℕ)
     (found : HasFound (names_of p + 1) (arc_at f.arcs.items (names_of p + 1)) wanted source pot pot' predecessor rank (names_of p)) where
-  tight_limits : IsTight (names_of p + 1) (arc_at f.arcs.items (names_of p + 1)) pot' predecessor rank (names_of p)
-  tight_limits =
+  tight_root : IsTight (names_of p + 1) (arc_at f.arcs.items (names_of p + 1)) pot' predecessor rank (names_of p)
+  tight_root =
       ⊎_elim
       (λ (is : names_of p ≡ source). absurd (omega (arith, is, source_in)))
       (λ (t : IsTight (names_of p + 1) (arc_at f.arcs.items (names_of p + 1)) pot' predecessor rank (names_of p)). t)
       (found.tight (names_of p) (omega arith) (inr refl))
 
-  -- the node before the limits is a settled name
+  -- the node before the root is a settled name
   pub last_in : predecessor (names_of p) < names_of p
   last_in =
-      let t = tight_limits in
+      let t = tight_root in
       ⊎_elim
       (λ (is : predecessor (names_of p) ≡ names_of p). absurd (omega (arith, t.before, ap rank is)))
       (λ (not : predecessor (names_of p) ≡ names_of p → ⊥). omega (arith, t.within, not))
       (cases_eq (predecessor (names_of p)) (names_of p))
 
   pub last_settled : rank (predecessor (names_of p)) < names_of p + 1
-  last_settled = tight_limits.settled
+  last_settled = tight_root.settled
 
-  last_room : (total_at f (predecessor (names_of p)) < get_or p.high.items (predecessor (names_of p)) 0) × (tight_limits.along.cost ≡ pos 0)
-  last_room = flow.tables.residual.room (predecessor (names_of p)) tight_limits.along last_in tight_limits.there
+  last_room : (total_at f (predecessor (names_of p)) < get_or p.high.items (predecessor (names_of p)) 0) × (tight_root.along.cost ≡ pos 0)
+  last_room = flow.tables.residual.room (predecessor (names_of p)) tight_root.along last_in tight_root.there
 
   pub last_below : total_at f (predecessor (names_of p)) < get_or p.high.items (predecessor (names_of p)) 0
   last_below = last_room.0
 
   pub last_level : pot' (predecessor (names_of p)) ≡ pot' (names_of p)
-  last_level = omega (arith, ints, tight_limits.zero, last_room.1)
+  last_level = omega (arith, ints, tight_root.zero, last_room.1)
 
-  pub limits_unsettled : rank (names_of p) < names_of p + 1 → ⊥
-  limits_unsettled settled = omega (arith, settled, found.unsettled)
+  pub root_unsettled : rank (names_of p) < names_of p + 1 → ⊥
+  root_unsettled settled = omega (arith, settled, found.unsettled)
 
--- the potentials of a search that found the limits are those of a flow midway
-pub way_of : (p : FlowProblem) (ok : IsFlowProblem p) (f : Flow) (s s' : Search) (wanted : List Bool) (source last : ℕ) → IsMidway p f s → source < names_of p → HasSize (names_of p + 1) s'
-    → HasFound (names_of p + 1) (arc_at f.arcs.items (names_of p + 1)) wanted source (potential_of s) (potential_of s') (predecessor_of s') (rank_of s') (names_of p) → last ≡ predecessor_of s' (names_of p) → IsWay p f s' source last
-way_of p ok f s s' wanted source last midway source_in size found last_is =
+-- the potentials of a search that found the root are those of a flow in the first pass
+pub path_of : (p : FlowProblem) (ok : IsFlowProblem p) (f : Flow) (s s' : Search) (wanted : List Bool) (source last : ℕ) → IsInFirstPass p f s → source < names_of p → HasSize (names_of p + 1) s'
+    → HasFound (names_of p + 1) (arc_at f.arcs.items (names_of p + 1)) wanted source (potential_of s) (potential_of s') (predecessor_of s') (rank_of s') (names_of p) → last ≡ predecessor_of s' (names_of p) → IsPathToRoom p f s' source last
+path_of p ok f s s' wanted source last first_pass source_in size found last_is =
     let n : ℕ = names_of p + 1 in
     let few : n ≤ 65 = omega (arith, ok.names) in
-    let near = near_after n (arc_at f.arcs.items n) wanted source (potential_of s) (potential_of s') (predecessor_of s') (rank_of s') (names_of p) few found midway.limits midway.low midway.high in
+    let near = near_after n (arc_at f.arcs.items n) wanted source (potential_of s) (potential_of s') (predecessor_of s') (rank_of s') (names_of p) few found first_pass.root first_pass.low first_pass.high in
     record {
-      midway = record {
-        flow = midway.flow;
-        optimal = optimal_from_reduced (flows_of p f) (arc_at f.arcs.items n) (potential_of s') midway.flow.tables.residual found.reduced;
+      first_pass = record {
+        flow = first_pass.flow;
+        optimal = optimal_from_reduced (flows_of p f) (arc_at f.arcs.items n) (potential_of s') first_pass.flow.tables.residual found.reduced;
         size = size;
-        limits = found.kept (names_of p) (omega arith) found.unsettled ∙ midway.limits;
+        root = found.kept (names_of p) (omega arith) found.unsettled ∙ first_pass.root;
         low = λ v v_in. (near v v_in).0;
         high = λ v v_in. (near v v_in).1;
       };
-      within = omega (arith, last_is, last_in p f midway.flow wanted source source_in (potential_of s) (potential_of s') (predecessor_of s') (rank_of s') found);
-      room = subst (λ v. total_at f v < get_or p.high.items v 0) (sym last_is) (last_below p f midway.flow wanted source source_in (potential_of s) (potential_of s') (predecessor_of s') (rank_of s') found);
-      level = ap (potential_of s') last_is ∙ last_level p f midway.flow wanted source source_in (potential_of s) (potential_of s') (predecessor_of s') (rank_of s') found;
-      unsettled = λ settled. limits_unsettled p f midway.flow wanted source source_in (potential_of s) (potential_of s') (predecessor_of s') (rank_of s') found settled;
+      within = omega (arith, last_is, last_in p f first_pass.flow wanted source source_in (potential_of s) (potential_of s') (predecessor_of s') (rank_of s') found);
+      room = subst (λ v. total_at f v < get_or p.high.items v 0) (sym last_is) (last_below p f first_pass.flow wanted source source_in (potential_of s) (potential_of s') (predecessor_of s') (rank_of s') found);
+      level = ap (potential_of s') last_is ∙ last_level p f first_pass.flow wanted source source_in (potential_of s) (potential_of s') (predecessor_of s') (rank_of s') found;
+      unsettled = λ settled. root_unsettled p f first_pass.flow wanted source source_in (potential_of s) (potential_of s') (predecessor_of s') (rank_of s') found settled;
       traced = λ v v_in on.
           ⊎_elim
           (λ (settled : rank_of s' v < n). found.tight v v_in (inl settled))
-          (λ (is : v ≡ last). found.tight v v_in (inl (omega (arith, ap (rank_of s') (is ∙ last_is), last_settled p f midway.flow wanted source source_in (potential_of s) (potential_of s') (predecessor_of s') (rank_of s') found))))
+          (λ (is : v ≡ last). found.tight v v_in (inl (omega (arith, ap (rank_of s') (is ∙ last_is), last_settled p f first_pass.flow wanted source source_in (potential_of s) (potential_of s') (predecessor_of s') (rank_of s') found))))
           on;
     }
 
-pub stuck_of : (p : FlowProblem) (f : Flow) (s s' : Search) (wanted : List Bool) (source : ℕ) → IsMidway p f s → WantsLimits p wanted → source < names_of p → get_or p.high.items source 0 < total_at f source → HasSize (names_of p + 1) s'
+pub stuck_of : (p : FlowProblem) (f : Flow) (s s' : Search) (wanted : List Bool) (source : ℕ) → IsInFirstPass p f s → WantsRoot p wanted → source < names_of p → get_or p.high.items source 0 < total_at f source → HasSize (names_of p + 1) s'
     → IsStuck (names_of p + 1) (arc_at f.arcs.items (names_of p + 1)) wanted source (potential_of s) (potential_of s') (rank_of s') → IsStuckAbove p f s'
-stuck_of p f s s' wanted source midway wants source_in over size stuck = record {
+stuck_of p f s s' wanted source first_pass wants source_in over size stuck = record {
   size = size;
   above = source;
   within = source_in;
   settled = stuck.source_in;
   over = over;
-  full = stuck_full p f midway.flow wanted source (potential_of s) (potential_of s') (rank_of s') wants.limits stuck;
-  closed = stuck_closed p f midway.flow wanted source (potential_of s) (potential_of s') (rank_of s') wants.limits stuck;
+  full = stuck_full p f first_pass.flow wanted source (potential_of s) (potential_of s') (rank_of s') wants.root stuck;
+  closed = stuck_closed p f first_pass.flow wanted source (potential_of s) (potential_of s') (rank_of s') wants.root stuck;
 }
 
--- the flow after an augmentation is midway
-pub filled : (p : FlowProblem) (ok : IsFlowProblem p) (old new : Flow) (s : Search) (source last : ℕ) → IsWay p old s source last → IsFlow p new → AreLeast (flows_of p new) (potential_of s)
-    → IsAugmented p old new (potential_of s) (rank_of s) p.high.items source last → IsMidway p new s
-filled p ok old new s source last way flow least aug = record {
+-- the flow is in the first pass after an augmentation
+pub filled : (p : FlowProblem) (ok : IsFlowProblem p) (old new : Flow) (s : Search) (source last : ℕ) → IsPathToRoom p old s source last → IsFlow p new → AreLeast (flows_of p new) (potential_of s)
+    → IsAugmented p old new (potential_of s) (rank_of s) p.high.items source last → IsInFirstPass p new s
+filled p ok old new s source last path flow least aug = record {
   flow = flow;
-  optimal = optimal_after p ok old new (potential_of s) (rank_of s) source last way.midway.optimal least aug way.level;
-  size = way.midway.size;
-  limits = way.midway.limits;
-  low = way.midway.low;
-  high = way.midway.high;
+  optimal = optimal_after p ok old new (potential_of s) (rank_of s) source last path.first_pass.optimal least aug path.level;
+  size = path.first_pass.size;
+  root = path.first_pass.root;
+  low = path.first_pass.low;
+  high = path.first_pass.high;
 }
 
-pub fewer_after : (p : FlowProblem) (old new : Flow) (s : Search) (source last : ℕ) → IsWay p old s source last → IsAugmented p old new (potential_of s) (rank_of s) p.high.items source last → total_at new source < total_at old source
-fewer_after p old new s source last way aug =
+pub fewer_after : (p : FlowProblem) (old new : Flow) (s : Search) (source last : ℕ) → IsPathToRoom p old s source last → IsAugmented p old new (potential_of s) (rank_of s) p.high.items source last → total_at new source < total_at old source
+fewer_after p old new s source last path aug =
     ⊎_elim
     (λ (is : aug.first ≡ source). omega (arith, aug.left, aug.some, ap (total_at new) is, ap (total_at old) is))
-    (λ (settled : rank_of s (names_of p) < names_of p + 1). absurd (way.unsettled settled))
+    (λ (settled : rank_of s (names_of p) < names_of p + 1). absurd (path.unsettled settled))
     aug.settled
 
 -- a potential is short
@@ -180,8 +180,5 @@ short_potential z low high = record { low = omega (arith, ints, low); high = ome
 
 -- what holds before each turn
 pub record Emptying (p : FlowProblem) (start f : Flow) (s : Search) : Type 0 where
-  pub midway : IsMidway p f s
+  pub first_pass : IsInFirstPass p f s
   pub placed : StayPlaced p start f
-
-pub emptying_more : (p : FlowProblem) (start old new : Flow) (s s' : Search) → Emptying p start old s → IsMidway p new s' → StayPlaced p old new → Emptying p start new s'
-emptying_more p start old new s s' before midway placed = record { midway = midway; placed = λ v within. placed v (before.placed v within) }

@@ -3,15 +3,15 @@ use Rattle.std.proofs.Common.{◌≡◌, ℕ, zero, suc, ◌+◌, ◌*◌, ◌<�
 use Rattle.std.proofs.lemmas.Bool.{cases_eq}
 use Rattle.std.proofs.lemmas.Int.{ints}
 use Rattle.min_cost_flow.specs.Optimal.{IsOptimal}
-use Rattle.min_cost_flow.specs.Offered.{IsPrice}
-use Rattle.min_cost_flow.specs.Problem.{IsFlowProblem, group_at, is_there, may_take, names_of, or_free, price_at, sum_to}
+use Rattle.min_cost_flow.specs.Offered.{IsSwitchCost}
+use Rattle.min_cost_flow.specs.Problem.{IsFlowProblem, group_at, is_allowed, may_take, names_of, cost_or_zero, switch_cost_at, sum_to}
 use Rattle.min_cost_flow.specs.declared.problem.FlowProblem.{FlowProblem}
 use Rattle.min_cost_flow.proofs.Cells.{cell_in}
 use Rattle.min_cost_flow.proofs.Entering.{there_is}
 use Rattle.min_cost_flow.specs.Spans.{AreSpans, IsIn, span_at}
 use Rattle.min_cost_flow.specs.declared.span.Span.{Span}
 use Rattle.min_cost_flow.specs.Flow.{IsFlowAt, cell_at, flows_at, groups_of}
-use Rattle.min_cost_flow.specs.Residual.{HasArcs, HasLimits, HasRow}
+use Rattle.min_cost_flow.specs.Residual.{HasArcs, HasRootArcs, HasRow}
 use Rattle.min_cost_flow.specs.Initial.{at_home}
 use Rattle.min_cost_flow.proofs.Homes.{home_away, home_here}
 use Rattle.min_cost_flow.proofs.ResidualRows.{residual_of}
@@ -27,37 +27,37 @@ sum_nothing (suc n) = omega (arith, sum_nothing n)
 sum_single : (n : ℕ) (f : ℕ → ℕ) (j : ℕ) → j < n → ((i : ℕ) → i < n → (i ≡ j → ⊥) → f i ≡ 0) → sum_to n f ≡ f j
 sum_single n f j j_in rest = omega (arith, sum_one n (λ _. 0) f j j_in rest, sum_nothing n)
 
-free_cost : (c : ℕ) (o : Option ℤ) → o ≡ Some (pos 0) → (pos c *ℤ or_free o) ≡ pos 0
-free_cost c o is = ap (λ x. pos c *ℤ or_free x) is ∙ none c
+free_cost : (c : ℕ) (o : Option ℤ) → o ≡ Some (pos 0) → (pos c *ℤ cost_or_zero o) ≡ pos 0
+free_cost c o is = ap (λ x. pos c *ℤ cost_or_zero x) is ∙ none c
   where
     none : (c : ℕ) → (pos c *ℤ pos 0) ≡ pos 0
     none c = omega (arith, ints)
 
-some_cost : (c : ℕ) (o : Option ℤ) (z : ℤ) → o ≡ Some z → IsPrice z → pos 0 ≤ℤ (pos c *ℤ or_free o)
-some_cost c o (pos n) is price = omega (arith, ints, ap (λ x. pos c *ℤ or_free x) is)
-some_cost c o (negsuc n) is price = absurd (omega (arith, ints, price.low))
+some_cost : (c : ℕ) (o : Option ℤ) (z : ℤ) → o ≡ Some z → IsSwitchCost z → pos 0 ≤ℤ (pos c *ℤ cost_or_zero o)
+some_cost c o (pos n) is switch_cost = omega (arith, ints, ap (λ x. pos c *ℤ cost_or_zero x) is)
+some_cost c o (negsuc n) is switch_cost = absurd (omega (arith, ints, switch_cost.low))
 
 module _ (p : FlowProblem) (ok : IsFlowProblem p) (numbers sums : List ℕ) (homes : (g v : ℕ) → g < groups_of p → v < names_of p → cell_at numbers (names_of p) g v ≡ at_home p.groups.items g v) where
   pub at_variant : (g v : ℕ) → g < groups_of p → v < names_of p → 0 < cell_at numbers (names_of p) g v → v ≡ (group_at p.groups.items g).variant
   at_variant g v g_in v_in some =
       ⊎_elim (λ (is : v ≡ (group_at p.groups.items g).variant). is) (λ (not : v ≡ (group_at p.groups.items g).variant → ⊥). absurd (omega (arith, some, homes g v g_in v_in, home_away p.groups.items g v not))) (cases_eq v (group_at p.groups.items g).variant)
 
-  stays_free : (g v : ℕ) → g < groups_of p → v ≡ (group_at p.groups.items g).variant → price_at p.prices.items (names_of p) (group_at p.groups.items g).variant v ≡ Some (pos 0)
-  stays_free g v g_in is = ap (price_at p.prices.items (names_of p) (group_at p.groups.items g).variant) is ∙ ok.groups.stay g g_in
+  stays_free : (g v : ℕ) → g < groups_of p → v ≡ (group_at p.groups.items g).variant → switch_cost_at p.costs.items (names_of p) (group_at p.groups.items g).variant v ≡ Some (pos 0)
+  stays_free g v g_in is = ap (switch_cost_at p.costs.items (names_of p) (group_at p.groups.items g).variant) is ∙ ok.groups.stay g g_in
 
-  pub stays_may : (g v : ℕ) → g < groups_of p → v < names_of p → 0 < cell_at numbers (names_of p) g v → may_take p.groups.items p.prices.items (names_of p) g v ≡ true
-  stays_may g v g_in v_in some = ap is_there (stays_free g v g_in (at_variant g v g_in v_in some))
+  pub stays_may : (g v : ℕ) → g < groups_of p → v < names_of p → 0 < cell_at numbers (names_of p) g v → may_take p.groups.items p.costs.items (names_of p) g v ≡ true
+  stays_may g v g_in v_in some = ap is_allowed (stays_free g v g_in (at_variant g v g_in v_in some))
 
   pub stays_optimal : IsOptimal (flows_at p numbers sums) (λ _. pos 0)
   stays_optimal = record {
     least = λ g v w g_in v_in w_in some allowed.
-        let z = there_is (price_at p.prices.items (names_of p) (group_at p.groups.items g).variant w) allowed in
-        let price : IsPrice z.0 = ok.prices.each ((group_at p.groups.items g).variant * names_of p + w) z.0 (cell_in (names_of p) (names_of p) (group_at p.groups.items g).variant w (ok.groups.variant g g_in) w_in) z.1 in
+        let z = there_is (switch_cost_at p.costs.items (names_of p) (group_at p.groups.items g).variant w) allowed in
+        let switch_cost : IsSwitchCost z.0 = ok.costs.each ((group_at p.groups.items g).variant * names_of p + w) z.0 (cell_in (names_of p) (names_of p) (group_at p.groups.items g).variant w (ok.groups.variant g g_in) w_in) z.1 in
         omega (
           arith,
           ints,
-          free_cost (group_at p.groups.items g).count (price_at p.prices.items (names_of p) (group_at p.groups.items g).variant v) (stays_free g v g_in (at_variant g v g_in v_in some)),
-          some_cost (group_at p.groups.items g).count (price_at p.prices.items (names_of p) (group_at p.groups.items g).variant w) z.0 z.1 price,
+          free_cost (group_at p.groups.items g).count (switch_cost_at p.costs.items (names_of p) (group_at p.groups.items g).variant v) (stays_free g v g_in (at_variant g v g_in v_in some)),
+          some_cost (group_at p.groups.items g).count (switch_cost_at p.costs.items (names_of p) (group_at p.groups.items g).variant w) z.0 z.1 switch_cost,
         );
     room = λ v v_in less. omega (arith, ints);
     spare = λ v v_in less. omega (arith, ints);
@@ -65,9 +65,9 @@ module _ (p : FlowProblem) (ok : IsFlowProblem p) (numbers sums : List ℕ) (hom
 
   pub stays_flow : (cells : List (Option Arc)) → length numbers ≡ groups_of p * names_of p → length sums ≡ names_of p → HasArcs (names_of p) cells
       → ((v : ℕ) → v < names_of p → get_or sums v 0 ≡ sum_to (groups_of p) (λ g. at_home p.groups.items g v))
-      → ((v : ℕ) → v < names_of p → HasRow p (λ g. cell_at numbers (names_of p) g v) v cells) → ((v : ℕ) → v < names_of p → HasLimits p (get_or sums v 0) v cells)
+      → ((v : ℕ) → v < names_of p → HasRow p (λ g. cell_at numbers (names_of p) g v) v cells) → ((v : ℕ) → v < names_of p → HasRootArcs p (get_or sums v 0) v cells)
       → arc_at cells (names_of p + 1) (names_of p) (names_of p) ≡ None → IsFlowAt p numbers sums cells
-  stays_flow cells placed totals size sum_is rows limits none = record {
+  stays_flow cells placed totals size sum_is rows root none = record {
     placed = placed;
     totals = totals;
     arcs = size;
@@ -77,7 +77,7 @@ module _ (p : FlowProblem) (ok : IsFlowProblem p) (numbers sums : List ℕ) (hom
         sum_single (names_of p) (cell_at numbers (names_of p) g) variant v_in (λ v x_in not. homes g v g_in x_in ∙ home_away p.groups.items g v not) ∙ (homes g variant g_in v_in ∙ home_here p.groups.items g variant refl);
     columns = λ v v_in. sum_is v v_in ∙ sum_same (groups_of p) (λ g. at_home p.groups.items g v) (λ g. cell_at numbers (names_of p) g v) (λ g g_in. sym (homes g v g_in v_in));
     free = stays_may;
-    residual = residual_of p numbers sums cells rows limits none;
+    residual = residual_of p numbers sums cells rows root none;
   }
 
   pub stays_spans : (spans : List Span) → length spans ≡ names_of p * names_of p → ((v a : ℕ) → v < names_of p → a < names_of p → (span_at spans (names_of p) v a).end ≤ groups_of p)

@@ -8,7 +8,7 @@ use Rattle.min_cost_flow.proofs.OptimalLaws.{least_after}
 use Rattle.min_cost_flow.specs.declared.problem.FlowProblem.{FlowProblem}
 use Rattle.min_cost_flow.specs.Flow.{IsFlow, IsPushed, flows_of, placed_at, total_at}
 use Rattle.min_cost_flow.specs.declared.flow.Flow.{Flow}
-use Rattle.min_cost_flow.specs.Paths.{IsStep, Leads, IsEven}
+use Rattle.min_cost_flow.specs.Paths.{IsStep, Leads, HasZeroReducedCost}
 use Rattle.min_cost_flow.specs.declared.augmenting.Step.{Step}
 
 pub any_default : (xs : List Step) (i : ℕ) (d e : Step) → i < length xs → get_or xs i d ≡ get_or xs i e
@@ -48,14 +48,14 @@ pub record Reaches (old new : Flow) (points first last : ℕ) (steps : List Step
 pub record Moves (p : FlowProblem) (old new : Flow) (points : ℕ) (steps : List Step) (i : ℕ) : Type 0 where
   pub flow : IsFlow p new
   pub wide : (j : ℕ) (d : Step) → i ≤ j → j < length steps → points ≤ placed_at p new (get_or steps j d).group (get_or steps j d).from
-  pub least : (potential : ℕ → ℤ) → All (IsEven p potential) steps → AreLeast (flows_of p old) potential → AreLeast (flows_of p new) potential
+  pub least : (potential : ℕ → ℤ) → All (HasZeroReducedCost p potential) steps → AreLeast (flows_of p old) potential → AreLeast (flows_of p new) potential
   pub reaches : (first last : ℕ) → Leads first last steps → Reaches old new points first last (drop i steps)
 
 pub moves_none : (p : FlowProblem) (flow : Flow) (points : ℕ) (steps : List Step) → IsFlow p flow → All (λ (s : Step). points ≤ placed_at p flow s.group s.from) steps → Moves p flow flow points steps 0
 moves_none p flow points steps is wide = record {
   flow = is;
   wide = λ j d low high. wide j d high;
-  least = λ potential even least. least;
+  least = λ potential reduced_zero least. least;
   reaches = λ first last leads. record { to = last; leads = leads; totals = λ v. refl };
 }
 
@@ -115,7 +115,7 @@ module _ (p : FlowProblem) (old flow new : Flow) (points : ℕ) (steps : List St
   moves_more = record {
     flow = now;
     wide = still_wide;
-    least = λ potential even least.
-        least_after (flows_of p flow) (flows_of p new) potential s.group s.from s.to points (moves.least potential even least) pushed.pushes step.group step.from step.to step.apart some (subst (IsEven p potential) (sym (here s)) (even i s below));
+    least = λ potential reduced_zero least.
+        least_after (flows_of p flow) (flows_of p new) potential s.group s.from s.to points (moves.least potential reduced_zero least) pushed.pushes step.group step.from step.to step.apart some (subst (HasZeroReducedCost p potential) (sym (here s)) (reduced_zero i s below));
     reaches = still_reaches;
   }

@@ -82,12 +82,12 @@ module _ (p : FlowProblem) (ok : IsFlowProblem p) (numbers sums : List ℕ) (cel
           (cases_eq v to))
           (cases_eq v from)
 
-      pub free_after : may_take p.groups.items p.prices.items (names_of p) group to ≡ true → (g v : ℕ) → g < groups_of p → v < names_of p → 0 < cell_at numbers' (names_of p) g v → may_take p.groups.items p.prices.items (names_of p) g v ≡ true
+      pub free_after : may_take p.groups.items p.costs.items (names_of p) group to ≡ true → (g v : ℕ) → g < groups_of p → v < names_of p → 0 < cell_at numbers' (names_of p) g v → may_take p.groups.items p.costs.items (names_of p) g v ≡ true
       free_after allowed g v g_in v_in some =
           ⊎_elim
           (λ (is : g ≡ group).
           ⊎_elim
-          (λ (at_to : v ≡ to). ap (λ h. may_take p.groups.items p.prices.items (names_of p) h v) is ∙ (ap (may_take p.groups.items p.prices.items (names_of p) group) at_to ∙ allowed))
+          (λ (at_to : v ≡ to). ap (λ h. may_take p.groups.items p.costs.items (names_of p) h v) is ∙ (ap (may_take p.groups.items p.costs.items (names_of p) group) at_to ∙ allowed))
           (λ (not_to : v ≡ to → ⊥).
           ⊎_elim
           (λ (at_from : v ≡ from).

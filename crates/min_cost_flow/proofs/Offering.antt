@@ -8,13 +8,13 @@ use Rattle.min_cost_flow.specs.Offered.{Offers}
 use Rattle.shortest_path.specs.declared.arc.Arc.{Arc}
 
 -- the arcs below `v` are offered, and the others as they were
-pub record OffersBelow (here : ℤ) (group count : ℕ) (prices : List (Option ℤ)) (row row' : List (Option Arc)) (v : ℕ) : Type 0 where
-  pub size : length row' ≡ length prices
-  pub done : (w : ℕ) → w < v → Offers here group count (get_or prices w None) (get_or row w None) (get_or row' w None)
+pub record OffersBelow (here : ℤ) (group count : ℕ) (costs : List (Option ℤ)) (row row' : List (Option Arc)) (v : ℕ) : Type 0 where
+  pub size : length row' ≡ length costs
+  pub done : (w : ℕ) → w < v → Offers here group count (get_or costs w None) (get_or row w None) (get_or row' w None)
   pub rest : (w : ℕ) → v ≤ w → get_or row' w None ≡ get_or row w None
 
-module _ (here : ℤ) (group count : ℕ) (prices : List (Option ℤ)) (row row' row'' : List (Option Arc)) (v : ℕ) (within : v < length prices) (before : OffersBelow here group count prices row row' v) where
-  pub keeps : row'' ≡ row' → ((to : ℤ) → get_or prices v None ≡ Some to → (a : Arc) × (get_or row' v None ≡ Some a) × (a.cost ≤ℤ (pos count *ℤ (to -ℤ here)))) → OffersBelow here group count prices row row'' (v + 1)
+module _ (here : ℤ) (group count : ℕ) (costs : List (Option ℤ)) (row row' row'' : List (Option Arc)) (v : ℕ) (within : v < length costs) (before : OffersBelow here group count costs row row' v) where
+  pub keeps : row'' ≡ row' → ((to : ℤ) → get_or costs v None ≡ Some to → (a : Arc) × (get_or row' v None ≡ Some a) × (a.cost ≤ℤ (pos count *ℤ (to -ℤ here)))) → OffersBelow here group count costs row row'' (v + 1)
   keeps same covers =
       let at : (w : ℕ) → get_or row'' w None ≡ get_or row' w None = λ w. ap (λ xs. get_or xs w None) same in
       record {
@@ -23,18 +23,18 @@ module _ (here : ℤ) (group count : ℕ) (prices : List (Option ℤ)) (row row'
             ⊎_elim
             (λ (is : w ≡ v). record {
               change = inl (at w ∙ before.rest w (omega (arith, is)));
-              covers = λ to priced.
-                  let c = covers to (ap (λ k. get_or prices k None) (sym is) ∙ priced) in
+              covers = λ to allowed.
+                  let c = covers to (ap (λ k. get_or costs k None) (sym is) ∙ allowed) in
                   (c.0, at w ∙ (ap (λ k. get_or row' k None) is ∙ c.1), c.2);
             })
-            (λ (not : w ≡ v → ⊥). subst (λ o. Offers here group count (get_or prices w None) (get_or row w None) o) (sym (at w)) (before.done w (omega (arith, not))))
+            (λ (not : w ≡ v → ⊥). subst (λ o. Offers here group count (get_or costs w None) (get_or row w None) o) (sym (at w)) (before.done w (omega (arith, not))))
             (cases_eq w v);
         rest = λ w above. at w ∙ before.rest w (omega arith);
       }
 
-  pub takes : (to : ℤ) (a : Arc) → row'' ≡ set row' v (Some a) → get_or prices v None ≡ Some to → a.group ≡ group → a.cost ≡ pos count *ℤ (to -ℤ here)
-      → ((known : Arc) → get_or row' v None ≡ Some known → a.cost ≤ℤ known.cost) → OffersBelow here group count prices row row'' (v + 1)
-  takes to a written priced by cost less =
+  pub takes : (to : ℤ) (a : Arc) → row'' ≡ set row' v (Some a) → get_or costs v None ≡ Some to → a.group ≡ group → a.cost ≡ pos count *ℤ (to -ℤ here)
+      → ((known : Arc) → get_or row' v None ≡ Some known → a.cost ≤ℤ known.cost) → OffersBelow here group count costs row row'' (v + 1)
+  takes to a written allowed same_group cost less =
       let other : (w : ℕ) → (w ≡ v → ⊥) → get_or row'' w None ≡ get_or row' w None = λ w not. ap (λ xs. get_or xs w None) written ∙ get_or-set_other row' v w (Some a) None not in
       record {
         size = ap length written ∙ (length-set row' v (Some a) ∙ before.size);
@@ -46,17 +46,17 @@ module _ (here : ℤ) (group count : ℕ) (prices : List (Option ℤ)) (row row'
               change = inr (record {
                 to = to;
                 arc = a;
-                allowed = ap (λ k. get_or prices k None) is ∙ priced;
+                allowed = ap (λ k. get_or costs k None) is ∙ allowed;
                 taken = now;
-                by = by;
+                same_group = same_group;
                 cost = cost;
                 less = λ known known_is. less known (ap (λ k. get_or row' k None) (sym is) ∙ (before.rest w (omega (arith, is)) ∙ known_is));
               });
-              covers = λ other_to other_priced.
-                  let one : to ≡ other_to = same_Some to other_to (sym priced ∙ (ap (λ k. get_or prices k None) (sym is) ∙ other_priced)) in
+              covers = λ other_to other_allowed.
+                  let one : to ≡ other_to = same_Some to other_to (sym allowed ∙ (ap (λ k. get_or costs k None) (sym is) ∙ other_allowed)) in
                   (a, now, omega (arith, ints, cost, ap (λ z. pos count *ℤ (z -ℤ here)) one));
             })
-            (λ (not : w ≡ v → ⊥). subst (λ o. Offers here group count (get_or prices w None) (get_or row w None) o) (sym (other w not)) (before.done w (omega (arith, not))))
+            (λ (not : w ≡ v → ⊥). subst (λ o. Offers here group count (get_or costs w None) (get_or row w None) o) (sym (other w not)) (before.done w (omega (arith, not))))
             (cases_eq w v);
         rest = λ w above. other w (λ is. absurd (omega (arith, is))) ∙ before.rest w (omega arith);
       }

@@ -2,7 +2,7 @@
 use Rattle.std.proofs.Common.{◌≡◌, ◌≢◌, ℕ, ◌+◌, ◌<◌, ◌≤◌, ⊎_elim, ℤ, ◌+ℤ◌, ◌≤ℤ◌, true, Option, Some, None, sym, ap, ◌∙◌, arith}
 use Rattle.std.proofs.lemmas.Bool.{cases_eq, cases_lt}
 use Rattle.std.proofs.lemmas.Int.{ints}
-use Rattle.shortest_path.specs.Network.{IsReduced}
+use Rattle.shortest_path.specs.Network.{HasNonNegativeReducedCosts}
 use Rattle.shortest_path.specs.declared.arc.Arc.{Arc}
 use Rattle.min_cost_flow.specs.Optimal.{Flows, AreLeast, IsOptimal, AreResidual, Pushes}
 
@@ -14,12 +14,12 @@ module _ (f : Flows) (arc : ℕ → ℕ → Option Arc) (potential : ℕ → ℤ
   between optimal v w a v_in w_in is =
       omega (arith, ints, optimal.least a.group v w (residual.group v w a v_in w_in is) v_in w_in (residual.there v w a v_in w_in is) (residual.allowed v w a v_in w_in is), residual.cost v w a v_in w_in is)
 
-  from_limits : IsOptimal f potential → (w : ℕ) (a : Arc) → w < f.names + 1 → arc f.names w ≡ Some a → potential w ≤ℤ (potential f.names +ℤ a.cost)
-  from_limits optimal w a w_in is =
+  from_root : IsOptimal f potential → (w : ℕ) (a : Arc) → w < f.names + 1 → arc f.names w ≡ Some a → potential w ≤ℤ (potential f.names +ℤ a.cost)
+  from_root optimal w a w_in is =
       ⊎_elim
       (λ (name : w < f.names). let s = residual.spare w a name is in omega (arith, ints, optimal.spare w name s.0, s.1))
-      (λ (limits : f.names ≤ w).
-      let same : w ≡ f.names = omega (arith, w_in, limits) in
+      (λ (root : f.names ≤ w).
+      let same : w ≡ f.names = omega (arith, w_in, root) in
       absurd (none_there a (sym residual.none ∙ (ap (arc f.names) (sym same) ∙ is))))
       (cases_lt w f.names)
 
@@ -27,24 +27,24 @@ module _ (f : Flows) (arc : ℕ → ℕ → Option Arc) (potential : ℕ → ℤ
   from_name optimal v w a v_in w_in is =
       ⊎_elim
       (λ (name : w < f.names). between optimal v w a v_in name is)
-      (λ (limits : f.names ≤ w).
-      let same : w ≡ f.names = omega (arith, w_in, limits) in
+      (λ (root : f.names ≤ w).
+      let same : w ≡ f.names = omega (arith, w_in, root) in
       let r = residual.room v a v_in (ap (arc v) (sym same) ∙ is) in
       omega (arith, ints, optimal.room v v_in r.0, r.1, ap potential same))
       (cases_lt w f.names)
 
-  pub reduced_from_optimal : IsOptimal f potential → IsReduced (f.names + 1) arc potential
+  pub reduced_from_optimal : IsOptimal f potential → HasNonNegativeReducedCosts (f.names + 1) arc potential
   reduced_from_optimal optimal = record {
     least = λ v w a v_in w_in is.
         ⊎_elim
         (λ (name : v < f.names). from_name optimal v w a name w_in is)
-        (λ (limits : f.names ≤ v).
-        let same : v ≡ f.names = omega (arith, v_in, limits) in
-        omega (arith, ints, from_limits optimal w a w_in (ap (λ n. arc n w) (sym same) ∙ is), ap potential same))
+        (λ (root : f.names ≤ v).
+        let same : v ≡ f.names = omega (arith, v_in, root) in
+        omega (arith, ints, from_root optimal w a w_in (ap (λ n. arc n w) (sym same) ∙ is), ap potential same))
         (cases_lt v f.names);
   }
 
-  pub optimal_from_reduced : IsReduced (f.names + 1) arc potential → IsOptimal f potential
+  pub optimal_from_reduced : HasNonNegativeReducedCosts (f.names + 1) arc potential → IsOptimal f potential
   optimal_from_reduced reduced = record {
     least = λ g v w g_in v_in w_in some allowed.
         let a = residual.least g v w g_in v_in w_in some allowed in
@@ -58,7 +58,7 @@ module _ (f : Flows) (arc : ℕ → ℕ → Option Arc) (potential : ℕ → ℤ
   }
 
 module _ (old new : Flows) (potential : ℕ → ℤ) (group from to points : ℕ) (least : AreLeast old potential) (push : Pushes old new group from to points)
-    (group_in : group < old.groups) (from_in : from < old.names) (to_in : to < old.names) (apart : from ≢ to) (some : 0 < points) (even : (old.cost group from +ℤ potential to) ≡ (old.cost group to +ℤ potential from)) where
+    (group_in : group < old.groups) (from_in : from < old.names) (to_in : to < old.names) (apart : from ≢ to) (some : 0 < points) (reduced_zero : (old.cost group from +ℤ potential to) ≡ (old.cost group to +ℤ potential from)) where
   at_from : (w : ℕ) → w < old.names → old.allowed group w ≡ true → (old.cost group from +ℤ potential w) ≤ℤ (old.cost group w +ℤ potential from)
   at_from w w_in allowed = least group from w group_in from_in w_in (omega (arith, push.left, some)) allowed
 
@@ -69,7 +69,7 @@ module _ (old new : Flows) (potential : ℕ → ℤ) (group from to points : ℕ
       let by_group : old.allowed group w ≡ true = ap (λ h. old.allowed h w) (sym same) ∙ allowed in
       ⊎_elim
       (λ (moved : v ≡ to).
-      omega (arith, ints, at_from w w_in by_group, even, ap (λ h. old.cost h v) same, ap (old.cost group) moved, ap (λ h. old.cost h w) same, ap potential moved))
+      omega (arith, ints, at_from w w_in by_group, reduced_zero, ap (λ h. old.cost h v) same, ap (old.cost group) moved, ap (λ h. old.cost h w) same, ap potential moved))
       (λ (not_to : v ≡ to → ⊥).
       ⊎_elim
       (λ (left : v ≡ from).

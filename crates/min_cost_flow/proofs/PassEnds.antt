@@ -9,12 +9,12 @@ use Rattle.min_cost_flow.specs.declared.flow.Flow.{Flow}
 use Rattle.shortest_path.specs.Found.{HasSize, potential_of}
 use Rattle.shortest_path.specs.declared.search.Search.{Search}
 use Rattle.min_cost_flow.specs.Cheapest.{IsCheapest}
-use Rattle.min_cost_flow.specs.Meeting.{IsMeeting}
-use Rattle.min_cost_flow.specs.Placing.{IsMidway}
+use Rattle.min_cost_flow.specs.Meeting.{IsInSecondPass}
+use Rattle.min_cost_flow.specs.Placing.{IsInFirstPass}
 
 -- all potentials are 0
-pub first_midway : (p : FlowProblem) (f : Flow) (s : Search) → IsFlow p f → IsOptimal (flows_of p f) (λ _. pos 0) → HasSize (names_of p + 1) s → ((v : ℕ) → v < names_of p + 1 → potential_of s v ≡ pos 0) → IsMidway p f s
-first_midway p f s flow optimal size zero = record {
+pub first_pass_begins : (p : FlowProblem) (f : Flow) (s : Search) → IsFlow p f → IsOptimal (flows_of p f) (λ _. pos 0) → HasSize (names_of p + 1) s → ((v : ℕ) → v < names_of p + 1 → potential_of s v ≡ pos 0) → IsInFirstPass p f s
+first_pass_begins p f s flow optimal size zero = record {
   flow = flow;
   optimal = record {
     least = λ g v w g_in v_in w_in some may. omega (arith, ints, optimal.least g v w g_in v_in w_in some may, zero v (omega (arith, v_in)), zero w (omega (arith, w_in)));
@@ -22,29 +22,29 @@ first_midway p f s flow optimal size zero = record {
     spare = λ v v_in more. omega (arith, ints, zero v (omega (arith, v_in)), zero (names_of p) (omega arith));
   };
   size = size;
-  limits = zero (names_of p) (omega arith);
+  root = zero (names_of p) (omega arith);
   low = λ v v_in. omega (arith, ints, zero v v_in);
   high = λ v v_in. omega (arith, ints, zero v v_in);
 }
 
 -- the second pass takes over where all are within the high limits
-pub then_meeting : (p : FlowProblem) (ok : IsFlowProblem p) (f : Flow) (s : Search) → IsMidway p f s → ((v : ℕ) → v < names_of p → total_at f v ≤ get_or p.high.items v 0) → IsMeeting p f s
-then_meeting p ok f s midway placed = record {
-  flow = midway.flow;
-  optimal = midway.optimal;
-  size = midway.size;
+pub second_pass_begins : (p : FlowProblem) (ok : IsFlowProblem p) (f : Flow) (s : Search) → IsInFirstPass p f s → ((v : ℕ) → v < names_of p → total_at f v ≤ get_or p.high.items v 0) → IsInSecondPass p f s
+second_pass_begins p ok f s first_pass placed = record {
+  flow = first_pass.flow;
+  optimal = first_pass.optimal;
+  size = first_pass.size;
   placed = placed;
-  low = midway.low;
-  high = midway.high;
-  below = λ v v_in under. omega (arith, ints, midway.limits, midway.optimal.room v v_in (omega (arith, under, ok.ordered v v_in)));
+  low = first_pass.low;
+  high = first_pass.high;
+  below = λ v v_in under. omega (arith, ints, first_pass.root, first_pass.optimal.room v v_in (omega (arith, under, ok.ordered v v_in)));
 }
 
-pub at_last : (p : FlowProblem) (f : Flow) (s : Search) → IsMeeting p f s → ((v : ℕ) → v < names_of p → get_or p.low.items v 0 ≤ total_at f v) → IsCheapest p f s
-at_last p f s meeting lows = record {
-  optimal = meeting.optimal;
+pub at_last : (p : FlowProblem) (f : Flow) (s : Search) → IsInSecondPass p f s → ((v : ℕ) → v < names_of p → get_or p.low.items v 0 ≤ total_at f v) → IsCheapest p f s
+at_last p f s second_pass lows = record {
+  optimal = second_pass.optimal;
   lows = lows;
-  highs = meeting.placed;
-  size = meeting.size;
-  low = meeting.low;
-  high = meeting.high;
+  highs = second_pass.placed;
+  size = second_pass.size;
+  low = second_pass.low;
+  high = second_pass.high;
 }

@@ -3,7 +3,7 @@ use Rattle.std.proofs.Common.{◌≡◌, ℕ, suc, ◌+◌, ◌-◌, ◌*◌, �
 use Rattle.std.proofs.Math.Nat.{mul-le-mul_right, mul-add}
 use Rattle.std.proofs.lemmas.Bool.{cases_lt}
 use Rattle.std.proofs.lemmas.Int.{ints}
-use Rattle.min_cost_flow.specs.Offered.{IsPrice}
+use Rattle.min_cost_flow.specs.Offered.{IsSwitchCost}
 
 -- a larger number costs more by a rise, and less by a fall
 rises : (c d h t : ℕ) → c ≤ d → h ≤ t → c * t + d * h ≤ c * h + d * t
@@ -31,7 +31,7 @@ naturals c h t =
     (cases_lt t h)
 
 -- what a point pays more
-pub pays_more : (c : ℕ) (h t : ℤ) → IsPrice h → IsPrice t → (pos c *ℤ h +ℤ (pos c *ℤ (t -ℤ h))) ≡ pos c *ℤ t
+pub pays_more : (c : ℕ) (h t : ℤ) → IsSwitchCost h → IsSwitchCost t → (pos c *ℤ h +ℤ (pos c *ℤ (t -ℤ h))) ≡ pos c *ℤ t
 pays_more c (pos h) (pos t) ph pt = naturals c h t
 pays_more c (negsuc h) t ph pt = absurd (omega (arith, ints, ph.low))
 pays_more c (pos h) (negsuc t) ph pt = absurd (omega (arith, ints, pt.low))
@@ -44,7 +44,7 @@ between_naturals c1 c c2 h t a few many first last =
     (λ (above : h ≤ t). omega (arith, ints, first, rises c1 c h t few above))
     (cases_lt t h)
 
-pub between : (c1 c c2 : ℕ) (h t a : ℤ) → IsPrice h → IsPrice t → c1 ≤ c → c ≤ c2 → (pos c1 *ℤ h +ℤ a) ≤ℤ (pos c1 *ℤ t) → (pos c2 *ℤ h +ℤ a) ≤ℤ (pos c2 *ℤ t) → (pos c *ℤ h +ℤ a) ≤ℤ (pos c *ℤ t)
+pub between : (c1 c c2 : ℕ) (h t a : ℤ) → IsSwitchCost h → IsSwitchCost t → c1 ≤ c → c ≤ c2 → (pos c1 *ℤ h +ℤ a) ≤ℤ (pos c1 *ℤ t) → (pos c2 *ℤ h +ℤ a) ≤ℤ (pos c2 *ℤ t) → (pos c *ℤ h +ℤ a) ≤ℤ (pos c *ℤ t)
 between c1 c c2 (pos h) (pos t) a ph pt few many first last = between_naturals c1 c c2 h t a few many first last
 between c1 c c2 (negsuc h) t a ph pt few many first last = absurd (omega (arith, ints, ph.low))
 between c1 c c2 (pos h) (negsuc t) a ph pt few many first last = absurd (omega (arith, ints, pt.low))

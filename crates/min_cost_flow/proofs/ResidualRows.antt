@@ -5,9 +5,9 @@ use Rattle.std.proofs.lemmas.Int.{ints}
 use Rattle.min_cost_flow.specs.Optimal.{AreResidual}
 use Rattle.min_cost_flow.specs.Problem.{names_of}
 use Rattle.min_cost_flow.specs.declared.problem.FlowProblem.{FlowProblem}
-use Rattle.min_cost_flow.specs.Residual.{IsRow, IsWay, IsWidened}
+use Rattle.min_cost_flow.specs.Residual.{IsRow, IsMove, TakesMoves}
 use Rattle.min_cost_flow.specs.Flow.{cell_at, flows_at}
-use Rattle.min_cost_flow.specs.Residual.{ChangesGroup, HasLimits, HasRow, IsLimitArc}
+use Rattle.min_cost_flow.specs.Residual.{ChangesGroup, HasRootArcs, HasRow, IsRootArc}
 use Rattle.shortest_path.specs.Network.{arc_at}
 use Rattle.shortest_path.specs.declared.arc.Arc.{Arc}
 
@@ -23,17 +23,17 @@ module _ (groups names : ℕ) (may : ℕ → ℕ → Bool) (charge : ℕ → ℕ
   }
 
   -- a group enters
-  pub row_widens : (group : ℕ) → group < groups → IsRow groups names may charge old v arc → 0 < now group → ChangesGroup group old now → IsWidened names may charge group v arc arc' → IsRow groups names may charge now v arc'
-  row_widens group group_in row some changes wide =
+  pub row_takes : (group : ℕ) → group < groups → IsRow groups names may charge old v arc → 0 < now group → ChangesGroup group old now → TakesMoves names may charge group v arc arc' → IsRow groups names may charge now v arc'
+  row_takes group group_in row some changes wide =
       let keeps : (g : ℕ) → 0 < old g → 0 < now g = λ g had. ⊎_elim (λ (is : g ≡ group). omega (arith, ap now is, some)) (λ (not : g ≡ group → ⊥). omega (arith, changes g not, had)) (cases_eq g group) in
       record {
-        group = λ w a w_in is. ⊎_elim (λ (was : arc w ≡ Some a). row.group w a w_in was) (λ (way : IsWay may charge group v w a). omega (arith, way.by, group_in)) (wide.change w a w_in is);
-        there = λ w a w_in is. ⊎_elim (λ (was : arc w ≡ Some a). keeps a.group (row.there w a w_in was)) (λ (way : IsWay may charge group v w a). omega (arith, ap now way.by, some)) (wide.change w a w_in is);
-        allowed = λ w a w_in is. ⊎_elim (λ (was : arc w ≡ Some a). row.allowed w a w_in was) (λ (way : IsWay may charge group v w a). ap (λ g. may g w) way.by ∙ way.allowed) (wide.change w a w_in is);
+        group = λ w a w_in is. ⊎_elim (λ (was : arc w ≡ Some a). row.group w a w_in was) (λ (move : IsMove may charge group v w a). omega (arith, move.same_group, group_in)) (wide.change w a w_in is);
+        there = λ w a w_in is. ⊎_elim (λ (was : arc w ≡ Some a). keeps a.group (row.there w a w_in was)) (λ (move : IsMove may charge group v w a). omega (arith, ap now move.same_group, some)) (wide.change w a w_in is);
+        allowed = λ w a w_in is. ⊎_elim (λ (was : arc w ≡ Some a). row.allowed w a w_in was) (λ (move : IsMove may charge group v w a). ap (λ g. may g w) move.same_group ∙ move.allowed) (wide.change w a w_in is);
         cost = λ w a w_in is.
             ⊎_elim
             (λ (was : arc w ≡ Some a). row.cost w a w_in was)
-            (λ (way : IsWay may charge group v w a). omega (arith, ints, way.cost, ap (λ g. charge g v) way.by, ap (λ g. charge g w) way.by))
+            (λ (move : IsMove may charge group v w a). omega (arith, ints, move.cost, ap (λ g. charge g v) move.same_group, ap (λ g. charge g w) move.same_group))
             (wide.change w a w_in is);
         least = λ g w g_in w_in here allowed.
             ⊎_elim
@@ -49,26 +49,26 @@ module _ (groups names : ℕ) (may : ℕ → ℕ → Bool) (charge : ℕ → ℕ
 
 -- the same arcs under another name
 pub widened_same : (names : ℕ) (may : ℕ → ℕ → Bool) (charge : ℕ → ℕ → ℤ) (group v : ℕ) (old new old' new' : ℕ → Option Arc) → ((w : ℕ) → w < names → old' w ≡ old w) → ((w : ℕ) → w < names → new' w ≡ new w)
-    → IsWidened names may charge group v old new → IsWidened names may charge group v old' new'
+    → TakesMoves names may charge group v old new → TakesMoves names may charge group v old' new'
 widened_same names may charge group v old new old' new' old_is new_is wide = record {
-  change = λ w a w_in is. ⊎_elim (λ (was : old w ≡ Some a). inl (old_is w w_in ∙ was)) (λ (way : IsWay may charge group v w a). inr way) (wide.change w a w_in (sym (new_is w w_in) ∙ is));
+  change = λ w a w_in is. ⊎_elim (λ (was : old w ≡ Some a). inl (old_is w w_in ∙ was)) (λ (move : IsMove may charge group v w a). inr move) (wide.change w a w_in (sym (new_is w w_in) ∙ is));
   covers = λ w w_in allowed. let c = wide.covers w w_in allowed in (c.0, new_is w w_in ∙ c.1, c.2);
   less = λ w known w_in was. let c = wide.less w known w_in (sym (old_is w w_in) ∙ was) in (c.0, new_is w w_in ∙ c.1, c.2);
 }
 
--- rows and arcs of limits make the residual network
+-- rows and arcs of the root make the residual network
 pub residual_of : (p : FlowProblem) (numbers sums : List ℕ) (cells : List (Option Arc)) → ((v : ℕ) → v < names_of p → HasRow p (λ g. cell_at numbers (names_of p) g v) v cells)
-    → ((v : ℕ) → v < names_of p → HasLimits p (get_or sums v 0) v cells) → arc_at cells (names_of p + 1) (names_of p) (names_of p) ≡ None → AreResidual (flows_at p numbers sums) (arc_at cells (names_of p + 1))
-residual_of p numbers sums cells rows limits none = record {
+    → ((v : ℕ) → v < names_of p → HasRootArcs p (get_or sums v 0) v cells) → arc_at cells (names_of p + 1) (names_of p) (names_of p) ≡ None → AreResidual (flows_at p numbers sums) (arc_at cells (names_of p + 1))
+residual_of p numbers sums cells rows root none = record {
   group = λ v w a v_in w_in is. (rows v v_in).group w a w_in is;
   there = λ v w a v_in w_in is. (rows v v_in).there w a w_in is;
   allowed = λ v w a v_in w_in is. (rows v v_in).allowed w a w_in is;
   cost = λ v w a v_in w_in is. (rows v v_in).cost w a w_in is;
   least = λ g v w g_in v_in w_in some allowed. (rows v v_in).least g w g_in w_in some allowed;
-  room = λ v a v_in is. (limits v v_in).room.only a is;
-  has_room = λ v v_in less. (limits v v_in).room.has less;
-  spare = λ v a v_in is. (limits v v_in).spare.only a is;
-  has_spare = λ v v_in less. (limits v v_in).spare.has less;
+  room = λ v a v_in is. (root v v_in).room.only a is;
+  has_room = λ v v_in less. (root v v_in).room.has less;
+  spare = λ v a v_in is. (root v v_in).spare.only a is;
+  has_spare = λ v v_in less. (root v v_in).spare.has less;
   none = none;
 }
 
@@ -82,16 +82,16 @@ module _ (p : FlowProblem) (numbers sums : List ℕ) (cells : List (Option Arc))
     least = λ g w g_in w_in some allowed. are.least g v w g_in v_in w_in some allowed;
   }
 
-  pub limits_of : HasLimits p (get_or sums v 0) v cells
-  limits_of = record {
+  pub root_arcs_of : HasRootArcs p (get_or sums v 0) v cells
+  root_arcs_of = record {
     room = record { only = λ a is. are.room v a v_in is; has = λ less. are.has_room v v_in less };
     spare = record { only = λ a is. are.spare v a v_in is; has = λ less. are.has_spare v v_in less };
   }
 
--- a name's arcs to and from the limits are right as long as its total and they stay
-pub limits_stay : (p : FlowProblem) (total total' v : ℕ) (cells cells' : List (Option Arc)) → HasLimits p total v cells → total' ≡ total → arc_at cells' (names_of p + 1) v (names_of p) ≡ arc_at cells (names_of p + 1) v (names_of p)
-    → arc_at cells' (names_of p + 1) (names_of p) v ≡ arc_at cells (names_of p + 1) (names_of p) v → HasLimits p total' v cells'
-limits_stay p total total' v cells cells' are same to_same from_same = record {
-  room = subst (λ x. IsLimitArc total' (get_or p.high.items v 0) x) (sym to_same) (subst (λ x. IsLimitArc x (get_or p.high.items v 0) (arc_at cells (names_of p + 1) v (names_of p))) (sym same) are.room);
-  spare = subst (λ x. IsLimitArc (get_or p.low.items v 0) total' x) (sym from_same) (subst (λ x. IsLimitArc (get_or p.low.items v 0) x (arc_at cells (names_of p + 1) (names_of p) v)) (sym same) are.spare);
+-- a name's arcs to and from the root are right as long as its total and they stay
+pub root_arcs_stay : (p : FlowProblem) (total total' v : ℕ) (cells cells' : List (Option Arc)) → HasRootArcs p total v cells → total' ≡ total → arc_at cells' (names_of p + 1) v (names_of p) ≡ arc_at cells (names_of p + 1) v (names_of p)
+    → arc_at cells' (names_of p + 1) (names_of p) v ≡ arc_at cells (names_of p + 1) (names_of p) v → HasRootArcs p total' v cells'
+root_arcs_stay p total total' v cells cells' are same to_same from_same = record {
+  room = subst (λ x. IsRootArc total' (get_or p.high.items v 0) x) (sym to_same) (subst (λ x. IsRootArc x (get_or p.high.items v 0) (arc_at cells (names_of p + 1) v (names_of p))) (sym same) are.room);
+  spare = subst (λ x. IsRootArc (get_or p.low.items v 0) total' x) (sym from_same) (subst (λ x. IsRootArc (get_or p.low.items v 0) x (arc_at cells (names_of p + 1) (names_of p) v)) (sym same) are.spare);
 }

@@ -2,12 +2,12 @@
 use Rattle.std.proofs.Common.{◌≡◌, ℕ, ◌+◌, ◌<◌, ◌≤◌, ⊎_elim, ℤ, Bool, Option, Some, sym, ap, ◌∙◌, subst, arith}
 use Rattle.std.proofs.lemmas.Bool.{cases_eq}
 use Rattle.std.proofs.lemmas.Int.{ints}
-use Rattle.min_cost_flow.specs.Residual.{AreWays, AreWidened, IsCovered, IsLower, IsWay, IsWidened}
+use Rattle.min_cost_flow.specs.Residual.{AreMoves, TakesMovesOfBoth, IsCovered, IsLower, IsMove, TakesMoves}
 use Rattle.shortest_path.specs.declared.arc.Arc.{Arc}
 
 -- the groups of old variants below `a` are done
 pub record EndsBelow (groups names : ℕ) (variant count : ℕ → ℕ) (may : ℕ → ℕ → Bool) (charge : ℕ → ℕ → ℤ) (here : ℕ → ℕ) (v a : ℕ) (arc : ℕ → Option Arc) : Type 0 where
-  pub ways : AreWays groups names may charge here v arc
+  pub moves : AreMoves groups names may charge here v arc
   pub firsts : (g : ℕ) → g < groups → variant g < a → 0 < here g → (h : ℕ) × (h < groups) × (variant h ≡ variant g) × (count h ≤ count g) × IsCovered names may charge v arc h
   pub lasts : (g : ℕ) → g < groups → variant g < a → 0 < here g → (h : ℕ) × (h < groups) × (variant h ≡ variant g) × (count g ≤ count h) × IsCovered names may charge v arc h
 
@@ -19,22 +19,22 @@ module _ (groups names : ℕ) (variant count : ℕ → ℕ) (may : ℕ → ℕ �
       let d = lower w c.0 w_in c.1 in
       (d.0, d.1, omega (arith, ints, c.2, d.2))
 
-  pub ways_after : (old new : ℕ → Option Arc) (g : ℕ) → g < groups → 0 < here g → AreWays groups names may charge here v old → IsWidened names may charge g v old new → AreWays groups names may charge here v new
-  ways_after old new g g_in some ways wide = record {
+  pub moves_after : (old new : ℕ → Option Arc) (g : ℕ) → g < groups → 0 < here g → AreMoves groups names may charge here v old → TakesMoves names may charge g v old new → AreMoves groups names may charge here v new
+  moves_after old new g g_in some moves wide = record {
     group = λ w a w_in is.
         ⊎_elim
-        (λ (was : old w ≡ Some a). ways.group w a w_in was)
-        (λ (way : IsWay may charge g v w a). omega (arith, way.by, g_in))
+        (λ (was : old w ≡ Some a). moves.group w a w_in was)
+        (λ (move : IsMove may charge g v w a). omega (arith, move.same_group, g_in))
         (wide.change w a w_in is);
     there = λ w a w_in is.
         ⊎_elim
-        (λ (was : old w ≡ Some a). ways.there w a w_in was)
-        (λ (way : IsWay may charge g v w a). omega (arith, ap here way.by, some))
+        (λ (was : old w ≡ Some a). moves.there w a w_in was)
+        (λ (move : IsMove may charge g v w a). omega (arith, ap here move.same_group, some))
         (wide.change w a w_in is);
-    way = λ w a w_in is.
+    move = λ w a w_in is.
         ⊎_elim
-        (λ (was : old w ≡ Some a). ways.way w a w_in was)
-        (λ (way : IsWay may charge g v w a). subst (λ x. IsWay may charge x v w a) (sym way.by) way)
+        (λ (was : old w ≡ Some a). moves.move w a w_in was)
+        (λ (move : IsMove may charge g v w a). subst (λ x. IsMove may charge x v w a) (sym move.same_group) move)
         (wide.change w a w_in is);
   }
 
@@ -42,7 +42,7 @@ module _ (groups names : ℕ) (variant count : ℕ → ℕ) (may : ℕ → ℕ �
     -- no group of the old variant has points at the name
     pub skips : ((g : ℕ) → g < groups → variant g ≡ a → 0 < here g → ⊥) → EndsBelow groups names variant count may charge here v (a + 1) old
     skips none = record {
-      ways = before.ways;
+      moves = before.moves;
       firsts = λ g g_in below some.
           ⊎_elim (λ (is : variant g ≡ a). absurd (none g g_in is some)) (λ (not : variant g ≡ a → ⊥). before.firsts g g_in (omega (arith, below, not)) some) (cases_eq (variant g) a);
       lasts = λ g g_in below some.
@@ -52,14 +52,14 @@ module _ (groups names : ℕ) (variant count : ℕ → ℕ) (may : ℕ → ℕ �
     -- all of its groups with points there have as many inputs as `f` and `l` or a number between
     pub enters : (f l : ℕ) → f < groups → l < groups → variant f ≡ a → variant l ≡ a → 0 < here f → 0 < here l
         → ((g : ℕ) → g < groups → variant g ≡ a → 0 < here g → (count f ≤ count g) × (count g ≤ count l))
-        → AreWidened names may charge f l v old new → EndsBelow groups names variant count may charge here v (a + 1) new
+        → TakesMovesOfBoth names may charge f l v old new → EndsBelow groups names variant count may charge here v (a + 1) new
     enters f l f_in l_in f_is l_is f_some l_some between wide =
         let mid = wide.0 in
         let one = wide.1 in
         let two = wide.2 in
         let stays : (h : ℕ) → IsCovered names may charge v old h → IsCovered names may charge v new h = λ h covered. still_covered mid new h two.less (still_covered old mid h one.less covered) in
         record {
-          ways = ways_after mid new l l_in l_some (ways_after old mid f f_in f_some before.ways one) two;
+          moves = moves_after mid new l l_in l_some (moves_after old mid f f_in f_some before.moves one) two;
           firsts = λ g g_in below some.
               ⊎_elim
               (λ (is : variant g ≡ a). (f, f_in, f_is ∙ sym is, (between g g_in is some).0, still_covered mid new f two.less one.covers))

@@ -7,9 +7,9 @@ use Rattle.min_cost_flow.specs.declared.problem.FlowProblem.{FlowProblem}
 use Rattle.min_cost_flow.specs.Flow.{IsFlow, placed_at, total_at}
 use Rattle.min_cost_flow.specs.declared.flow.Flow.{Flow}
 use Rattle.min_cost_flow.proofs.Sums.{sum_adds, sum_at_most, sum_one, sum_same}
-use Rattle.shortest_path.specs.Spent.{Settles, Spent}
+use Rattle.shortest_path.specs.Spent.{HasSettledAtMost, Spent}
 use Rattle.min_cost_flow.specs.Effort.{Searches, points_of}
-use Rattle.min_cost_flow.specs.Meeting.{missing}
+use Rattle.min_cost_flow.specs.Meeting.{deficit}
 use Rattle.min_cost_flow.specs.Placing.{excess}
 
 -- ---- searches and augmentations
@@ -19,21 +19,21 @@ module _ (n : ℕ) where
   searches_none spent = record { augmentations = omega arith; settlings = omega arith }
 
   -- a search that no augmentation follows
-  pub searches_last : (old mid new : Spent) → Searches n 0 old mid → Settles n mid new → Searches n 1 old new
+  pub searches_last : (old mid new : Spent) → Searches n 0 old mid → HasSettledAtMost n mid new → Searches n 1 old new
   searches_last old mid new before search = record {
     augmentations = omega (arith, before.augmentations, search.augmentations);
     settlings = omega (arith, before.settlings, search.settlings, ap (λ a. n * a) search.augmentations);
   }
 
   -- one that is followed by an augmentation
-  pub searches_then : (old mid found new : Spent) → Searches n 0 old mid → Settles n mid found → new.augmentations ≡ found.augmentations + 1 → new.settlings ≡ found.settlings → Searches n 0 old new
+  pub searches_then : (old mid found new : Spent) → Searches n 0 old mid → HasSettledAtMost n mid found → new.augmentations ≡ found.augmentations + 1 → new.settlings ≡ found.settlings → Searches n 0 old new
   searches_then old mid found new before search more same = record {
     augmentations = omega (arith, before.augmentations, search.augmentations, more);
     settlings = omega (arith, before.settlings, search.settlings, same, ap (λ a. n * a) search.augmentations, ap (λ a. n * a) more);
   }
 
   -- one after which memory ran out
-  pub searches_short : (old mid found new : Spent) → Searches n 0 old mid → Settles n mid found → new.augmentations ≡ found.augmentations → new.settlings ≡ found.settlings → Searches n 1 old new
+  pub searches_short : (old mid found new : Spent) → Searches n 0 old mid → HasSettledAtMost n mid found → new.augmentations ≡ found.augmentations → new.settlings ≡ found.settlings → Searches n 1 old new
   searches_short old mid found new before search kept same = record {
     augmentations = omega (arith, before.augmentations, search.augmentations, kept);
     settlings = omega (arith, before.settlings, search.settlings, same, ap (λ a. n * a) search.augmentations, ap (λ a. n * a) kept);
@@ -88,5 +88,5 @@ module _ (p : FlowProblem) (f : Flow) (flow : IsFlow p f) where
   pub excess_few : excess p f ≤ points_of p
   excess_few = omega (arith, sum_at_most (names_of p) (λ v. total_at f v - get_or p.high.items v 0) (total_at f) (λ v v_in. omega arith), all_points)
 
-pub missing_few : (p : FlowProblem) (f : Flow) → IsFlowProblem p → missing p f ≤ points_of p
-missing_few p f ok = omega (arith, sum_at_most (names_of p) (λ v. get_or p.low.items v 0 - total_at f v) (λ v. get_or p.low.items v 0) (λ v v_in. omega arith), ok.asked)
+pub deficit_few : (p : FlowProblem) (f : Flow) → IsFlowProblem p → deficit p f ≤ points_of p
+deficit_few p f ok = omega (arith, sum_at_most (names_of p) (λ v. get_or p.low.items v 0 - total_at f v) (λ v. get_or p.low.items v 0) (λ v v_in. omega arith), ok.asked)

@@ -11,7 +11,7 @@ use Rattle.min_cost_flow.specs.declared.flow.Flow.{Flow}
 use Rattle.shortest_path.specs.Network.{arc_at}
 use Rattle.shortest_path.specs.Searched.{IsTight}
 use Rattle.shortest_path.specs.declared.arc.Arc.{Arc}
-use Rattle.min_cost_flow.specs.Paths.{IsStep, Leads, IsEven, IsPath, AreTraced, IsTraced}
+use Rattle.min_cost_flow.specs.Paths.{IsStep, Leads, HasZeroReducedCost, IsPath, AreTraced, IsTraced}
 use Rattle.min_cost_flow.specs.declared.augmenting.Path.{Path}
 use Rattle.min_cost_flow.specs.declared.augmenting.Step.{Step}
 
@@ -25,7 +25,7 @@ pub record Traces (p : FlowProblem) (f : Flow) (potential : ℕ → ℤ) (rank :
   pub on : (rank to < names_of p + 1) ⊎ (to ≡ last)
   pub leads : Leads to last steps
   pub each : All (IsStep p f) steps
-  pub even : All (IsEven p potential) steps
+  pub reduced_zero : All (HasZeroReducedCost p potential) steps
   pub apart : AllPairs (λ s t. s.from ≢ t.from) steps
   pub later : All (λ s. rank to ≤ rank s.from) steps
 
@@ -35,7 +35,7 @@ traces_none p f potential rank last within = record {
   on = inr refl;
   leads = refl;
   each = All-nil (IsStep p f);
-  even = All-nil (IsEven p potential);
+  reduced_zero = All-nil (HasZeroReducedCost p potential);
   apart = λ i j d low high. absurd (omega (arith, high));
   later = All-nil (λ (s : Step). rank last ≤ rank s.from);
 }
@@ -50,16 +50,16 @@ module _ (p : FlowProblem) (f : Flow) (potential : ℕ → ℤ) (predecessor ran
   tight_here not = ⊎_elim (λ (is : to ≡ source). absurd (not is)) (λ (t : IsTight (names_of p + 1) (arc_at f.arcs.items (names_of p + 1)) potential predecessor rank to). t) (traced to (omega (arith, so_far.within)) so_far.on)
 
   pub before_within : to ≢ source → predecessor to ≢ names_of p → predecessor to < names_of p
-  before_within not_source not_limits = let t = tight_here not_source in omega (arith, t.within, not_limits)
+  before_within not_source not_root = let t = tight_here not_source in omega (arith, t.within, not_root)
 
   pub rank_falls : to ≢ source → rank (predecessor to) < rank to
   rank_falls not = (tight_here not).before
 
   pub traces_more : (s : Step) → s.from ≡ predecessor to → s.to ≡ to → to ≢ source → predecessor to ≢ names_of p → ((a : Arc) → arc_at f.arcs.items (names_of p + 1) s.from s.to ≡ Some a → s.group ≡ a.group)
       → Traces p f potential rank last s.from (steps ++ s ∷ [])
-  traces_more s from_is to_is not_source not_limits group_is =
+  traces_more s from_is to_is not_source not_root group_is =
       let t = tight_here not_source in
-      let from_in : s.from < names_of p = omega (arith, from_is, before_within not_source not_limits) in
+      let from_in : s.from < names_of p = omega (arith, from_is, before_within not_source not_root) in
       let to_in : s.to < names_of p = omega (arith, to_is, so_far.within) in
       let there : arc_at f.arcs.items (names_of p + 1) s.from s.to ≡ Some t.along = ap (λ v. arc_at f.arcs.items (names_of p + 1) v s.to) from_is ∙ (ap (arc_at f.arcs.items (names_of p + 1) (predecessor to)) to_is ∙ t.there) in
       let group : s.group ≡ t.along.group = group_is t.along there in
@@ -79,7 +79,7 @@ module _ (p : FlowProblem) (f : Flow) (potential : ℕ → ℤ) (predecessor ran
           allowed = ap (λ g. F.allowed g s.to) group ∙ r.allowed s.from s.to t.along from_in to_in there;
           there = omega (arith, ap (λ g. F.flow g s.from) group, r.there s.from s.to t.along from_in to_in there);
         });
-        even = All-push (IsEven p potential) steps s so_far.even (omega (arith, ints, zero, r.cost s.from s.to t.along from_in to_in there, ap (λ g. F.cost g s.from) group, ap (λ g. F.cost g s.to) group));
+        reduced_zero = All-push (HasZeroReducedCost p potential) steps s so_far.reduced_zero (omega (arith, ints, zero, r.cost s.from s.to t.along from_in to_in there, ap (λ g. F.cost g s.from) group, ap (λ g. F.cost g s.to) group));
         apart = all_pairs_push (λ (a b : Step). a.from ≢ b.from) steps s so_far.apart (λ k d below same. omega (arith, falls, so_far.later k d below, ap rank same));
         later = All-push (λ (a : Step). rank s.from ≤ rank a.from) steps s (λ k d below. omega (arith, falls, so_far.later k d below)) (omega arith);
       }
@@ -87,20 +87,20 @@ module _ (p : FlowProblem) (f : Flow) (potential : ℕ → ℤ) (predecessor ran
   -- the first name
   pub traced_whole : (path : Path) → path.first ≡ to → path.steps.items ≡ steps → (to ≡ source) ⊎ (predecessor to ≡ names_of p) → IsTraced p f potential rank source last path
   traced_whole path first_is steps_are ends =
-      let path_is : IsPath p f potential to last steps = record { begins = so_far.within; leads = so_far.leads; each = so_far.each; even = so_far.even; apart = so_far.apart } in
-      let limits = names_of p in
+      let path_is : IsPath p f potential to last steps = record { begins = so_far.within; leads = so_far.leads; each = so_far.each; reduced_zero = so_far.reduced_zero; apart = so_far.apart } in
+      let root = names_of p in
       record {
         steps = subst (λ xs. IsPath p f potential path.first last xs) (sym steps_are) (subst (λ v. IsPath p f potential v last steps) (sym first_is) path_is);
         start =
             ⊎_elim
             (λ (is : to ≡ source). inl (first_is ∙ is))
-            (λ (next : predecessor to ≡ limits).
+            (λ (next : predecessor to ≡ root).
             ⊎_elim
             (λ (is : to ≡ source). inl (first_is ∙ is))
-            (λ (t : IsTight (limits + 1) (arc_at f.arcs.items (limits + 1)) potential predecessor rank to).
+            (λ (t : IsTight (root + 1) (arc_at f.arcs.items (root + 1)) potential predecessor rank to).
             inr (
               t.along,
-              ap (arc_at f.arcs.items (limits + 1) limits) first_is ∙ (ap (λ v. arc_at f.arcs.items (limits + 1) v to) (sym next) ∙ t.there),
+              ap (arc_at f.arcs.items (root + 1) root) first_is ∙ (ap (λ v. arc_at f.arcs.items (root + 1) v to) (sym next) ∙ t.there),
               ap potential first_is ∙ (t.zero ∙ ap (λ v. potential v +ℤ t.along.cost) next),
             ))
             (traced to (omega (arith, so_far.within)) so_far.on))
@@ -108,10 +108,10 @@ module _ (p : FlowProblem) (f : Flow) (potential : ℕ → ℤ) (predecessor ran
         settled =
             ⊎_elim
             (λ (is : to ≡ source). inl (first_is ∙ is))
-            (λ (next : predecessor to ≡ limits).
+            (λ (next : predecessor to ≡ root).
             ⊎_elim
             (λ (is : to ≡ source). inl (first_is ∙ is))
-            (λ (t : IsTight (limits + 1) (arc_at f.arcs.items (limits + 1)) potential predecessor rank to). inr (omega (arith, t.settled, ap rank next)))
+            (λ (t : IsTight (root + 1) (arc_at f.arcs.items (root + 1)) potential predecessor rank to). inr (omega (arith, t.settled, ap rank next)))
             (traced to (omega (arith, so_far.within)) so_far.on))
             ends;
       }

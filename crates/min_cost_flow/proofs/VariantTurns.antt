@@ -2,7 +2,7 @@
 use Rattle.std.proofs.Common.{◌≡◌, ℕ, ◌+◌, ◌-◌, ◌*◌, ◌<◌, ◌≤◌, ⊎_elim, ℤ, List, length, get_or, set, Option, None, sym, ap, ◌∙◌, subst, arith}
 use Rattle.std.proofs.lemmas.Bool.{cases_lt}
 use Rattle.min_cost_flow.specs.Problem.{AreGroups, cost_at, group_at, may_take}
-use Rattle.min_cost_flow.specs.Residual.{AreWidenedOf}
+use Rattle.min_cost_flow.specs.Residual.{TakesMovesOfBothIn}
 use Rattle.min_cost_flow.specs.Spans.{AreSpans, IsIn, IsThere, span_at}
 use Rattle.min_cost_flow.specs.declared.problem.Group.{Group}
 use Rattle.min_cost_flow.specs.declared.span.Span.{Span}
@@ -12,20 +12,20 @@ use Rattle.shortest_path.specs.declared.arc.Arc.{Arc}
 
 -- the groups of old variants below `a` are done
 abbrev pub RowBelow : List Group → List (Option ℤ) → List ℕ → ℕ → ℕ → ℕ → List (Option Arc) → Type 0
-RowBelow groups prices placed names v a row =
-    EndsBelow (length groups) names (λ g. (group_at groups g).variant) (λ g. (group_at groups g).count) (may_take groups prices names) (cost_at groups prices names) (λ g. get_or placed (g * names + v) 0) v a (λ w. get_or row w None)
+RowBelow groups costs placed names v a row =
+    EndsBelow (length groups) names (λ g. (group_at groups g).variant) (λ g. (group_at groups g).count) (may_take groups costs names) (cost_at groups costs names) (λ g. get_or placed (g * names + v) 0) v a (λ w. get_or row w None)
 
 -- what a turn does
-pub record IsTurn (groups : List Group) (prices : List (Option ℤ)) (placed : List ℕ) (names v a : ℕ) (spans : List Span) (span : Span) (row row' : List (Option Arc)) : Type 0 where
+pub record IsTurn (groups : List Group) (costs : List (Option ℤ)) (placed : List ℕ) (names v a : ℕ) (spans : List Span) (span : Span) (row row' : List (Option Arc)) : Type 0 where
   pub end : span.end ≤ length groups
   pub keeps : (g : ℕ) → IsIn (span_at spans names v a) g → IsThere groups placed names v a g → IsIn span g
   pub first : span.first < span.end → IsThere groups placed names v a span.first
   pub last : span.first < span.end → IsThere groups placed names v a (span.end - 1)
-  pub some : span.first < span.end → AreWidenedOf groups prices names span.first (span.end - 1) v row row'
+  pub some : span.first < span.end → TakesMovesOfBothIn groups costs names span.first (span.end - 1) v row row'
   pub none : span.end ≤ span.first → row' ≡ row
 
-module _ (groups : List Group) (prices : List (Option ℤ)) (placed : List ℕ) (names v a : ℕ) (spans : List Span) (span : Span) (row row' : List (Option Arc)) (v_in : v < names) (a_in : a < names)
-    (are : AreGroups names prices groups) (old : AreSpans groups names placed spans) (turn : IsTurn groups prices placed names v a spans span row row') where
+module _ (groups : List Group) (costs : List (Option ℤ)) (placed : List ℕ) (names v a : ℕ) (spans : List Span) (span : Span) (row row' : List (Option Arc)) (v_in : v < names) (a_in : a < names)
+    (are : AreGroups names costs groups) (old : AreSpans groups names placed spans) (turn : IsTurn groups costs placed names v a spans span row row') where
   -- the groups of an old variant stand by count
   rises : (g h : ℕ) → g ≤ h → h < length groups → (group_at groups g).variant ≡ (group_at groups h).variant → (group_at groups g).count ≤ (group_at groups h).count
   rises g h before h_in same =
@@ -35,21 +35,21 @@ module _ (groups : List Group) (prices : List (Option ℤ)) (placed : List ℕ) 
   stays : (g : ℕ) → g < length groups → (group_at groups g).variant ≡ a → 0 < get_or placed (g * names + v) 0 → IsIn span g
   stays g g_in is some = turn.keeps g (subst (λ x. IsIn (span_at spans names v x) g) is (old.has g v g_in v_in some)) (record { variant = is; points = some })
 
-  pub row_after : RowBelow groups prices placed names v a row → RowBelow groups prices placed names v (a + 1) row'
+  pub row_after : RowBelow groups costs placed names v a row → RowBelow groups costs placed names v (a + 1) row'
   row_after before =
       ⊎_elim
       (λ (some : span.first < span.end).
       let f = turn.first some in
       let l = turn.last some in
-      enters (length groups) names (λ g. (group_at groups g).variant) (λ g. (group_at groups g).count) (may_take groups prices names) (cost_at groups prices names) (λ g. get_or placed (g * names + v) 0) v a (λ w. get_or row w None) (λ w. get_or row' w None) before
+      enters (length groups) names (λ g. (group_at groups g).variant) (λ g. (group_at groups g).count) (may_take groups costs names) (cost_at groups costs names) (λ g. get_or placed (g * names + v) 0) v a (λ w. get_or row w None) (λ w. get_or row' w None) before
       span.first (span.end - 1) (omega (arith, some, turn.end)) (omega (arith, some, turn.end)) f.variant l.variant f.points l.points
       (λ g g_in is here.
       let within = stays g g_in is here in
       (rises span.first g within.from g_in (f.variant ∙ sym is), rises g (span.end - 1) (omega (arith, within.before)) (omega (arith, some, turn.end)) (is ∙ sym l.variant)))
       (turn.some some))
       (λ (none : span.end ≤ span.first).
-      subst (λ xs. RowBelow groups prices placed names v (a + 1) xs) (sym (turn.none none))
-      (skips (length groups) names (λ g. (group_at groups g).variant) (λ g. (group_at groups g).count) (may_take groups prices names) (cost_at groups prices names) (λ g. get_or placed (g * names + v) 0) v a (λ w. get_or row w None) (λ w. get_or row w None) before
+      subst (λ xs. RowBelow groups costs placed names v (a + 1) xs) (sym (turn.none none))
+      (skips (length groups) names (λ g. (group_at groups g).variant) (λ g. (group_at groups g).count) (may_take groups costs names) (cost_at groups costs names) (λ g. get_or placed (g * names + v) 0) v a (λ w. get_or row w None) (λ w. get_or row w None) before
       (λ g g_in is here.
       let within = stays g g_in is here in
       absurd (omega (arith, none, within.from, within.before)))))

@@ -1,11 +1,11 @@
--- Arcs that are written anew: those from one name, and those between it and the limits.
+-- Arcs that are written anew: those from one name, and those between it and the root.
 use Rattle.std.proofs.Common.{◌≡◌, ℕ, ◌+◌, ◌-◌, ◌*◌, ◌<◌, ◌≤◌, ⊎_elim, List, length, length-take, length-drop, take, drop, get_or, set, Option, None, ap, ◌∙◌, arith}
 use Rattle.std.proofs.Math.Nat.{mul-le-mul_right}
 use Rattle.std.proofs.lemmas.Bool.{cases_eq, cases_lt}
 use Rattle.std.proofs.lemmas.List.{get_or-take, get_or-drop, get_or-set_same, get_or-set_other, length-set}
 use Rattle.std.proofs.lemmas.Nat.{same_from_place}
 use Rattle.min_cost_flow.proofs.Cells.{cell_in, row_ends}
-use Rattle.min_cost_flow.specs.Residual.{ChangesLimits, ChangesRow, HasArcs}
+use Rattle.min_cost_flow.specs.Residual.{ChangesRootArcs, ChangesRow, HasArcs}
 use Rattle.min_cost_flow.proofs.Places.{put_before, put_inside, put_after}
 use Rattle.shortest_path.specs.Network.{arc_at}
 use Rattle.shortest_path.specs.declared.arc.Arc.{Arc}
@@ -65,24 +65,24 @@ module _ (names name : ℕ) (arcs : List (Option Arc)) (name_in : name < names) 
             (cases_eq v name)
 
   module _ (to from : Option Arc) where
-    abbrev pub limits_set : List (Option Arc)
-    limits_set = set (set arcs (name * (names + 1) + names) to) (names * (names + 1) + name) from
+    abbrev pub root_arcs_set : List (Option Arc)
+    root_arcs_set = set (set arcs (name * (names + 1) + names) to) (names * (names + 1) + name) from
 
     apart : name * (names + 1) + names ≡ names * (names + 1) + name → ⊥
     apart is = let s = same_from_place name names names name (names + 1) (omega arith) (omega (arith, name_in)) is in omega (arith, s.0, name_in)
 
-    pub to_is : arc_at limits_set (names + 1) name names ≡ to
+    pub to_is : arc_at root_arcs_set (names + 1) name names ≡ to
     to_is =
         get_or-set_other (set arcs (name * (names + 1) + names) to) (names * (names + 1) + name) (name * (names + 1) + names) from None apart
         ∙ get_or-set_same arcs (name * (names + 1) + names) to None (omega (arith, size, ends))
 
-    pub from_is : arc_at limits_set (names + 1) names name ≡ from
+    pub from_is : arc_at root_arcs_set (names + 1) names name ≡ from
     from_is =
         get_or-set_same (set arcs (name * (names + 1) + names) to) (names * (names + 1) + name) from None
         (omega (arith, size, length-set arcs (name * (names + 1) + names) to, cell_in (names + 1) (names + 1) names name (omega arith) (omega (arith, name_in))))
 
-    pub limits_change : ChangesLimits names name arcs limits_set
-    limits_change v w v_in w_in not_to not_from =
+    pub root_arcs_change : ChangesRootArcs names name arcs root_arcs_set
+    root_arcs_change v w v_in w_in not_to not_from =
         get_or-set_other (set arcs (name * (names + 1) + names) to) (names * (names + 1) + name) (v * (names + 1) + w) from None
         (λ is. let s = same_from_place v w names name (names + 1) (omega (arith, w_in)) (omega (arith, name_in)) is in not_from s.0 s.1)
         ∙ get_or-set_other arcs (name * (names + 1) + names) (v * (names + 1) + w) to None

@@ -4,7 +4,7 @@ use Rattle.min_cost_flow.specs.Problem.{group_at, names_of, sum_to}
 use Rattle.min_cost_flow.specs.declared.problem.FlowProblem.{FlowProblem}
 use Rattle.shortest_path.specs.Spent.{Spent}
 
--- the names and the limits
+-- the nodes: the names and the root
 abbrev pub nodes_of : FlowProblem → ℕ
 nodes_of p = names_of p + 1
 

@@ -1,5 +1,5 @@
 -- Flows of a problem's points to names, with the arcs of their residual network (Ahuja, Magnanti, Orlin, Network Flows, section
--- 9.2). The numbers of a flow stand by group and then by name; the limits are the node after the names.
+-- 9.2). The numbers of a flow stand by group and then by name; the root is the node after the names.
 use Rattle.std.specs.Prelude.{◌≡◌, ◌≢◌, ℕ, ◌<◌, ◌+◌, ◌*◌, true, List, length, Option, slice_index}
 use Rattle.min_cost_flow.specs.Optimal.{Flows, AreResidual, Pushes}
 use Rattle.min_cost_flow.specs.Problem.{sum_to, group_at, may_take, cost_at, names_of}
@@ -23,8 +23,8 @@ flows_at p placed totals = record {
   names = names_of p;
   low = slice_index p.low.items;
   high = slice_index p.high.items;
-  allowed = may_take p.groups.items p.prices.items (names_of p);
-  cost = cost_at p.groups.items p.prices.items (names_of p);
+  allowed = may_take p.groups.items p.costs.items (names_of p);
+  cost = cost_at p.groups.items p.costs.items (names_of p);
   flow = cell_at placed (names_of p);
   total = slice_index totals;
 }
@@ -37,7 +37,7 @@ pub record IsFlowAt (p : FlowProblem) (numbers sums : List ℕ) (cells : List (O
   pub arcs : length cells ≡ (names_of p + 1) * (names_of p + 1)
   pub spent : (g : ℕ) → g < groups_of p → sum_to (names_of p) (cell_at numbers (names_of p) g) ≡ (group_at p.groups.items g).points
   pub columns : (v : ℕ) → v < names_of p → slice_index sums v ≡ sum_to (groups_of p) (λ g. cell_at numbers (names_of p) g v)
-  pub free : (g v : ℕ) → g < groups_of p → v < names_of p → 0 < cell_at numbers (names_of p) g v → may_take p.groups.items p.prices.items (names_of p) g v ≡ true
+  pub free : (g v : ℕ) → g < groups_of p → v < names_of p → 0 < cell_at numbers (names_of p) g v → may_take p.groups.items p.costs.items (names_of p) g v ≡ true
   pub residual : AreResidual (flows_at p numbers sums) (arc_at cells (names_of p + 1))
 
 -- so many points of a group moved from one name to another, and the totals with them
@@ -47,7 +47,7 @@ pub record IsPushedAt (p : FlowProblem) (numbers sums numbers' sums' : List ℕ)
   pub entered : slice_index sums' to ≡ slice_index sums to + points
   pub others : (v : ℕ) → v ≢ from → v ≢ to → slice_index sums' v ≡ slice_index sums v
 
--- the same of a flow of the program
+-- the same of a flow
 abbrev pub placed_at : FlowProblem → Flow → ℕ → ℕ → ℕ
 placed_at p f g v = cell_at f.placed.items (names_of p) g v
 
@@ -57,7 +57,7 @@ total_at f v = slice_index f.totals.items v
 abbrev pub flows_of : FlowProblem → Flow → Flows
 flows_of p f = flows_at p f.placed.items f.totals.items
 
--- each group with points at a name is in the span of its old variant there
+-- the tables are a flow, and the spans have its groups
 pub record IsFlow (p : FlowProblem) (f : Flow) : Type 0 where
   pub tables : IsFlowAt p f.placed.items f.totals.items f.arcs.items
   pub spans : AreSpans p.groups.items (names_of p) f.placed.items f.spans.items

@@ -1,4 +1,4 @@
--- A flow within the high limits that is brought to meet the low ones.
+-- The second pass: a flow within the high limits is brought to meet the low ones.
 use Rattle.std.specs.Prelude.{◌≡◌, ℕ, ◌+◌, ◌-◌, ◌<◌, ◌≤◌, pos, ◌≤ℤ◌, false, Bool, List, length, nat_lt, slice_index, slice_index_or}
 use Rattle.std.proofs.Common.{neg_ℤ}
 use Rattle.min_cost_flow.specs.Paths.{AreTraced}
@@ -12,9 +12,9 @@ use Rattle.shortest_path.specs.Network.{arc_at}
 use Rattle.shortest_path.specs.declared.search.Search.{Search}
 use Rattle.min_cost_flow.specs.Placing.{IsClosed, reach}
 
--- The flow is within the high limits and optimal by the potentials, which are not above 0 and near it; those of names below their
--- low limits are 0.
-pub record IsMeeting (p : FlowProblem) (f : Flow) (s : Search) : Type 0 where
+-- In the second pass the flow is within the high limits, and optimal by the potentials, which are not above 0 and near it; those of
+-- names below their low limits are 0.
+pub record IsInSecondPass (p : FlowProblem) (f : Flow) (s : Search) : Type 0 where
   pub flow : IsFlow p f
   pub optimal : IsOptimal (flows_of p f) (potential_of s)
   pub size : HasSize (names_of p + 1) s
@@ -27,22 +27,23 @@ pub record IsMeeting (p : FlowProblem) (f : Flow) (s : Search) : Type 0 where
 pub record WantsBelow (p : FlowProblem) (f : Flow) (wanted : List Bool) : Type 0 where
   pub size : length wanted ≡ names_of p + 1
   pub each : (v : ℕ) → v < names_of p → slice_index_or wanted v false ≡ nat_lt (total_at f v) (slice_index p.low.items v)
-  pub limits : slice_index_or wanted (names_of p) false ≡ false
+  pub root : slice_index_or wanted (names_of p) false ≡ false
 
--- the points that the names are below their low limits
-abbrev pub missing : FlowProblem → Flow → ℕ
-missing p f = sum_to (names_of p) (λ v. slice_index p.low.items v - total_at f v)
+-- the deficit of a flow: how many points, in all, the names are below their low limits
+abbrev pub deficit : FlowProblem → Flow → ℕ
+deficit p f = sum_to (names_of p) (λ v. slice_index p.low.items v - total_at f v)
 
--- no name is below its low limit; this one is
+-- no name is below its low limit
 abbrev pub MeetsLow : FlowProblem → Flow → Type 0
 MeetsLow p f = (v : ℕ) → v < names_of p → slice_index p.low.items v ≤ total_at f v
 
+-- this name is below its low limit
 abbrev pub IsBelow : FlowProblem → Flow → ℕ → Type 0
 IsBelow p f v = (v < names_of p) × (total_at f v < slice_index p.low.items v)
 
--- a search has found the shortest path from the limits to a name below its low limit, and its potentials keep the flow optimal
-pub record IsWayBelow (p : FlowProblem) (f : Flow) (s : Search) (last : ℕ) : Type 0 where
-  pub meeting : IsMeeting p f s
+-- a search has found the shortest path from the root to a name below its low limit, and the flow is optimal by the new potentials
+pub record IsPathToDeficit (p : FlowProblem) (f : Flow) (s : Search) (last : ℕ) : Type 0 where
+  pub second_pass : IsInSecondPass p f s
   pub within : last < names_of p
   pub under : total_at f last < slice_index p.low.items last
   pub traced : AreTraced (names_of p) (arc_at f.arcs.items (names_of p + 1)) (potential_of s) (predecessor_of s) (rank_of s) (names_of p) last
@@ -60,6 +61,6 @@ pub record IsStuckBelow (p : FlowProblem) (f : Flow) (s : Search) : Type 0 where
   pub bare : (v : ℕ) → v < names_of p → names_of p + 1 ≤ rank_of s v → total_at f v ≤ slice_index p.low.items v
   pub closed : IsClosed p f s
 
--- the search is stuck so, where there is a name below its low limit
+-- the search is stuck so where a name is below its low limit
 abbrev pub IsStuckIfBelow : FlowProblem → Flow → Search → Type 0
 IsStuckIfBelow p f s = (v : ℕ) → v < names_of p → total_at f v < slice_index p.low.items v → IsStuckBelow p f s

@@ -1,10 +1,10 @@
--- When a flow of points from groups to names costs the least for its totals, as potentials of the names show, and the residual
--- arcs along which points may move (Ahuja, Magnanti, Orlin, Network Flows, sections 9.2 and 9.3).
+-- When a flow of points from groups to names is optimal, as potentials of the names and the root show, and the residual arcs along
+-- which points may move (Ahuja, Magnanti, Orlin, Network Flows, sections 9.2 and 9.3).
 use Rattle.std.specs.Prelude.{◌≡◌, ◌≢◌, ℕ, ◌+◌, ◌<◌, ℤ, pos, ◌+ℤ◌, ◌≤ℤ◌, Bool, true, Option, Some, None}
 use Rattle.shortest_path.specs.declared.arc.Arc.{Arc}
 
--- what a problem asks, and a flow with its totals: groups and names are numbered; a point of a group that a name is given
--- costs so much, where that is allowed
+-- A problem, and a flow with its totals: groups and names are numbered; a point of a group at a name costs so much, where it is
+-- allowed there.
 pub record Flows : Type 0 where
   pub groups : ℕ
   pub names : ℕ
@@ -19,15 +19,15 @@ pub record Flows : Type 0 where
 abbrev pub AreLeast : Flows → (ℕ → ℤ) → Type 0
 AreLeast f potential = (g v w : ℕ) → g < f.groups → v < f.names → w < f.names → 0 < f.flow g v → f.allowed g w ≡ true → (f.cost g v +ℤ potential w) ≤ℤ (f.cost g w +ℤ potential v)
 
--- Each point is at a name of the least cost less potential, a name with room has no potential under that of the limits, and one with points to
--- spare not over them. The limits have the potential of the number after the names.
+-- Each point is at a name of the least cost less potential, a name with room has no potential below that of the root, and one with
+-- points to spare none above it. The root has the number after the names.
 pub record IsOptimal (f : Flows) (potential : ℕ → ℤ) : Type 0 where
   pub least : AreLeast f potential
   pub room : (v : ℕ) → v < f.names → f.total v < f.high v → potential f.names ≤ℤ potential v
   pub spare : (v : ℕ) → v < f.names → f.low v < f.total v → potential v ≤ℤ potential f.names
 
--- The arcs between names are those along which a point may move, each the cheapest; those to and from the limits, which have the
--- number after the names, show which names have room, and which points to spare.
+-- The arcs between names are those along which a point may move, each the cheapest; an arc to the root, which has the number after
+-- the names, shows that a name has room, and one from the root that a name has points to spare.
 pub record AreResidual (f : Flows) (arc : ℕ → ℕ → Option Arc) : Type 0 where
   pub group : (v w : ℕ) (a : Arc) → v < f.names → w < f.names → arc v w ≡ Some a → a.group < f.groups
   pub there : (v w : ℕ) (a : Arc) → v < f.names → w < f.names → arc v w ≡ Some a → 0 < f.flow a.group v

@@ -1,4 +1,4 @@
--- Paths of a residual network, along which points may move at no cost by potentials of the names (Ahuja, Magnanti, Orlin, Network
+-- Augmenting paths of a residual network: points may move along arcs of reduced cost 0 (Ahuja, Magnanti, Orlin, Network
 -- Flows, section 9.7).
 use Rattle.std.specs.Prelude.{◌≡◌, ◌≢◌, ℕ, ◌+◌, ◌-◌, ◌<◌, ◌≤◌, ◌⊎◌, ℤ, ◌+ℤ◌, true, List, [], ◌∷◌, Option, Some, min, slice_index}
 use Rattle.std.specs.List.{All, AllPairs, Any}
@@ -12,13 +12,13 @@ use Rattle.shortest_path.specs.declared.arc.Arc.{Arc}
 use Rattle.min_cost_flow.specs.declared.augmenting.Path.{Path}
 use Rattle.min_cost_flow.specs.declared.augmenting.Step.{Step}
 
--- points of the group may move so
+-- points of the group may move along the step
 pub record IsStep (p : FlowProblem) (f : Flow) (s : Step) : Type 0 where
   pub group : s.group < groups_of p
   pub from : s.from < names_of p
   pub to : s.to < names_of p
   pub apart : s.from ≢ s.to
-  pub allowed : may_take p.groups.items p.prices.items (names_of p) s.group s.to ≡ true
+  pub allowed : may_take p.groups.items p.costs.items (names_of p) s.group s.to ≡ true
   pub there : 0 < placed_at p f s.group s.from
 
 -- the steps lead from the first name to the last
@@ -26,42 +26,42 @@ abbrev pub Leads : ℕ → ℕ → List Step → Type 0
 Leads first last [] = first ≡ last
 Leads first last (s ∷ steps) = (s.to ≡ last) × Leads first s.from steps
 
--- what a point costs less the potential of its name is the same at both names
-abbrev pub IsEven : FlowProblem → (ℕ → ℤ) → Step → Type 0
-IsEven p potential s =
-    (cost_at p.groups.items p.prices.items (names_of p) s.group s.from +ℤ potential s.to) ≡ (cost_at p.groups.items p.prices.items (names_of p) s.group s.to +ℤ potential s.from)
+-- the reduced cost of the step is 0: the cost less the potential of the name is the same at both names
+abbrev pub HasZeroReducedCost : FlowProblem → (ℕ → ℤ) → Step → Type 0
+HasZeroReducedCost p potential s =
+    (cost_at p.groups.items p.costs.items (names_of p) s.group s.from +ℤ potential s.to) ≡ (cost_at p.groups.items p.costs.items (names_of p) s.group s.to +ℤ potential s.from)
 
 -- steps that may be taken one after the other, each away from another name
 pub record IsPath (p : FlowProblem) (f : Flow) (potential : ℕ → ℤ) (first last : ℕ) (steps : List Step) : Type 0 where
   pub begins : first < names_of p
   pub leads : Leads first last steps
   pub each : All (IsStep p f) steps
-  pub even : All (IsEven p potential) steps
+  pub reduced_zero : All (HasZeroReducedCost p potential) steps
   pub apart : AllPairs (λ s t. s.from ≢ t.from) steps
 
--- each node that was settled, and the last one, is the source or comes after another one on a path of reduced costs 0
+-- each settled node, and the last one, is the source or has a predecessor from which an arc of reduced cost 0 leads to it
 abbrev pub AreTraced : ℕ → (ℕ → ℕ → Option Arc) → (ℕ → ℤ) → (ℕ → ℕ) → (ℕ → ℕ) → ℕ → ℕ → Type 0
 AreTraced names arc potential predecessor rank source last = (v : ℕ) → v < names + 1 → (rank v < names + 1) ⊎ (v ≡ last) → (v ≡ source) ⊎ IsTight (names + 1) arc potential predecessor rank v
 
--- a path may begin at the name: it is the source, or an arc leads there from the limits, which were settled
+-- a path may begin at the name: it is the source, or an arc leads to it from the root, which was settled
 abbrev pub MayBegin : FlowProblem → Flow → (ℕ → ℕ) → ℕ → ℕ → Type 0
 MayBegin p f rank source v =
     (v ≡ source) ⊎ ((rank (names_of p) < names_of p + 1) × ((a : Arc) × (arc_at f.arcs.items (names_of p + 1) (names_of p) v ≡ Some a)))
 
--- the path begins at the source, or next to the limits, where these were settled, with an arc of reduced cost 0 from there
+-- the path begins at the source, or at a name to which an arc of reduced cost 0 leads from the root, which was settled
 pub record IsTraced (p : FlowProblem) (f : Flow) (potential : ℕ → ℤ) (rank : ℕ → ℕ) (source last : ℕ) (path : Path) : Type 0 where
   pub steps : IsPath p f potential path.first last path.steps.items
   pub start : (path.first ≡ source) ⊎ ((a : Arc) × (arc_at f.arcs.items (names_of p + 1) (names_of p) path.first ≡ Some a) × (potential path.first ≡ (potential (names_of p) +ℤ a.cost)))
   pub settled : (path.first ≡ source) ⊎ (rank (names_of p) < names_of p + 1)
 
--- So many points are the bottleneck of the steps and of the most that may move: each of these takes them, and one of them no more.
+-- So many points are the bottleneck, of the most that may move: each step takes them, and they are the most or a step takes no more.
 pub record IsBottleneck (p : FlowProblem) (f : Flow) (steps : List Step) (most points : ℕ) : Type 0 where
   pub within : points ≤ most
   pub wide : All (λ s. points ≤ placed_at p f s.group s.from) steps
   pub narrow : (points ≡ most) ⊎ Any (λ s. points ≡ placed_at p f s.group s.from) steps
 
--- Points moved along a path from its first name to the last, as many as its bottleneck takes: a name that is over its limit is not
--- under it now, and one that is under its own not over it.
+-- Points moved along a path from its first name to the last, as many as its bottleneck: the first name is not below its limit now,
+-- and the last one not above its own.
 pub record IsAugmented (p : FlowProblem) (old new : Flow) (potential : ℕ → ℤ) (rank : ℕ → ℕ) (limits : List ℕ) (source last : ℕ) : Type 0 where
   pub first : ℕ
   pub points : ℕ

@@ -1,4 +1,4 @@
--- A flow whose points are placed within the high limits, name by name.
+-- The first pass: points are placed within the high limits, name by name.
 use Rattle.std.specs.Prelude.{◌≡◌, ℕ, ◌*◌, ◌+◌, ◌-◌, ◌<◌, ◌≤◌, pos, ◌≤ℤ◌, true, Bool, List, length, slice_get, slice_index, Some}
 use Rattle.std.proofs.Common.{neg_ℤ}
 use Rattle.min_cost_flow.specs.Paths.{AreTraced}
@@ -11,30 +11,30 @@ use Rattle.shortest_path.specs.Found.{HasSize, predecessor_of, potential_of, ran
 use Rattle.shortest_path.specs.Network.{arc_at, max_cost}
 use Rattle.shortest_path.specs.declared.search.Search.{Search}
 
--- how far potentials fall below that of the node that a search finds
+-- how far potentials fall below that of the wanted node of a search
 abbrev pub reach : ℕ
 reach = 2 * (65 * max_cost)
 
--- the points that the names are above their high limits
+-- the excess of a flow: how many points, in all, the names are above their high limits
 abbrev pub excess : FlowProblem → Flow → ℕ
 excess p f = sum_to (names_of p) (λ v. total_at f v - slice_index p.high.items v)
 
--- the flow is optimal by the potentials, which are not above that of the limits, 0, and near it
-pub record IsMidway (p : FlowProblem) (f : Flow) (s : Search) : Type 0 where
+-- In the first pass the flow is optimal by the potentials: that of the root is 0, and the others are not above it, and near it.
+pub record IsInFirstPass (p : FlowProblem) (f : Flow) (s : Search) : Type 0 where
   pub flow : IsFlow p f
   pub optimal : IsOptimal (flows_of p f) (potential_of s)
   pub size : HasSize (names_of p + 1) s
-  pub limits : potential_of s (names_of p) ≡ pos 0
+  pub root : potential_of s (names_of p) ≡ pos 0
   pub low : (v : ℕ) → v < names_of p + 1 → neg_ℤ (pos reach) ≤ℤ potential_of s v
   pub high : (v : ℕ) → v < names_of p + 1 → potential_of s v ≤ℤ pos 0
 
--- only the limits are wanted
-pub record WantsLimits (p : FlowProblem) (wanted : List Bool) : Type 0 where
+-- only the root is wanted
+pub record WantsRoot (p : FlowProblem) (wanted : List Bool) : Type 0 where
   pub size : length wanted ≡ names_of p + 1
-  pub limits : slice_get wanted (names_of p) ≡ Some true
+  pub root : slice_get wanted (names_of p) ≡ Some true
   pub only : (v : ℕ) → slice_get wanted v ≡ Some true → v ≡ names_of p
 
--- names that were within their high limits are so
+-- names that were within their high limits stay so
 abbrev pub StayPlaced : FlowProblem → Flow → Flow → Type 0
 StayPlaced p old new = (v : ℕ) → total_at old v ≤ slice_index p.high.items v → total_at new v ≤ slice_index p.high.items v
 
@@ -42,13 +42,13 @@ StayPlaced p old new = (v : ℕ) → total_at old v ≤ slice_index p.high.items
 abbrev pub MeetsHigh : FlowProblem → Flow → Type 0
 MeetsHigh p f = (v : ℕ) → v < names_of p → total_at f v ≤ slice_index p.high.items v
 
--- the name is within its high limit, and so are all that were, midway
+-- the name is within its high limit, names that were so stay so, and the flow is still in the first pass
 abbrev pub IsEmptied : FlowProblem → Flow → Flow → Search → ℕ → Type 0
-IsEmptied p old new s from = IsMidway p new s × (total_at new from ≤ slice_index p.high.items from) × StayPlaced p old new
+IsEmptied p old new s from = IsInFirstPass p new s × (total_at new from ≤ slice_index p.high.items from) × StayPlaced p old new
 
--- a search has found the shortest path to the limits, over a name with room, and its potentials are those of a flow midway
-pub record IsWay (p : FlowProblem) (f : Flow) (s : Search) (from last : ℕ) : Type 0 where
-  pub midway : IsMidway p f s
+-- a search has found the shortest path to the root: its last name has room, and the flow is in the first pass by the new potentials
+pub record IsPathToRoom (p : FlowProblem) (f : Flow) (s : Search) (from last : ℕ) : Type 0 where
+  pub first_pass : IsInFirstPass p f s
   pub within : last < names_of p
   pub room : total_at f last < slice_index p.high.items last
   pub level : potential_of s last ≡ potential_of s (names_of p)

@@ -7,8 +7,8 @@ use Rattle.min_cost_flow.specs.declared.problem.FlowProblem.{FlowProblem}
 use Rattle.min_cost_flow.specs.Flow.{cell_at, groups_of}
 use Rattle.shortest_path.specs.Network.{arc_at}
 
--- The arcs from the name `v` are those along which the points `here` may move, each the cheapest: groups and names are numbered,
--- a group's points may take some names, and each is charged so much there.
+-- Each arc from the name `v` is the cheapest move of a point there: groups and names are numbered, so many points of each group are
+-- `here`, a group's points may take some names, and each is charged so much there.
 pub record IsRow (groups names : ℕ) (may : ℕ → ℕ → Bool) (charge : ℕ → ℕ → ℤ) (here : ℕ → ℕ) (v : ℕ) (arc : ℕ → Option Arc) : Type 0 where
   pub group : (w : ℕ) (a : Arc) → w < names → arc w ≡ Some a → a.group < groups
   pub there : (w : ℕ) (a : Arc) → w < names → arc w ≡ Some a → 0 < here a.group
@@ -16,37 +16,37 @@ pub record IsRow (groups names : ℕ) (may : ℕ → ℕ → Bool) (charge : ℕ
   pub cost : (w : ℕ) (a : Arc) → w < names → arc w ≡ Some a → (charge a.group v +ℤ a.cost) ≡ charge a.group w
   pub least : (g w : ℕ) → g < groups → w < names → 0 < here g → may g w ≡ true → (a : Arc) × (arc w ≡ Some a) × ((charge g v +ℤ a.cost) ≤ℤ charge g w)
 
--- a point of the group goes along the arc
-pub record IsWay (may : ℕ → ℕ → Bool) (charge : ℕ → ℕ → ℤ) (g v w : ℕ) (a : Arc) : Type 0 where
-  pub by : a.group ≡ g
+-- the arc is a move of a point of the group
+pub record IsMove (may : ℕ → ℕ → Bool) (charge : ℕ → ℕ → ℤ) (g v w : ℕ) (a : Arc) : Type 0 where
+  pub same_group : a.group ≡ g
   pub allowed : may g w ≡ true
   pub cost : (charge g v +ℤ a.cost) ≡ charge g w
 
--- the arcs from the name take the ways of a group's points where these cost less
-pub record IsWidened (names : ℕ) (may : ℕ → ℕ → Bool) (charge : ℕ → ℕ → ℤ) (g v : ℕ) (old new : ℕ → Option Arc) : Type 0 where
-  pub change : (w : ℕ) (a : Arc) → w < names → new w ≡ Some a → (old w ≡ Some a) ⊎ IsWay may charge g v w a
+-- the arcs from the name take the moves of a group's points where these are cheaper
+pub record TakesMoves (names : ℕ) (may : ℕ → ℕ → Bool) (charge : ℕ → ℕ → ℤ) (g v : ℕ) (old new : ℕ → Option Arc) : Type 0 where
+  pub change : (w : ℕ) (a : Arc) → w < names → new w ≡ Some a → (old w ≡ Some a) ⊎ IsMove may charge g v w a
   pub covers : (w : ℕ) → w < names → may g w ≡ true → (a : Arc) × (new w ≡ Some a) × ((charge g v +ℤ a.cost) ≤ℤ charge g w)
   pub less : (w : ℕ) (known : Arc) → w < names → old w ≡ Some known → (a : Arc) × (new w ≡ Some a) × (a.cost ≤ℤ known.cost)
 
 -- the same of two groups, one after the other
-abbrev pub AreWidened : (names : ℕ) (may : ℕ → ℕ → Bool) (charge : ℕ → ℕ → ℤ) (g h v : ℕ) (old new : ℕ → Option Arc) → Type 0
-AreWidened names may charge g h v old new = (mid : ℕ → Option Arc) × IsWidened names may charge g v old mid × IsWidened names may charge h v mid new
+abbrev pub TakesMovesOfBoth : (names : ℕ) (may : ℕ → ℕ → Bool) (charge : ℕ → ℕ → ℤ) (g h v : ℕ) (old new : ℕ → Option Arc) → Type 0
+TakesMovesOfBoth names may charge g h v old new = (mid : ℕ → Option Arc) × TakesMoves names may charge g v old mid × TakesMoves names may charge h v mid new
 
--- each arc is a way of a group with points at the name
-pub record AreWays (groups names : ℕ) (may : ℕ → ℕ → Bool) (charge : ℕ → ℕ → ℤ) (here : ℕ → ℕ) (v : ℕ) (arc : ℕ → Option Arc) : Type 0 where
+-- each arc is a move of a group with points at the name
+pub record AreMoves (groups names : ℕ) (may : ℕ → ℕ → Bool) (charge : ℕ → ℕ → ℤ) (here : ℕ → ℕ) (v : ℕ) (arc : ℕ → Option Arc) : Type 0 where
   pub group : (w : ℕ) (a : Arc) → w < names → arc w ≡ Some a → a.group < groups
   pub there : (w : ℕ) (a : Arc) → w < names → arc w ≡ Some a → 0 < here a.group
-  pub way : (w : ℕ) (a : Arc) → w < names → arc w ≡ Some a → IsWay may charge a.group v w a
+  pub move : (w : ℕ) (a : Arc) → w < names → arc w ≡ Some a → IsMove may charge a.group v w a
 
--- no way of a point of the group costs less than the arcs
+-- no move of a point of the group is cheaper than the arcs
 abbrev pub IsCovered : ℕ → (ℕ → ℕ → Bool) → (ℕ → ℕ → ℤ) → ℕ → (ℕ → Option Arc) → ℕ → Type 0
 IsCovered names may charge v arc g = (w : ℕ) → w < names → may g w ≡ true → (a : Arc) × (arc w ≡ Some a) × ((charge g v +ℤ a.cost) ≤ℤ charge g w)
 
--- no arc is lost, or costs more than before
+-- no arc is lost, or is dearer than before
 abbrev pub IsLower : ℕ → (ℕ → Option Arc) → (ℕ → Option Arc) → Type 0
 IsLower names old new = (w : ℕ) (known : Arc) → w < names → old w ≡ Some known → (a : Arc) × (new w ≡ Some a) × (a.cost ≤ℤ known.cost)
 
--- each group with points at the name has one of its old variant with no more inputs, or no fewer, whose ways cost no less than
+-- each group with points at the name has one of its old variant with no more inputs, or no fewer, whose moves cost no less than
 -- the arcs
 abbrev pub HaveFirst : (groups names : ℕ) (variant count : ℕ → ℕ) (may : ℕ → ℕ → Bool) (charge : ℕ → ℕ → ℤ) (here : ℕ → ℕ) (v : ℕ) (arc : ℕ → Option Arc) → Type 0
 HaveFirst groups names variant count may charge here v arc =
@@ -56,23 +56,20 @@ abbrev pub HaveLast : (groups names : ℕ) (variant count : ℕ → ℕ) (may : 
 HaveLast groups names variant count may charge here v arc =
     (g : ℕ) → g < groups → 0 < here g → (h : ℕ) × (h < groups) × (variant h ≡ variant g) × (count g ≤ count h) × IsCovered names may charge v arc h
 
--- The same of tables: the groups, the prices by old name and then by new name, the points placed by group and then by name, and
--- the row of arcs from a name.
-abbrev pub points_at : List ℕ → ℕ → ℕ → ℕ → ℕ
-points_at placed names v g = slice_index placed (g * names + v)
-
+-- The same of tables: the groups, the switch costs by old name and then by new name, the points placed by group and then by name,
+-- and the row of arcs from a name.
 abbrev pub arc_to : List (Option Arc) → ℕ → Option Arc
 arc_to row w = slice_index_or row w None
 
 abbrev pub IsRowOf : List Group → List (Option ℤ) → List ℕ → ℕ → ℕ → List (Option Arc) → Type 0
-IsRowOf groups prices placed names v row =
-    IsRow (length groups) names (may_take groups prices names) (cost_at groups prices names) (points_at placed names v) v (arc_to row)
+IsRowOf groups costs placed names v row =
+    IsRow (length groups) names (may_take groups costs names) (cost_at groups costs names) (λ g. cell_at placed names g v) v (arc_to row)
 
-abbrev pub IsWidenedOf : List Group → List (Option ℤ) → ℕ → ℕ → ℕ → List (Option Arc) → List (Option Arc) → Type 0
-IsWidenedOf groups prices names g v old new = IsWidened names (may_take groups prices names) (cost_at groups prices names) g v (arc_to old) (arc_to new)
+abbrev pub TakesMovesIn : List Group → List (Option ℤ) → ℕ → ℕ → ℕ → List (Option Arc) → List (Option Arc) → Type 0
+TakesMovesIn groups costs names g v old new = TakesMoves names (may_take groups costs names) (cost_at groups costs names) g v (arc_to old) (arc_to new)
 
-abbrev pub AreWidenedOf : List Group → List (Option ℤ) → ℕ → ℕ → ℕ → ℕ → List (Option Arc) → List (Option Arc) → Type 0
-AreWidenedOf groups prices names g h v old new = AreWidened names (may_take groups prices names) (cost_at groups prices names) g h v (arc_to old) (arc_to new)
+abbrev pub TakesMovesOfBothIn : List Group → List (Option ℤ) → ℕ → ℕ → ℕ → ℕ → List (Option Arc) → List (Option Arc) → Type 0
+TakesMovesOfBothIn groups costs names g h v old new = TakesMovesOfBoth names (may_take groups costs names) (cost_at groups costs names) g h v (arc_to old) (arc_to new)
 
 -- a cell for each two nodes
 abbrev pub HasArcs : ℕ → List (Option Arc) → Type 0
@@ -81,29 +78,29 @@ HasArcs names arcs = length arcs ≡ (names + 1) * (names + 1)
 -- the arcs from the name to others are right for the points here
 abbrev pub HasRow : FlowProblem → (ℕ → ℕ) → ℕ → List (Option Arc) → Type 0
 HasRow p here v arcs =
-    IsRow (groups_of p) (names_of p) (may_take p.groups.items p.prices.items (names_of p)) (cost_at p.groups.items p.prices.items (names_of p)) here v (arc_at arcs (names_of p + 1) v)
+    IsRow (groups_of p) (names_of p) (may_take p.groups.items p.costs.items (names_of p)) (cost_at p.groups.items p.costs.items (names_of p)) here v (arc_at arcs (names_of p + 1) v)
 
 -- no group has points at the name that may not be there
 abbrev pub MayBe : FlowProblem → List ℕ → ℕ → Type 0
-MayBe p placed v = (g : ℕ) → g < groups_of p → 0 < cell_at placed (names_of p) g v → may_take p.groups.items p.prices.items (names_of p) g v ≡ true
+MayBe p placed v = (g : ℕ) → g < groups_of p → 0 < cell_at placed (names_of p) g v → may_take p.groups.items p.costs.items (names_of p) g v ≡ true
 
 -- only arcs from the name to others changed
 abbrev pub ChangesRow : ℕ → ℕ → List (Option Arc) → List (Option Arc) → Type 0
 ChangesRow names name old new = (v w : ℕ) → v ≤ names → w ≤ names → (v ≡ name → w < names → ⊥) → arc_at new (names + 1) v w ≡ arc_at old (names + 1) v w
 
 -- there is an arc just where one number is below another, and it costs nothing
-pub record IsLimitArc (less more : ℕ) (arc : Option Arc) : Type 0 where
+pub record IsRootArc (less more : ℕ) (arc : Option Arc) : Type 0 where
   pub only : (a : Arc) → arc ≡ Some a → (less < more) × (a.cost ≡ pos 0)
   pub has : less < more → (a : Arc) × (arc ≡ Some a) × (a.cost ≡ pos 0)
 
--- one leads to the limits just where the name has room, and one from there just where it has points to spare
-pub record HasLimits (p : FlowProblem) (total v : ℕ) (arcs : List (Option Arc)) : Type 0 where
-  pub room : IsLimitArc total (slice_index p.high.items v) (arc_at arcs (names_of p + 1) v (names_of p))
-  pub spare : IsLimitArc (slice_index p.low.items v) total (arc_at arcs (names_of p + 1) (names_of p) v)
+-- an arc leads to the root just where the name has room, and one from the root just where it has points to spare
+pub record HasRootArcs (p : FlowProblem) (total v : ℕ) (arcs : List (Option Arc)) : Type 0 where
+  pub room : IsRootArc total (slice_index p.high.items v) (arc_at arcs (names_of p + 1) v (names_of p))
+  pub spare : IsRootArc (slice_index p.low.items v) total (arc_at arcs (names_of p + 1) (names_of p) v)
 
--- only the arcs between the name and the limits changed
-abbrev pub ChangesLimits : ℕ → ℕ → List (Option Arc) → List (Option Arc) → Type 0
-ChangesLimits names name old new =
+-- only the arcs between the name and the root changed
+abbrev pub ChangesRootArcs : ℕ → ℕ → List (Option Arc) → List (Option Arc) → Type 0
+ChangesRootArcs names name old new =
     (v w : ℕ) → v ≤ names → w ≤ names → (v ≡ name → w ≡ names → ⊥) → (v ≡ names → w ≡ name → ⊥) → arc_at new (names + 1) v w ≡ arc_at old (names + 1) v w
 
 -- the points here are as before but those of a group

@@ -1,4 +1,4 @@
--- The groups of each old variant that may have points at a name.
+-- Spans of the groups of an old variant among which are all that have points at a name.
 use Rattle.std.specs.Prelude.{◌≡◌, ℕ, ◌<◌, ◌≤◌, ◌+◌, ◌*◌, List, length, slice_index, slice_index_or}
 use Rattle.min_cost_flow.specs.Problem.{group_at}
 use Rattle.min_cost_flow.specs.declared.problem.Group.{Group}

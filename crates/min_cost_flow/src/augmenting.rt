@@ -3,7 +3,7 @@ ghost use Rattle.std.specs.List.{All, AllPairs};
 ghost use Rattle.std.specs.Prelude.{◌≡◌, ◌<◌, ◌≤◌, ◌+◌, ◌-◌, ℕ, OnOk, length, min, slice_index, ◌≢◌, ◌*◌, ◌⊎◌, Some, IfOk, MatchOption, ◌==◌, ℤ, if◌then◌else◌};
 ghost use Rattle.min_cost_flow.specs.Flow.{IsFlow, flows_of, total_at, placed_at};
 ghost use Rattle.min_cost_flow.specs.Optimal.{AreLeast};
-ghost use Rattle.min_cost_flow.specs.Paths.{AreTraced, IsAugmented, MayBegin, IsTraced, IsBottleneck, IsEven, IsStep, Leads};
+ghost use Rattle.min_cost_flow.specs.Paths.{AreTraced, IsAugmented, MayBegin, IsTraced, IsBottleneck, HasZeroReducedCost, IsStep, Leads};
 ghost use Rattle.min_cost_flow.specs.Problem.{IsFlowProblem, names_of};
 ghost use Rattle.shortest_path.specs.Found.{HasSize, predecessor_of, potential_of, rank_of};
 ghost use Rattle.shortest_path.specs.Network.{arc_at};
@@ -21,15 +21,15 @@ pub(crate) struct Step {
     pub to: usize,
 }
 
-/// The steps from a first name on, the last one first.
+/// A path of the residual network: its first name, and its steps, the last one first.
 #[derive(Drop)]
 pub(crate) struct Path {
     pub first: usize,
     pub steps: Vec<Step>,
 }
 
-/// Moves points along the path that was found to a name: as many as its narrowest step takes, as its first name has over its
-/// limit, and as the last one lacks to its own. Where memory runs out, the flow is as it was.
+/// Moves points along the path that was found to a name: as many as its bottleneck, and no more than its first name has over its
+/// limit and the last one lacks to its own. Where memory runs out, the flow is as it was.
 pub(crate) fn augment(
     alloc: Global,
     problem: &FlowProblem,
@@ -55,7 +55,7 @@ pub(crate) fn augment(
     let path = trace(alloc, problem, flow, search, source, last)?;
     let most = room_between(flow.totals.as_slice(), limits, path.first, last);
     let steps = path.steps.as_slice();
-    let points = narrowest(problem, flow, steps, most);
+    let points = bottleneck(problem, flow, steps, most);
     push_along(problem, flow, steps, points);
     Ok(())
 }
@@ -72,8 +72,7 @@ fn room_between(totals: &[u32], limits: &[u32], first: usize, last: usize) -> u3
     (totals[first] - limits[first]).min(limits[last] - totals[last])
 }
 
-/// The path to a name, followed back over the nodes before it: up to the source, or, from the limits, to the name that is next
-/// to them.
+/// The path to a name, traced back over the predecessors: up to the source, or to the name whose predecessor is the root.
 pub(crate) fn trace(
     alloc: Global,
     problem: &FlowProblem,
@@ -100,7 +99,7 @@ pub(crate) fn trace(
     Ok(Path { first: to, steps })
 }
 
-/// The name before this one on the path to it; none before the first.
+/// The predecessor of a name on the path to it; none of the first name.
 fn name_before(predecessors: &[usize], names: usize, source: usize, name: usize) -> Option<usize>
     requires { name < length predecessors.now }
     ensures { MatchOption result
@@ -128,8 +127,8 @@ fn group_between(arcs: &[Option<Arc>], names: usize, from: usize, to: usize) -> 
     }
 }
 
-/// The most points, up to so many, that each step of a path may take: the bottleneck of the path.
-pub(crate) fn narrowest(problem: &FlowProblem, flow: &Flow, steps: &[Step], most: u32) -> u32
+/// The bottleneck of a path: the most points, up to so many, that each step takes.
+pub(crate) fn bottleneck(problem: &FlowProblem, flow: &Flow, steps: &[Step], most: u32) -> u32
     requires problem { IsFlowProblem problem.now }
     requires flow { IsFlow problem.now flow.now }
     requires steps { All (IsStep problem.now flow.now) steps.now }
@@ -162,7 +161,7 @@ pub(crate) fn push_along(problem: &FlowProblem, flow: &mut Flow, steps: &[Step],
     requires some { 0 < points }
     requires wide { All (λ s. points ≤ placed_at problem.now flow.old s.group s.from) steps.now }
     ensures flow { IsFlow problem.now flow.new }
-    ensures least { (potential : ℕ → ℤ) → All (IsEven problem.now potential) steps.now → AreLeast (flows_of problem.now flow.old) potential → AreLeast (flows_of problem.now flow.new) potential }
+    ensures least { (potential : ℕ → ℤ) → All (HasZeroReducedCost problem.now potential) steps.now → AreLeast (flows_of problem.now flow.old) potential → AreLeast (flows_of problem.now flow.new) potential }
     ensures totals { (first last : ℕ) → Leads first last steps.now → (v : ℕ)
         → total_at flow.new v + (if v == first then points else 0) ≡ total_at flow.old v + (if v == last then points else 0) }
 {

@@ -4,7 +4,7 @@ ghost use Rattle.min_cost_flow.specs.Cheapest.{IsCheapest};
 ghost use Rattle.min_cost_flow.specs.Effort.{Searches, nodes_of, points_of};
 ghost use Rattle.min_cost_flow.specs.Flow.{IsFlow};
 ghost use Rattle.min_cost_flow.specs.Meeting.{IsStuckBelow};
-ghost use Rattle.min_cost_flow.specs.Placing.{IsMidway, IsStuckAbove};
+ghost use Rattle.min_cost_flow.specs.Placing.{IsInFirstPass, IsStuckAbove};
 ghost use Rattle.min_cost_flow.specs.Problem.{IsFlowProblem};
 
 use crate::flow::Flow;
@@ -15,14 +15,14 @@ use shortest_path::{Effort, Search};
 use std::alloc::{AllocError, Global};
 use std::sync::ledger::Ledger;
 
-/// How the passes ended.
+/// How the two passes ended.
 #[derive(Clone, Copy, Debug, PartialEq, Eq)]
 pub enum Outcome {
     /// Each name is within its limits, at the least cost.
     Cheapest,
-    /// The first pass failed: the names that the last search settled are full, and no point leaves them.
+    /// The first pass failed: the names that the last search settled are full, and no point may leave them.
     Over,
-    /// The second pass failed: the names that the last search did not settle have no points to spare, and none enters them.
+    /// The second pass failed: the names that the last search did not settle have no points to spare, and no point may enter them.
     Under,
 }
 
@@ -34,9 +34,9 @@ pub struct Passed {
     pub search: Search,
 }
 
-/// The cheapest flow within all limits, or one that shows that there is none. Augmentations and settlings are counted: there are at
-/// most as many augmentations as points in each of the two passes, and one search more than augmentations, each of which settles
-/// each name and the limits at most once. A search takes `O(k^2)` steps at k names.
+/// The cheapest flow within all limits, or one that shows that there is none. Augmentations and settlings are counted: each of the
+/// two passes makes at most as many augmentations as there are points. There is at most one search more than augmentations, and
+/// each search settles each name and the root at most once, in `O(k^2)` steps at k names.
 pub fn cheapest_flow<L: Ledger>(
     alloc: Global,
     problem: &FlowProblem,
@@ -69,7 +69,7 @@ fn pass<L: Ledger>(
     effort: &mut Effort<L>,
 ) -> Result<Outcome, AllocError>
     requires problem { IsFlowProblem problem.now }
-    requires midway { IsMidway problem.now flow.old search.old }
+    requires first_pass { IsInFirstPass problem.now flow.old search.old }
     ensures flow { OnOk result (IsFlow problem.now flow.new) }
     ensures cheapest { IfOk result (λ outcome. outcome ≡ Outcome.Cheapest → IsCheapest problem.now flow.new search.new) }
     ensures over { IfOk result (λ outcome. outcome ≡ Outcome.Over → IsStuckAbove problem.now flow.new search.new) }

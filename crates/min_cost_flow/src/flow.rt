@@ -1,4 +1,4 @@
-//! A flow, and its points as they move.
+//! A flow, and its residual arcs as points move.
 ghost use Rattle.std.specs.Prelude.{◌≡◌, ◌≢◌, ◌<◌, ◌≤◌, IfOk, true, pos, ◌+◌, ◌^◌, ℕ, length, slice_index};
 ghost use Rattle.min_cost_flow.specs.Flow.{IsFlow, IsPushed, flows_of, groups_of, placed_at, IsFlowAt, IsPushedAt, cell_at};
 ghost use Rattle.min_cost_flow.specs.Optimal.{IsOptimal};
@@ -7,13 +7,13 @@ ghost use Rattle.min_cost_flow.specs.Spans.{AreSpans};
 
 use crate::initial::begin;
 use crate::problem::FlowProblem;
-use crate::residual::{arrive, leave, rebuild_limits};
+use crate::residual::{arrive, leave, rebuild_root_arcs};
 use crate::span::{Span, widen};
 use shortest_path::Arc;
 use std::alloc::{AllocError, Global};
 
-/// How many points of each group each name has, and along which arcs points may move. Names are numbered from 0, and the limits
-/// are the node after them.
+/// How many points of each group are at each name, and the residual arcs along which they may move. Names are numbered from 0,
+/// and the root is the node after them.
 #[derive(Drop)]
 pub struct Flow {
     /// The points of each group at each name, by rows of the groups.
@@ -21,14 +21,14 @@ pub struct Flow {
     /// The points at each name.
     pub totals: Vec<u32>,
     /// The cheapest arc from each node to each other one, by rows of the nodes that they leave; none where no point can move so.
-    /// A name with room has an arc of cost 0 to the limits, and one with points to spare has one from there.
+    /// An arc of cost 0 leads to the root from each name with room, and from the root to each name with points to spare.
     pub arcs: Vec<Option<Arc>>,
     /// The groups of each old variant among which are all that have points at a name, by rows of the names.
     pub spans: Vec<Span>,
 }
 
 impl Flow {
-    /// Each point keeps its variant, which costs nothing.
+    /// The flow in which each point keeps its old variant, at no cost.
     pub fn initial(alloc: Global, problem: &FlowProblem) -> Result<Flow, AllocError>
         requires problem { IsFlowProblem problem.now }
         ensures flow { IfOk result (IsFlow problem.now) }
@@ -61,7 +61,7 @@ impl Flow {
         requires from { from < names_of problem.now }
         requires to { to < names_of problem.now }
         requires apart { from ≢ to }
-        requires allowed { may_take problem.now.groups.items problem.now.prices.items (names_of problem.now) group to ≡ true }
+        requires allowed { may_take problem.now.groups.items problem.now.costs.items (names_of problem.now) group to ≡ true }
         requires some { 0 < points }
         requires points { points ≤ placed_at problem.now self.old group from }
         ensures flow { IsFlow problem.now self.new }
@@ -100,7 +100,7 @@ pub(crate) fn push_points(
     requires from { from < names_of problem.now }
     requires to { to < names_of problem.now }
     requires apart { from ≢ to }
-    requires allowed { may_take problem.now.groups.items problem.now.prices.items (names_of problem.now) group to ≡ true }
+    requires allowed { may_take problem.now.groups.items problem.now.costs.items (names_of problem.now) group to ≡ true }
     requires some { 0 < points }
     requires points { points ≤ cell_at placed.old (names_of problem.now) group from }
     ensures flow { IsFlowAt problem.now placed.new totals.new arcs.new }
@@ -116,8 +116,8 @@ pub(crate) fn push_points(
     widen(spans, &problem.groups, names, group, to);
     leave(arcs, spans, problem, placed, group, from);
     arrive(arcs, problem, group, to, before);
-    rebuild_limits(arcs, problem, totals, from);
-    rebuild_limits(arcs, problem, totals, to);
+    rebuild_root_arcs(arcs, problem, totals, from);
+    rebuild_root_arcs(arcs, problem, totals, to);
 }
 
 /// So many points move from one cell to another.

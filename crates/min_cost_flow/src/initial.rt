@@ -3,13 +3,13 @@ ghost use Rattle.std.specs.Prelude.{◌≡◌, ◌<◌, ◌≤◌, ◌*◌, ◌+
 ghost use Rattle.min_cost_flow.specs.Flow.{IsFlowAt, cell_at, flows_at, groups_of};
 ghost use Rattle.min_cost_flow.specs.Optimal.{IsOptimal};
 ghost use Rattle.min_cost_flow.specs.Problem.{IsFlowProblem, group_at, names_of, sum_to};
-ghost use Rattle.min_cost_flow.specs.Residual.{HasArcs, HasLimits, HasRow, MayBe};
+ghost use Rattle.min_cost_flow.specs.Residual.{HasArcs, HasRootArcs, HasRow, MayBe};
 ghost use Rattle.min_cost_flow.specs.Spans.{AreSpans, IsIn, no_span, span_at};
 ghost use Rattle.min_cost_flow.specs.Initial.{at_home};
 ghost use Rattle.shortest_path.specs.Network.{arc_at};
 
 use crate::problem::{FlowProblem, Group};
-use crate::residual::{rebuild_from, rebuild_limits};
+use crate::residual::{rebuild_from, rebuild_root_arcs};
 use crate::span::{Span, widen};
 use shortest_path::Arc;
 
@@ -89,12 +89,12 @@ fn begin_arcs(
     requires free { (v : ℕ) → v < names_of problem.now → MayBe problem.now placed.now v }
     requires spans { AreSpans problem.now.groups.items (names_of problem.now) placed.now spans.old }
     ensures rows { (v : ℕ) → v < names_of problem.now → HasRow problem.now (λ g. cell_at placed.now (names_of problem.now) g v) v arcs.new }
-    ensures limits { (v : ℕ) → v < names_of problem.now → HasLimits problem.now (slice_index totals.now v) v arcs.new }
+    ensures root { (v : ℕ) → v < names_of problem.now → HasRootArcs problem.now (slice_index totals.now v) v arcs.new }
     ensures none { arc_at arcs.new (names_of problem.now + 1) (names_of problem.now) (names_of problem.now) ≡ None }
     ensures spans { AreSpans problem.now.groups.items (names_of problem.now) placed.now spans.new }
 {
     for name in 0..problem.high.len() {
         rebuild_from(arcs, spans, problem, placed, name);
-        rebuild_limits(arcs, problem, totals, name);
+        rebuild_root_arcs(arcs, problem, totals, name);
     }
 }

@@ -1,5 +1,5 @@
-//! Flows of least cost: groups of points are spread over names within the limits of each name, where a switch of a point costs
-//! so much for each input recorded there (Ahuja, Magnanti, Orlin, Network Flows, sections 9.2, 9.3 and 9.7). Points move along
+//! Flows of least cost: groups of points are spread over names within the limits of each name, and each switch of a point has a
+//! cost for each input recorded there (Ahuja, Magnanti, Orlin, Network Flows, sections 9.2, 9.3 and 9.7). Points move along
 //! shortest paths of the residual network, first until no name is above its high limit, then until none is below its low one.
 //!
 //! ```rust
@@ -20,11 +20,11 @@
 //!
 //! The modules, each over those before it, with what is proved:
 //!
-//! - `problem`: [`FlowProblem`], the problem in numbers. Names are 0 to k-1, and the limits are the node after them.
+//! - `problem`: [`FlowProblem`], the problem in numbers. Names are 0 to k-1, and the root is the node after them.
 //! - `optimal`: two laws, which compute nothing. [`optimality`]: a flow is optimal for its totals by potentials just where
 //!   no residual arc has a negative reduced cost by them. [`pushing`]: points that move along arcs of reduced cost 0 stay at
 //!   names of the least cost less potential.
-//! - `span`, `residual`: the arcs from a name are the cheapest ways of the points that are there (`IsRow`). Of the groups of an
+//! - `span`, `residual`: the arcs from a name are the cheapest moves of the points that are there (`IsRow`). Of the groups of an
 //!   old variant the first or the last one with points at the name has the cheapest; these are found in a [`Span`] of the groups.
 //! - `initial`, `flow`: a [`Flow`] begins as the one in which each point keeps its variant, which is optimal by potentials of 0. It
 //!   stays a flow with its residual arcs (`IsFlow`) as points are pushed, so also midway along a path.

@@ -2,9 +2,9 @@
 ghost use Rattle.std.specs.Prelude.{◌≡◌, ◌≤◌, ◌<◌, ◌+◌, IfOk, IsTrue, MatchBool, MatchOption, MatchResult, OnOk, false, length, nat_lt, slice_index, slice_index_or};
 ghost use Rattle.min_cost_flow.specs.Effort.{Searches, nodes_of};
 ghost use Rattle.min_cost_flow.specs.Flow.{IsFlow, total_at};
-ghost use Rattle.min_cost_flow.specs.Meeting.{IsBelow, IsMeeting, IsStuckBelow, IsStuckIfBelow, IsWayBelow, MeetsLow, WantsBelow, missing};
+ghost use Rattle.min_cost_flow.specs.Meeting.{IsBelow, IsInSecondPass, IsStuckBelow, IsStuckIfBelow, IsPathToDeficit, MeetsLow, WantsBelow, deficit};
 ghost use Rattle.min_cost_flow.specs.Problem.{IsFlowProblem, names_of};
-ghost use Rattle.shortest_path.specs.Spent.{Settles};
+ghost use Rattle.shortest_path.specs.Spent.{HasSettledAtMost};
 
 use crate::augmenting::augment;
 use crate::flow::Flow;
@@ -13,8 +13,8 @@ use shortest_path::{Effort, Search};
 use std::alloc::{AllocError, Global};
 use std::sync::ledger::Ledger;
 
-/// Moves points to the names below their low limits, each time along a shortest path from the names that have more than theirs.
-/// Answers whether none is below; if not, the last search reached no such name.
+/// Moves points to the names below their low limits, each time along a shortest path from the root, so from a name with points to
+/// spare. Answers whether none is below now; if not, the last search reached no such name.
 pub(crate) fn meet_low<L: Ledger>(
     alloc: Global,
     problem: &FlowProblem,
@@ -23,11 +23,11 @@ pub(crate) fn meet_low<L: Ledger>(
     effort: &mut Effort<L>,
 ) -> Result<bool, AllocError>
     requires problem { IsFlowProblem problem.now }
-    requires meeting { IsMeeting problem.now flow.old search.old }
+    requires second_pass { IsInSecondPass problem.now flow.old search.old }
     ensures met { IfOk result (λ met. MatchBool met
-        (IsMeeting problem.now flow.new search.new × MeetsLow problem.now flow.new)
+        (IsInSecondPass problem.now flow.new search.new × MeetsLow problem.now flow.new)
         (IsStuckBelow problem.now flow.new search.new)) }
-    ensures augmentations { effort.new.augmentations ≤ effort.old.augmentations + missing problem.now flow.old }
+    ensures augmentations { effort.new.augmentations ≤ effort.old.augmentations + deficit problem.now flow.old }
     ensures searches { Searches (nodes_of problem.now) 1 effort.old effort.new }
     ensures found { IfOk result (λ met. IsTrue met → Searches (nodes_of problem.now) 0 effort.old effort.new) }
 {
@@ -71,7 +71,7 @@ fn mark_wanted(wanted: &mut [bool], problem: &FlowProblem, flow: &Flow)
     requires problem { IsFlowProblem problem.now }
     requires flow { IsFlow problem.now flow.now }
     requires size { length wanted.old ≡ names_of problem.now + 1 }
-    requires limits { slice_index_or wanted.old (names_of problem.now) false ≡ false }
+    requires root { slice_index_or wanted.old (names_of problem.now) false ≡ false }
     ensures { WantsBelow problem.now flow.now wanted.new }
 {
     for name in 0..problem.high.len() {
@@ -88,11 +88,11 @@ fn find_below<L: Ledger>(
     effort: &mut Effort<L>,
 ) -> Option<usize>
     requires problem { IsFlowProblem problem.now }
-    requires meeting { IsMeeting problem.now flow.now search.old }
+    requires second_pass { IsInSecondPass problem.now flow.now search.old }
     requires wanted { WantsBelow problem.now flow.now wanted.now }
-    ensures way { MatchOption result
-        (IsStuckIfBelow problem.now flow.now search.new) (λ last. IsWayBelow problem.now flow.now search.new last) }
-    ensures effort { Settles (nodes_of problem.now) effort.old effort.new }
+    ensures path { MatchOption result
+        (IsStuckIfBelow problem.now flow.now search.new) (λ last. IsPathToDeficit problem.now flow.now search.new last) }
+    ensures effort { HasSettledAtMost (nodes_of problem.now) effort.old effort.new }
 {
     search.find(flow.arcs.as_slice(), wanted, problem.high.len(), effort)
 }
@@ -107,9 +107,9 @@ fn fill_below<L: Ledger>(
     effort: &mut Effort<L>,
 ) -> Result<(), AllocError>
     requires problem { IsFlowProblem problem.now }
-    requires way { IsWayBelow problem.now flow.old search.now last }
-    ensures meeting { OnOk result (IsMeeting problem.now flow.new search.now) }
-    ensures fewer { OnOk result (missing problem.now flow.new < missing problem.now flow.old) }
+    requires path { IsPathToDeficit problem.now flow.old search.now last }
+    ensures second_pass { OnOk result (IsInSecondPass problem.now flow.new search.now) }
+    ensures fewer { OnOk result (deficit problem.now flow.new < deficit problem.now flow.old) }
     ensures augmentations { MatchResult result (λ _. effort.new.augmentations ≡ effort.old.augmentations + 1) (λ _. effort.new.augmentations ≡ effort.old.augmentations) }
     ensures settlings { effort.new.settlings ≡ effort.old.settlings }
 {

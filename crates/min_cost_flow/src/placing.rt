@@ -1,10 +1,10 @@
 //! The first pass: all points are placed within the high limits.
-ghost use Rattle.std.specs.Prelude.{◌≤◌, ◌+◌, IfOk, IsTrue, MatchBool, ◌≡◌, ◌<◌, ℕ, MatchOption, MatchResult, OnOk, slice_index};
+ghost use Rattle.std.specs.Prelude.{◌≤◌, ◌+◌, IfOk, IsTrue, MatchBool, ◌≡◌, ◌<◌, MatchOption, MatchResult, OnOk, slice_index};
 ghost use Rattle.min_cost_flow.specs.Effort.{Searches, nodes_of};
 ghost use Rattle.min_cost_flow.specs.Flow.{IsFlow, total_at};
-ghost use Rattle.min_cost_flow.specs.Placing.{IsMidway, IsStuckAbove, MeetsHigh, WantsLimits, excess, IsEmptied, IsWay, StayPlaced};
+ghost use Rattle.min_cost_flow.specs.Placing.{IsInFirstPass, IsStuckAbove, MeetsHigh, WantsRoot, excess, IsEmptied, IsPathToRoom, StayPlaced};
 ghost use Rattle.min_cost_flow.specs.Problem.{IsFlowProblem, names_of};
-ghost use Rattle.shortest_path.specs.Spent.{Settles};
+ghost use Rattle.shortest_path.specs.Spent.{HasSettledAtMost};
 
 use crate::augmenting::augment;
 use crate::flow::Flow;
@@ -13,8 +13,8 @@ use shortest_path::{Effort, Search};
 use std::alloc::{AllocError, Global};
 use std::sync::ledger::Ledger;
 
-/// Moves points away from the names above their high limits. Answers whether none is above; if not, the last search reached no
-/// name with room.
+/// Moves points away from the names above their high limits. Answers whether none is above now; if not, the last search reached
+/// no name with room.
 pub(crate) fn place_within_high<L: Ledger>(
     alloc: Global,
     problem: &FlowProblem,
@@ -23,15 +23,15 @@ pub(crate) fn place_within_high<L: Ledger>(
     effort: &mut Effort<L>,
 ) -> Result<bool, AllocError>
     requires problem { IsFlowProblem problem.now }
-    requires midway { IsMidway problem.now flow.old search.old }
+    requires first_pass { IsInFirstPass problem.now flow.old search.old }
     ensures placed { IfOk result (λ placed. MatchBool placed
-        (IsMidway problem.now flow.new search.new × MeetsHigh problem.now flow.new)
+        (IsInFirstPass problem.now flow.new search.new × MeetsHigh problem.now flow.new)
         (IsStuckAbove problem.now flow.new search.new × IsFlow problem.now flow.new)) }
     ensures augmentations { effort.new.augmentations ≤ effort.old.augmentations + excess problem.now flow.old }
     ensures searches { Searches (nodes_of problem.now) 1 effort.old effort.new }
     ensures found { IfOk result (λ placed. IsTrue placed → Searches (nodes_of problem.now) 0 effort.old effort.new) }
 {
-    let wanted = only_limits(alloc, problem)?;
+    let wanted = only_root(alloc, problem)?;
     for name in 0..problem.high.len() {
         if !empty_to_high(
             alloc,
@@ -48,10 +48,10 @@ pub(crate) fn place_within_high<L: Ledger>(
     Ok(true)
 }
 
-/// Of all nodes the limits alone.
-fn only_limits(alloc: Global, problem: &FlowProblem) -> Result<Vec<bool>, AllocError>
+/// Of all nodes the root alone is wanted.
+fn only_root(alloc: Global, problem: &FlowProblem) -> Result<Vec<bool>, AllocError>
     requires { IsFlowProblem problem.now }
-    ensures { IfOk result (λ wanted. WantsLimits problem.now wanted.items) }
+    ensures { IfOk result (λ wanted. WantsRoot problem.now wanted.items) }
 {
     let mut wanted = vec![in alloc; false; problem.high.len()]?;
     wanted.push(true)?;
@@ -70,8 +70,8 @@ pub(crate) fn empty_to_high<L: Ledger>(
     effort: &mut Effort<L>,
 ) -> Result<bool, AllocError>
     requires problem { IsFlowProblem problem.now }
-    requires midway { IsMidway problem.now flow.old search.old }
-    requires wanted { WantsLimits problem.now wanted.now }
+    requires first_pass { IsInFirstPass problem.now flow.old search.old }
+    requires wanted { WantsRoot problem.now wanted.now }
     requires from { from < names_of problem.now }
     ensures emptied { IfOk result (λ emptied. MatchBool emptied
         (IsEmptied problem.now flow.old flow.new search.new from)
@@ -100,7 +100,7 @@ fn is_above(problem: &FlowProblem, flow: &Flow, name: usize) -> bool
     problem.high[name] < flow.totals[name]
 }
 
-/// The nearest name with room.
+/// The nearest name with room: the predecessor of the root.
 fn find_room<L: Ledger>(
     problem: &FlowProblem,
     flow: &Flow,
@@ -110,15 +110,15 @@ fn find_room<L: Ledger>(
     effort: &mut Effort<L>,
 ) -> Option<usize>
     requires problem { IsFlowProblem problem.now }
-    requires midway { IsMidway problem.now flow.now search.old }
-    requires wanted { WantsLimits problem.now wanted.now }
+    requires first_pass { IsInFirstPass problem.now flow.now search.old }
+    requires wanted { WantsRoot problem.now wanted.now }
     requires from { from < names_of problem.now }
     requires above { slice_index problem.now.high.items from < total_at flow.now from }
-    ensures way { MatchOption result (IsStuckAbove problem.now flow.now search.new) (λ last. IsWay problem.now flow.now search.new from last) }
-    ensures effort { Settles (nodes_of problem.now) effort.old effort.new }
+    ensures path { MatchOption result (IsStuckAbove problem.now flow.now search.new) (λ last. IsPathToRoom problem.now flow.now search.new from last) }
+    ensures effort { HasSettledAtMost (nodes_of problem.now) effort.old effort.new }
 {
     match search.find(flow.arcs.as_slice(), wanted, from, effort) {
-        Some(limits) => Some(search.predecessors[limits]),
+        Some(root) => Some(search.predecessors[root]),
         None => None,
     }
 }
@@ -134,9 +134,9 @@ fn fill<L: Ledger>(
     effort: &mut Effort<L>,
 ) -> Result<(), AllocError>
     requires problem { IsFlowProblem problem.now }
-    requires way { IsWay problem.now flow.old search.now from last }
+    requires path { IsPathToRoom problem.now flow.old search.now from last }
     requires above { slice_index problem.now.high.items from < total_at flow.old from }
-    ensures midway { OnOk result (IsMidway problem.now flow.new search.now) }
+    ensures first_pass { OnOk result (IsInFirstPass problem.now flow.new search.now) }
     ensures fewer { OnOk result (total_at flow.new from < total_at flow.old from) }
     ensures placed { OnOk result (StayPlaced problem.now flow.old flow.new) }
     ensures excess { OnOk result (excess problem.now flow.new < excess problem.now flow.old) }

@@ -1,5 +1,5 @@
 //! Which groups of an old variant may have points at a name.
-ghost use Rattle.std.specs.Prelude.{◌≡◌, ◌<◌, ◌≤◌, ◌-◌, ◌*◌, ◌+◌, ℕ, MatchBool, length, slice_index};
+ghost use Rattle.std.specs.Prelude.{◌≡◌, ◌<◌, ◌≤◌, ◌-◌, ◌*◌, ◌+◌, ℕ, MatchBool, length};
 ghost use Rattle.min_cost_flow.specs.Problem.{group_at};
 ghost use Rattle.min_cost_flow.specs.Spans.{IsIn, IsThere, Joins};
 

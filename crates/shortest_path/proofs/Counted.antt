@@ -2,17 +2,17 @@
 use Rattle.std.proofs.Common.{◌≡◌, ℕ, ◌+◌, cond, nat_le, nat_lt, count_by, List, [], ◌∷◌, length, Some, None, refl, arith, ◌≤◌, ◌∙◌}
 use Rattle.std.proofs.lemmas.Bool.Decides.{nat_tests}
 use Rattle.std.proofs.lemmas.List.Sums.{sum_by-cons}
-use Rattle.shortest_path.specs.Spent.{Spent, Settled, Settles}
+use Rattle.shortest_path.specs.Spent.{Spent, HasSettled, HasSettledAtMost}
 use Rattle.shortest_path.specs.Found.{settled_nodes}
 use Rattle.shortest_path.proofs.Rounds.{unsettled}
 
-pub settled_none : (spent : Spent) → Settled 0 spent spent
+pub settled_none : (spent : Spent) → HasSettled 0 spent spent
 settled_none spent = record { augmentations = refl; settlings = omega arith }
 
-pub settled_one : (count : ℕ) (first old new : Spent) → Settled count first old → new.augmentations ≡ old.augmentations → new.settlings ≡ old.settlings + 1 → Settled (count + 1) first new
+pub settled_one : (count : ℕ) (first old new : Spent) → HasSettled count first old → new.augmentations ≡ old.augmentations → new.settlings ≡ old.settlings + 1 → HasSettled (count + 1) first new
 settled_one count first old new before same more = record { augmentations = same ∙ before.augmentations; settlings = omega (arith, more, before.settlings) }
 
-pub settled_within : (n m : ℕ) (old new : Spent) → n ≤ m → Settled n old new → Settles m old new
+pub settled_within : (n m : ℕ) (old new : Spent) → n ≤ m → HasSettled n old new → HasSettledAtMost m old new
 settled_within n m old new le h = record { augmentations = h.augmentations; settlings = omega (arith, le, h.settlings) }
 
 one_of_both : (nodes r : ℕ) → ◌≡◌ {A = ℕ} (cond (nat_lt r nodes) 1 0 + cond (nat_le nodes r) 1 0) 1
@@ -24,8 +24,8 @@ ranked nodes (r ∷ settle_order) =
     omega (arith, sum_by-cons (λ (x : ℕ). cond (nat_lt x nodes) 1 0) r settle_order, sum_by-cons (λ (x : ℕ). cond (nat_le nodes x) 1 0) r settle_order, one_of_both nodes r, ranked nodes settle_order)
 
 module _ (X : Type 0) (nodes count : ℕ) (settle_order : List ℕ) (many : length settle_order ≡ nodes) (left : count + unsettled nodes settle_order ≡ nodes) (old new : Spent) where
-  pub settled_all : Settled count old new → Settled (settled_nodes {X = X} nodes settle_order None) old new
+  pub settled_all : HasSettled count old new → HasSettled (settled_nodes {X = X} nodes settle_order None) old new
   settled_all h = record { augmentations = h.augmentations; settlings = omega (arith, h.settlings, ranked nodes settle_order, many, left) }
 
-  pub settled_found : (found : X) → Settled (count + 1) old new → Settled (settled_nodes nodes settle_order (Some found)) old new
+  pub settled_found : (found : X) → HasSettled (count + 1) old new → HasSettled (settled_nodes nodes settle_order (Some found)) old new
   settled_found found h = record { augmentations = h.augmentations; settlings = omega (arith, h.settlings, ranked nodes settle_order, many, left) }

@@ -5,8 +5,8 @@ use Rattle.std.proofs.lemmas.Int.{ints}
 use Rattle.std.proofs.lemmas.Option.{same_Some}
 use Rattle.std.specs.List.{slice_get}
 use Rattle.shortest_path.specs.Found.{HasFound, IsStuck}
-use Rattle.shortest_path.specs.Network.{IsReduced, max_cost}
-use Rattle.shortest_path.specs.Searched.{IsSearched, IsNearest, HasNone, Lowers}
+use Rattle.shortest_path.specs.Network.{HasNonNegativeReducedCosts, max_cost}
+use Rattle.shortest_path.specs.Searched.{IsSearched, IsNearest, IsExhausted, Lowers}
 use Rattle.shortest_path.specs.declared.arc.Arc.{Arc}
 use Rattle.shortest_path.proofs.Settling.{still_reduced, tight}
 
@@ -34,7 +34,7 @@ begun nodes arc potential source distance predecessor rank source_in unsettled u
     none_of b clash = cc
 
 pub stuck : (nodes : ℕ) (arc : ℕ → ℕ → Option Arc) (wanted : List Bool) (source count : ℕ) (potential : ℕ → ℤ) (distance : ℕ → Option ℤ) (predecessor rank : ℕ → ℕ) → source < nodes
-    → IsSearched nodes arc potential source max_cost count distance predecessor rank → HasNone nodes distance rank → ((v : ℕ) → v < nodes → rank v < nodes → slice_get wanted v ≡ Some true → ⊥)
+    → IsSearched nodes arc potential source max_cost count distance predecessor rank → IsExhausted nodes distance rank → ((v : ℕ) → v < nodes → rank v < nodes → slice_get wanted v ≡ Some true → ⊥)
     → IsStuck nodes arc wanted source potential potential rank
 stuck nodes arc wanted source count potential distance predecessor rank source_in search none unwanted =
     let settled : (v : ℕ) (a : ℤ) → v < nodes → distance v ≡ Some a → rank v < nodes = λ v a within is.
@@ -50,10 +50,10 @@ stuck nodes arc wanted source count potential distance predecessor rank source_i
       unwanted = unwanted;
     }
 
-module _ (nodes : ℕ) (arc : ℕ → ℕ → Option Arc) (wanted : List Bool) (source : ℕ) (potential potential' : ℕ → ℤ) (distance : ℕ → Option ℤ) (predecessor rank : ℕ → ℕ) (node : ℕ) (so_far shown : ℤ)
-    (reduced : IsReduced nodes arc potential) (search : IsSearched nodes arc potential source max_cost nodes distance predecessor rank)
-    (near : IsNearest nodes potential distance rank node so_far) (lowers : Lowers nodes potential potential' distance rank node shown) (same : shown ≡ so_far) where
-  lowered : Lowers nodes potential potential' distance rank node so_far
+module _ (nodes : ℕ) (arc : ℕ → ℕ → Option Arc) (wanted : List Bool) (source : ℕ) (potential potential' : ℕ → ℤ) (distance : ℕ → Option ℤ) (predecessor rank : ℕ → ℕ) (node : ℕ) (node_distance shown : ℤ)
+    (reduced : HasNonNegativeReducedCosts nodes arc potential) (search : IsSearched nodes arc potential source max_cost nodes distance predecessor rank)
+    (near : IsNearest nodes potential distance rank node node_distance) (lowers : Lowers nodes potential potential' distance rank node shown) (same : shown ≡ node_distance) where
+  lowered : Lowers nodes potential potential' distance rank node node_distance
   lowered = subst (λ z. Lowers nodes potential potential' distance rank node z) same lowers
 
   pub found : slice_get wanted node ≡ Some true → ((v : ℕ) → v < nodes → rank v < nodes → slice_get wanted v ≡ Some true → ⊥) → HasFound nodes arc wanted source potential potential' predecessor rank node
@@ -62,16 +62,16 @@ module _ (nodes : ℕ) (arc : ℕ → ℕ → Option Arc) (wanted : List Bool) (
     is_wanted = is_wanted;
     unsettled = near.unsettled;
     unwanted = unwanted;
-    reduced = still_reduced nodes arc potential potential' source max_cost nodes distance predecessor rank node so_far reduced search near lowered;
-    tight = tight nodes arc potential potential' source max_cost nodes distance predecessor rank node so_far reduced search near lowered;
+    reduced = still_reduced nodes arc potential potential' source max_cost nodes distance predecessor rank node node_distance reduced search near lowered;
+    tight = tight nodes arc potential potential' source max_cost nodes distance predecessor rank node node_distance reduced search near lowered;
     kept = lowered.others;
     fallen = λ v within settled.
         let known = search.known v within settled in
-        omega (arith, ints, lowered.settled v known.0 within settled known.1, search.order v node known.0 so_far within near.within settled near.unsettled known.1 near.reached);
+        omega (arith, ints, lowered.settled v known.0 within settled known.1, search.order v node known.0 node_distance within near.within settled near.unsettled known.1 near.reached);
     low = λ v within settled.
         let known = search.known v within settled in
-        omega (arith, ints, lowered.settled v known.0 within settled known.1, search.low v known.0 within known.1, search.high node so_far near.within near.reached);
+        omega (arith, ints, lowered.settled v known.0 within settled known.1, search.low v known.0 within known.1, search.high node node_distance near.within near.reached);
     high = λ v within settled.
         let known = search.known v within settled in
-        omega (arith, ints, lowered.settled v known.0 within settled known.1, search.high v known.0 within known.1, search.low node so_far near.within near.reached);
+        omega (arith, ints, lowered.settled v known.0 within settled known.1, search.high v known.0 within known.1, search.low node node_distance near.within near.reached);
   }

@@ -32,14 +32,14 @@ kept_sum r a b d s t u is = omega (arith, ints, s.low, s.high, t.low, t.high, u.
 -- ---- the loop
 
 -- the settled nodes below `v` are lowered, and the others are as they were
-pub record LowersBelow (nodes : ℕ) (potentials potentials' : List ℤ) (distance : ℕ → Option ℤ) (rank : ℕ → ℕ) (base so_far : ℤ) (v : ℕ) : Type 0 where
+pub record LowersBelow (nodes : ℕ) (potentials potentials' : List ℤ) (distance : ℕ → Option ℤ) (rank : ℕ → ℕ) (node_potential node_distance : ℤ) (v : ℕ) : Type 0 where
   pub size : length potentials' ≡ nodes
-  pub settled : (w : ℕ) (a : ℤ) → w < v → rank w < nodes → distance w ≡ Some a → get_or potentials' w (pos 0) ≡ ((base +ℤ a) -ℤ so_far)
+  pub settled : (w : ℕ) (a : ℤ) → w < v → rank w < nodes → distance w ≡ Some a → get_or potentials' w (pos 0) ≡ ((node_potential +ℤ a) -ℤ node_distance)
   pub others : (w : ℕ) → w < nodes → nodes ≤ rank w → get_or potentials' w (pos 0) ≡ get_or potentials w (pos 0)
   pub rest : (w : ℕ) → v ≤ w → get_or potentials' w (pos 0) ≡ get_or potentials w (pos 0)
 
-module _ (nodes : ℕ) (potentials potentials' potentials'' : List ℤ) (distance : ℕ → Option ℤ) (rank : ℕ → ℕ) (base so_far : ℤ) (v : ℕ) (before : LowersBelow nodes potentials potentials' distance rank base so_far v) (within : v < nodes) where
-  pub skips : potentials'' ≡ potentials' → ((a : ℤ) → rank v < nodes → distance v ≡ Some a → ⊥) → LowersBelow nodes potentials potentials'' distance rank base so_far (v + 1)
+module _ (nodes : ℕ) (potentials potentials' potentials'' : List ℤ) (distance : ℕ → Option ℤ) (rank : ℕ → ℕ) (node_potential node_distance : ℤ) (v : ℕ) (before : LowersBelow nodes potentials potentials' distance rank node_potential node_distance v) (within : v < nodes) where
+  pub skips : potentials'' ≡ potentials' → ((a : ℤ) → rank v < nodes → distance v ≡ Some a → ⊥) → LowersBelow nodes potentials potentials'' distance rank node_potential node_distance (v + 1)
   skips same none =
       let at : (w : ℕ) → get_or potentials'' w (pos 0) ≡ get_or potentials' w (pos 0) = λ w. ap (λ xs. get_or xs w (pos 0)) same in
       record {
@@ -53,7 +53,7 @@ module _ (nodes : ℕ) (potentials potentials' potentials'' : List ℤ) (distanc
         rest = λ w above. at w ∙ before.rest w (omega arith);
       }
 
-  pub sets : (a new : ℤ) → potentials'' ≡ set potentials' v new → rank v < nodes → distance v ≡ Some a → new ≡ ((base +ℤ a) -ℤ so_far) → LowersBelow nodes potentials potentials'' distance rank base so_far (v + 1)
+  pub sets : (a new : ℤ) → potentials'' ≡ set potentials' v new → rank v < nodes → distance v ≡ Some a → new ≡ ((node_potential +ℤ a) -ℤ node_distance) → LowersBelow nodes potentials potentials'' distance rank node_potential node_distance (v + 1)
   sets a new written v_settled v_is new_is =
       let other : (w : ℕ) → (w ≡ v → ⊥) → get_or potentials'' w (pos 0) ≡ get_or potentials' w (pos 0) = λ w not. ap (λ xs. get_or xs w (pos 0)) written ∙ get_or-set_other potentials' v w new (pos 0) not in
       record {

@@ -5,13 +5,13 @@ use Rattle.std.proofs.lemmas.Int.{ints}
 use Rattle.std.proofs.lemmas.Option.{same_Some}
 
 -- what is known of the nodes below `v`: the least distance by reduced costs of an unsettled one, and its node
-pub record IsNearestBelow (nodes : ℕ) (potential : ℕ → ℤ) (distance : ℕ → Option ℤ) (rank : ℕ → ℕ) (least : Option ℤ) (node : ℕ) (so_far : ℤ) (v : ℕ) : Type 0 where
+pub record IsNearestBelow (nodes : ℕ) (potential : ℕ → ℤ) (distance : ℕ → Option ℤ) (rank : ℕ → ℕ) (least : Option ℤ) (node : ℕ) (node_distance : ℤ) (v : ℕ) : Type 0 where
   pub none : (w : ℕ) (b : ℤ) → w < v → nodes ≤ rank w → distance w ≡ Some b → least ≡ None → ⊥
-  pub some : (k : ℤ) → least ≡ Some k → (node < nodes) × (nodes ≤ rank node) × (distance node ≡ Some so_far) × (so_far ≡ k +ℤ potential node)
+  pub some : (k : ℤ) → least ≡ Some k → (node < nodes) × (nodes ≤ rank node) × (distance node ≡ Some node_distance) × (node_distance ≡ k +ℤ potential node)
   pub below : (k : ℤ) (w : ℕ) (b : ℤ) → least ≡ Some k → w < v → nodes ≤ rank w → distance w ≡ Some b → (k +ℤ potential w) ≤ℤ b
 
-module _ (nodes : ℕ) (potential : ℕ → ℤ) (distance : ℕ → Option ℤ) (rank : ℕ → ℕ) (least : Option ℤ) (node : ℕ) (so_far : ℤ) (v : ℕ) (before : IsNearestBelow nodes potential distance rank least node so_far v) (within : v < nodes) where
-  pub passes : ((b : ℤ) → nodes ≤ rank v → distance v ≡ Some b → (k : ℤ) × (least ≡ Some k) × ((k +ℤ potential v) ≤ℤ b)) → IsNearestBelow nodes potential distance rank least node so_far (v + 1)
+module _ (nodes : ℕ) (potential : ℕ → ℤ) (distance : ℕ → Option ℤ) (rank : ℕ → ℕ) (least : Option ℤ) (node : ℕ) (node_distance : ℤ) (v : ℕ) (before : IsNearestBelow nodes potential distance rank least node node_distance v) (within : v < nodes) where
+  pub passes : ((b : ℤ) → nodes ≤ rank v → distance v ≡ Some b → (k : ℤ) × (least ≡ Some k) × ((k +ℤ potential v) ≤ℤ b)) → IsNearestBelow nodes potential distance rank least node node_distance (v + 1)
   passes here = record {
     none = λ w b w_in un is none.
         ⊎_elim
@@ -49,9 +49,9 @@ module _ (nodes : ℕ) (potential : ℕ → ℤ) (distance : ℕ → Option ℤ)
       from_before k w b k_same w_un w_is w_in None o_is = absurd (before.none w b w_in w_un w_is o_is)
       from_before k w b k_same w_un w_is w_in (Some x) o_is = omega (arith, ints, k_same, less x o_is, before.below x w b o_is w_in w_un w_is)
 
-pub renamed : (nodes : ℕ) (potential : ℕ → ℤ) (distance : ℕ → Option ℤ) (rank : ℕ → ℕ) (least least' : Option ℤ) (node node' : ℕ) (so_far so_far' : ℤ) (v : ℕ) → least' ≡ least → node' ≡ node → so_far' ≡ so_far
-    → IsNearestBelow nodes potential distance rank least node so_far v → IsNearestBelow nodes potential distance rank least' node' so_far' v
-renamed nodes potential distance rank least least' node node' so_far so_far' v p q r known =
-    subst (λ l. IsNearestBelow nodes potential distance rank l node' so_far' v) (sym p)
-    (subst (λ m. IsNearestBelow nodes potential distance rank least m so_far' v) (sym q)
+pub renamed : (nodes : ℕ) (potential : ℕ → ℤ) (distance : ℕ → Option ℤ) (rank : ℕ → ℕ) (least least' : Option ℤ) (node node' : ℕ) (node_distance node_distance' : ℤ) (v : ℕ) → least' ≡ least → node' ≡ node → node_distance' ≡ node_distance
+    → IsNearestBelow nodes potential distance rank least node node_distance v → IsNearestBelow nodes potential distance rank least' node' node_distance' v
+renamed nodes potential distance rank least least' node node' node_distance node_distance' v p q r known =
+    subst (λ l. IsNearestBelow nodes potential distance rank l node' node_distance' v) (sym p)
+    (subst (λ m. IsNearestBelow nodes potential distance rank least m node_distance' v) (sym q)
     (subst (λ s. IsNearestBelow nodes potential distance rank least node s v) (sym r) known))

@@ -8,7 +8,7 @@ use Rattle.std.proofs.Common.{length-take, length-drop}
 use Rattle.std.proofs.lemmas.List.Sums.{sum_by-set, sum_by-cons}
 use Rattle.std.proofs.Math.Nat.{mul-le-mul_right}
 use Rattle.std.specs.List.{slice_get}
-use Rattle.shortest_path.specs.Network.{IsShort, IsReduced, IsWithin, arc_at, max_cost, max_nodes}
+use Rattle.shortest_path.specs.Network.{IsShort, HasNonNegativeReducedCosts, HasCostsWithin, arc_at, max_cost, max_nodes}
 use Rattle.shortest_path.specs.Searched.{Relaxes, IsSearched, IsNearest}
 use Rattle.shortest_path.specs.declared.arc.Arc.{Arc}
 use Rattle.shortest_path.proofs.Settling.{settled_next}
@@ -28,7 +28,7 @@ module _ (nodes node : ℕ) (arcs : List (Option Arc)) (square : length arcs ≡
   pub row_at : (v : ℕ) → v < nodes → get_or row_of v None ≡ arc_at arcs nodes node v
   row_at v v_in = get_or-take ((node * nodes + nodes) - node * nodes) (drop (node * nodes) arcs) v None (omega arith) ∙ get_or-drop (node * nodes) arcs v None
 
-  pub row_short : IsWithin nodes (arc_at arcs nodes) max_cost → (v : ℕ) (a : Arc) → v < length row_of → get_or row_of v None ≡ Some a → IsShort a.cost
+  pub row_short : HasCostsWithin nodes (arc_at arcs nodes) max_cost → (v : ℕ) (a : Arc) → v < length row_of → get_or row_of v None ≡ Some a → IsShort a.cost
   row_short costs v a v_in is =
       let inside : v < nodes = omega (arith, row_length, v_in) in
       let there = sym (row_at v inside) ∙ is in
@@ -75,15 +75,15 @@ module _ (nodes : ℕ) (arcs : List (Option Arc)) (potentials : List ℤ) (wante
   pub short_distances : nodes ≤ max_nodes → (v : ℕ) (a : ℤ) → v < nodes → get_or distances v None ≡ Some a → IsShort a
   short_distances few v a within is = short_after count a (omega (arith, before.left)) (before.searched.low v a within is) (before.searched.high v a within is)
 
-  module _ (node : ℕ) (so_far : ℤ) (near : IsNearest nodes (λ v. get_or potentials v (pos 0)) (λ v. get_or distances v None) (λ v. get_or settle_order v 0) node so_far) where
+  module _ (node : ℕ) (node_distance : ℤ) (near : IsNearest nodes (λ v. get_or potentials v (pos 0)) (λ v. get_or distances v None) (λ v. get_or settle_order v 0) node node_distance) where
     pub small : count < nodes
     small = omega (arith, before.left, some_left nodes settle_order node (omega (arith, before.many, near.within)) near.unsettled (omega (arith, near.within)))
 
     pub falls : unsettled nodes (set settle_order node count) < unsettled nodes settle_order
     falls = omega (arith, fewer nodes settle_order node count (omega (arith, before.many, near.within)) near.unsettled small)
 
-    pub next : (distances' : List (Option ℤ)) (predecessors' : List ℕ) (row : List (Option Arc)) (shown : ℤ) → length row ≡ nodes → ((v : ℕ) → v < nodes → get_or row v None ≡ arc_at arcs nodes node v) → shown ≡ so_far → source < nodes → (slice_get wanted node ≡ Some true → ⊥) → length distances' ≡ nodes → length predecessors' ≡ nodes
-        → IsReduced nodes (arc_at arcs nodes) (λ v. get_or potentials v (pos 0)) → IsWithin nodes (arc_at arcs nodes) max_cost
+    pub next : (distances' : List (Option ℤ)) (predecessors' : List ℕ) (row : List (Option Arc)) (shown : ℤ) → length row ≡ nodes → ((v : ℕ) → v < nodes → get_or row v None ≡ arc_at arcs nodes node v) → shown ≡ node_distance → source < nodes → (slice_get wanted node ≡ Some true → ⊥) → length distances' ≡ nodes → length predecessors' ≡ nodes
+        → HasNonNegativeReducedCosts nodes (arc_at arcs nodes) (λ v. get_or potentials v (pos 0)) → HasCostsWithin nodes (arc_at arcs nodes) max_cost
         → ((v : ℕ) → v < length row → Relaxes (length row) node shown (get_or row v None) (get_or (set settle_order node count) v 0) (get_or distances v None) (get_or distances' v None) (get_or predecessors v 0) (get_or predecessors' v 0))
         → IsRound nodes arcs potentials wanted source (count + 1) distances' predecessors' (set settle_order node count)
     next distances' predecessors' row shown wide row_at shown_is source_in not_wanted distances_many predecessors_many reduced costs each =
@@ -95,11 +95,11 @@ module _ (nodes : ℕ) (arcs : List (Option Arc)) (potentials : List ℤ) (wante
           sizes = predecessors_many;
           many = length-set settle_order node count ∙ before.many;
           left = omega (arith, before.left, fewer nodes settle_order node count inside near.unsettled small);
-          searched = settled_next nodes (arc_at arcs nodes) (λ v. get_or potentials v (pos 0)) source max_cost count (λ v. get_or distances v None) (λ v. get_or distances' v None) (λ v. get_or predecessors v 0) (λ v. get_or predecessors' v 0) (λ v. get_or settle_order v 0) (λ v. get_or (set settle_order node count) v 0) node so_far
+          searched = settled_next nodes (arc_at arcs nodes) (λ v. get_or potentials v (pos 0)) source max_cost count (λ v. get_or distances v None) (λ v. get_or distances' v None) (λ v. get_or predecessors v 0) (λ v. get_or predecessors' v 0) (λ v. get_or settle_order v 0) (λ v. get_or (set settle_order node count) v 0) node node_distance
               reduced costs before.searched near small here other
               (λ v within.
               let rank' : ℕ = get_or (set settle_order node count) v 0 in
-              subst (λ a. Relaxes nodes node so_far a rank' (get_or distances v None) (get_or distances' v None) (get_or predecessors v 0) (get_or predecessors' v 0)) (row_at v within)
+              subst (λ a. Relaxes nodes node node_distance a rank' (get_or distances v None) (get_or distances' v None) (get_or predecessors v 0) (get_or predecessors' v 0)) (row_at v within)
               (subst (λ z. Relaxes nodes node z (get_or row v None) rank' (get_or distances v None) (get_or distances' v None) (get_or predecessors v 0) (get_or predecessors' v 0)) shown_is
               (subst (λ n. Relaxes n node shown (get_or row v None) rank' (get_or distances v None) (get_or distances' v None) (get_or predecessors v 0) (get_or predecessors' v 0)) wide (each v (omega (arith, wide, within))))))
               source_in;

@@ -1,18 +1,18 @@
 -- What a search of a residual network leaves: shortest paths and potentials, or a set of nodes that no arc leaves.
 use Rattle.std.specs.Prelude.{◌≡◌, ℕ, ◌<◌, ◌≤◌, ◌+◌, ◌*◌, nat_lt, count_by, is_some, if◌then◌else◌, ◌⊎◌, ℤ, pos, ◌+ℤ◌, ◌-ℤ◌, ◌≤ℤ◌, Bool, true, List, length, MatchOption, Option, Some, slice_get, slice_index, slice_index_or}
-use Rattle.shortest_path.specs.Network.{IsReduced, arc_at, max_cost}
+use Rattle.shortest_path.specs.Network.{HasNonNegativeReducedCosts, arc_at, max_cost}
 use Rattle.shortest_path.specs.Searched.{IsTight}
 use Rattle.shortest_path.specs.declared.arc.Arc.{Arc}
 use Rattle.shortest_path.specs.declared.search.Search.{Search}
 
--- it is of so many nodes
+-- each table has one value for each node
 pub record HasSize (nodes : ℕ) (s : Search) : Type 0 where
   pub potentials : length s.potentials.items ≡ nodes
   pub distances : length s.distances.items ≡ nodes
   pub predecessors : length s.predecessors.items ≡ nodes
   pub settle_order : length s.settle_order.items ≡ nodes
 
--- how many nodes a search has settled: those of a rank below the number of nodes, and the one that it found
+-- how many nodes a search has settled: those of a rank below the number of nodes, and the wanted one that it found
 abbrev pub settled_nodes : {X : Type 0} → ℕ → List ℕ → Option X → ℕ
 settled_nodes nodes settle_order found = count_by (λ rank. nat_lt rank nodes) settle_order + (if is_some found then 1 else 0)
 
@@ -25,28 +25,28 @@ predecessor_of s v = slice_index s.predecessors.items v
 abbrev pub rank_of : Search → ℕ → ℕ
 rank_of s v = slice_index s.settle_order.items v
 
--- The source is settled, no arc leads from a settled node to another, and none that is settled is wanted.
+-- No wanted node can be reached: the source is settled, no arc leaves the settled nodes, and none of these is wanted.
 pub record IsStuck (nodes : ℕ) (arc : ℕ → ℕ → Option Arc) (wanted : List Bool) (source : ℕ) (potential potential' : ℕ → ℤ) (rank : ℕ → ℕ) : Type 0 where
   pub same : (v : ℕ) → potential' v ≡ potential v
   pub source_in : rank source < nodes
   pub closed : (u v : ℕ) (a : Arc) → u < nodes → v < nodes → rank u < nodes → arc u v ≡ Some a → rank v < nodes
   pub unwanted : (v : ℕ) → v < nodes → rank v < nodes → slice_get wanted v ≡ Some true → ⊥
 
--- A wanted node is found: no reduced cost is negative by the new potentials, those on the paths to it and to each settled node
--- are 0, only settled nodes' potentials changed, and these fell to near that of the node.
+-- A wanted node is found: no arc has a negative reduced cost by the new potentials, those on the shortest paths to it and to each
+-- settled node have the reduced cost 0, and only potentials of settled nodes changed: these fell to near that of the wanted node.
 pub record HasFound (nodes : ℕ) (arc : ℕ → ℕ → Option Arc) (wanted : List Bool) (source : ℕ) (potential potential' : ℕ → ℤ) (predecessor rank : ℕ → ℕ) (node : ℕ) : Type 0 where
   pub within : node < nodes
   pub is_wanted : slice_get wanted node ≡ Some true
   pub unsettled : nodes ≤ rank node
   pub unwanted : (v : ℕ) → v < nodes → rank v < nodes → slice_get wanted v ≡ Some true → ⊥
-  pub reduced : IsReduced nodes arc potential'
+  pub reduced : HasNonNegativeReducedCosts nodes arc potential'
   pub tight : (v : ℕ) → v < nodes → (rank v < nodes) ⊎ (v ≡ node) → (v ≡ source) ⊎ IsTight nodes arc potential' predecessor rank v
   pub kept : (v : ℕ) → v < nodes → nodes ≤ rank v → potential' v ≡ potential v
   pub fallen : (v : ℕ) → v < nodes → rank v < nodes → potential' v ≤ℤ potential v
   pub low : (v : ℕ) → v < nodes → rank v < nodes → (potential node -ℤ pos (2 * (nodes * max_cost))) ≤ℤ potential' v
   pub high : (v : ℕ) → v < nodes → rank v < nodes → potential' v ≤ℤ (potential node +ℤ pos (2 * (nodes * max_cost)))
 
--- the node that was found, or none can be, over arcs that stand by node
+-- the wanted node that was found, or that none can be reached; the arcs stand by the node that they leave and then by the other
 abbrev pub Finds : ℕ → List (Option Arc) → List Bool → ℕ → (ℕ → ℤ) → (ℕ → ℤ) → (ℕ → ℕ) → (ℕ → ℕ) → Option ℕ → Type 0
 Finds nodes arcs wanted source potential potential' predecessor rank found = MatchOption found
     (IsStuck nodes (arc_at arcs nodes) wanted source potential potential' rank)

@@ -16,15 +16,15 @@ pub record IsShort (z : ℤ) : Type 0 where
   pub low : neg_ℤ (pos (2 ^ 61)) ≤ℤ z
   pub high : z ≤ℤ pos (2 ^ 61)
 
--- the arc from one node to another, where the arcs stand by node
+-- the arc from one node to another; the arcs stand by the node that they leave and then by the other
 abbrev pub arc_at : List (Option Arc) → ℕ → ℕ → ℕ → Option Arc
 arc_at arcs nodes from to = slice_index_or arcs (from * nodes + to) None
 
--- no arc has a negative reduced cost
-pub record IsReduced (nodes : ℕ) (arc : ℕ → ℕ → Option Arc) (potential : ℕ → ℤ) : Type 0 where
+-- no arc has a negative reduced cost: `cost + potential(from) - potential(to) >= 0`
+pub record HasNonNegativeReducedCosts (nodes : ℕ) (arc : ℕ → ℕ → Option Arc) (potential : ℕ → ℤ) : Type 0 where
   pub least : (u v : ℕ) (a : Arc) → u < nodes → v < nodes → arc u v ≡ Some a → potential v ≤ℤ (potential u +ℤ a.cost)
 
 -- no arc costs more than this, up or down
-pub record IsWithin (nodes : ℕ) (arc : ℕ → ℕ → Option Arc) (most : ℕ) : Type 0 where
+pub record HasCostsWithin (nodes : ℕ) (arc : ℕ → ℕ → Option Arc) (most : ℕ) : Type 0 where
   pub low : (u v : ℕ) (a : Arc) → u < nodes → v < nodes → arc u v ≡ Some a → neg_ℤ (pos most) ≤ℤ a.cost
   pub high : (u v : ℕ) (a : Arc) → u < nodes → v < nodes → arc u v ≡ Some a → a.cost ≤ℤ pos most

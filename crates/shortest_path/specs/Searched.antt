@@ -1,5 +1,5 @@
--- What a search of a residual network knows while it settles nodes: the length of the shortest path found to each node, the
--- node before it on that path, and its rank among the settled nodes; unsettled ones have the number of nodes or more.
+-- What a search of a residual network knows while it settles nodes: the distance of each node from the source, its predecessor on
+-- the shortest path, and its rank: how many nodes were settled before it. Unsettled nodes have the number of nodes or more.
 use Rattle.std.specs.Prelude.{◌≡◌, ℕ, ◌<◌, ◌≤◌, ◌*◌, ◌⊎◌, ℤ, pos, ◌+ℤ◌, ◌-ℤ◌, ◌≤ℤ◌, List, length, Option, Some, None, slice_index, slice_index_or}
 use Rattle.std.proofs.Common.{neg_ℤ}
 use Rattle.shortest_path.specs.Network.{arc_at, max_cost}
@@ -12,51 +12,51 @@ potential_in potentials v = slice_index_or potentials v (pos 0)
 abbrev pub distance_in : List (Option ℤ) → ℕ → Option ℤ
 distance_in distances v = slice_index_or distances v None
 
--- nothing changes for a node
+-- the distance and the predecessor of a node stay
 pub record Stays (distance distance' : Option ℤ) (predecessor predecessor' : ℕ) : Type 0 where
   pub same_distance : distance' ≡ distance
   pub same_predecessor : predecessor' ≡ predecessor
 
--- an unsettled node is reached over another by less than before
-pub record Moves (nodes node : ℕ) (so_far : ℤ) (arc : Option Arc) (rank : ℕ) (distance distance' : Option ℤ) (predecessor' : ℕ) : Type 0 where
+-- an unsettled node is nearer over a settled one, which is its predecessor now
+pub record Improves (nodes node : ℕ) (node_distance : ℤ) (arc : Option Arc) (rank : ℕ) (distance distance' : Option ℤ) (predecessor' : ℕ) : Type 0 where
   pub along : Arc
   pub there : arc ≡ Some along
   pub unsettled : nodes ≤ rank
-  pub new_distance : distance' ≡ Some (so_far +ℤ along.cost)
+  pub new_distance : distance' ≡ Some (node_distance +ℤ along.cost)
   pub new_predecessor : predecessor' ≡ node
-  pub less : (known : ℤ) → distance ≡ Some known → (so_far +ℤ along.cost) ≤ℤ known
+  pub less : (known : ℤ) → distance ≡ Some known → (node_distance +ℤ along.cost) ≤ℤ known
 
--- an arc to a node is taken where the node is unsettled and reached so by less than before
-pub record Relaxes (nodes node : ℕ) (so_far : ℤ) (arc : Option Arc) (rank : ℕ) (distance distance' : Option ℤ) (predecessor predecessor' : ℕ) : Type 0 where
-  pub change : Stays distance distance' predecessor predecessor' ⊎ Moves nodes node so_far arc rank distance distance' predecessor'
-  pub covers : (a : Arc) → nodes ≤ rank → arc ≡ Some a → (known : ℤ) × (distance' ≡ Some known) × (known ≤ℤ (so_far +ℤ a.cost))
+-- the arc from a settled node is relaxed
+pub record Relaxes (nodes node : ℕ) (node_distance : ℤ) (arc : Option Arc) (rank : ℕ) (distance distance' : Option ℤ) (predecessor predecessor' : ℕ) : Type 0 where
+  pub change : Stays distance distance' predecessor predecessor' ⊎ Improves nodes node node_distance arc rank distance distance' predecessor'
+  pub covers : (a : Arc) → nodes ≤ rank → arc ≡ Some a → (known : ℤ) × (distance' ≡ Some known) × (known ≤ℤ (node_distance +ℤ a.cost))
 
--- the same of the arc to one node, by tables by node before and after
+-- the same of the arc to one node, by tables before and after
 abbrev pub RelaxesTo : List (Option Arc) → List ℕ → ℕ → ℤ → List (Option ℤ) → List (Option ℤ) → List ℕ → List ℕ → ℕ → Type 0
-RelaxesTo arcs settle_order node so_far distances distances' predecessors predecessors' v = Relaxes (length arcs) node so_far (slice_index_or arcs v None) (slice_index settle_order v)
+RelaxesTo arcs settle_order node node_distance distances distances' predecessors predecessors' v = Relaxes (length arcs) node node_distance (slice_index_or arcs v None) (slice_index settle_order v)
     (slice_index_or distances v None) (slice_index_or distances' v None) (slice_index predecessors v) (slice_index predecessors' v)
 
--- the last step of the path that was found to a node
-pub record IsSuccessor (nodes : ℕ) (arc : ℕ → ℕ → Option Arc) (distance : ℕ → Option ℤ) (predecessor rank : ℕ → ℕ) (v : ℕ) (known : ℤ) : Type 0 where
+-- a node that was reached has a settled predecessor, and its distance is the predecessor's and the cost of the arc
+pub record HasPredecessor (nodes : ℕ) (arc : ℕ → ℕ → Option Arc) (distance : ℕ → Option ℤ) (predecessor rank : ℕ → ℕ) (v : ℕ) (known : ℤ) : Type 0 where
   pub within : predecessor v < nodes
   pub settled : rank (predecessor v) < nodes
   pub before : rank (predecessor v) < rank v
-  pub so_far : ℤ
-  pub reached : distance (predecessor v) ≡ Some so_far
+  pub predecessor_distance : ℤ
+  pub reached : distance (predecessor v) ≡ Some predecessor_distance
   pub along : Arc
   pub there : arc (predecessor v) v ≡ Some along
-  pub sum : known ≡ so_far +ℤ along.cost
+  pub sum : known ≡ predecessor_distance +ℤ along.cost
 
 -- what holds after so many nodes are settled
 pub record IsSearched (nodes : ℕ) (arc : ℕ → ℕ → Option Arc) (potential : ℕ → ℤ) (source most count : ℕ) (distance : ℕ → Option ℤ) (predecessor rank : ℕ → ℕ) : Type 0 where
   pub start : (known : ℤ) × (distance source ≡ Some known)
   pub few : (v : ℕ) → v < nodes → rank v < nodes → rank v < count
   pub known : (v : ℕ) → v < nodes → rank v < nodes → (a : ℤ) × (distance v ≡ Some a)
-  -- no arc from a settled node leads to a node that is not reached, or reached by more
+  -- no node is further than a settled one and the cost of an arc from there
   pub closed : (u v : ℕ) (a : ℤ) (r : Arc) → u < nodes → v < nodes → rank u < nodes → distance u ≡ Some a → arc u v ≡ Some r → (b : ℤ) × (distance v ≡ Some b) × (b ≤ℤ (a +ℤ r.cost))
   -- no settled node is further by reduced costs than an unsettled one
   pub order : (u v : ℕ) (a b : ℤ) → u < nodes → v < nodes → rank u < nodes → nodes ≤ rank v → distance u ≡ Some a → distance v ≡ Some b → (a +ℤ potential v) ≤ℤ (b +ℤ potential u)
-  pub tree : (v : ℕ) (b : ℤ) → v < nodes → distance v ≡ Some b → (v ≡ source) ⊎ IsSuccessor nodes arc distance predecessor rank v b
+  pub tree : (v : ℕ) (b : ℤ) → v < nodes → distance v ≡ Some b → (v ≡ source) ⊎ HasPredecessor nodes arc distance predecessor rank v b
   pub low : (v : ℕ) (b : ℤ) → v < nodes → distance v ≡ Some b → neg_ℤ (pos (count * most)) ≤ℤ b
   pub high : (v : ℕ) (b : ℤ) → v < nodes → distance v ≡ Some b → b ≤ℤ pos (count * most)
 
@@ -65,25 +65,25 @@ abbrev pub AreSearched : ℕ → List (Option Arc) → List ℤ → ℕ → ℕ 
 AreSearched nodes arcs potentials source count distances predecessors settle_order =
     IsSearched nodes (arc_at arcs nodes) (potential_in potentials) source max_cost count (distance_in distances) (slice_index predecessors) (slice_index settle_order)
 
--- each node that was reached is settled
-abbrev pub HasNone : ℕ → (ℕ → Option ℤ) → (ℕ → ℕ) → Type 0
-HasNone nodes distance rank = (v : ℕ) (a : ℤ) → v < nodes → nodes ≤ rank v → distance v ≡ Some a → ⊥
+-- every node that was reached is settled
+abbrev pub IsExhausted : ℕ → (ℕ → Option ℤ) → (ℕ → ℕ) → Type 0
+IsExhausted nodes distance rank = (v : ℕ) (a : ℤ) → v < nodes → nodes ≤ rank v → distance v ≡ Some a → ⊥
 
 -- an unsettled node that was reached, and none such is nearer by reduced costs
-pub record IsNearest (nodes : ℕ) (potential : ℕ → ℤ) (distance : ℕ → Option ℤ) (rank : ℕ → ℕ) (node : ℕ) (so_far : ℤ) : Type 0 where
+pub record IsNearest (nodes : ℕ) (potential : ℕ → ℤ) (distance : ℕ → Option ℤ) (rank : ℕ → ℕ) (node : ℕ) (node_distance : ℤ) : Type 0 where
   pub within : node < nodes
   pub unsettled : nodes ≤ rank node
-  pub reached : distance node ≡ Some so_far
-  pub least : (v : ℕ) (b : ℤ) → v < nodes → nodes ≤ rank v → distance v ≡ Some b → (so_far +ℤ potential v) ≤ℤ (b +ℤ potential node)
+  pub reached : distance node ≡ Some node_distance
+  pub least : (v : ℕ) (b : ℤ) → v < nodes → nodes ≤ rank v → distance v ≡ Some b → (node_distance +ℤ potential v) ≤ℤ (b +ℤ potential node)
 
--- the same two by tables by node, of a node with the length of the path to it
-abbrev pub HaveNone : List (Option ℤ) → List ℕ → ℕ → Type 0
-HaveNone distances settle_order nodes = HasNone nodes (distance_in distances) (slice_index settle_order)
+-- the same two by tables, of a node with its distance
+abbrev pub AreExhausted : List (Option ℤ) → List ℕ → ℕ → Type 0
+AreExhausted distances settle_order nodes = IsExhausted nodes (distance_in distances) (slice_index settle_order)
 
 abbrev pub IsNearestOf : List ℤ → List (Option ℤ) → List ℕ → ℕ → ℕ × ℤ → Type 0
 IsNearestOf potentials distances settle_order nodes r = IsNearest nodes (potential_in potentials) (distance_in distances) (slice_index settle_order) r.0 r.1
 
--- the last step of a path that was found, by potentials under which its reduced cost is 0
+-- the arc from the predecessor has the reduced cost 0
 pub record IsTight (nodes : ℕ) (arc : ℕ → ℕ → Option Arc) (potential : ℕ → ℤ) (predecessor rank : ℕ → ℕ) (v : ℕ) : Type 0 where
   pub within : predecessor v < nodes
   pub settled : rank (predecessor v) < nodes
@@ -92,7 +92,7 @@ pub record IsTight (nodes : ℕ) (arc : ℕ → ℕ → Option Arc) (potential :
   pub there : arc (predecessor v) v ≡ Some along
   pub zero : potential v ≡ potential (predecessor v) +ℤ along.cost
 
--- the potentials of settled nodes fall by as much as these are nearer than the node that was found
-pub record Lowers (nodes : ℕ) (potential potential' : ℕ → ℤ) (distance : ℕ → Option ℤ) (rank : ℕ → ℕ) (node : ℕ) (so_far : ℤ) : Type 0 where
-  pub settled : (v : ℕ) (a : ℤ) → v < nodes → rank v < nodes → distance v ≡ Some a → potential' v ≡ ((potential node +ℤ a) -ℤ so_far)
+-- the potential of each settled node falls by as much as the node is nearer by reduced costs than the wanted one
+pub record Lowers (nodes : ℕ) (potential potential' : ℕ → ℤ) (distance : ℕ → Option ℤ) (rank : ℕ → ℕ) (node : ℕ) (node_distance : ℤ) : Type 0 where
+  pub settled : (v : ℕ) (a : ℤ) → v < nodes → rank v < nodes → distance v ≡ Some a → potential' v ≡ ((potential node +ℤ a) -ℤ node_distance)
   pub others : (v : ℕ) → v < nodes → nodes ≤ rank v → potential' v ≡ potential v

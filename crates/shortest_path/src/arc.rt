@@ -1,4 +1,4 @@
-/// An arc of a residual network: what it costs to move a point along it, and the group of which a point moves.
+/// An arc of a residual network: the cost of one point that moves along it, and the group of that point.
 #[derive(Clone, Copy, Debug, PartialEq, Eq)]
 pub struct Arc {
     pub cost: i64,

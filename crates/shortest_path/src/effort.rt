@@ -3,8 +3,8 @@ ghost use Rattle.std.specs.Prelude.{◌≡◌, ◌+◌};
 use std::marker::Model;
 use std::sync::ledger::{Blank, Book, Ledger, Share};
 
-/// How many augmentations a planner has made, and how many nodes its searches have settled. It takes no bytes, and only the two
-/// methods that count change it.
+/// How many augmentations a planner has made, and how many nodes its searches have settled. It takes no bytes, and only its two
+/// counting methods change it.
 #[derive(Drop)]
 pub struct Effort<L: Ledger> {
     book: Book<L>,
@@ -24,7 +24,7 @@ impl<L: Ledger> Model for Effort<L> {
 }
 
 impl<L: Ledger> Effort<L> {
-    /// Nothing is spent yet. The conditions are a blank of the same name, in two parts.
+    /// Both counts are 0. The conditions are a blank of the same name, in two parts.
     pub fn none(blank: Blank) -> Effort<L>
         requires name { blank.name ≡ L.name }
         requires whole { blank.parts ≡ L.parts }
@@ -41,7 +41,7 @@ impl<L: Ledger> Effort<L> {
         }
     }
 
-    /// Counts a change of the assignment along one path.
+    /// Counts an augmentation: a change of the flow along one augmenting path.
     pub fn count_augmentation(&mut self)
         ensures augmentations { self.new.augmentations ≡ self.old.augmentations + 1 }
         ensures settlings { self.new.settlings ≡ self.old.settlings }
@@ -49,7 +49,7 @@ impl<L: Ledger> Effort<L> {
         self.book.add(&mut self.augmentations, 1);
     }
 
-    /// Counts a node whose distance is fixed in one search.
+    /// Counts a node that a search has settled.
     pub fn count_settling(&mut self)
         ensures augmentations { self.new.augmentations ≡ self.old.augmentations }
         ensures settlings { self.new.settlings ≡ self.old.settlings + 1 }

@@ -9,18 +9,18 @@
 //!     let arcs = [None, Some(Arc { cost: 3, group: 0 }), None, None];
 //!     let mut search = Search::new(alloc, 2)?;
 //!     let found = search.find(arcs.as_slice(), [false, true].as_slice(), 0, effort);
-//!     Ok(found)    // node 1, whose predecessor is node 0; the potential of node 0 is then -3
+//!     Ok(found)    // node 1, whose predecessor is node 0; the potential of node 0 is -3 now
 //! }
 //! ```
 //!
-//! The nodes are numbered, and an arc from one to another has a cost, a whole number. Each node has a potential, and no arc
-//! has a negative reduced cost: `cost + potential(from) - potential(to) >= 0`. A search settles nodes in the order of their
-//! distance by reduced costs, up to the first that is wanted, and lowers the potential of each settled node by as much as it
-//! is nearer than that one. Proved: reduced costs stay non-negative, and those on the paths that were found become 0; and
-//! where no wanted node is found, no arc leaves the settled nodes.
+//! The nodes are numbered, and an arc from one to another has a cost, a whole number. Each node has a potential, of the opposite
+//! sign to the book's, and no arc has a negative reduced cost: `cost + potential(from) - potential(to) >= 0`. A search settles
+//! nodes in the order of their distance from the source by reduced costs, up to the first that is wanted, and lowers the
+//! potential of each settled node by as much as it is nearer than that one. Proved: reduced costs stay non-negative, and those
+//! on the shortest paths become 0; and where no wanted node can be reached, no arc leaves the settled nodes.
 //!
-//! What a planner spends is counted in an [`Effort`], without a byte at run time: it begins at nothing, and each of its two
-//! methods adds one to its own count and leaves the other. A search counts each node that it settles; augmentations are for the
+//! An [`Effort`] counts augmentations and settled nodes, without a byte at run time: both counts begin at 0, and each of its two
+//! methods adds one to its own and leaves the other. A search counts each node that it settles; augmentations are for the
 //! caller to count.
 #![tactic(auto)]
 

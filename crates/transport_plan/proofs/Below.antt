@@ -13,7 +13,7 @@ use Rattle.transport_plan.proofs.DeficientCuts.{unmet_is_under}
 use Rattle.min_cost_flow.specs.Meeting.{IsStuckBelow}
 use Rattle.price_core.specs.Limits.{AreLimits}
 use Rattle.price_core.specs.Pricing.{is_forbidden}
-use Rattle.min_cost_flow.specs.Problem.{IsFlowProblem, group_at, is_there, names_of}
+use Rattle.min_cost_flow.specs.Problem.{IsFlowProblem, group_at, is_allowed, names_of}
 use Rattle.min_cost_flow.specs.declared.problem.FlowProblem.{FlowProblem}
 use Rattle.min_cost_flow.specs.declared.flow.Flow.{Flow}
 use Rattle.shortest_path.specs.Found.{rank_of}
@@ -66,7 +66,7 @@ module _ (p : TransportProblem) (q : FlowProblem) (lawful : AreLimits p.limits) 
         ⊎_elim
         (λ (old : is_among set from ≡ true).
         let here = among_name u u_in (ap (is_among set) (are.variant g g_in) ∙ old) in
-        let stays : may_become p.pricing from (name_at p u) ≡ true = sym (may p q are g u g_in u_in) ∙ ap is_there (ok.groups.stay g (group_in p q are g g_in)) in
+        let stays : may_become p.pricing from (name_at p u) ≡ true = sym (may p q are g u g_in u_in) ∙ ap is_allowed (ok.groups.stay g (group_in p q are g g_in)) in
         omega (arith, here, none_enters g v u g_in v_in u_in some settled stays))
         (λ (new : list_any (may_become p.pricing from) set ≡ true).
         let c = chosen_from (may_become p.pricing from) (keys_of p.limits) mark new in

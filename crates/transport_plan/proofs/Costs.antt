@@ -8,7 +8,7 @@ use Rattle.std.proofs.lemmas.Map.Entries.{length-keys_of}
 use Rattle.std.specs.Map.{keys_of}
 use Rattle.std.specs.Prelude.{if◌then◌else◌, Bool}
 use Rattle.price_core.specs.Pricing.{Pricing, is_forbidden, price_of}
-use Rattle.min_cost_flow.specs.Problem.{names_of, group_at, is_there, price_at, sum_to}
+use Rattle.min_cost_flow.specs.Problem.{names_of, group_at, is_allowed, switch_cost_at, sum_to}
 use Rattle.min_cost_flow.specs.declared.problem.FlowProblem.{FlowProblem}
 use Rattle.min_cost_flow.specs.Flow.{IsFlowAt, cell_at, groups_of}
 use Rattle.min_cost_flow.proofs.Sums.{sum_same}
@@ -60,7 +60,7 @@ all_paid pricing (g ∷ gs) d names numbers spent =
     front : (k v : ℕ) → v ≡ 0 * k + v
     front k v = omega arith
 
-unit_by : (forbidden : Bool) (count c : ℕ) → is_there (if forbidden then None else Some (pos c)) ≡ true → unit_of count (if forbidden then None else Some (pos c)) ≡ count * c
+unit_by : (forbidden : Bool) (count c : ℕ) → is_allowed (if forbidden then None else Some (pos c)) ≡ true → unit_of count (if forbidden then None else Some (pos c)) ≡ count * c
 unit_by true count c is = absurd (false≢true is)
 unit_by false count c is = refl
 
@@ -72,34 +72,34 @@ nothing_paid k a b none = ap (λ x. x * a) none ∙ (zeros a b ∙ ap (λ x. x *
 
 -- the cost of a flow by number is that of its arcs
 pub cost_listed : (p : TransportProblem) (q : FlowProblem) (placed totals : List ℕ) (cells : List (Option arcs.Arc)) → IsNumbered p q → IsFlowAt q placed totals cells → spends_all p.groups (length p.limits) placed ≡ true
-    → flow_cost p.pricing (flows_of p placed) ≡ all_cost q.groups.items q.prices.items placed (names_of q) (groups_of q)
+    → flow_cost p.pricing (flows_of p placed) ≡ all_cost q.groups.items q.costs.items placed (names_of q) (groups_of q)
 cost_listed p q placed totals cells are flow spent =
     let wide = length-keys_of p.limits in
     let listed = all_paid p.pricing p.groups (([], 0), 0) (keys_of p.limits) placed (ap (λ k. spends_all p.groups k placed) wide ∙ spent) in
     let by_cell : (g v : ℕ) → g < length p.groups → v < length p.limits → get_or placed (g * length p.limits + v) 0 * ((row_at p g).0.1 * price_of p.pricing (row_at p g).0.0 (name_at p v))
-    ≡ cell_at placed (names_of q) g v * unit_of (group_at q.groups.items g).count (price_at q.prices.items (names_of q) (group_at q.groups.items g).variant v) =
+    ≡ cell_at placed (names_of q) g v * unit_of (group_at q.groups.items g).count (switch_cost_at q.costs.items (names_of q) (group_at q.groups.items g).variant v) =
     λ g v g_in v_in.
     let cell : get_or placed (g * length p.limits + v) 0 ≡ cell_at placed (names_of q) g v = ap (λ k. get_or placed (g * k + v) 0) (sym are.names) in
     let price = price_of p.pricing (row_at p g).0.0 (name_at p v) in
-    let switch : price_at q.prices.items (names_of q) (group_at q.groups.items g).variant v ≡ switch_price p.pricing (row_at p g).0.0 (name_at p v) =
-    are.prices (group_at q.groups.items g).variant v (are.variant_in g g_in) v_in ∙ ap (λ n. switch_price p.pricing n (name_at p v)) (are.variant g g_in) in
+    let switch : switch_cost_at q.costs.items (names_of q) (group_at q.groups.items g).variant v ≡ switch_price p.pricing (row_at p g).0.0 (name_at p v) =
+    are.costs (group_at q.groups.items g).variant v (are.variant_in g g_in) v_in ∙ ap (λ n. switch_price p.pricing n (name_at p v)) (are.variant g g_in) in
     ap (λ x. x * ((row_at p g).0.1 * price)) cell
     ∙ ⊎_elim
     (λ (some : 0 < cell_at placed (names_of q) g v).
     let may = flow.free g v (omega (arith, g_in, are.groups)) (omega (arith, v_in, are.names)) some in
-    let unit : unit_of (group_at q.groups.items g).count (price_at q.prices.items (names_of q) (group_at q.groups.items g).variant v) ≡ (group_at q.groups.items g).count * price =
-    ap (unit_of (group_at q.groups.items g).count) switch ∙ unit_by (is_forbidden p.pricing (row_at p g).0.0 (name_at p v)) (group_at q.groups.items g).count price (ap is_there (sym switch) ∙ may) in
+    let unit : unit_of (group_at q.groups.items g).count (switch_cost_at q.costs.items (names_of q) (group_at q.groups.items g).variant v) ≡ (group_at q.groups.items g).count * price =
+    ap (unit_of (group_at q.groups.items g).count) switch ∙ unit_by (is_forbidden p.pricing (row_at p g).0.0 (name_at p v)) (group_at q.groups.items g).count price (ap is_allowed (sym switch) ∙ may) in
     ap (λ u. cell_at placed (names_of q) g v * u) (ap (λ c. c * price) (sym (are.count g g_in)) ∙ sym unit))
     (λ (none : cell_at placed (names_of q) g v ≤ 0).
-    nothing_paid (cell_at placed (names_of q) g v) ((row_at p g).0.1 * price) (unit_of (group_at q.groups.items g).count (price_at q.prices.items (names_of q) (group_at q.groups.items g).variant v)) (omega (arith, none)))
+    nothing_paid (cell_at placed (names_of q) g v) ((row_at p g).0.1 * price) (unit_of (group_at q.groups.items g).count (switch_cost_at q.costs.items (names_of q) (group_at q.groups.items g).variant v)) (omega (arith, none)))
     (cases_lt 0 (cell_at placed (names_of q) g v)) in
     let by_width = ap (λ k. sum_to (length p.groups) (λ g. sum_to k (λ v. get_or placed (g * k + v) 0 * ((row_at p g).0.1 * price_of p.pricing (row_at p g).0.0 (name_at p v))))) wide in
     let by_rows = sum_same (length p.groups) (λ g. sum_to (length p.limits) (λ v. get_or placed (g * length p.limits + v) 0 * ((row_at p g).0.1 * price_of p.pricing (row_at p g).0.0 (name_at p v))))
-    (λ g. sum_to (length p.limits) (λ v. cell_at placed (names_of q) g v * unit_of (group_at q.groups.items g).count (price_at q.prices.items (names_of q) (group_at q.groups.items g).variant v)))
+    (λ g. sum_to (length p.limits) (λ v. cell_at placed (names_of q) g v * unit_of (group_at q.groups.items g).count (switch_cost_at q.costs.items (names_of q) (group_at q.groups.items g).variant v)))
     (λ g g_in. sum_same (length p.limits) (λ v. get_or placed (g * length p.limits + v) 0 * ((row_at p g).0.1 * price_of p.pricing (row_at p g).0.0 (name_at p v)))
-    (λ v. cell_at placed (names_of q) g v * unit_of (group_at q.groups.items g).count (price_at q.prices.items (names_of q) (group_at q.groups.items g).variant v)) (λ v v_in. by_cell g v g_in v_in)) in
+    (λ v. cell_at placed (names_of q) g v * unit_of (group_at q.groups.items g).count (switch_cost_at q.costs.items (names_of q) (group_at q.groups.items g).variant v)) (λ v v_in. by_cell g v g_in v_in)) in
     listed
     ∙ (by_width
     ∙ (by_rows
-    ∙ (ap (λ k. sum_to (length p.groups) (λ g. sum_to k (λ v. cell_at placed (names_of q) g v * unit_of (group_at q.groups.items g).count (price_at q.prices.items (names_of q) (group_at q.groups.items g).variant v)))) (sym are.names)
-    ∙ ap (λ n. all_cost q.groups.items q.prices.items placed (names_of q) n) (sym are.groups))))
+    ∙ (ap (λ k. sum_to (length p.groups) (λ g. sum_to k (λ v. cell_at placed (names_of q) g v * unit_of (group_at q.groups.items g).count (switch_cost_at q.costs.items (names_of q) (group_at q.groups.items g).variant v)))) (sym are.names)
+    ∙ ap (λ n. all_cost q.groups.items q.costs.items placed (names_of q) n) (sym are.groups))))

@@ -1,4 +1,4 @@
--- The prices of groups by number are their least offers.
+-- The dual prices of groups, by number, are their least offers.
 use Rattle.std.proofs.Common.{◌≡◌, ℕ, suc, ◌*◌, ◌<◌, ℤ, pos, ◌*ℤ◌, List, [], ◌∷◌, length, get_or, Some, None, true, false, refl, sym, ap, ◌∙◌, arith}
 use Rattle.std.proofs.lemmas.Bool.{false≢true}
 use Rattle.std.proofs.lemmas.Int.{ints}
@@ -8,12 +8,12 @@ use Rattle.std.specs.Map.{keys_of}
 use Rattle.std.specs.Prelude.{if◌then◌else◌, Bool}
 use Rattle.price_core.specs.Pricing.{Pricing, is_forbidden, price_of}
 use Rattle.transport_plan.specs.Slackness.{AreLeastOffers, IsLeastOffer, charge}
-use Rattle.min_cost_flow.specs.Problem.{group_at, names_of, price_at}
+use Rattle.min_cost_flow.specs.Problem.{group_at, names_of, switch_cost_at}
 use Rattle.min_cost_flow.specs.declared.problem.FlowProblem.{FlowProblem}
 use Rattle.transport_instance.specs.Groups.{GroupKey}
 use Rattle.transport_instance.specs.Instance.{TransportProblem}
 use Rattle.transport_plan.specs.Numbered.{IsNumbered, name_at, row_at}
-use Rattle.transport_plan.specs.Prices.{IsLeastAt}
+use Rattle.transport_plan.specs.DualPrices.{IsLeastAt}
 use Rattle.transport_plan.proofs.Numbering.{switch_at}
 
 offers_all : (pricing : Pricing) (gs : List (GroupKey × ℕ)) (d : GroupKey × ℕ) (names : List (List ℕ)) (beta alpha : List ℤ) → length alpha ≡ length gs
@@ -40,14 +40,14 @@ module _ (p : TransportProblem) (q : FlowProblem) (alpha beta : List ℤ) (are :
   charged : (g w : ℕ) → g < length p.groups → (pos (group_at q.groups.items g).count *ℤ pos (price_of p.pricing (row_at p g).0.0 (name_at p w))) ≡ charge p.pricing (row_at p g).0 (keys_of p.limits) w
   charged g w g_in = ap (λ c. pos (c * price_of p.pricing (row_at p g).0.0 (name_at p w))) (are.count g g_in)
 
-  offer_at : (g : ℕ) (a : ℤ) → g < length p.groups → IsLeastAt q.groups.items q.prices.items (names_of q) beta g a → IsLeastOffer p.pricing (row_at p g).0 (keys_of p.limits) beta a
+  offer_at : (g : ℕ) (a : ℤ) → g < length p.groups → IsLeastAt q.groups.items q.costs.items (names_of q) beta g a → IsLeastOffer p.pricing (row_at p g).0 (keys_of p.limits) beta a
   offer_at g a g_in least =
       let from = (row_at p g).0.0 in
       record {
         slack = λ w w_in allowed.
             let w_name : w < length p.limits = omega (arith, w_in, wide) in
             let price = price_of p.pricing from (name_at p w) in
-            let is : price_at q.prices.items (names_of q) (group_at q.groups.items g).variant w ≡ Some (pos price) = switch_at p q are g w g_in w_name ∙ open_switch (is_forbidden p.pricing from (name_at p w)) price allowed in
+            let is : switch_cost_at q.costs.items (names_of q) (group_at q.groups.items g).variant w ≡ Some (pos price) = switch_at p q are g w g_in w_name ∙ open_switch (is_forbidden p.pricing from (name_at p w)) price allowed in
             omega (arith, ints, least.slack w (pos price) (omega (arith, w_name, are.names)) is, charged g w g_in);
         tight =
             let t = least.tight in
@@ -58,5 +58,5 @@ module _ (p : TransportProblem) (q : FlowProblem) (alpha beta : List ℤ) (are :
             (w, omega (arith, w_name, wide), shown.0, t.4 ∙ (ap (λ z. pos (group_at q.groups.items g).count *ℤ z) shown.1 ∙ charged g w g_in));
       }
 
-  pub least_offers : length alpha ≡ length p.groups → ((g : ℕ) → g < length p.groups → IsLeastAt q.groups.items q.prices.items (names_of q) beta g (get_or alpha g (pos 0))) → AreLeastOffers p.pricing p.groups (keys_of p.limits) beta alpha
+  pub least_offers : length alpha ≡ length p.groups → ((g : ℕ) → g < length p.groups → IsLeastAt q.groups.items q.costs.items (names_of q) beta g (get_or alpha g (pos 0))) → AreLeastOffers p.pricing p.groups (keys_of p.limits) beta alpha
   least_offers same each = offers_all p.pricing p.groups (([], 0), 0) (keys_of p.limits) beta alpha same (λ g g_in. offer_at g (get_or alpha g (pos 0)) g_in (each g g_in))

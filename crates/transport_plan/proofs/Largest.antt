@@ -8,7 +8,7 @@ use Rattle.std.specs.Map.{keys_of}
 use Rattle.flag_text.proofs.Bools.{both}
 use Rattle.flag_text.specs.Shape.{is_in_range, items_are_whole}
 use Rattle.plan_text.specs.PlanFile.{alpha_written, beta_written, items_by}
-use Rattle.min_cost_flow.specs.Offered.{IsPrice}
+use Rattle.min_cost_flow.specs.Offered.{IsSwitchCost}
 use Rattle.min_cost_flow.specs.Problem.{max_count}
 use Rattle.transport_instance.specs.Groups.{GroupKey}
 
@@ -22,7 +22,7 @@ in_range (pos n) held = lt-ltb n (2 ^ 53) (omega (arith, ints, held.high))
 in_range (negsuc n) held = lt-ltb (suc n) (2 ^ 53) (omega (arith, ints, held.low))
 
 -- what a switch costs the inputs of a point
-pub charge_small : (count : ℕ) (price : ℤ) → count ≤ max_count → IsPrice price → (pos 0 ≤ℤ (pos count *ℤ price)) × ((pos count *ℤ price) ≤ℤ pos (max_count * 1000000))
+pub charge_small : (count : ℕ) (switch_cost : ℤ) → count ≤ max_count → IsSwitchCost switch_cost → (pos 0 ≤ℤ (pos count *ℤ switch_cost)) × ((pos count *ℤ switch_cost) ≤ℤ pos (max_count * 1000000))
 charge_small count (pos n) few is =
     let small : n ≤ 1000000 = omega (arith, ints, is.high) in
     let most : count * n ≤ max_count * 1000000 = mul-le-mul few small in

@@ -21,7 +21,7 @@ pub mod Numbers
 pub mod Places
 pub mod Plans
 pub mod ProvedFlow
-pub mod PushedPrices
+pub mod PushedDualPrices
 pub mod PushedRows
 pub mod Slackness
 pub mod Spending

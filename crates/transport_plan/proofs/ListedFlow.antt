@@ -111,7 +111,7 @@ optimal_rows pricing (g ∷ gs) d names k numbers beta wide are =
     front : (k v : ℕ) → v ≡ 0 * k + v
     front k v = omega arith
 
--- totals and prices on the side of their limits, by number
+-- totals and dual prices on the side of their limits, by number
 pub balanced : (ls : Limits) (d : List ℕ × (ℕ × ℕ)) (totals : List ℕ) (beta : List ℤ) → length totals ≡ length ls → length beta ≡ length ls
     → ((v : ℕ) → v < length ls → ((get_or ls v d).1.0 ≤ get_or totals v 0) × (get_or totals v 0 ≤ (get_or ls v d).1.1) × (get_or totals v 0 < (get_or ls v d).1.1 → pos 0 ≤ℤ get_or beta v (pos 0)) × ((get_or ls v d).1.0 < get_or totals v 0 → get_or beta v (pos 0) ≤ℤ pos 0))
     → AreBalanced ls totals beta

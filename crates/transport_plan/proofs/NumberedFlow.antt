@@ -9,7 +9,7 @@ use Rattle.price_core.specs.Pricing.{is_forbidden, price_of}
 use Rattle.transport_plan.specs.Slackness.{IsOptimal, charge, columns}
 use Rattle.transport_plan.proofs.Slackness.{length-columns}
 use Rattle.min_cost_flow.specs.Optimal as numbers
-use Rattle.min_cost_flow.specs.Problem.{cost_at, group_at, is_there, may_take, names_of, or_free, price_at, sum_to}
+use Rattle.min_cost_flow.specs.Problem.{cost_at, group_at, is_allowed, may_take, names_of, cost_or_zero, switch_cost_at, sum_to}
 use Rattle.min_cost_flow.specs.declared.problem.FlowProblem.{FlowProblem}
 use Rattle.min_cost_flow.specs.Flow.{IsFlowAt, cell_at, flows_at, groups_of}
 use Rattle.shortest_path.specs.declared.arc.Arc.{Arc}
@@ -19,15 +19,15 @@ use Rattle.transport_plan.specs.Numbered.{IsNumbered, name_at, row_at}
 use Rattle.transport_plan.proofs.ListedFlow.{IsOptimalAt, balanced, column_is, optimal_rows, spent_all}
 use Rattle.transport_plan.proofs.Numbering.{switch_at}
 
-may_by : (forbidden : Bool) (c : ℕ) → is_there (if forbidden then None else Some (pos c)) ≡ true → forbidden ≡ false
+may_by : (forbidden : Bool) (c : ℕ) → is_allowed (if forbidden then None else Some (pos c)) ≡ true → forbidden ≡ false
 may_by true c is = absurd (false≢true is)
 may_by false c is = refl
 
-there_by : (forbidden : Bool) (c : ℕ) → forbidden ≡ false → is_there (if forbidden then None else Some (pos c)) ≡ true
+there_by : (forbidden : Bool) (c : ℕ) → forbidden ≡ false → is_allowed (if forbidden then None else Some (pos c)) ≡ true
 there_by true c is = absurd (false≢true (sym is))
 there_by false c is = refl
 
-costs_by : (forbidden : Bool) (c : ℕ) → forbidden ≡ false → or_free (if forbidden then None else Some (pos c)) ≡ pos c
+costs_by : (forbidden : Bool) (c : ℕ) → forbidden ≡ false → cost_or_zero (if forbidden then None else Some (pos c)) ≡ pos c
 costs_by true c is = absurd (false≢true (sym is))
 costs_by false c is = refl
 
@@ -37,16 +37,16 @@ module _ (p : TransportProblem) (q : FlowProblem) (placed totals : List ℕ) (ar
   k_is : names_of q ≡ length p.limits
   k_is = are.names
 
-  allowed_is : (g w : ℕ) → g < length p.groups → w < length p.limits → may_take q.groups.items q.prices.items (names_of q) g w ≡ true → is_forbidden p.pricing (row_at p g).0.0 (name_at p w) ≡ false
-  allowed_is g w g_in w_in may = may_by (is_forbidden p.pricing (row_at p g).0.0 (name_at p w)) (price_of p.pricing (row_at p g).0.0 (name_at p w)) (ap is_there (sym (switch_at p q are g w g_in w_in)) ∙ may)
+  allowed_is : (g w : ℕ) → g < length p.groups → w < length p.limits → may_take q.groups.items q.costs.items (names_of q) g w ≡ true → is_forbidden p.pricing (row_at p g).0.0 (name_at p w) ≡ false
+  allowed_is g w g_in w_in may = may_by (is_forbidden p.pricing (row_at p g).0.0 (name_at p w)) (price_of p.pricing (row_at p g).0.0 (name_at p w)) (ap is_allowed (sym (switch_at p q are g w g_in w_in)) ∙ may)
 
-  may_is : (g w : ℕ) → g < length p.groups → w < length p.limits → is_forbidden p.pricing (row_at p g).0.0 (name_at p w) ≡ false → may_take q.groups.items q.prices.items (names_of q) g w ≡ true
-  may_is g w g_in w_in allowed = ap is_there (switch_at p q are g w g_in w_in) ∙ there_by (is_forbidden p.pricing (row_at p g).0.0 (name_at p w)) (price_of p.pricing (row_at p g).0.0 (name_at p w)) allowed
+  may_is : (g w : ℕ) → g < length p.groups → w < length p.limits → is_forbidden p.pricing (row_at p g).0.0 (name_at p w) ≡ false → may_take q.groups.items q.costs.items (names_of q) g w ≡ true
+  may_is g w g_in w_in allowed = ap is_allowed (switch_at p q are g w g_in w_in) ∙ there_by (is_forbidden p.pricing (row_at p g).0.0 (name_at p w)) (price_of p.pricing (row_at p g).0.0 (name_at p w)) allowed
 
-  cost_is : (g w : ℕ) → g < length p.groups → w < length p.limits → is_forbidden p.pricing (row_at p g).0.0 (name_at p w) ≡ false → cost_at q.groups.items q.prices.items (names_of q) g w ≡ charge p.pricing (row_at p g).0 (keys_of p.limits) w
+  cost_is : (g w : ℕ) → g < length p.groups → w < length p.limits → is_forbidden p.pricing (row_at p g).0.0 (name_at p w) ≡ false → cost_at q.groups.items q.costs.items (names_of q) g w ≡ charge p.pricing (row_at p g).0 (keys_of p.limits) w
   cost_is g w g_in w_in allowed =
-      let one : or_free (price_at q.prices.items (names_of q) (group_at q.groups.items g).variant w) ≡ pos (price_of p.pricing (row_at p g).0.0 (name_at p w)) =
-      ap or_free (switch_at p q are g w g_in w_in) ∙ costs_by (is_forbidden p.pricing (row_at p g).0.0 (name_at p w)) (price_of p.pricing (row_at p g).0.0 (name_at p w)) allowed in
+      let one : cost_or_zero (switch_cost_at q.costs.items (names_of q) (group_at q.groups.items g).variant w) ≡ pos (price_of p.pricing (row_at p g).0.0 (name_at p w)) =
+      ap cost_or_zero (switch_at p q are g w g_in w_in) ∙ costs_by (is_forbidden p.pricing (row_at p g).0.0 (name_at p w)) (price_of p.pricing (row_at p g).0.0 (name_at p w)) allowed in
       ap (λ z. pos (group_at q.groups.items g).count *ℤ z) one ∙ ap (λ c. pos (c * price_of p.pricing (row_at p g).0.0 (name_at p w))) (are.count g g_in)
 
   size : length placed ≡ length p.groups * length p.limits

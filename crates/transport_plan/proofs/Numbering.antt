@@ -19,7 +19,7 @@ use Rattle.std.proofs.lemmas.Map.Keys.{Less-from_sorted}
 use Rattle.std.proofs.lemmas.Option.{slice_get-get_or, slice_get_within, get_or_from_slice_get}
 use Rattle.std.proofs.lemmas.Slice.Eq.{bytes_eq-Decides}
 use Rattle.price_core.specs.Pricing.{Pricing}
-use Rattle.min_cost_flow.specs.Problem.{IsFlowProblem, sum_to, group_at, inputs_of, names_of, no_group, price_at}
+use Rattle.min_cost_flow.specs.Problem.{IsFlowProblem, sum_to, group_at, inputs_of, names_of, no_group, switch_cost_at}
 use Rattle.min_cost_flow.specs.declared.problem.FlowProblem.{FlowProblem}
 use Rattle.transport_instance.specs.Groups.{GroupKey, group_cmp}
 use Rattle.transport_instance.specs.Instance.{TransportProblem, IsProblem}
@@ -81,11 +81,11 @@ abbrev pub no_row : GroupKey × ℕ
 no_row = (([], 0), 0)
 
 -- what the switch of a group's point to a name costs
-pub switch_at : (p : TransportProblem) (q : FlowProblem) → IsNumbered p q → (g w : ℕ) → g < length p.groups → w < length p.limits → price_at q.prices.items (names_of q) (group_at q.groups.items g).variant w ≡ switch_price p.pricing (row_at p g).0.0 (name_at p w)
-switch_at p q are g w g_in w_in = are.prices (group_at q.groups.items g).variant w (are.variant_in g g_in) w_in ∙ ap (λ n. switch_price p.pricing n (name_at p w)) (are.variant g g_in)
+pub switch_at : (p : TransportProblem) (q : FlowProblem) → IsNumbered p q → (g w : ℕ) → g < length p.groups → w < length p.limits → switch_cost_at q.costs.items (names_of q) (group_at q.groups.items g).variant w ≡ switch_price p.pricing (row_at p g).0.0 (name_at p w)
+switch_at p q are g w g_in w_in = are.costs (group_at q.groups.items g).variant w (are.variant_in g g_in) w_in ∙ ap (λ n. switch_price p.pricing n (name_at p w)) (are.variant g g_in)
 
-module _ (t : TransportProblem) (problem : IsProblem t) (q : FlowProblem) (are : AreGroups (keys_of t.limits) t.groups q.groups.items) (table : q.prices.items ≡ flat_map (price_row t.pricing (keys_of t.limits)) (keys_of t.limits))
-    (priced : All IsPriced q.prices.items) (low : q.low.items ≡ map (λ l. l.1.0) t.limits) (high : q.high.items ≡ map (λ l. l.1.1) t.limits) where
+module _ (t : TransportProblem) (problem : IsProblem t) (q : FlowProblem) (are : AreGroups (keys_of t.limits) t.groups q.groups.items) (table : q.costs.items ≡ flat_map (price_row t.pricing (keys_of t.limits)) (keys_of t.limits))
+    (priced : All IsPriced q.costs.items) (low : q.low.items ≡ map (λ l. l.1.0) t.limits) (high : q.high.items ≡ map (λ l. l.1.1) t.limits) where
   names_many : names_of q ≡ length t.limits
   names_many = ap length high ∙ length-map t.limits (λ (l : List ℕ × (ℕ × ℕ)). l.1.1)
 
@@ -110,13 +110,13 @@ module _ (t : TransportProblem) (problem : IsProblem t) (q : FlowProblem) (are :
   row_wide : (n : List ℕ) → length (price_row t.pricing (keys_of t.limits) n) ≡ length t.limits
   row_wide n = length-map (keys_of t.limits) (switch_price t.pricing n) ∙ keys_many
 
-  price_here : (v w : ℕ) → v < length t.limits → w < length t.limits → price_at q.prices.items (names_of q) v w ≡ switch_price t.pricing (name_at t v) (name_at t w)
+  price_here : (v w : ℕ) → v < length t.limits → w < length t.limits → switch_cost_at q.costs.items (names_of q) v w ≡ switch_price t.pricing (name_at t v) (name_at t w)
   price_here v w v_in w_in =
       let names = keys_of t.limits in
       let row = price_row t.pricing names in
       let place : v * length t.limits + w ≡ length (flat_map row (take v names)) + w =
       omega (arith, table_length (take v names) row (length t.limits) row_wide, ap (λ n. n * length t.limits) (take_length names v (omega (arith, v_in, keys_many)))) in
-      ap (λ n. get_or q.prices.items (v * n + w) None) names_many
+      ap (λ n. get_or q.costs.items (v * n + w) None) names_many
       ∙ (ap (λ xs. get_or xs (v * length t.limits + w) None) table
       ∙ (ap (λ i. get_or (flat_map row names) i None) place
       ∙ (get_or-flat_map row names v w [] None (omega (arith, v_in, keys_many)) (omega (arith, w_in, row_wide (get_or names v [])))
@@ -132,7 +132,7 @@ module _ (t : TransportProblem) (problem : IsProblem t) (q : FlowProblem) (are :
     variant = variant_named;
     count = λ g below. (group_here g below).count;
     points = λ g below. (group_here g below).points;
-    prices = price_here;
+    costs = price_here;
   }
 
   points_sum : sum_to (length q.groups.items) (λ g. (group_at q.groups.items g).points) ≡ whole_amount t.groups
@@ -153,7 +153,7 @@ module _ (t : TransportProblem) (problem : IsProblem t) (q : FlowProblem) (are :
       ap (λ n. sum_to n (λ v. get_or q.low.items v 0)) names_many
       ∙ sum_to-list (λ (l : List ℕ × (ℕ × ℕ)). l.1.0) t.limits (λ v. get_or q.low.items v 0) (λ d v below. low_at v ∙ ap (λ (l : List ℕ × (ℕ × ℕ)). l.1.0) (get_or_default t.limits v ([], (0, 0)) d below))
 
-  table_size : length q.prices.items ≡ names_of q * names_of q
+  table_size : length q.costs.items ≡ names_of q * names_of q
   table_size = ap length table ∙ (table_length (keys_of t.limits) (price_row t.pricing (keys_of t.limits)) (length t.limits) row_wide ∙ (ap (λ n. n * length t.limits) keys_many ∙ ap (λ n. n * n) (sym names_many)))
 
   few_rows : (rows : List (GroupKey × ℕ)) → All (λ (e : GroupKey × ℕ). 0 < e.1) rows → length rows ≤ whole_amount rows
@@ -175,7 +175,7 @@ module _ (t : TransportProblem) (problem : IsProblem t) (q : FlowProblem) (are :
     lows = ap length low ∙ (length-map t.limits (λ (l : List ℕ × (ℕ × ℕ)). l.1.0) ∙ sym names_many);
     ordered = λ v below. omega (arith, low_at v, high_at v, problem.limits.ordered v ([], (0, 0)) (omega (arith, below, names_many)));
     asked = omega (arith, lows_sum, points_sum, problem.lows);
-    prices = record { size = table_size; each = λ i price below is. priced i None (omega (arith, below, table_size)) price is };
+    costs = record { size = table_size; each = λ i price below is. priced i None (omega (arith, below, table_size)) price is };
     groups = record {
       variant = λ g below. omega (arith, variant_within g (omega (arith, below, are.many)), names_many);
       stay = λ g below.

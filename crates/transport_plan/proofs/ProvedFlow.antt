@@ -148,7 +148,7 @@ module _ (p : TransportProblem) (numbers : List ℕ) (alpha beta : List ℤ) (co
       let here : pos (flow_cost p.pricing (flows_of p numbers)) ≡ pos cost = ap (λ n. pos n) is in
       omega (arith, ints, paid, balanced, left, right, column, here)
 
-  -- the prices of an optimal flow prove what it costs
+  -- the dual prices of an optimal flow prove what it costs
   pub proved : IsProved p numbers (certificate_of p alpha beta cost)
   proved = record {
     placed = placed;

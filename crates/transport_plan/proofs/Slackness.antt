@@ -1,5 +1,5 @@
--- Complementary slackness: a flow that uses tight arcs alone, with prices of names that are on the side of their limits, costs
--- what the prices prove (Ahuja, Magnanti, Orlin, Network Flows, section 9.4).
+-- Complementary slackness: a flow that uses tight arcs alone, with dual prices of names that are on the side of their limits, costs
+-- what the dual prices prove (Ahuja, Magnanti, Orlin, Network Flows, section 9.4).
 use Rattle.std.proofs.Common.{◌≡◌, ⊎_elim, ℕ, zero, suc, ◌+◌, ◌*◌, ◌<◌, ◌≤◌, ℤ, pos, negsuc, neg_ℤ, ◌+ℤ◌, ◌*ℤ◌, ◌≤ℤ◌, List, [], ◌∷◌, map, length, take, drop, replicate, true, refl, ap, ◌∙◌, arith}
 use Rattle.std.proofs.Math.IntN.{*ℤ-zero}
 use Rattle.std.proofs.lemmas.Bool.{cases_lt}
@@ -29,7 +29,7 @@ times-add (suc n) x y = omega (arith, ints, add-times 1 n x, add-times 1 n y, ad
 
 -- ---- one row
 
--- the price of a group at all its points, with the prices of the names at the points that they get, is what the points cost
+-- the dual price of a group at all its points, with those of the names at the points that they get, is what the points cost
 pub row-pays : (pricing : Pricing) (g : GroupKey) (a : ℤ) (names : List (List ℕ)) (row : List ℕ) (beta : List ℤ) → length row ≡ length names → length beta ≡ length names → IsTightRow pricing g a names row beta
     → ((pos (sum row) *ℤ a) +ℤ weighted row beta) ≡ pos (flow_cost pricing (row_flows g names row))
 row-pays pricing g a [] [] beta wide priced tight = omega (arith, ints)
@@ -82,7 +82,7 @@ weighted-none zero zs = refl
 weighted-none (suc n) [] = refl
 weighted-none (suc n) (z ∷ zs) = omega (arith, ints, weighted-none n zs)
 
--- the prices of the groups at their points, with those of the names at their totals, are what all points cost
+-- the dual prices of the groups at their points, with those of the names at their totals, are what all points cost
 pub rows-pay : (pricing : Pricing) (groups : List (GroupKey × ℕ)) (alpha : List ℤ) (names : List (List ℕ)) (numbers : List ℕ) (beta : List ℤ) → length alpha ≡ length groups → length beta ≡ length names
     → spends_all groups (length names) numbers ≡ true → AreTightRows pricing groups alpha names (length names) numbers beta
     → (weighted (map (λ g. g.1) groups) alpha +ℤ weighted (columns groups (length names) numbers) beta) ≡ pos (flow_cost pricing (arc_flows (keys_of groups) names numbers))

@@ -6,7 +6,7 @@ use Rattle.std.specs.Map.{keys_of}
 use Rattle.std.specs.Prelude.{if◌then◌else◌}
 use Rattle.price_core.specs.Limits.{AreLimits}
 use Rattle.price_core.specs.Pricing.{is_forbidden, price_of}
-use Rattle.min_cost_flow.specs.Problem.{group_at, is_there, may_take, names_of, price_at, sum_to}
+use Rattle.min_cost_flow.specs.Problem.{group_at, is_allowed, may_take, names_of, switch_cost_at, sum_to}
 use Rattle.min_cost_flow.specs.declared.problem.FlowProblem.{FlowProblem}
 use Rattle.min_cost_flow.specs.Flow.{IsFlow, cell_at, groups_of, total_at}
 use Rattle.min_cost_flow.specs.declared.flow.Flow.{Flow}
@@ -17,7 +17,7 @@ use Rattle.transport_plan.specs.Numbered.{IsNumbered, limit_at, name_at, row_at}
 use Rattle.transport_plan.proofs.ListedFlow.{spent_all}
 use Rattle.transport_plan.proofs.ListedPoints.{inflow_is}
 
-there_by : (forbidden : Bool) (price : ℕ) → is_there (if forbidden then None else Some (pos price)) ≡ not forbidden
+there_by : (forbidden : Bool) (price : ℕ) → is_allowed (if forbidden then None else Some (pos price)) ≡ not forbidden
 there_by true price = refl
 there_by false price = refl
 
@@ -30,12 +30,12 @@ wide p = length-keys_of p.limits
 
 module _ (p : TransportProblem) (q : FlowProblem) (are : IsNumbered p q) where
   -- a switch has a price just where it is allowed
-  pub allowed : (u w : ℕ) → u < length p.limits → w < length p.limits → is_there (price_at q.prices.items (names_of q) u w) ≡ may_become p.pricing (name_at p u) (name_at p w)
+  pub allowed : (u w : ℕ) → u < length p.limits → w < length p.limits → is_allowed (switch_cost_at q.costs.items (names_of q) u w) ≡ may_become p.pricing (name_at p u) (name_at p w)
   allowed u w u_in w_in =
-      ap is_there (are.prices u w u_in w_in)
+      ap is_allowed (are.costs u w u_in w_in)
       ∙ there_by (is_forbidden p.pricing (name_at p u) (name_at p w)) (price_of p.pricing (name_at p u) (name_at p w))
 
-  pub may : (g w : ℕ) → g < length p.groups → w < length p.limits → may_take q.groups.items q.prices.items (names_of q) g w ≡ may_become p.pricing (row_at p g).0.0 (name_at p w)
+  pub may : (g w : ℕ) → g < length p.groups → w < length p.limits → may_take q.groups.items q.costs.items (names_of q) g w ≡ may_become p.pricing (row_at p g).0.0 (name_at p w)
   may g w g_in w_in =
       allowed (group_at q.groups.items g).variant w (are.variant_in g g_in) w_in ∙ ap (λ n. may_become p.pricing n (name_at p w)) (are.variant g g_in)
 

@@ -1,5 +1,5 @@
--- What a search leaves that reached no name which it wanted: a set of names that no point can leave, or enter (Hall's condition;
--- Hoffman's circulation theorem).
+-- What a search leaves that reached no wanted name: a set of names that no point can leave, or enter (Hall's condition; Hoffman's
+-- circulation theorem).
 use Rattle.std.specs.Prelude.{◌≡◌, ◌==◌, ◌||◌, ℕ, ◌<◌, ◌≤◌, Bool, true, not, List, length, Some}
 use Rattle.std.specs.List.{All, Contains, list_all, list_any, slice_get}
 use Rattle.std.specs.Map.{keys_of}

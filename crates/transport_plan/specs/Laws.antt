@@ -10,7 +10,7 @@ use Rattle.transport_instance.specs.Instance.{TransportProblem}
 use Rattle.transport_plan.specs.Cuts.{IsStuck, IsUnmet}
 use Rattle.transport_plan.specs.Slackness.{IsOptimal, AreLeastOffers, certificate_of}
 use Rattle.transport_plan.specs.Costs.{all_cost}
-use Rattle.transport_plan.specs.Prices.{IsLeastAt}
+use Rattle.transport_plan.specs.DualPrices.{IsLeastAt}
 use Rattle.min_cost_flow.specs.Problem.{names_of}
 use Rattle.min_cost_flow.specs.declared.problem.FlowProblem.{FlowProblem}
 use Rattle.min_cost_flow.specs.Flow.{IsFlowAt, flows_at, groups_of}
@@ -18,9 +18,9 @@ use Rattle.shortest_path.specs.declared.arc.Arc.{Arc}
 use Rattle.transport_plan.specs.Numbered.{IsNumbered}
 use Rattle.min_cost_flow.specs.Optimal as numbers
 
--- The prices of the names of an optimal flow, with the least offers of the groups, prove what the flow costs.
-abbrev pub PricesProve : Type 0
-PricesProve =
+-- The dual prices of the names of an optimal flow, with the least offers of the groups, prove what the flow costs.
+abbrev pub DualPricesProve : Type 0
+DualPricesProve =
     (p : TransportProblem) (numbers : List ℕ) (alpha beta : List ℤ) (cost : ℕ) → AreLimits p.limits → IsOptimal p numbers beta
     → length alpha ≡ length p.groups → AreLeastOffers p.pricing p.groups (keys_of p.limits) beta alpha
     → flow_cost p.pricing (flows_of p numbers) ≡ cost → IsProved p numbers (certificate_of p alpha beta cost)
@@ -43,36 +43,37 @@ AreWithin p q totals =
     ((v : ℕ) → v < length p.limits → slice_index q.low.items v ≤ slice_index totals v)
     × ((v : ℕ) → v < length p.limits → slice_index totals v ≤ slice_index q.high.items v)
 
--- each name is priced by what its potential is over that of the limits
-abbrev pub ArePrices : TransportProblem → (ℕ → ℤ) → List ℤ → Type 0
-ArePrices p potential beta =
+-- the dual price of each name is its potential over that of the root, which has the number after the names
+abbrev pub AreDualPrices : TransportProblem → (ℕ → ℤ) → List ℤ → Type 0
+AreDualPrices p potential beta =
     (length beta ≡ length p.limits)
     × ((v : ℕ) → v < length p.limits → slice_index_or beta v (pos 0) ≡ (potential v -ℤ potential (length p.limits)))
 
--- each group is priced by the least that a switch of one of its points costs, less the price of the new name
+-- the dual price of each group is the least that a switch of one of its points costs, less the dual price of the new name
 abbrev pub AreOffers : TransportProblem → FlowProblem → List ℤ → List ℤ → Type 0
 AreOffers p q beta alpha =
     (length alpha ≡ length p.groups)
-    × ((g : ℕ) → g < length p.groups → IsLeastAt q.groups.items q.prices.items (names_of q) beta g (slice_index_or alpha g (pos 0)))
+    × ((g : ℕ) → g < length p.groups → IsLeastAt q.groups.items q.costs.items (names_of q) beta g (slice_index_or alpha g (pos 0)))
 
--- A flow within its limits that is optimal by potentials of its names is optimal for the problem by the prices over that of the limits.
+-- A flow within its limits that is optimal by potentials is optimal for the planning problem by dual prices, the potentials over
+-- that of the root.
 abbrev pub OptimalFlows : Type 0
 OptimalFlows =
     (p : TransportProblem) (q : FlowProblem) (placed totals : List ℕ) (arcs : List (Option Arc)) (potential : ℕ → ℤ) (beta : List ℤ)
     → IsNumbered p q → IsFlowAt q placed totals arcs → numbers.IsOptimal (flows_at q placed totals) potential
-    → AreWithin p q totals → ArePrices p potential beta → IsOptimal p placed beta
+    → AreWithin p q totals → AreDualPrices p potential beta → IsOptimal p placed beta
 
--- The prices of groups by number are least offers.
+-- The dual prices of groups, by number, are least offers.
 abbrev pub LeastOffers : Type 0
 LeastOffers =
     (p : TransportProblem) (q : FlowProblem) (alpha beta : List ℤ) → IsNumbered p q → AreOffers p q beta alpha
     → AreLeastOffers p.pricing p.groups (keys_of p.limits) beta alpha
 
--- A flow within its limits that is optimal by potentials of its names is proved to cost the least.
+-- A flow within its limits that is optimal by potentials is proved to cost the least.
 abbrev pub OptimalFlowIsProved : Type 0
 OptimalFlowIsProved =
     (p : TransportProblem) (q : FlowProblem) (placed totals : List ℕ) (arcs : List (Option Arc)) (potential : ℕ → ℤ) (alpha beta : List ℤ) (cost : ℕ)
     → AreLimits p.limits → IsNumbered p q → IsFlowAt q placed totals arcs → numbers.IsOptimal (flows_at q placed totals) potential
-    → AreWithin p q totals → ArePrices p potential beta → AreOffers p q beta alpha
-    → cost ≡ all_cost q.groups.items q.prices.items placed (names_of q) (groups_of q)
+    → AreWithin p q totals → AreDualPrices p potential beta → AreOffers p q beta alpha
+    → cost ≡ all_cost q.groups.items q.costs.items placed (names_of q) (groups_of q)
     → IsProved p placed (certificate_of p alpha beta cost)

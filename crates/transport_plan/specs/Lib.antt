@@ -2,12 +2,12 @@ pub mod Chosen
 pub mod Costs
 pub mod Cuts
 pub mod Dealing
+pub mod DualPrices
 pub mod Laws
 pub mod Marked
 pub mod Network
 pub mod Numbered
 pub mod Offers
 pub mod Placing
-pub mod Prices
 pub mod Slackness
 pub mod Solved

@@ -1,8 +1,8 @@
 -- A planning problem whose groups and names are numbered by their places.
 use Rattle.std.specs.Prelude.{◌≡◌, ℕ, ℤ, ◌<◌, List, [], length, Option, Some, slice_index, slice_index_or}
 use Rattle.std.specs.Map.{keys_of}
-use Rattle.min_cost_flow.specs.Offered.{IsPrice}
-use Rattle.min_cost_flow.specs.Problem.{group_at, names_of, price_at}
+use Rattle.min_cost_flow.specs.Offered.{IsSwitchCost}
+use Rattle.min_cost_flow.specs.Problem.{group_at, names_of, switch_cost_at}
 use Rattle.min_cost_flow.specs.declared.problem.FlowProblem.{FlowProblem}
 use Rattle.transport_instance.specs.Groups.{GroupKey}
 use Rattle.transport_instance.specs.Instance.{TransportProblem}
@@ -17,11 +17,11 @@ limit_at p v = slice_index_or p.limits v ([], (0, 0))
 abbrev pub row_at : TransportProblem → ℕ → GroupKey × ℕ
 row_at p g = slice_index_or p.groups g (([], 0), 0)
 
--- what a switch costs, if it is allowed, is a price
+-- a switch that is not forbidden costs no more than the largest price
 abbrev pub IsPriced : Option ℤ → Type 0
-IsPriced cost = (price : ℤ) → cost ≡ Some price → IsPrice price
+IsPriced cost = (price : ℤ) → cost ≡ Some price → IsSwitchCost price
 
--- the same groups, limits and prices, by number
+-- the same groups, limits and prices of switches, by number
 pub record IsNumbered (p : TransportProblem) (q : FlowProblem) : Type 0 where
   pub names : names_of q ≡ length p.limits
   pub groups : length q.groups.items ≡ length p.groups
@@ -31,4 +31,4 @@ pub record IsNumbered (p : TransportProblem) (q : FlowProblem) : Type 0 where
   pub variant : (g : ℕ) → g < length p.groups → name_at p (group_at q.groups.items g).variant ≡ (row_at p g).0.0
   pub count : (g : ℕ) → g < length p.groups → (group_at q.groups.items g).count ≡ (row_at p g).0.1
   pub points : (g : ℕ) → g < length p.groups → (group_at q.groups.items g).points ≡ (row_at p g).1
-  pub prices : (v w : ℕ) → v < length p.limits → w < length p.limits → price_at q.prices.items (names_of q) v w ≡ switch_price p.pricing (name_at p v) (name_at p w)
+  pub costs : (v w : ℕ) → v < length p.limits → w < length p.limits → switch_cost_at q.costs.items (names_of q) v w ≡ switch_price p.pricing (name_at p v) (name_at p w)

@@ -1,4 +1,4 @@
--- Complementary slackness of a flow with prices of groups and names (Ahuja, Magnanti, Orlin, Network Flows, section 9.4).
+-- Complementary slackness of a flow and the dual prices of groups and names (Ahuja, Magnanti, Orlin, Network Flows, section 9.4).
 use Rattle.std.specs.Prelude.{◌≡◌, ℕ, ◌+◌, ◌*◌, ◌<◌, ◌≤◌, ℤ, pos, ◌+ℤ◌, ◌≤ℤ◌, false, true, List, [], ◌∷◌, length, take, drop, replicate}
 use Rattle.std.specs.List.{slice_index_or, zip}
 use Rattle.std.specs.Map.{keys_of}
@@ -9,7 +9,7 @@ use Rattle.transport_instance.specs.Certificate.{DualPrices}
 use Rattle.transport_instance.specs.Groups.{GroupKey}
 use Rattle.transport_instance.specs.Instance.{TransportProblem}
 
--- where a group gives a name points, their prices sum to what the change costs the inputs of a point
+-- where a group gives a name points, their dual prices sum to what the change costs the inputs of a point
 abbrev pub IsTightRow : Pricing → GroupKey → ℤ → List (List ℕ) → List ℕ → List ℤ → Type 0
 IsTightRow pricing g alpha [] row beta = Unit {0}
 IsTightRow pricing g alpha (n ∷ names) [] beta = Unit {0}
@@ -33,7 +33,7 @@ abbrev pub columns : List (GroupKey × ℕ) → ℕ → List ℕ → List ℕ
 columns [] width numbers = replicate width 0
 columns (g ∷ gs) width numbers = plus (take width numbers) (columns gs width (drop width numbers))
 
--- each total is within its limits, a name below its high limit has no price below 0, and one above its low limit none above 0
+-- each total is within its limits, a name below its high limit has no dual price below 0, and one above its low limit none above 0
 abbrev pub AreBalanced : Limits → List ℕ → List ℤ → Type 0
 AreBalanced [] totals beta = Unit {0}
 AreBalanced (l ∷ ls) [] beta = Unit {0}
@@ -41,16 +41,16 @@ AreBalanced (l ∷ ls) (t ∷ totals) [] = Unit {0}
 AreBalanced (l ∷ ls) (t ∷ totals) (b ∷ beta) =
     (l.1.0 ≤ t) × (t ≤ l.1.1) × (t < l.1.1 → pos 0 ≤ℤ b) × (l.1.0 < t → b ≤ℤ pos 0) × AreBalanced ls totals beta
 
--- what a point of the group pays for the name at this place
+-- what a change to the name at this place costs the inputs of a point of the group
 abbrev pub charge : Pricing → GroupKey → List (List ℕ) → ℕ → ℤ
 charge pricing g names v = pos (g.1 * price_of pricing g.0 (slice_index_or names v []))
 
--- the price of a group: the least that a change of one of its points costs, less the price of the new name
+-- the dual price of a group: the least that a change of one of its points costs, less the dual price of the new name
 pub record IsLeastOffer (pricing : Pricing) (g : GroupKey) (names : List (List ℕ)) (beta : List ℤ) (alpha : ℤ) : Type 0 where
   pub slack : (w : ℕ) → w < length names → is_forbidden pricing g.0 (slice_index_or names w []) ≡ false → (alpha +ℤ slice_index_or beta w (pos 0)) ≤ℤ charge pricing g names w
   pub tight : (w : ℕ) × (w < length names) × (is_forbidden pricing g.0 (slice_index_or names w []) ≡ false) × ((alpha +ℤ slice_index_or beta w (pos 0)) ≡ charge pricing g names w)
 
--- no point of the group has changed against a prohibition, and none has a cheaper place at the prices of the names
+-- no point of the group has made a forbidden change, and none has a cheaper place at the dual prices of the names
 pub record IsOptimalRow (pricing : Pricing) (g : GroupKey) (names : List (List ℕ)) (row : List ℕ) (beta : List ℤ) : Type 0 where
   pub free : (v : ℕ) → v < length names → 0 < slice_index_or row v 0 → is_forbidden pricing g.0 (slice_index_or names v []) ≡ false
   pub cheapest : (v w : ℕ) → v < length names → w < length names → 0 < slice_index_or row v 0 → is_forbidden pricing g.0 (slice_index_or names w []) ≡ false
@@ -66,13 +66,13 @@ AreLeastOffers pricing [] names beta alpha = Unit {0}
 AreLeastOffers pricing (g ∷ gs) names beta [] = Unit {0}
 AreLeastOffers pricing (g ∷ gs) names beta (a ∷ alpha) = IsLeastOffer pricing g.0 names beta a × AreLeastOffers pricing gs names beta alpha
 
--- each point has a place, none a cheaper one at the prices of the names, and these are on the side of their limits
+-- each point has a place, none a cheaper one at the dual prices of the names, and these are on the side of their limits
 pub record IsOptimal (p : TransportProblem) (numbers : List ℕ) (beta : List ℤ) : Type 0 where
   pub spent : spends_all p.groups (length p.limits) numbers ≡ true
   pub rows : AreOptimalRows p.pricing p.groups (keys_of p.limits) (length p.limits) numbers beta
   pub priced : length beta ≡ length p.limits
   pub balance : AreBalanced p.limits (columns p.groups (length p.limits) numbers) beta
 
--- the certificate of these prices
+-- the certificate of these dual prices
 abbrev pub certificate_of : TransportProblem → List ℤ → List ℤ → ℕ → DualPrices
 certificate_of p alpha beta cost = record { alpha = zip (keys_of p.groups) alpha; beta = zip (keys_of p.limits) beta; cost = cost }

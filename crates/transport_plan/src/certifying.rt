@@ -13,7 +13,7 @@ ghost use Rattle.transport_instance.specs.Groups.{rows_view};
 ghost use Rattle.transport_plan.specs.Numbered.{IsNumbered};
 
 use crate::cost::cost_of;
-use crate::prices::{group_prices, name_prices};
+use crate::dual_prices::{group_dual_prices, name_dual_prices};
 use min_cost_flow::{Flow, FlowProblem};
 use price_core::Limit;
 use shortest_path::Search;
@@ -37,43 +37,43 @@ pub(crate) fn certificate(
     ensures whole { IfOk result (λ c. has_whole_numbers (certificate_view c) ≡ true) }
 {
     let width = problem.high.len();
-    let names = name_prices(alloc, &search.potentials, width)?;
-    let groups = group_prices(alloc, &problem.groups, &problem.prices, &names)?;
-    let cost = cost_of(&problem.groups, &problem.prices, &flow.placed, width);
-    let alpha = beside_groups(alloc, instance.groups(), &groups)?;
-    let beta = beside_names(alloc, instance.totals().entries(), &names)?;
+    let name_duals = name_dual_prices(alloc, &search.potentials, width)?;
+    let group_duals = group_dual_prices(alloc, &problem.groups, &problem.costs, &name_duals)?;
+    let cost = cost_of(&problem.groups, &problem.costs, &flow.placed, width);
+    let alpha = alpha_rows(alloc, instance.groups(), &group_duals)?;
+    let beta = beta_rows(alloc, instance.totals().entries(), &name_duals)?;
     Ok(Certificate { alpha, beta, cost })
 }
 
-/// Each group's variant and number of inputs, with its price.
-fn beside_groups(
+/// Each group's variant and number of inputs, with its dual price.
+fn alpha_rows(
     alloc: Global,
     groups: &[((&str, u32), u32)],
-    prices: &[i64],
+    duals: &[i64],
 ) -> Result<Vec<(String, u32, i64)>, AllocError>
-    requires { length prices.now ≡ length groups.now }
-    ensures { IfOk result (λ rows. alpha_view rows.items ≡ zip (keys_of (rows_view groups.now)) prices.now) }
+    requires { length duals.now ≡ length groups.now }
+    ensures { IfOk result (λ rows. alpha_view rows.items ≡ zip (keys_of (rows_view groups.now)) duals.now) }
 {
     let mut rows = Vec::with_capacity(alloc, groups.len())?;
-    for (place, price) in prices.iter().enumerate() {
+    for (place, dual) in duals.iter().enumerate() {
         let (name, count) = groups[place].0;
-        rows.push((String::from_str(alloc, name)?, count, *price))?;
+        rows.push((String::from_str(alloc, name)?, count, *dual))?;
     }
     Ok(rows)
 }
 
-/// Each name with its price.
-fn beside_names(
+/// Each name with its dual price.
+fn beta_rows(
     alloc: Global,
     limits: &[Limit],
-    prices: &[i64],
+    duals: &[i64],
 ) -> Result<Vec<(String, i64)>, AllocError>
-    requires { length prices.now ≡ length limits.now }
-    ensures { IfOk result (λ rows. beta_view rows.items ≡ zip (keys_of (limits_view limits.now)) prices.now) }
+    requires { length duals.now ≡ length limits.now }
+    ensures { IfOk result (λ rows. beta_view rows.items ≡ zip (keys_of (limits_view limits.now)) duals.now) }
 {
     let mut rows = Vec::with_capacity(alloc, limits.len())?;
-    for (place, price) in prices.iter().enumerate() {
-        rows.push((limits[place].name.clone()?, *price))?;
+    for (place, dual) in duals.iter().enumerate() {
+        rows.push((limits[place].name.clone()?, *dual))?;
     }
     Ok(rows)
 }

@@ -1,32 +1,26 @@
 //! The names of the cut that a failed search leaves.
 ghost use Rattle.std.specs.Cmp.Lexicographic.{slice_cmp};
 ghost use Rattle.std.specs.List.Sorted.{IsStrictlySortedBy};
-ghost use Rattle.std.specs.Map.{keys_of};
 ghost use Rattle.std.specs.Ordering.{nat_cmp};
-ghost use Rattle.std.specs.Prelude.{◌≡◌, ◌<◌, ◌+◌, ℕ, IfOk, List, false, length, slice_index_or};
+ghost use Rattle.std.specs.Prelude.{◌<◌, ℕ, IfOk, List, false};
 ghost use Rattle.bucket_core.specs.Rule.{Entries, names_view};
 ghost use Rattle.min_cost_flow.specs.Flow.{IsFlow};
 ghost use Rattle.min_cost_flow.specs.Meeting.{IsStuckBelow};
 ghost use Rattle.min_cost_flow.specs.Placing.{IsStuckAbove};
-ghost use Rattle.min_cost_flow.specs.Problem.{IsFlowProblem, names_of};
-ghost use Rattle.price_core.specs.Limits.{limits_view};
-ghost use Rattle.shortest_path.specs.Found.{HasSize};
+ghost use Rattle.min_cost_flow.specs.Problem.{IsFlowProblem};
 ghost use Rattle.transport_instance.specs.Deficient.{IsOver, IsUnder};
 ghost use Rattle.transport_instance.specs.Groups.{AreSizes};
-ghost use Rattle.transport_plan.specs.Chosen.{chosen};
-ghost use Rattle.transport_plan.specs.Marked.{AreHeld, AreUnsettled};
 ghost use Rattle.transport_plan.specs.Numbered.{IsNumbered};
 
 use crate::marks::{mark_held, mark_unsettled, marked};
 use min_cost_flow::{Flow, FlowProblem};
-use price_core::Limit;
 use shortest_path::Search;
 use std::alloc::{AllocError, Global};
 use transport_instance::Instance;
 
 /// The names of a cut over high limits: the old names of the points that stand at the names that the last search settled. It takes
 /// `O(groups * k)` steps at k names.
-pub(crate) fn names_above(
+pub(crate) fn names_over(
     alloc: Global,
     instance: &Instance<'_>,
     problem: &FlowProblem,
@@ -41,35 +35,15 @@ pub(crate) fn names_above(
     ensures ordered { IfOk result (λ v. IsStrictlySortedBy (slice_cmp nat_cmp) (names_view v.items)) }
 {
     let limits = instance.totals().entries();
-    let mut marks = vec![in alloc; false; flow.totals.len()]?;
-    held(alloc, limits, &mut marks, problem, flow, search)
-}
-
-/// The names that are marked as held.
-fn held(
-    alloc: Global,
-    limits: &[Limit],
-    marks: &mut [bool],
-    problem: &FlowProblem,
-    flow: &Flow,
-    search: &Search,
-) -> Result<Vec<String>, AllocError>
-    requires size { length marks.old ≡ names_of problem.now }
-    requires limits { length limits.now ≡ names_of problem.now }
-    requires none { (u : ℕ) → u < length marks.old → slice_index_or marks.old u false ≡ false }
-    requires lawful { IsFlowProblem problem.now }
-    requires flow { IsFlow problem.now flow.now }
-    requires stuck { IsStuckAbove problem.now flow.now search.now }
-    ensures held { AreHeld problem.now flow.now search.now marks.new }
-    ensures named { IfOk result (λ v. names_view v.items ≡ chosen (keys_of (limits_view limits.now)) (λ i. slice_index_or marks.new i false)) }
-{
+    let mut held = vec![in alloc; false; flow.totals.len()]?;
+    let marks = held.as_mut_slice();
     mark_held(marks, problem, flow, search);
     marked(alloc, limits, marks)
 }
 
 /// The names of a cut under low limits: those that the last search did not settle. All points stand within the high limits, so no
 /// set of names is over these. It takes `O(k)` steps at k names.
-pub(crate) fn names_below(
+pub(crate) fn names_under(
     alloc: Global,
     instance: &Instance<'_>,
     problem: &FlowProblem,
@@ -85,24 +59,8 @@ pub(crate) fn names_below(
     ensures ordered { IfOk result (λ v. IsStrictlySortedBy (slice_cmp nat_cmp) (names_view v.items)) }
 {
     let limits = instance.totals().entries();
-    let mut marks = vec![in alloc; false; flow.totals.len()]?;
-    unsettled(alloc, limits, &mut marks, problem, search)
-}
-
-/// The names that are marked as not settled.
-fn unsettled(
-    alloc: Global,
-    limits: &[Limit],
-    marks: &mut [bool],
-    problem: &FlowProblem,
-    search: &Search,
-) -> Result<Vec<String>, AllocError>
-    requires size { length marks.old ≡ names_of problem.now }
-    requires limits { length limits.now ≡ names_of problem.now }
-    requires search { HasSize (names_of problem.now + 1) search.now }
-    ensures unsettled { AreUnsettled problem.now search.now marks.new }
-    ensures named { IfOk result (λ v. names_view v.items ≡ chosen (keys_of (limits_view limits.now)) (λ i. slice_index_or marks.new i false)) }
-{
+    let mut unsettled = vec![in alloc; false; flow.totals.len()]?;
+    let marks = unsettled.as_mut_slice();
     mark_unsettled(marks, problem, search);
     marked(alloc, limits, marks)
 }

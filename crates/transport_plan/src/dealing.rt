@@ -3,8 +3,8 @@ ghost use Rattle.std.specs.List.{All};
 ghost use Rattle.std.specs.Prelude.{◌≡◌, ◌≤◌, ◌<◌, ◌+◌, ◌*◌, ◌^◌, ℕ, IfOk, length, sum, count_by, ◌==◌, slice_index};
 ghost use Rattle.transport_plan.specs.Dealing.{row, IsDealt, DealsTo};
 
-use crate::bounds::{Limit, limits_of};
 use crate::stretches::{Stretch, other};
+use crate::thresholds::{Threshold, thresholds_of};
 use std::alloc::{AllocError, Global};
 
 /// The name that each point is given, as an index: of each group's points each name is given to as many as the group's number
@@ -32,7 +32,7 @@ pub(crate) fn deal(
 {
     let bases = bases_of(alloc, numbers.as_slice(), groups, names)?;
     let bases = bases.as_slice();
-    let (mut limits, ranks) = limits_of(
+    let (mut thresholds, ranks) = thresholds_of(
         alloc,
         points.as_slice(),
         numbers.as_slice(),
@@ -40,12 +40,12 @@ pub(crate) fn deal(
         names,
     )?;
     let left = numbers.as_mut_slice();
-    let limits = limits.as_mut_slice();
+    let thresholds = thresholds.as_mut_slice();
     deal_by(
         points.as_mut_slice(),
         left,
         bases,
-        limits,
+        thresholds,
         ranks.as_slice(),
         names,
     );
@@ -93,13 +93,13 @@ fn deal_by(
     points: &mut [u32],
     left: &mut [u32],
     bases: &[usize],
-    limits: &mut [Limit],
+    thresholds: &mut [Threshold],
     ranks: &[u8],
     names: usize,
 )
     requires shape { length left.old ≡ length bases.now * names }
     requires few { names ≤ 64 }
-    requires limits { length limits.old ≡ length bases.now }
+    requires thresholds { length thresholds.old ≡ length bases.now }
     requires groups { All (λ g. g < length bases.now) points.old }
     requires base { All (λ w. w < names) bases.now }
     requires rows { (g : ℕ) → g < length bases.now → sum (row names left.old g) ≡ count_by (λ p. p == g) points.old }
@@ -113,10 +113,10 @@ fn deal_by(
     while start < points.len() {
         let group = points[start] as usize;
         let base = bases[group];
-        if limits[group].has_any() {
+        if thresholds[group].has_any() {
             let before = last_or(&points[..start], base);
             let stretch = Stretch::first(&points[start..], bases, before);
-            let changes = limits[group].changes(rank_at(ranks, seen), stretch.points);
+            let changes = thresholds[group].changes(rank_at(ranks, seen), stretch.points);
             deal_stretch(points, start, left, names, &stretch, changes);
             seen += 1;
             start += stretch.points;

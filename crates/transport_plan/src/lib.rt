@@ -27,37 +27,37 @@
 //!
 //! The modules on the way of one plan:
 //!
-//! - `network`: the instance in numbers, names and groups by their places and the price of each switch as a table (`IsNumbered`);
+//! - `network`: the instance in numbers, names and groups by their places and the price of each switch as a cost (`IsNumbered`);
 //!   it meets what flows ask of a problem (`IsFlowProblem`). `min_cost_flow` has its cheapest flow.
-//! - `prices`, `cost`, `certifying`: the certificate of a cheapest flow. A name's dual price is its potential over that of the
-//!   limits, and a group's the least that a switch of one of its points costs, less the price of the new name.
+//! - `dual_prices`, `cost`, `certifying`: the certificate of a cheapest flow. A name's dual price is its potential over that of the
+//!   root, and a group's the least that a switch of one of its points costs, less the dual price of the new name.
 //! - `marks`, `cuts`: the names of the cut of a failed search, in order (Hall's condition; Hoffman's circulation theorem). Those
 //!   above: their points outnumber the high limits of all that they may keep or change to. Those below: their low limits sum
 //!   above the points that have or may take one of them, and then no set of names is over its high limits.
-//! - `laws`: functions that compute nothing, whose contracts say what a flow's prices prove and what a failed search shows,
+//! - `laws`: functions that compute nothing, whose contracts say what a flow's dual prices prove and what a failed search shows,
 //!   over the definitions of the planning problem and of nothing that holds a flow.
-//! - `placing`, `stretches`, `bounds`, `dealing`, `spreading`: the rule of an assignment. Which of a group's points have which
+//! - `placing`, `stretches`, `thresholds`, `dealing`, `spreading`: the rule of an assignment. Which of a group's points have which
 //!   name is no promise. They are chosen so that the rule has few entries: stretches of points of one group change whole, first
 //!   those between two neighbours that have the new name, then those beside one, then the others, the longest first.
 #![tactic(auto)]
 
-mod bounds;
 mod certifying;
 mod cost;
 mod cuts;
 mod dealing;
+mod dual_prices;
 mod laws;
 mod marks;
 mod network;
 mod placing;
-mod prices;
 mod solving;
 mod spreading;
 mod stretches;
+mod thresholds;
 
 pub use laws::{
     a_failed_search_leaves_a_cut, an_optimal_flow_is_optimal, an_optimal_flow_is_proved,
-    prices_of_an_optimal_flow_prove_its_cost, the_prices_of_groups_are_least_offers,
+    dual_prices_of_an_optimal_flow_prove_its_cost, the_dual_prices_of_groups_are_least_offers,
 };
 pub use solving::{Solved, solve};
 pub use spreading::spread;

@@ -1,4 +1,4 @@
-//! Which names are inside a cut.
+//! Which names are in a cut.
 ghost use Rattle.std.specs.Map.{keys_of};
 ghost use Rattle.std.specs.Prelude.{◌≡◌, ◌≤◌, ◌<◌, ◌+◌, ℕ, false, IfOk, MatchBool, length, slice_index_or};
 ghost use Rattle.bucket_core.specs.Rule.{names_view};
@@ -60,7 +60,7 @@ pub(crate) fn mark_unsettled(marks: &mut [bool], problem: &FlowProblem, search: 
     }
 }
 
-/// The names of the limits that are marked.
+/// The names that are marked.
 pub(crate) fn marked(
     alloc: Global,
     limits: &[Limit],

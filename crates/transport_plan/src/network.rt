@@ -1,10 +1,7 @@
-//! A planning problem in numbers: names and groups by their places, and the price of each switch as a table.
-ghost use Rattle.std.specs.Cmp.Lexicographic.{slice_cmp};
-ghost use Rattle.std.specs.List.Sorted.{IsStrictlySortedBy};
+//! A planning problem in numbers: names and groups by their places, and the price of each switch as a cost.
 ghost use Rattle.std.specs.List.{All, Contains, flat_map};
 ghost use Rattle.std.specs.Map.{keys_of};
-ghost use Rattle.std.specs.Ordering.{nat_cmp};
-ghost use Rattle.std.specs.Prelude.{◌≡◌, ◌++◌, ◌∷◌, [], ℕ, IfOk, OnOk, Some, true, map, slice_get};
+ghost use Rattle.std.specs.Prelude.{◌≡◌, ◌++◌, IfOk, OnOk, Some, map, slice_get};
 ghost use Rattle.min_cost_flow.specs.Problem.{IsFlowProblem};
 ghost use Rattle.price_core.specs.Limits.{limits_view};
 ghost use Rattle.transport_instance.specs.Groups.{rows_view};
@@ -16,7 +13,7 @@ use price_core::{Limit, Prices};
 use std::alloc::{AllocError, Global};
 use transport_instance::Instance;
 
-/// The problem of an instance in numbers: a name is an index of the limits, and groups stand by old variant and then by count.
+/// The problem of an instance in numbers: each name by its place among the limits, and groups by old variant and then by count.
 pub(crate) fn flow_problem(
     alloc: Global,
     instance: &Instance<'_>,
@@ -26,17 +23,18 @@ pub(crate) fn flow_problem(
 {
     let limits = instance.totals().entries();
     let groups = groups(alloc, instance.groups(), limits)?;
-    let prices = price_table(alloc, limits, instance.prices())?;
+    let costs = price_table(alloc, limits, instance.prices())?;
     let low = low_limits(alloc, limits)?;
     let high = high_limits(alloc, limits)?;
     Ok(FlowProblem {
         groups,
-        prices,
+        costs,
         low,
         high,
     })
 }
 
+/// The low limit of each name.
 fn low_limits(alloc: Global, limits: &[Limit]) -> Result<Vec<u32>, AllocError>
     ensures { IfOk result (λ v. v.items ≡ map (λ l. l.1.0) (limits_view limits.now)) }
 {
@@ -47,6 +45,7 @@ fn low_limits(alloc: Global, limits: &[Limit]) -> Result<Vec<u32>, AllocError>
     Ok(low)
 }
 
+/// The high limit of each name.
 fn high_limits(alloc: Global, limits: &[Limit]) -> Result<Vec<u32>, AllocError>
     ensures { IfOk result (λ v. v.items ≡ map (λ l. l.1.1) (limits_view limits.now)) }
 {
@@ -57,7 +56,7 @@ fn high_limits(alloc: Global, limits: &[Limit]) -> Result<Vec<u32>, AllocError>
     Ok(high)
 }
 
-/// The groups, with their old variants as indices of the limits, which stand in the same order.
+/// The groups, with the places of their old variants among the names, which stand in the same order.
 fn groups(
     alloc: Global,
     rows: &[((&str, u32), u32)],
@@ -96,17 +95,15 @@ fn index_of(limits: &[Limit], name: &str) -> usize
     requires listed { Contains (keys_of (limits_view limits.now)) name.now }
     ensures { slice_get (keys_of (limits_view limits.now)) result ≡ Some name.now }
 {
-    let mut place = 0;
-    for limit in limits {
+    for (place, limit) in limits.iter().enumerate() {
         if limit.name.as_str() == name {
             return place;
         }
-        place += 1;
     }
-    place
+    limits.len()
 }
 
-/// What each switch costs, by rows of the old names.
+/// The price of each switch, by rows of the old names.
 fn price_table(
     alloc: Global,
     limits: &[Limit],
@@ -122,7 +119,7 @@ fn price_table(
     Ok(table)
 }
 
-/// Adds what each switch from one name costs.
+/// Adds the price of each switch from one name.
 fn push_row(
     table: &mut Vec<Option<i64>>,
     old: &str,
@@ -139,7 +136,7 @@ fn push_row(
     Ok(())
 }
 
-/// What a switch costs an input, and none where it is forbidden.
+/// The price of a switch for an input, and none where it is forbidden.
 fn switch(prices: &Prices, old: &str, new: &str) -> Option<i64>
     ensures value { result ≡ switch_price prices.now old.now new.now }
     ensures priced { IsPriced result }

@@ -1,12 +1,10 @@
 //! Where groups stand: as far from the last one of the name as the numbers are apart, or found by halving.
 ghost use Rattle.std.specs.Bool.{OnTrue};
-ghost use Rattle.std.specs.Cmp.Lexicographic.{slice_cmp};
 ghost use Rattle.std.specs.List.Sorted.{IsStrictlySortedBy};
 ghost use Rattle.std.specs.List.{All, Contains};
 ghost use Rattle.std.specs.Map.{keys_of};
-ghost use Rattle.std.specs.Ordering.{nat_cmp};
 ghost use Rattle.std.specs.Prelude.{◌≡◌, ◌≤◌, ◌<◌, ℕ, List, Some, IfOk, OnOk, length, slice_get, slice_index};
-ghost use Rattle.bucket_core.specs.Rule.{names_view, total_weight};
+ghost use Rattle.bucket_core.specs.Rule.{total_weight};
 ghost use Rattle.transport_instance.specs.Groups.{AreSizesBy, group_by, group_cmp, rows_view};
 ghost use Rattle.transport_instance.specs.Instance.{max_planned_total};
 ghost use Rattle.transport_plan.specs.Placing.{AddsPlaces, AreFamilies};

@@ -17,7 +17,7 @@ ghost use Rattle.transport_plan.specs.Numbered.{IsNumbered};
 ghost use Rattle.transport_plan.specs.Solved.{IfPlan, IfNone, IsPlan, IsCut, IsNeverOver};
 
 use crate::certifying::certificate;
-use crate::cuts::{names_above, names_below};
+use crate::cuts::{names_over, names_under};
 use crate::network::flow_problem;
 use min_cost_flow::{Flow, FlowProblem, Outcome, Passed, cheapest_flow};
 use shortest_path::{Effort, Search};
@@ -66,7 +66,7 @@ pub fn solve<L: Ledger>(
     }
 }
 
-/// The cheapest flow of an instance's problem, and what it takes by the instance's points and names.
+/// The cheapest flow of an instance's problem, with its effort bounded by the points, groups and names of the instance.
 fn find_flow<L: Ledger>(
     alloc: Global,
     instance: &Instance<'_>,
@@ -111,7 +111,7 @@ fn planned(
     Ok(Solved::Plan(Assignment { numbers }, certificate))
 }
 
-/// The cut over the high limits that the search of the first pass left.
+/// The cut over the high limits that the failed search of the first pass left.
 fn cut_over(
     alloc: Global,
     instance: &Instance<'_>,
@@ -130,11 +130,11 @@ fn cut_over(
 {
     Ok(Solved::None(Cut {
         kind: CutKind::Over,
-        names: names_above(alloc, instance, problem, flow, search)?,
+        names: names_over(alloc, instance, problem, flow, search)?,
     }))
 }
 
-/// The cut under the low limits that the search of the second pass left. All points are within the high limits by then.
+/// The cut under the low limits that the failed search of the second pass left. All points are within the high limits by then.
 fn cut_under(
     alloc: Global,
     instance: &Instance<'_>,
@@ -153,6 +153,6 @@ fn cut_under(
 {
     Ok(Solved::None(Cut {
         kind: CutKind::Under,
-        names: names_below(alloc, instance, problem, flow, search)?,
+        names: names_under(alloc, instance, problem, flow, search)?,
     }))
 }

@@ -110,12 +110,12 @@ returns-clause-flow c =
     record {
       placed = c.move_points.auto.cells ∙ r.flow.placed;
       totals = c.move_points-2.auto.cells ∙ r.flow.totals;
-      arcs = c.rebuild_limits-2.auto.arcs ∙ (c.rebuild_limits.auto.arcs ∙ (c.arrive.auto.arcs ∙ (c.leave.auto.arcs ∙ r.flow.arcs)));
+      arcs = c.rebuild_root_arcs-2.auto.arcs ∙ (c.rebuild_root_arcs.auto.arcs ∙ (c.arrive.auto.arcs ∙ (c.leave.auto.arcs ∙ r.flow.arcs)));
       spent = spent_after p r.problem old sums cells r.flow group from to points r.group r.from r.to r.apart r.points new sums' left entered others n.left n.entered n.others;
       columns = columns_after p r.problem old sums cells r.flow group from to points r.group r.from r.to r.apart r.points new sums' left entered others n.left n.entered n.others;
       free = free_after p r.problem old sums cells r.flow group from to points r.group r.from r.to r.apart r.points new sums' left entered others n.left n.entered n.others r.allowed;
-      residual = residual_after p old sums new sums' cells c.leave.new.arcs c.arrive.new.arcs c.rebuild_limits.new.arcs c.rebuild_limits-2.new.arcs r.flow.residual group from to r.from r.to r.apart
+      residual = residual_after p old sums new sums' cells c.leave.new.arcs c.arrive.new.arcs c.rebuild_root_arcs.new.arcs c.rebuild_root_arcs-2.new.arcs r.flow.residual group from to r.from r.to r.apart
           (omega (arith, r.some, r.points)) (omega (arith, entered, r.some))
           (cell_stays p r.problem old sums cells r.flow group from to points r.group r.from r.to r.apart r.points new sums' left entered others n.left n.entered n.others)
-          n.others c.leave.ensures.row c.leave.ensures.others arrive c.arrive.ensures.others c.rebuild_limits.ensures.limits c.rebuild_limits.ensures.others c.rebuild_limits-2.ensures.limits c.rebuild_limits-2.ensures.others;
+          n.others c.leave.ensures.row c.leave.ensures.others arrive c.arrive.ensures.others c.rebuild_root_arcs.ensures.root c.rebuild_root_arcs.ensures.others c.rebuild_root_arcs-2.ensures.root c.rebuild_root_arcs-2.ensures.others;
     }

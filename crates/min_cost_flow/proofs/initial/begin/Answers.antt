@@ -47,4 +47,4 @@ returns-clause-flow c =
     subst (λ n. (v : ℕ) → v < n → get_or c.stay.new.totals v 0 ≡ sum_to (groups_of p) (λ g. at_home p.groups.items g v)) c.requires.totals
     (subst (λ x. (v : ℕ) → v < length c.args.totals.now → get_or c.stay.new.totals v 0 ≡ sum_to (length x) (λ g. at_home x g v)) c.deref.ensures.value c.stay.ensures.totals) in
     stays_flow p c.requires.problem c.stay.new.placed c.stay.new.totals homes c.begin_arcs.new.arcs (c.stay.auto.placed ∙ c.requires.placed) (c.stay.auto.totals ∙ c.requires.totals) (c.begin_arcs.auto.arcs ∙ c.requires.arcs) sums
-    c.begin_arcs.ensures.rows c.begin_arcs.ensures.limits c.begin_arcs.ensures.none
+    c.begin_arcs.ensures.rows c.begin_arcs.ensures.root c.begin_arcs.ensures.none

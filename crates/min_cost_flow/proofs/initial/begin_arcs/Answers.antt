@@ -8,8 +8,8 @@ pub loop-name-preserved : goal.loop-name-preserved
 loop-name-preserved c =
     let p = c.args.problem.now in
     let k_is : c.len-name-end.result ≡ names_of p = c.len-name-end.ensures ∙ p.high.ok.0 in (
-      one_more p c.args.placed.now c.args.totals.now c.loop-name.name c.loop-name.arcs c.rebuild_from.new.arcs c.rebuild_limits.new.arcs (omega (arith, k_is, c.loop-name-test.true)) c.loop-name.invariant.0 c.rebuild_from.ensures.row c.rebuild_from.ensures.others
-          c.rebuild_limits.ensures.limits c.rebuild_limits.ensures.others,
+      one_more p c.args.placed.now c.args.totals.now c.loop-name.name c.loop-name.arcs c.rebuild_from.new.arcs c.rebuild_root_arcs.new.arcs (omega (arith, k_is, c.loop-name-test.true)) c.loop-name.invariant.0 c.rebuild_from.ensures.row c.rebuild_from.ensures.others
+          c.rebuild_root_arcs.ensures.root c.rebuild_root_arcs.ensures.others,
       c.rebuild_from.ensures.spans,
     )
 

@@ -3,11 +3,11 @@ use Rattle.std.proofs.Common.{◌∙◌, subst}
 use Rattle.min_cost_flow.specs.Problem.{names_of}
 use Rattle.shortest_path.specs.Found.{potential_of, rank_of}
 use Rattle.min_cost_flow.specs.Paths.{IsAugmented}
-use Rattle.min_cost_flow.proofs.Reached.{fewer_missing, meeting_after}
+use Rattle.min_cost_flow.proofs.Reached.{less_deficit, second_pass_after}
 use Rattle.min_cost_flow.proofs.meeting.fill_below.Goals as goal
 
-pub returns-clause-meeting : goal.returns-clause-meeting
-returns-clause-meeting g c =
+pub returns-clause-second_pass : goal.returns-clause-second_pass
+returns-clause-second_pass g c =
     let p = c.args.problem.now in
     let s = c.args.search.now in
     let old = c.args.flow.now in
@@ -16,7 +16,7 @@ returns-clause-meeting g c =
     let aug : IsAugmented p old new (potential_of s) (rank_of s) p.low.items (names_of p) c.args.last =
     subst (λ k. IsAugmented p old new (potential_of s) (rank_of s) p.low.items k c.args.last) (c.len.ensures ∙ p.high.ok.0)
     (subst (λ xs. IsAugmented p old new (potential_of s) (rank_of s) xs c.len.result c.args.last) c.as_slice.ensures.value e.augmented) in
-    meeting_after p c.requires.problem old new s c.args.last c.requires.way e.flow e.least aug
+    second_pass_after p c.requires.problem old new s c.args.last c.requires.path e.flow e.least aug
 
 pub returns-clause-fewer : goal.returns-clause-fewer
 returns-clause-fewer g c =
@@ -28,4 +28,4 @@ returns-clause-fewer g c =
     let aug : IsAugmented p old new (potential_of s) (rank_of s) p.low.items (names_of p) c.args.last =
     subst (λ k. IsAugmented p old new (potential_of s) (rank_of s) p.low.items k c.args.last) (c.len.ensures ∙ p.high.ok.0)
     (subst (λ xs. IsAugmented p old new (potential_of s) (rank_of s) xs c.len.result c.args.last) c.as_slice.ensures.value e.augmented) in
-    fewer_missing p c.requires.problem old new s c.args.last c.requires.way e.flow e.least aug
+    less_deficit p c.requires.problem old new s c.args.last c.requires.path e.flow e.least aug

@@ -5,35 +5,35 @@ use Rattle.min_cost_flow.specs.Problem.{names_of}
 use Rattle.min_cost_flow.specs.Flow.{flows_of}
 use Rattle.min_cost_flow.proofs.ArcCosts.{cheap_arcs}
 use Rattle.shortest_path.specs.Found.{potential_of}
-use Rattle.shortest_path.specs.Network.{IsReduced, IsWithin, arc_at, max_cost}
+use Rattle.shortest_path.specs.Network.{HasNonNegativeReducedCosts, HasCostsWithin, arc_at, max_cost}
 use Rattle.shortest_path.specs.declared.arc.Arc.{Arc}
 use Rattle.min_cost_flow.proofs.Filled.{short_potential}
 use Rattle.min_cost_flow.proofs.Reached.{found_below}
 use Rattle.min_cost_flow.proofs.meeting.find_below.Goals as goal
 
 pub find-requires-clause-arcs : goal.find-requires-clause-arcs
-find-requires-clause-arcs g c = ap (λ (xs : List (Option Arc)). length xs) c.as_slice.ensures.value ∙ (c.requires.meeting.flow.tables.arcs ∙ ap (λ n. n * n) (sym c.requires.wanted.size))
+find-requires-clause-arcs g c = ap (λ (xs : List (Option Arc)). length xs) c.as_slice.ensures.value ∙ (c.requires.second_pass.flow.tables.arcs ∙ ap (λ n. n * n) (sym c.requires.wanted.size))
 
 pub find-requires-clause-short : goal.find-requires-clause-short
 find-requires-clause-short g c =
-    λ v v_in. short_potential (potential_of c.args.search.now v) (c.requires.meeting.low v (omega (arith, v_in, c.requires.wanted.size))) (c.requires.meeting.high v (omega (arith, v_in, c.requires.wanted.size)))
+    λ v v_in. short_potential (potential_of c.args.search.now v) (c.requires.second_pass.low v (omega (arith, v_in, c.requires.wanted.size))) (c.requires.second_pass.high v (omega (arith, v_in, c.requires.wanted.size)))
 
 pub find-requires-clause-costs : goal.find-requires-clause-costs
 find-requires-clause-costs g c =
     let p = c.args.problem.now in
     let f = c.args.flow.now in
-    subst (λ n. IsWithin n (arc_at c.as_slice.result.now n) max_cost) (sym c.requires.wanted.size)
-    (subst (λ xs. IsWithin (names_of p + 1) (arc_at xs (names_of p + 1)) max_cost) (sym c.as_slice.ensures.value) (cheap_arcs p c.requires.problem f.placed.items f.totals.items f.arcs.items c.requires.meeting.flow.tables))
+    subst (λ n. HasCostsWithin n (arc_at c.as_slice.result.now n) max_cost) (sym c.requires.wanted.size)
+    (subst (λ xs. HasCostsWithin (names_of p + 1) (arc_at xs (names_of p + 1)) max_cost) (sym c.as_slice.ensures.value) (cheap_arcs p c.requires.problem f.placed.items f.totals.items f.arcs.items c.requires.second_pass.flow.tables))
 
 pub find-requires-clause-reduced : goal.find-requires-clause-reduced
 find-requires-clause-reduced g c =
     let p = c.args.problem.now in
     let f = c.args.flow.now in
-    let price = potential_of c.args.search.now in
-    subst (λ n. IsReduced n (arc_at c.as_slice.result.now n) price) (sym c.requires.wanted.size)
-    (subst (λ xs. IsReduced (names_of p + 1) (arc_at xs (names_of p + 1)) price) (sym c.as_slice.ensures.value) (reduced_from_optimal (flows_of p f) (arc_at f.arcs.items (names_of p + 1)) price c.requires.meeting.flow.tables.residual c.requires.meeting.optimal))
+    let potential = potential_of c.args.search.now in
+    subst (λ n. HasNonNegativeReducedCosts n (arc_at c.as_slice.result.now n) potential) (sym c.requires.wanted.size)
+    (subst (λ xs. HasNonNegativeReducedCosts (names_of p + 1) (arc_at xs (names_of p + 1)) potential) (sym c.as_slice.ensures.value) (reduced_from_optimal (flows_of p f) (arc_at f.arcs.items (names_of p + 1)) potential c.requires.second_pass.flow.tables.residual c.requires.second_pass.optimal))
 
-pub returns-clause-way : goal.returns-clause-way
-returns-clause-way g c =
-    found_below c.args.problem.now c.requires.problem c.args.flow.now c.args.search.now c.find.new.self c.args.wanted.now c.find.result c.as_slice.result.now (length c.args.wanted.now) c.len.result c.requires.meeting c.requires.wanted c.as_slice.ensures.value c.requires.wanted.size
+pub returns-clause-path : goal.returns-clause-path
+returns-clause-path g c =
+    found_below c.args.problem.now c.requires.problem c.args.flow.now c.args.search.now c.find.new.self c.args.wanted.now c.find.result c.as_slice.result.now (length c.args.wanted.now) c.len.result c.requires.second_pass c.requires.wanted c.as_slice.ensures.value c.requires.wanted.size
     (c.len.ensures ∙ c.args.problem.now.high.ok.0) c.find.ensures.size c.find.ensures.found

@@ -6,5 +6,5 @@ use Rattle.min_cost_flow.proofs.meeting.mark_wanted.Given as goal
 abbrev pub invariant-loop-name : goal.invariant-loop-name
 invariant-loop-name l = record {
   each : (v : ℕ) → v < l.name → v < names_of l.problem → get_or l.wanted v false ≡ nat_lt (total_at l.flow v) (get_or l.problem.low.items v 0);
-  limits : get_or l.wanted (names_of l.problem) false ≡ false;
+  root : get_or l.wanted (names_of l.problem) false ≡ false;
 }

@@ -1,17 +1,17 @@
 use Rattle.std.proofs.Common.{◌≡◌, ◌+◌, ◌≤◌, false, length, get_or}
 use Rattle.min_cost_flow.specs.Problem.{names_of}
 use Rattle.min_cost_flow.specs.Effort.{Searches, nodes_of}
-use Rattle.min_cost_flow.specs.Meeting.{IsMeeting, missing}
+use Rattle.min_cost_flow.specs.Meeting.{IsInSecondPass, deficit}
 use Rattle.min_cost_flow.proofs.meeting.meet_low.Given as goal
 
 abbrev pub invariant-points : goal.invariant-points
 invariant-points g l = record {
-  meeting : IsMeeting l.problem l.flow l.search;
+  second_pass : IsInSecondPass l.problem l.flow l.search;
   size : length l.wanted.items ≡ names_of l.problem + 1;
-  limits : get_or l.wanted.items (names_of l.problem) false ≡ false;
-  missing : l.effort.augmentations + missing l.problem l.flow ≤ l.initial.effort.augmentations + missing l.problem l.initial.flow;
+  root : get_or l.wanted.items (names_of l.problem) false ≡ false;
+  deficit : l.effort.augmentations + deficit l.problem l.flow ≤ l.initial.effort.augmentations + deficit l.problem l.initial.flow;
   searches : Searches (nodes_of l.problem) 0 l.initial.effort l.effort;
 }
 
 abbrev pub decreases-points : goal.decreases-points
-decreases-points g l = missing l.problem l.flow
+decreases-points g l = deficit l.problem l.flow

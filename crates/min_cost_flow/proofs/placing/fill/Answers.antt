@@ -12,18 +12,18 @@ augment-requires-clause-above g c =
     λ v v_in on.
     ⊎_elim
     (λ (is : v ≡ c.args.from). omega (arith, c.requires.above, ap (λ x. total_at c.args.flow.now x) is, ap (λ x. get_or c.args.problem.now.high.items x 0) is, ap (λ xs. get_or xs v 0) c.as_slice.ensures.value))
-    (λ h. absurd (c.requires.way.unsettled h.0))
+    (λ h. absurd (c.requires.path.unsettled h.0))
     on
 
-pub returns-clause-midway : goal.returns-clause-midway
-returns-clause-midway g c =
+pub returns-clause-first_pass : goal.returns-clause-first_pass
+returns-clause-first_pass g c =
     let p = c.args.problem.now in
     let s = c.args.search.now in
     let old = c.args.flow.now in
     let new = c.augment.new.flow in
     let aug : IsAugmented p old new (potential_of s) (rank_of s) p.high.items c.args.from c.args.last =
     subst (λ xs. IsAugmented p old new (potential_of s) (rank_of s) xs c.args.from c.args.last) c.as_slice.ensures.value c.in_ok-augment.ensures.augmented in
-    filled p c.requires.problem old new s c.args.from c.args.last c.requires.way c.in_ok-augment.ensures.flow c.in_ok-augment.ensures.least aug
+    filled p c.requires.problem old new s c.args.from c.args.last c.requires.path c.in_ok-augment.ensures.flow c.in_ok-augment.ensures.least aug
 
 pub returns-clause-fewer : goal.returns-clause-fewer
 returns-clause-fewer g c =
@@ -33,7 +33,7 @@ returns-clause-fewer g c =
     let new = c.augment.new.flow in
     let aug : IsAugmented p old new (potential_of s) (rank_of s) p.high.items c.args.from c.args.last =
     subst (λ xs. IsAugmented p old new (potential_of s) (rank_of s) xs c.args.from c.args.last) c.as_slice.ensures.value c.in_ok-augment.ensures.augmented in
-    fewer_after p old new s c.args.from c.args.last c.requires.way aug
+    fewer_after p old new s c.args.from c.args.last c.requires.path aug
 
 pub returns-clause-placed : goal.returns-clause-placed
 returns-clause-placed g c =

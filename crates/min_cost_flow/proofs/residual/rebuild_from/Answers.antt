@@ -49,7 +49,7 @@ returns-clause-row c =
     let ps = c.deref-2.result.now in
     let name_in : name < k = omega (arith, k_is, c.requires.name) in
     let size : HasArcs k arcs = subst (λ n. HasArcs n arcs) (sym k_is) c.requires.arcs in
-    subst (λ n. IsRow (length p.groups.items) n (may_take p.groups.items p.prices.items n) (cost_at p.groups.items p.prices.items n) (λ g. get_or placed (g * n + name) 0) name (arc_at (put_row k name arcs row) (n + 1) name)) k_is
+    subst (λ n. IsRow (length p.groups.items) n (may_take p.groups.items p.costs.items n) (cost_at p.groups.items p.costs.items n) (λ g. get_or placed (g * n + name) 0) name (arc_at (put_row k name arcs row) (n + 1) name)) k_is
     (subst (λ x. IsRow (length p.groups.items) k (may_take p.groups.items x k) (cost_at p.groups.items x k) (λ g. get_or placed (g * k + name) 0) name (arc_at (put_row k name arcs row) (k + 1) name)) c.deref-2.ensures.value
     (subst (λ x. IsRow (length x) k (may_take x ps k) (cost_at x ps k) (λ g. get_or placed (g * k + name) 0) name (arc_at (put_row k name arcs row) (k + 1) name)) c.deref.ensures.value
     (part_rebuilt k name arcs row name_in size c.rebuild.auto.row gs ps placed c.rebuild.ensures.row)))

@@ -6,7 +6,7 @@ use Rattle.std.proofs.lemmas.Option.{same_Some}
 use Rattle.shortest_path.specs.Network.{IsShort}
 use Rattle.shortest_path.proofs.Nearest.{passes, improves, renamed}
 use Rattle.shortest_path.proofs.search.nearest.Goals as goal
-use Rattle.shortest_path.proofs.search.nearest.Goals.{then-settle_order-v+in-Some+then-is_below, then-settle_order-v+in-Some+else-is_below, then-settle_order-v+in_default, else-settle_order-v}
+use Rattle.shortest_path.proofs.search.nearest.Goals.{then-settle_order-v+in-Some+then-is_nearer, then-settle_order-v+in-Some+else-is_nearer, then-settle_order-v+in_default, else-settle_order-v}
 
 difference_fits : (a b : ℤ) → IsShort a → IsShort b → FitsSigned w64 (to_z w64 (of_z w64 a) -ℤ to_z w64 (of_z w64 b))
 difference_fits a b s t = omega (arith, ints, s.low, s.high, t.low, t.high)
@@ -34,19 +34,19 @@ loop-v-preserved c =
     let pot : ℕ → ℤ = λ k. get_or c.args.potentials.now k (pos 0) in
     let distance : ℕ → Option ℤ = λ k. get_or c.args.distances.now k None in
     let rank : ℕ → ℕ = λ k. get_or c.args.settle_order.now k 0 in
-    let pass = passes n pot distance rank c.loop-v.least c.loop-v.node (to_z w64 c.loop-v.so_far-bits) v c.loop-v.invariant c.loop-v-test.true in
-    let same = renamed n pot distance rank c.loop-v.least c.if-settle_order-v.least c.loop-v.node c.if-settle_order-v.node (to_z w64 c.loop-v.so_far-bits) (to_z w64 c.if-settle_order-v.so_far-bits) (v + 1) in
+    let pass = passes n pot distance rank c.loop-v.least c.loop-v.node (to_z w64 c.loop-v.node_distance-bits) v c.loop-v.invariant c.loop-v-test.true in
+    let same = renamed n pot distance rank c.loop-v.least c.if-settle_order-v.least c.loop-v.node c.if-settle_order-v.node (to_z w64 c.loop-v.node_distance-bits) (to_z w64 c.if-settle_order-v.node_distance-bits) (v + 1) in
     elim c.if-settle_order-v.branch [
-      | then-settle_order-v+in-Some+then-is_below w ↦
+      | then-settle_order-v+in-Some+then-is_nearer w ↦
           let distance_short = c.requires.short_distances v w.in-Some.distance c.loop-v-test.true w.in-Some.is in
           let new : ℤ = to_z w64 (of_z w64 (to_z w64 (of_z w64 w.in-Some.distance) -ℤ to_z w64 (of_z w64 (pot v)))) in
-          renamed n pot distance rank (Some new) c.if-settle_order-v.least v c.if-settle_order-v.node w.in-Some.distance (to_z w64 c.if-settle_order-v.so_far-bits) (v + 1) w.least-is w.node-is (shown w.in-Some.distance _ distance_short w.so_far-is)
-          (improves n pot distance rank c.loop-v.least c.loop-v.node (to_z w64 c.loop-v.so_far-bits) v c.loop-v.invariant c.loop-v-test.true new w.in-Some.distance w.if-settle_order-v.true w.in-Some.is (restored w.in-Some.distance (pot v) distance_short (c.requires.short v c.loop-v-test.true)) w.if-is_below.ensures)
-      | then-settle_order-v+in-Some+else-is_below w ↦
+          renamed n pot distance rank (Some new) c.if-settle_order-v.least v c.if-settle_order-v.node w.in-Some.distance (to_z w64 c.if-settle_order-v.node_distance-bits) (v + 1) w.least-is w.node-is (shown w.in-Some.distance _ distance_short w.node_distance-is)
+          (improves n pot distance rank c.loop-v.least c.loop-v.node (to_z w64 c.loop-v.node_distance-bits) v c.loop-v.invariant c.loop-v-test.true new w.in-Some.distance w.if-settle_order-v.true w.in-Some.is (restored w.in-Some.distance (pot v) distance_short (c.requires.short v c.loop-v-test.true)) w.if-is_nearer.ensures)
+      | then-settle_order-v+in-Some+else-is_nearer w ↦
           let distance_short = c.requires.short_distances v w.in-Some.distance c.loop-v-test.true w.in-Some.is in
-          same w.least-is w.node-is w.so_far-is (pass (λ b un b_is. not_less w.in-Some.distance (pot v) (distance v) c.loop-v.least distance_short (c.requires.short v c.loop-v-test.true) w.in-Some.is w.if-is_below.ensures b b_is))
-      | then-settle_order-v+in_default w ↦ same w.least-is w.node-is w.so_far-is (pass (λ b un is. absurd (w.in_default.not-Some b is)))
-      | else-settle_order-v w ↦ same w.least-is w.node-is w.so_far-is (pass (λ b un is. absurd (omega (arith, un, w.if-settle_order-v.false))))
+          same w.least-is w.node-is w.node_distance-is (pass (λ b un b_is. not_less w.in-Some.distance (pot v) (distance v) c.loop-v.least distance_short (c.requires.short v c.loop-v-test.true) w.in-Some.is w.if-is_nearer.ensures b b_is))
+      | then-settle_order-v+in_default w ↦ same w.least-is w.node-is w.node_distance-is (pass (λ b un is. absurd (w.in_default.not-Some b is)))
+      | else-settle_order-v w ↦ same w.least-is w.node-is w.node_distance-is (pass (λ b un is. absurd (omega (arith, un, w.if-settle_order-v.false))))
     ]
 
 pub returns-in-Some-least : goal.returns-in-Some-least

@@ -1,12 +1,12 @@
 use Rattle.std.proofs.Common.{length}
-use Rattle.shortest_path.specs.Spent.{Settled}
+use Rattle.shortest_path.specs.Spent.{HasSettled}
 use Rattle.shortest_path.proofs.Rounds.{IsRound, unsettled}
 use Rattle.shortest_path.proofs.search.settle.Given as goal
 
 abbrev pub invariant-loop-node : goal.invariant-loop-node
 invariant-loop-node g l = record {
   round : IsRound (length l.initial.settle_order) l.arcs l.potentials l.wanted l.source l.count l.distances l.predecessors l.settle_order;
-  effort : Settled l.count l.initial.effort l.effort;
+  effort : HasSettled l.count l.initial.effort l.effort;
 }
 
 abbrev pub decreases-loop-node : goal.decreases-loop-node

@@ -9,6 +9,6 @@ overflow_add-cost c =
       arith,
       c.loop-g.invariant,
       c.cost_of_row-cost.ensures.value,
-      all_more c.args.groups.now c.args.prices.now c.args.placed.now c.args.names c.requires.groups c.requires.prices c.requires.spent c.loop-g.g,
-      all_small c.args.groups.now c.args.prices.now c.args.placed.now c.args.names c.requires.groups c.requires.prices c.requires.spent (c.loop-g.g + 1) (omega (arith, c.loop-g-test.true)),
+      all_more c.args.groups.now c.args.costs.now c.args.placed.now c.args.names c.requires.groups c.requires.costs c.requires.spent c.loop-g.g,
+      all_small c.args.groups.now c.args.costs.now c.args.placed.now c.args.names c.requires.groups c.requires.costs c.requires.spent (c.loop-g.g + 1) (omega (arith, c.loop-g-test.true)),
     )

@@ -9,7 +9,7 @@ use Rattle.transport_plan.proofs.dealing.deal_by.Goals as goal
 pub loop-start-init : goal.loop-start-init
 loop-start-init c = record {
   deals = none_dealt (length c.args.bases.now) c.args.names c.args.left.now c.args.points.now c.requires.shape;
-  limits = c.requires.limits;
+  thresholds = c.requires.thresholds;
   few = omega arith;
 }
 
@@ -18,15 +18,15 @@ bounds-bases-group c =
     let l = c.loop-start in
     next_below (length c.args.bases.now) c.args.names c.args.left.now c.args.points.now l.left l.start l.points l.invariant.deals c.requires.groups (omega arith)
 
-pub bounds-limits-group : goal.bounds-limits-group
-bounds-limits-group c =
+pub bounds-thresholds-group : goal.bounds-thresholds-group
+bounds-thresholds-group c =
     let l = c.loop-start in
-    omega (arith, next_below (length c.args.bases.now) c.args.names c.args.left.now c.args.points.now l.left l.start l.points l.invariant.deals c.requires.groups (omega arith), l.invariant.limits)
+    omega (arith, next_below (length c.args.bases.now) c.args.names c.args.left.now c.args.points.now l.left l.start l.points l.invariant.deals c.requires.groups (omega arith), l.invariant.thresholds)
 
-pub bounds-limits-group-then-has_any : goal.bounds-limits-group-then-has_any
-bounds-limits-group-then-has_any c =
+pub bounds-thresholds-group-then-has_any : goal.bounds-thresholds-group-then-has_any
+bounds-thresholds-group-then-has_any c =
     let l = c.loop-start in
-    omega (arith, next_below (length c.args.bases.now) c.args.names c.args.left.now c.args.points.now l.left l.start l.points l.invariant.deals c.requires.groups (omega arith), l.invariant.limits)
+    omega (arith, next_below (length c.args.bases.now) c.args.names c.args.left.now c.args.points.now l.left l.start l.points l.invariant.deals c.requires.groups (omega arith), l.invariant.thresholds)
 
 pub deal_stretch-requires-clause-base : goal.deal_stretch-requires-clause-base
 deal_stretch-requires-clause-base c = c.first-stretch.ensures.named c.args.names c.requires.base
@@ -60,7 +60,7 @@ loop-start-preserved-then-has_any c =
       deals = deals_more (length c.args.bases.now) c.args.names c.args.left.now c.args.points.now l.left l.start l.points l.invariant.deals s.group s.points c.first-stretch.ensures.group (omega (arith, room, l.invariant.deals.long))
           (λ q below. sym (get_or-take many (drop l.start l.points) q 0 (omega (arith, below, room))) ∙ c.first-stretch.ensures.same q below)
           c.deal_stretch.new.left c.deal_stretch.new.points c.deal_stretch.ensures;
-      limits = length-set l.limits (get_or l.points l.start 0) _ ∙ l.invariant.limits;
+      thresholds = length-set l.thresholds (get_or l.points l.start 0) _ ∙ l.invariant.thresholds;
       few = omega (arith, l.invariant.few, c.first-stretch.ensures.some);
     }
 
@@ -88,7 +88,7 @@ loop-start-preserved c =
       deals = deals_more (length c.args.bases.now) c.args.names c.args.left.now c.args.points.now l.left l.start l.points l.invariant.deals g 1 group (omega (arith, l.invariant.deals.long))
           (λ q below. get_or-drop l.start l.points q 0 ∙ ap (λ k. get_or l.points k 0) (omega (arith, below)))
           c.deal_point.new.left c.deal_point.new.points c.deal_point.ensures;
-      limits = l.invariant.limits;
+      thresholds = l.invariant.thresholds;
       few = omega (arith, l.invariant.few);
     }
 

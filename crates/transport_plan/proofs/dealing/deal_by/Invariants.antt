@@ -5,7 +5,7 @@ use Rattle.transport_plan.proofs.dealing.deal_by.Given as goal
 abbrev pub invariant-loop-start : goal.invariant-loop-start
 invariant-loop-start l = record {
   deals : Deals (length l.bases) l.names l.fn.left l.fn.points l.left l.start l.points;
-  limits : length l.limits ≡ length l.bases;
+  thresholds : length l.thresholds ≡ length l.bases;
   few : l.seen ≤ l.start;
 }
 

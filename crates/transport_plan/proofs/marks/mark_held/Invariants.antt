@@ -3,4 +3,4 @@ use Rattle.transport_plan.proofs.Holding.{Holding}
 use Rattle.transport_plan.proofs.marks.mark_held.Given as goal
 
 abbrev pub invariant-loop-group : goal.invariant-loop-group
-invariant-loop-group l = Holding (names_of l.problem) l.problem.groups.items l.problem.prices.items l.flow.placed.items l.search.settle_order.items l.marks l.group
+invariant-loop-group l = Holding (names_of l.problem) l.problem.groups.items l.problem.costs.items l.flow.placed.items l.search.settle_order.items l.marks l.group

@@ -19,17 +19,17 @@ groups-requires-2 c =
 pub returns-clause-numbered : goal.returns-clause-numbered
 returns-clause-numbered c =
     let t = c.args.instance.now in
-    let q : FlowProblem = record { groups = c.in_ok-groups.groups; prices = c.in_ok-prices.prices; low = c.in_ok-low.low; high = c.in_ok-high.high } in
+    let q : FlowProblem = record { groups = c.in_ok-groups.groups; costs = c.in_ok-costs.costs; low = c.in_ok-low.low; high = c.in_ok-high.high } in
     let same : limits_view c.entries-limits.result.now ≡ t.limits = c.entries-limits.ensures.value ∙ c.totals.ensures.value in
     let are = subst (λ (ls : Limits). AreGroups (keys_of ls) t.groups q.groups.items) same (subst (λ (gs : List (GroupKey × ℕ)). AreGroups (keys_of (limits_view c.entries-limits.result.now)) gs q.groups.items) c.groups.ensures.value c.in_ok-groups.ensures) in
-    let table = c.in_ok-prices.ensures.table ∙ (ap (λ (ls : Limits). flat_map (price_row c.prices.result.now (keys_of ls)) (keys_of ls)) same ∙ ap (λ (p : Pricing). flat_map (price_row p (keys_of t.limits)) (keys_of t.limits)) c.prices.ensures.value) in
-    numbered t c.groups.ensures.lawful q are table c.in_ok-prices.ensures.priced (c.in_ok-low.ensures ∙ ap (map (λ l. l.1.0)) same) (c.in_ok-high.ensures ∙ ap (map (λ l. l.1.1)) same)
+    let table = c.in_ok-costs.ensures.table ∙ (ap (λ (ls : Limits). flat_map (price_row c.prices.result.now (keys_of ls)) (keys_of ls)) same ∙ ap (λ (p : Pricing). flat_map (price_row p (keys_of t.limits)) (keys_of t.limits)) c.prices.ensures.value) in
+    numbered t c.groups.ensures.lawful q are table c.in_ok-costs.ensures.priced (c.in_ok-low.ensures ∙ ap (map (λ l. l.1.0)) same) (c.in_ok-high.ensures ∙ ap (map (λ l. l.1.1)) same)
 
 pub returns-clause-lawful : goal.returns-clause-lawful
 returns-clause-lawful c =
     let t = c.args.instance.now in
-    let q : FlowProblem = record { groups = c.in_ok-groups.groups; prices = c.in_ok-prices.prices; low = c.in_ok-low.low; high = c.in_ok-high.high } in
+    let q : FlowProblem = record { groups = c.in_ok-groups.groups; costs = c.in_ok-costs.costs; low = c.in_ok-low.low; high = c.in_ok-high.high } in
     let same : limits_view c.entries-limits.result.now ≡ t.limits = c.entries-limits.ensures.value ∙ c.totals.ensures.value in
     let are = subst (λ (ls : Limits). AreGroups (keys_of ls) t.groups q.groups.items) same (subst (λ (gs : List (GroupKey × ℕ)). AreGroups (keys_of (limits_view c.entries-limits.result.now)) gs q.groups.items) c.groups.ensures.value c.in_ok-groups.ensures) in
-    let table = c.in_ok-prices.ensures.table ∙ (ap (λ (ls : Limits). flat_map (price_row c.prices.result.now (keys_of ls)) (keys_of ls)) same ∙ ap (λ (p : Pricing). flat_map (price_row p (keys_of t.limits)) (keys_of t.limits)) c.prices.ensures.value) in
-    lawful t c.groups.ensures.lawful q are table c.in_ok-prices.ensures.priced (c.in_ok-low.ensures ∙ ap (map (λ l. l.1.0)) same) (c.in_ok-high.ensures ∙ ap (map (λ l. l.1.1)) same)
+    let table = c.in_ok-costs.ensures.table ∙ (ap (λ (ls : Limits). flat_map (price_row c.prices.result.now (keys_of ls)) (keys_of ls)) same ∙ ap (λ (p : Pricing). flat_map (price_row p (keys_of t.limits)) (keys_of t.limits)) c.prices.ensures.value) in
+    lawful t c.groups.ensures.lawful q are table c.in_ok-costs.ensures.priced (c.in_ok-low.ensures ∙ ap (map (λ l. l.1.0)) same) (c.in_ok-high.ensures ∙ ap (map (λ l. l.1.1)) same)

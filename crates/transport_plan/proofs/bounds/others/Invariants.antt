@@ -1,5 +1,0 @@
-use Rattle.std.proofs.Common.{◌≤◌, ◌*◌, ◌^◌}
-use Rattle.transport_plan.proofs.bounds.others.Given as goal
-
-abbrev pub invariant-loop-name : goal.invariant-loop-name
-invariant-loop-name l = l.sum ≤ l.name * 2 ^ 32

@@ -1,0 +1,35 @@
+-- The marked names are over their high limits.
+use Rattle.std.proofs.Common.{◌≡◌, ℕ, List, false, get_or, sym, ap, ◌∙◌, subst}
+use Rattle.std.proofs.lemmas.Result.{IfOk-weaker}
+use Rattle.std.specs.Cmp.Lexicographic.{slice_cmp}
+use Rattle.std.specs.List.Sorted.{IsStrictlySortedBy}
+use Rattle.std.specs.Map.{keys_of}
+use Rattle.std.specs.Ordering.{nat_cmp}
+use Rattle.bucket_core.specs.Rule.{Entries, names_view}
+use Rattle.price_core.specs.Limits.{AreLimits, limits_view}
+use Rattle.transport_instance.specs.Deficient.{IsOver}
+use Rattle.transport_instance.specs.Groups.{AreSizes}
+use Rattle.transport_plan.specs.Chosen.{chosen}
+use Rattle.transport_plan.proofs.Above.{over_set}
+use Rattle.transport_plan.proofs.Choosing.{chosen_rise}
+use Rattle.transport_plan.proofs.cuts.names_over.Goals as goal
+
+pub returns-clause-over : goal.returns-clause-over
+returns-clause-over c =
+    let p = c.args.instance.now in
+    let marks = c.mark_held.new.marks in
+    let same : limits_view c.entries-limits.result.now ≡ p.limits = c.entries-limits.ensures.value ∙ c.totals.ensures.value in
+    let lawful : AreLimits p.limits = subst AreLimits c.totals.ensures.value c.entries-limits.ensures.lawful in
+    IfOk-weaker c.marked.result (λ v. names_view v.items ≡ chosen (keys_of (limits_view c.entries-limits.result.now)) (λ i. get_or marks i false)) (λ v. (old : Entries) (inputs : List (List ℕ)) → AreSizes old inputs p.groups → IsOver old p.limits p.pricing (names_view v.items))
+    (λ v is old inputs sizes.
+    subst (λ ns. IsOver old p.limits p.pricing ns) (sym (is ∙ ap (λ ls. chosen (keys_of ls) (λ i. get_or marks i false)) same))
+    (over_set p c.args.problem.now lawful c.requires.numbered c.args.flow.now c.args.search.now c.requires.flow c.requires.stuck marks c.mark_held.ensures old inputs sizes))
+    c.marked.ensures
+
+pub returns-clause-ordered : goal.returns-clause-ordered
+returns-clause-ordered c =
+    let marks = c.mark_held.new.marks in
+    let lawful : AreLimits (limits_view c.entries-limits.result.now) = subst AreLimits (sym c.entries-limits.ensures.value) c.entries-limits.ensures.lawful in
+    IfOk-weaker c.marked.result (λ v. names_view v.items ≡ chosen (keys_of (limits_view c.entries-limits.result.now)) (λ i. get_or marks i false)) (λ v. IsStrictlySortedBy (slice_cmp nat_cmp) (names_view v.items))
+    (λ v is. subst (IsStrictlySortedBy (slice_cmp nat_cmp)) (sym is) (chosen_rise (keys_of (limits_view c.entries-limits.result.now)) (λ i. get_or marks i false) lawful.rise))
+    c.marked.ensures

@@ -1,5 +1,0 @@
-use Rattle.transport_plan.proofs.ProvedFlow.{proved}
-use Rattle.transport_plan.proofs.laws.prices_of_an_optimal_flow_prove_its_cost.Goals as goal
-
-pub returns : goal.returns
-returns c p numbers alpha beta cost lawful optimal each least is = proved p numbers alpha beta cost lawful optimal each least is
