@@ -82,11 +82,7 @@ impl<'a> Numbering<'a> {
     }
 
     /// The number of each name.
-    fn add_names(
-        &mut self,
-        alloc: Global,
-        names: &'a [String],
-    ) -> Result<Vec<usize>, AllocError>
+    fn add_names(&mut self, alloc: Global, names: &'a [String]) -> Result<Vec<usize>, AllocError>
         ensures numbered { IfOk result (λ v. AreNamesNumbers self.new (names_view names.now) v.items) }
         ensures keeps { Keeps self.old self.new }
     {

@@ -1,6 +1,5 @@
 use Rattle.std.proofs.Common.{ap, sym, ◌∙◌, subst, length, arith}
-use Rattle.std.proofs.lemmas.List.{length-map}
-use Rattle.bucket_core.specs.Rule.{IsRun, end_of, entry_name, entry_view}
+use Rattle.bucket_core.specs.Rule.{IsRun, end_of, entry_name}
 use Rattle.bucket_core.proofs.Ends.{entry_at-lt, at_here, at_run}
 use Rattle.price_core.proofs.Cursors.{entry_at-le, entry_past}
 use Rattle.price_core.proofs.switching.entry_from.Goals as goal
@@ -10,7 +9,7 @@ end_of-requires c = omega (arith, c.loop-entry.invariant, entry_at-lt c.args.rul
 
 pub overflow_add-entry : goal.overflow_add-entry
 overflow_add-entry c =
-    omega (arith, c.entries-count.type_inv.1, ap length c.entries-count.ensures.value, length-map c.entries-count.result.now entry_view, c.loop-entry.invariant, entry_at-lt c.args.rule.now c.args.point c.requires.inside)
+    omega (arith, c.len-count.type_inv, c.len-count.ensures, ap length c.entries.ensures.value, c.loop-entry.invariant, entry_at-lt c.args.rule.now c.args.point c.requires.inside)
 
 pub loop-entry-smaller : goal.loop-entry-smaller
 loop-entry-smaller c = omega (arith, entry_past c.args.rule.now c.args.point c.loop-entry.entry c.requires.inside c.loop-entry.invariant (omega (arith, c.end_of.ensures.value, c.loop-entry-test.true)))
