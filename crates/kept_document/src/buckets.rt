@@ -32,12 +32,7 @@ pub(crate) fn push_entries(
 }
 
 /// Adds one entry to the bytes.
-fn push_entry(
-    alloc: Global,
-    out: &mut Vec<u8>,
-    name: &str,
-    weight: u64,
-) -> Result<(), AllocError>
+fn push_entry(alloc: Global, out: &mut Vec<u8>, name: &str, weight: u64) -> Result<(), AllocError>
     requires { weight < 2 ^ 53 }
     ensures { OnOk result (out.new.items ≡ out.old.items ++ entry_text (name.now, weight)) }
 {

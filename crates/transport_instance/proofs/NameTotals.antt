@@ -1,5 +1,5 @@
 -- The totals of a rule's names, from its entries, summed up by name.
-use Rattle.std.proofs.Common.{◌≡◌, inl, inr, ⊎_elim, ℕ, suc, ◌+◌, ◌*◌, ◌<◌, ◌≤◌, List, [], ◌∷◌, length, replicate, get_or, drop, drop-cons, Bool, true, false, cond, Option, Some, None, Ordering, unwrap_or, sum_by, count_by, String, Global, string_bytes, refl, sym, ap, ◌∙◌, add-one, arith}
+use Rattle.std.proofs.Common.{◌≡◌, inl, inr, ⊎_elim, ℕ, suc, ◌+◌, ◌*◌, ◌<◌, ◌≤◌, List, [], ◌∷◌, length, replicate, get_or, Bool, true, false, cond, Option, Some, None, Ordering, unwrap_or, sum_by, count_by, string_bytes, refl, sym, ap, ◌∙◌, arith}
 use Rattle.std.specs.BTreeMap.{insert_entry, is_at}
 use Rattle.std.specs.Bool.{MatchBool}
 use Rattle.std.specs.Borrow.{Bor}
@@ -12,14 +12,13 @@ use Rattle.std.specs.declared.cmp.Ordering.TheVariants.{Less, Equal, Greater}
 use Rattle.std.proofs.lemmas.Bool.{cases_Bool, cond-true, cond-false}
 use Rattle.std.proofs.lemmas.Bool.Decides.{same_from_decides, Decides-like}
 use Rattle.std.proofs.lemmas.Cmp.{nat_list_cmp_total}
-use Rattle.std.proofs.lemmas.List.{drop_all}
 use Rattle.std.proofs.lemmas.List.Folds.{sum_by-replicate}
 use Rattle.std.proofs.lemmas.List.Sorted.{sum_by-IsPermutation}
-use Rattle.std.proofs.lemmas.List.Sums.{sum_by-cons, sum_by-append, get_or-le-sum_by}
+use Rattle.std.proofs.lemmas.List.Sums.{sum_by-cons, sum_by-append}
 use Rattle.std.proofs.lemmas.Map.Text.{is_eq-slice_cmp}
 use Rattle.std.proofs.lemmas.Option.{none-some, same_Some, slice_get_read}
 use Rattle.std.proofs.lemmas.Slice.Eq.{bytes_eq-Decides}
-use Rattle.bucket_core.specs.Rule.{Entries, total_weight, points, total_of, entry_view, entries_view}
+use Rattle.bucket_core.specs.Rule.{Entries, total_weight, points, total_of}
 use Rattle.price_core.specs.Limits.{Limits, low_of, high_of, limit_view, limits_view}
 use Rattle.price_core.specs.declared.totals.Limit.{Limit}
 use Rattle.transport_instance.specs.Refusals.{KeepsLimits, BreaksLimit}

@@ -1,8 +1,7 @@
 -- the rows of each entry's points
 use Rattle.std.proofs.Common.{◌<◌, ap, ◌∙◌, length, subst, arith}
-use Rattle.std.proofs.lemmas.List.{length-map}
 use Rattle.std.specs.List.{slice_index}
-use Rattle.bucket_core.specs.Rule.{end_of, entry_view, total_weight}
+use Rattle.bucket_core.specs.Rule.{end_of, total_weight}
 use Rattle.transport_instance.specs.Groups.{rows_view}
 use Rattle.transport_instance.specs.Rows.{CoversPoints}
 use Rattle.transport_instance.proofs.Tallied.{all_ended, covers_counts, ended_more, entry_here, entry_run}
@@ -38,5 +37,5 @@ pub returns : goal.returns
 returns c =
     let rule = c.args.rule.now in
     let loop = c.loop-entry in
-    let all = all_ended rule loop.point loop.invariant.below (λ k below. loop.invariant.ended k (omega (arith, below, c.loop-entry-test.false, ap length c.entries-entry-end.ensures.value, length-map c.entries-entry-end.result.now entry_view))) in
+    let all = all_ended rule loop.point loop.invariant.below (λ k below. loop.invariant.ended k (omega (arith, below, c.loop-entry-test.false, c.len-entry-end.ensures, ap length c.entries.ensures.value))) in
     subst (λ n. CoversPoints rule (slice_index c.args.counts.now) n (rows_view loop.rows.items)) all loop.invariant.covers

@@ -1,9 +1,8 @@
-use Rattle.std.proofs.Common.{◌≡◌, ℕ, List, Bool, Result, Ok, Err, IfOk, ap, arith}
+use Rattle.std.proofs.Common.{◌≡◌, ℕ, List, Bool, Result, Ok, Err, IfOk, arith}
 use Rattle.std.specs.Cmp.Lexicographic.{slice_cmp}
 use Rattle.std.specs.List.Sorted.{IsStrictlySortedBy}
 use Rattle.std.specs.Map.{keys_of}
 use Rattle.std.specs.Ordering.{nat_cmp}
-use Rattle.bucket_core.specs.Rule.{total_weight}
 use Rattle.transport_instance.specs.Rows.{AreTotals, totals_view}
 use Rattle.transport_instance.proofs.Joined.{passed}
 use Rattle.transport_instance.proofs.NameTotals.{sums_all, sums_fit, sums_more, sums_none, totals_summed}
