@@ -1,6 +1,8 @@
 //! The rule and the certificate that a text seems to hold, token by token. What is made is only a guess, since names of
-//! members are not looked at: its caller compares what is printed of it with the text.
-ghost use Rattle.std.specs.Prelude.{◌≡◌, IfErr};
+//! members are not looked at: its caller compares what is printed of it with the text. A printed rule has no names but those
+//! of its certificate, so each is kept once.
+ghost use Rattle.std.specs.Prelude.{◌≡◌, ◌<◌, IfErr, IfOk, IfSome, length};
+ghost use Rattle.bucket_core.specs.Rule.{AreNamed, names_view};
 ghost use Rattle.plan_text.specs.declared.fault.PlanFileFault.TheVariants.{WantOfMemory};
 
 use crate::fault::PlanFileFault;
@@ -21,10 +23,11 @@ pub(crate) fn scan(alloc: Global, text: &str) -> Result<Option<(Rule, Certificat
     if !passes_number(&mut reader) || !passes_key(&mut reader) {
         return Ok(None);
     }
-    let Some(entries) = entries(alloc, &mut reader)? else {
+    let names = names_of(alloc, certificate.beta.as_slice())?;
+    let Some(entries) = entries(alloc, &mut reader, names.as_slice())? else {
         return Ok(None);
     };
-    match Rule::make(alloc, entries) {
+    match Rule::of_places(alloc, names, entries) {
         Ok(rule) => Ok(Some((rule, certificate))),
         Err(RuleFault::WantOfMemory) => Err(PlanFileFault::WantOfMemory),
         Err(_) => Ok(None),
@@ -129,10 +132,14 @@ fn beta_row(alloc: Global, reader: &mut Reader<'_>) -> Result<Option<(String, i6
     Ok(Some((String::from_str(alloc, name)?, n)))
 }
 
+/// The entries of a rule, each by the place of its name among these, which rise; none where it is no such name.
 fn entries(
     alloc: Global,
     reader: &mut Reader<'_>,
-) -> Result<Option<Vec<(String, u64)>>, AllocError> {
+    names: &[String],
+) -> Result<Option<Vec<(usize, u64)>>, AllocError>
+    ensures { IfOk result (λ o. IfSome o (λ v. AreNamed (names_view names.now) v.items)) }
+{
     let Some(Token::BeginArray) = reader.next() else {
         return Ok(None);
     };
@@ -141,7 +148,7 @@ fn entries(
         if reader.take_end_array() {
             return Ok(Some(rows));
         }
-        let Some(row) = entry(alloc, reader)? else {
+        let Some(row) = entry(reader, names) else {
             return Ok(None);
         };
         rows.push(row)?;
@@ -149,17 +156,35 @@ fn entries(
     Ok(None)
 }
 
-fn entry(alloc: Global, reader: &mut Reader<'_>) -> Result<Option<(String, u64)>, AllocError> {
-    let Some(name) = row_name(reader) else {
-        return Ok(None);
-    };
-    let Some(weight) = unsigned(reader) else {
-        return Ok(None);
-    };
+fn entry(reader: &mut Reader<'_>, names: &[String]) -> Option<(usize, u64)>
+    ensures { IfSome result (λ e. e.0 < length (names_view names.now)) }
+{
+    let place = place_of(names, row_name(reader)?)?;
+    let weight = unsigned(reader)?;
     if !reader.take_end_array() {
-        return Ok(None);
+        return None;
     }
-    Ok(Some((String::from_str(alloc, name)?, weight)))
+    Some((place, weight))
+}
+
+/// The place of a name among these, which rise.
+fn place_of(names: &[String], name: &str) -> Option<usize>
+    ensures { IfSome result (λ place. place < length (names_view names.now)) }
+{
+    let place = names.partition_point(|other| other.as_str() < name);
+    match names.get(place) {
+        Some(other) if other.as_str() == name => Some(place),
+        _ => None,
+    }
+}
+
+/// The names of the numbers of names.
+fn names_of(alloc: Global, beta: &[(String, i64)]) -> Result<Vec<String>, AllocError> {
+    let mut names = Vec::with_capacity(alloc, beta.len())?;
+    for (name, _) in beta {
+        names.push(name.clone()?)?;
+    }
+    Ok(names)
 }
 
 /// The name that a row begins with.
