@@ -9,7 +9,6 @@ use crate::files::FileSet;
 use crate::loading::{RULE_LIMIT, load};
 use crate::refusal::Refusal;
 use crate::refused::{Refused, Remark};
-use crate::room::make_room_for;
 use flagops_remarks::of_plan_file;
 use plan_text::{Planned, read_planned};
 use std::alloc::Global;
@@ -28,7 +27,6 @@ pub fn load_planned<F: FileSet>(
     ensures names { TellsOf (file path.now) result }
 {
     let bytes = load(alloc, files, path, u64::from(RULE_LIMIT))?;
-    make_room_for(alloc, bytes.len());
     match read_planned(alloc, bytes.as_slice()) {
         Ok(planned) => Ok(planned),
         Err(fault) => Err(Refused {

@@ -8,7 +8,7 @@ const BLOCK: usize = 127 * 1024;
 /// The most blocks, some 48 MB: the heap of a thread has 64.
 const MOST_BLOCKS: usize = 384;
 
-/// How many bytes of memory a byte of a text comes to, as a tree, expressions or entries.
+/// How many bytes of memory a byte of a text comes to, as a tree or expressions.
 const FACTOR: usize = 8;
 
 /// Has the C library make ready the memory that this thread will need for what is made of a text of so many bytes. The heap of

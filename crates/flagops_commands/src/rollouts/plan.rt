@@ -18,7 +18,6 @@ use crate::rollouts::explained::told;
 use flag_defs::Flags;
 use flagops_files::{
     Call, Evidence, FileSet, Outcome, Question, Refusal, Refused, Remark, Status, load_question,
-    make_room_for,
 };
 use flagops_remarks::{of_large_plan, of_other_tally, of_rollout};
 use flagops_words::{Factor, factor_of};
@@ -27,9 +26,6 @@ use rollout::{RolloutFault, plan_refined, plan_tally};
 use std::alloc::{AllocError, Global};
 use std::mem;
 use std::thread::Threads;
-
-/// About as many bytes as a line of a book has. A planned rule has fewer buckets than the book has lines.
-const LINE_BYTES: usize = 24;
 
 /// The plan file of the rule that meets a request and costs the recorded inputs the least, or of a set of names which
 /// shows that no rule meets it, as a line. The status tells which of the two. What is doubted of it is told, or refused
@@ -134,10 +130,7 @@ fn planned_on(
     ensures whole { IfOk result (λ p. IsWhole (planned_view p)) }
 {
     match evidence {
-        Evidence::Book(book) => {
-            make_room_for(alloc, book.bytes().len() / LINE_BYTES);
-            plan_refined(rt, alloc, flags, request, book, factor)
-        }
+        Evidence::Book(book) => plan_refined(rt, alloc, flags, request, book, factor),
         Evidence::Tally(tally) => plan_tally(alloc, flags, request, tally, factor),
     }
 }
