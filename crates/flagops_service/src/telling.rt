@@ -2,19 +2,8 @@
 use crate::asked::Answering;
 use crate::preparing::{LISTEN, MOST_SUBSCRIBERS};
 use flag_text::Outlet;
+use flagops_streams::say;
 use std::alloc::{AllocError, Global};
-
-/// Writes `text`, and stops without an error where no more of it is taken.
-pub(crate) fn say<E: Outlet>(err: &mut E, text: &str) {
-    let mut rest = text.as_bytes();
-    while !rest.is_empty() {
-        match err.write(rest) {
-            Ok(0) => return,
-            Ok(count) => rest = &rest[count..],
-            Err(_) => return,
-        }
-    }
-}
 
 /// Tells a text that was made. One that could not be made is left out.
 pub(crate) fn say_made<E: Outlet>(err: &mut E, text: Result<String, AllocError>) {

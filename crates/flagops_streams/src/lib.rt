@@ -58,7 +58,7 @@ pub use follow_command::follow;
 pub use following::{follow_lines, follow_port};
 pub use loading::{Unloaded, loaded};
 pub use refusal::Refusal;
-pub use remark::{Remarks, say_refused};
+pub use remark::{Remarks, say, say_refused};
 pub use report::{refuse, write_line};
 pub use serve_command::serve;
 pub use serving::serve_documents;

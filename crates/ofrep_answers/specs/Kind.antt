@@ -1,20 +1,15 @@
 -- The kind of value that a flag is evaluated for (OpenFeature: typed flag evaluation). A request of the remote evaluation protocol names none, so it is the kind of the flag's own variants: they are all of one.
-use Rattle.std.specs.Prelude.{Option, Some, None}
-use Rattle.flag_text.specs.Shape.{Shape, null, boolean, whole, other, text, list, object, Members, no_members, member}
+use Rattle.std.specs.Prelude.{Option, Some, None, unwrap_or}
+use Rattle.flag_text.specs.Shape.{Shape, Members, no_members, member}
 use Rattle.flag_defs.specs.Definition.{Definition}
 use Rattle.flag_defs.specs.Flag.{variants_in}
+use Rattle.flag_defs.specs.Kind.{kind_of as kind_of_value}
 use Rattle.flag_defs.specs.declared.kind.Kind.{Kind}
 use Rattle.flag_defs.specs.declared.kind.Kind.TheVariants as kind
 
--- the kind of a variant's value
+-- the kind of a variant's value; where it is of none, the value is asked for as an object
 abbrev pub kind_of : Shape → Kind
-kind_of (boolean b) = kind.Bool
-kind_of (text s) = kind.Text
-kind_of (whole n) = kind.Whole
-kind_of (object ms) = kind.Object
-kind_of null = kind.Object
-kind_of other = kind.Object
-kind_of (list ts) = kind.Object
+kind_of t = unwrap_or (kind_of_value t) kind.Object
 
 -- the kind of the first variant; without one no kind matters
 abbrev pub variants_kind : Members → Kind

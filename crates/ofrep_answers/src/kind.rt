@@ -66,17 +66,9 @@ fn kind_named(flag: &Flag, name: &str) -> Kind
     }
 }
 
-/// The kind of a value.
+/// The kind of a value, an object where it is of none.
 fn kind_of(value: &Tree) -> Kind
     ensures { result ≡ kind_of (view value.now) }
 {
-    match value {
-        Tree::Bool(_) => Kind::Bool,
-        Tree::Text(_) => Kind::Text,
-        Tree::Whole(_) => Kind::Whole,
-        Tree::Object(_) => Kind::Object,
-        Tree::Null => Kind::Object,
-        Tree::Other => Kind::Object,
-        Tree::List(_) => Kind::Object,
-    }
+    Kind::of(value).unwrap_or(Kind::Object)
 }
