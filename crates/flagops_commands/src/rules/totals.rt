@@ -9,10 +9,7 @@ use std::collections::BTreeMap;
 
 /// Each name once, in the order of their bytes, with the number of its points. It adds the weights
 /// up by name, in `O(n log n)` steps at n entries.
-pub fn totals_by_name(
-    alloc: Global,
-    rule: &Rule,
-) -> Result<Vec<(&str, u64)>, AllocError>
+pub fn totals_by_name(alloc: Global, rule: &Rule) -> Result<Vec<(&str, u64)>, AllocError>
     requires { total_weight rule.now < 2 ^ 31 }
     ensures { IfOk result (λ v. map (λ e. (e.0.now, e.1)) v.items ≡ totals_by_name rule.now) }
 {
