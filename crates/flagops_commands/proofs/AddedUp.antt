@@ -1,5 +1,5 @@
 -- The weights of a rule, added up by name, are the totals of its names.
-use Rattle.std.proofs.Common.{◌≡◌, ℕ, zero, suc, ◌+◌, ◌<◌, ◌≤◌, List, [], ◌∷◌, map, drop, length, Bool, true, false, cond, Option, Some, unwrap_or, refl, sym, ap, ◌∙◌, subst, arith}
+use Rattle.std.proofs.Common.{◌≡◌, ℕ, zero, suc, ◌+◌, ◌≤◌, List, [], ◌∷◌, map, drop, Bool, true, false, cond, Option, Some, unwrap_or, refl, sym, ap, ◌∙◌, subst, add-one, arith}
 use Rattle.std.specs.BTreeMap.{insert_entry, is_at}
 use Rattle.std.specs.BTreeSet.{insert_key}
 use Rattle.std.specs.Cmp.Lexicographic.{slice_cmp}
@@ -151,10 +151,13 @@ totals_all ts es a sorted = each_found ts sorted ∙ (λ i. map {B = List ℕ ×
 -- ---- the same of the program's map
 
 -- the entries from one on begin with it
+from_suc : (r : Entries) (i : ℕ) (e : List ℕ × ℕ) → slice_get r i ≡ Some e → drop i r ≡ e ∷ drop (suc i) r
+from_suc [] i e is = absurd (none-some e is)
+from_suc (x ∷ r) zero e is = ap (λ y. y ∷ r) (same_Some x e is)
+from_suc (x ∷ r) (suc i) e is = from_suc r i e is
+
 from_entry : (r : Entries) (i : ℕ) (e : List ℕ × ℕ) → slice_get r i ≡ Some e → drop i r ≡ e ∷ drop (i + 1) r
-from_entry [] i e is = absurd (none-some e is)
-from_entry (x ∷ r) zero e is = ap (λ y. y ∷ r) (same_Some x e is)
-from_entry (x ∷ r) (suc i) e is = from_entry r i e is
+from_entry r i e is = rw add-one (from_suc r i e is)
 
 pub map_more : (r : Entries) (left i : ℕ) (x : List ℕ × ℕ) (es more : List Named) (k : Bor (List ℕ)) (v : ℕ)
     → left ≡ i + 1 → slice_get r i ≡ Some x → k.now ≡ x.0 → v ≡ total_in (named_totals es) k.now + x.1 → more ≡ insert_entry name_cmp es k v
