@@ -21,7 +21,7 @@ impl<'a> Model for RuleEntries<'a> {
 }
 
 impl<'a> RuleEntries<'a> {
-    /// The entries of these numbers.
+    /// The entries of these places and weights.
     pub(crate) fn of(names: &'a [String], left: &'a [(usize, u64)]) -> RuleEntries<'a>
         requires { AreNamed (names_view names.now) left.now }
         ensures { result ≡ all_named (names_view names.now) left.now }

@@ -52,7 +52,7 @@ impl Rule {
             Some(0) => Err(RuleFault::NoWeight),
             Some(_) => {
                 let (names, entries) = numbered(alloc, entries)?;
-                Ok(Rule::of_numbered(alloc, names, entries)?)
+                Ok(Rule::of_named(alloc, names, entries)?)
             }
         }
     }
@@ -73,12 +73,12 @@ impl Rule {
         match weigh(entries.as_slice()) {
             None => Err(RuleFault::TooHeavy),
             Some(0) => Err(RuleFault::NoWeight),
-            Some(_) => Ok(Rule::of_numbered(alloc, names, entries)?),
+            Some(_) => Ok(Rule::of_named(alloc, names, entries)?),
         }
     }
 
     /// The rule of entries whose weights are known to make one.
-    fn of_numbered(
+    fn of_named(
         alloc: Global,
         names: Vec<String>,
         entries: Vec<(usize, u64)>,
@@ -97,7 +97,7 @@ impl Rule {
     }
 
     /// The rule whose point p has the name that item p is the index of. It is canonical: no entry has weight 0, and
-    /// neighbours have different names. It takes time linear in the items, and one copy of a name for each run.
+    /// neighbours have different names. It takes time linear in the items, and one copy of each name.
     pub fn from_points(alloc: Global, items: &[u32], names: &[String]) -> Result<Rule, AllocError>
         requires some { 0 < length items.now }
         requires few { length items.now < 2 ^ 31 }
@@ -107,7 +107,7 @@ impl Rule {
         ensures canonical { IfOk result IsCanonical }
         ensures only { IfOk result (λ r. (s : Entries) → IsCanonical s → points s ≡ points r → s ≡ r) }
     {
-        Rule::of_numbered(alloc, copied(alloc, names)?, runs_of(alloc, items)?)
+        Rule::of_named(alloc, copied(alloc, names)?, runs_of(alloc, items)?)
     }
 
     /// The names and weights, in their order.
@@ -218,6 +218,6 @@ impl Rule {
             return Err(RuleFault::TooHeavy);
         }
         let names = copied(alloc, &self.names)?;
-        Ok(Rule::of_numbered(alloc, names, refined(alloc, &self.entries, m)?)?)
+        Ok(Rule::of_named(alloc, names, refined(alloc, &self.entries, m)?)?)
     }
 }

@@ -1,9 +1,9 @@
 //! Where bytes are written to, and whether a write has failed.
 ghost use Rattle.std.specs.Prelude.{◌≡◌, ℕ, List, Option, Bool, true, false, not, ◌||◌};
-ghost use Rattle.std.specs.Bool.{OnTrue};
+ghost use Rattle.std.specs.Bool.{MatchBool, OnTrue};
 ghost use Rattle.std.specs.Io.KnownBytes.{Appends, WriteAppends};
 ghost use Rattle.std.specs.Io.{WritesAtMost};
-ghost use Rattle.flag_text.specs.Outlet.{is_fault, AppendsPart};
+ghost use Rattle.flag_text.specs.Outlet.{is_fault, AppendsFront, AppendsPart};
 
 use std::io;
 use std::io::Write;
@@ -66,12 +66,13 @@ impl<W: Write> Outlet for WriteOutlet<W> {
 }
 
 /// Writes all of the bytes, in as many writes as it takes, and says whether all were taken. It stops
-/// at the first write that fails or takes no byte; then a front of the bytes is written.
+/// at the first write that fails or takes no byte; then a front of the bytes, not all of them, is written, and the outlet is
+/// broken. An outlet that is broken already is written to as any other, and stays broken.
 pub fn write_whole<O: Outlet>(out: &mut O, bytes: &[u8]) -> bool
-    requires { O.is_broken out.old ≡ false }
+    ensures exact { MatchBool result (Appends (O.bytes out.old) (O.bytes out.new) bytes.now) (AppendsFront (O.bytes out.old) (O.bytes out.new) bytes.now) }
     ensures whole { OnTrue result (Appends (O.bytes out.old) (O.bytes out.new) bytes.now) }
     ensures part { AppendsPart (O.bytes out.old) (O.bytes out.new) bytes.now }
-    ensures broken { result ≡ not (O.is_broken out.new) }
+    ensures broken { O.is_broken out.new ≡ (O.is_broken out.old || not result) }
 {
     let mut rest = bytes;
     while !rest.is_empty() {

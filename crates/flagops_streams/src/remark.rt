@@ -6,7 +6,7 @@ ghost use Rattle.flagops_streams.specs.Told.{IsCame, IsForewarning, IsGone, IsLa
 
 use crate::refusal::Refusal;
 use flag_defs::DefFault;
-use flag_text::Outlet;
+use flag_text::{Outlet, write_whole};
 use source_merge::SourceFault;
 use std::alloc::{AllocError, Global};
 use sync_server::StreamEnd;
@@ -270,16 +270,5 @@ pub fn say<E: Outlet>(err: &mut E, text: &str)
     ensures says { Says (E.bytes err.old) (E.bytes err.new) (E.is_broken err.new) text.now }
     ensures stays { E.is_broken err.new ≡ false → E.is_broken err.old ≡ false }
 {
-    let mut rest = text.as_bytes();
-    while !rest.is_empty() {
-        match err.write(rest) {
-            Ok(n) => {
-                if n == 0 {
-                    return;
-                }
-                rest = &rest[n..];
-            }
-            Err(_) => return,
-        }
-    }
+    write_whole(err, text.as_bytes());
 }

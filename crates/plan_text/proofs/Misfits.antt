@@ -16,7 +16,7 @@ use Rattle.transport_instance.specs.Groups.{GroupKey, group_cmp}
 use Rattle.transport_instance.specs.declared.certificate.CutKind.{CutKind}
 use Rattle.transport_instance.specs.declared.certificate.CutKind.TheVariants.{Over, Under}
 use Rattle.plan_text.specs.Answer.{Answer, emit, none_exists}
-use Rattle.plan_text.specs.Misfit.{is_group_row, is_bucket, is_formed, is_free, group_of, row_name, next, precedes, stands_apart, first_failing, weight_or_none, weights_of, unweighed, unless, misshapen_of, unheld_of, misfit_of}
+use Rattle.plan_text.specs.Misfit.{is_group_row, is_bucket, is_formed, is_free, group_of, row_name, next, precedes, stands_apart, first_failing, weight_or_none, weights_of, total_fault, unless, shape_fault_of, content_fault_of, misfit_of}
 use Rattle.plan_text.specs.PlanFile.{comes_before, rises, begins_apart, is_canonical, each, alpha_parts, alpha_of, beta_of, entry_parts, entry_of, if_alpha_rises, if_beta_rises, if_names_rise, if_canonical, canonical_rule, form_of, answer_by, planned_of, is_under}
 use Rattle.plan_text.specs.declared.form.Form.{Form}
 use Rattle.plan_text.specs.declared.form.Form.TheVariants.{Rule, Set}
@@ -215,7 +215,7 @@ no_rule_at es false few = refl
 no_rule_at es true false = refl
 no_rule_at es true true = none_unless (is_canonical es) es
 
-no_rule : (es : Entries) → is_none (canonical_rule es) ≡ (is_some (unweighed (total_weight es)) || not (is_canonical es))
+no_rule : (es : Entries) → is_none (canonical_rule es) ≡ (is_some (total_fault (total_weight es)) || not (is_canonical es))
 no_rule es = no_rule_at es (nat_lt 0 (total_weight es)) (nat_lt (total_weight es) (2 ^ 31))
 
 -- ---- a list, by its faults
@@ -251,12 +251,12 @@ names_faults ts =
     by_list if_names_rise false (faults Misshapen Names ts) (faults OutOfOrder Names ts) (each as_text ts) (unread as_text 0 ts) (λ no. absurd cc)
     (IfSome-from (λ names. faults OutOfOrder Names ts ≡ not (rises (slice_cmp nat_cmp) names)) _ (each as_text ts) (λ names h. h ∙ sym (none_unless (rises (slice_cmp nat_cmp) names) names)) risen)
 
-rule_faults : (ts : Items) → is_none (option_and_then canonical_rule (each entry_of ts)) ≡ (faults Misshapen Buckets ts || (faults OutOfRange Buckets ts || (is_some (unweighed (weights_of ts)) || faults OutOfOrder Buckets ts)))
+rule_faults : (ts : Items) → is_none (option_and_then canonical_rule (each entry_of ts)) ≡ (faults Misshapen Buckets ts || (faults OutOfRange Buckets ts || (is_some (total_fault (weights_of ts)) || faults OutOfOrder Buckets ts)))
 rule_faults ts =
-    by_list canonical_rule (faults Misshapen Buckets ts) (faults OutOfRange Buckets ts) (is_some (unweighed (weights_of ts)) || faults OutOfOrder Buckets ts) (each entry_of ts) (unread entry_of 0 ts)
+    by_list canonical_rule (faults Misshapen Buckets ts) (faults OutOfRange Buckets ts) (is_some (total_fault (weights_of ts)) || faults OutOfOrder Buckets ts) (each entry_of ts) (unread entry_of 0 ts)
     (unformed (is_formed Buckets) (λ t. is_some (entry_of t)) entry_formed 0 ts)
     (IfSome-both (λ es. weights_of ts ≡ total_weight es) (λ es. faults OutOfOrder Buckets ts ≡ not (is_canonical es)) _ (each entry_of ts)
-    (λ es sum order. (λ i. is_some (unweighed (sum i)) || order i) ∙ sym (no_rule es)) (weights_total ts) (unseparated 0 ts))
+    (λ es sum order. (λ i. is_some (total_fault (sum i)) || order i) ∙ sym (no_rule es)) (weights_total ts) (unseparated 0 ts))
 
 -- ---- a rule with its certificate, by what is read of its members
 
@@ -293,22 +293,22 @@ sorted_out None None None None None None (Some c) None None (Some p) = refl
 sorted_out None None None None None None (Some c) None None None = refl
 
 module _ (alpha beta rule : Option Items) (number : Option ℤ) (cost : Option ℕ) where
-  abbrev unkind_with : Option Misfit
-  unkind_with = option_or (option_or (option_or (unless (is_some alpha) (NoList Alpha)) (unless (is_some beta) (NoList Beta))) (unless (is_some number) Cost)) (unless (is_some rule) (NoList Buckets))
+  abbrev member_fault_with : Option Misfit
+  member_fault_with = option_or (option_or (option_or (unless (is_some alpha) (NoList Alpha)) (unless (is_some beta) (NoList Beta))) (unless (is_some number) Cost)) (unless (is_some rule) (NoList Buckets))
 
-  abbrev misshapen_with : Option Misfit
-  misshapen_with = option_or (option_or (faulty Misshapen Alpha alpha) (faulty Misshapen Beta beta)) (faulty Misshapen Buckets rule)
+  abbrev shape_fault_with : Option Misfit
+  shape_fault_with = option_or (option_or (faulty Misshapen Alpha alpha) (faulty Misshapen Beta beta)) (faulty Misshapen Buckets rule)
 
-  abbrev unruled_with : Option Misfit
-  unruled_with =
+  abbrev rule_fault_with : Option Misfit
+  rule_fault_with =
       option_or (option_or (option_or (option_or (option_or (option_or (faulty OutOfRange Alpha alpha) (faulty OutOfOrder Alpha alpha)) (faulty OutOfOrder Beta beta)) (unless (is_some cost) CostRange)) (faulty OutOfRange Buckets rule))
-      (option_and_then (λ ts. unweighed (weights_of ts)) rule)) (faulty OutOfOrder Buckets rule)
+      (option_and_then (λ ts. total_fault (weights_of ts)) rule)) (faulty OutOfOrder Buckets rule)
 
   abbrev read_with : Option Answer
   read_with = emit_with (option_and_then if_alpha_rises (option_and_then (each alpha_of) alpha)) (option_and_then if_beta_rises (option_and_then (each beta_of) beta)) cost (option_and_then canonical_rule (option_and_then (each entry_of) rule))
 
 ruled : (alpha beta rule : Option Items) (number : Option ℤ) (cost : Option ℕ) → (is_some cost ≡ true → is_some number ≡ true)
-    → is_some (option_or (option_or (unkind_with alpha beta rule number cost) (misshapen_with alpha beta rule number cost)) (unruled_with alpha beta rule number cost)) ≡ is_none (read_with alpha beta rule number cost)
+    → is_some (option_or (option_or (member_fault_with alpha beta rule number cost) (shape_fault_with alpha beta rule number cost)) (rule_fault_with alpha beta rule number cost)) ≡ is_none (read_with alpha beta rule number cost)
 ruled None beta rule number cost h = refl
 ruled (Some gs) None rule number cost h =
     or_true (is_none (option_and_then if_alpha_rises (each alpha_of gs))) ∙ sym (emit_none (option_and_then if_alpha_rises (each alpha_of gs)) None cost (option_and_then canonical_rule (option_and_then (each entry_of) rule)))
@@ -326,7 +326,7 @@ ruled (Some gs) (Some bs) None (Some z) cost h =
     ∙ sym (emit_none (option_and_then if_alpha_rises (each alpha_of gs)) (option_and_then if_beta_rises (each beta_of bs)) cost None)
 ruled (Some gs) (Some bs) (Some rs) (Some z) cost h =
     let first = λ (fault : ItemFault) (l : PlanList) (ts : Items). first_failing (is_free fault l) 0 ts in
-    sorted_out (first Misshapen Alpha gs) (first Misshapen Beta bs) (first Misshapen Buckets rs) (first OutOfRange Alpha gs) (first OutOfOrder Alpha gs) (first OutOfOrder Beta bs) cost (first OutOfRange Buckets rs) (unweighed (weights_of rs)) (first OutOfOrder Buckets rs)
+    sorted_out (first Misshapen Alpha gs) (first Misshapen Beta bs) (first Misshapen Buckets rs) (first OutOfRange Alpha gs) (first OutOfOrder Alpha gs) (first OutOfOrder Beta bs) cost (first OutOfRange Buckets rs) (total_fault (weights_of rs)) (first OutOfOrder Buckets rs)
     ∙ ((λ i. sym (alpha_faults gs) i || (sym (beta_faults bs) i || (is_none cost || sym (rule_faults rs) i)))
     ∙ sym (emit_none (option_and_then if_alpha_rises (each alpha_of gs)) (option_and_then if_beta_rises (each beta_of bs)) cost (option_and_then canonical_rule (each entry_of rs))))
 
@@ -379,7 +379,7 @@ no_members_of_rule None None None (Some t) h = absurd cc
 module _ (none alpha beta cost rule : Option Shape) where
   abbrev kinds_by : Option Misfit
   kinds_by = cond (is_some none) (unless (is_some (option_and_then as_list none)) (NoList Names))
-      (unkind_with (option_and_then as_list alpha) (option_and_then as_list beta) (option_and_then as_list rule) (option_and_then as_whole cost) (option_and_then (number_below (2 ^ 53)) cost))
+      (member_fault_with (option_and_then as_list alpha) (option_and_then as_list beta) (option_and_then as_list rule) (option_and_then as_whole cost) (option_and_then (number_below (2 ^ 53)) cost))
 
   abbrev shapes_by : Option Misfit
   shapes_by =
@@ -388,7 +388,7 @@ module _ (none alpha beta cost rule : Option Shape) where
 
 rule_form : (none alpha beta cost rule : Option Shape) → (is_some none ≡ true → ⊥)
     → is_some (option_or (option_or (kinds_by none alpha beta cost rule) (shapes_by none alpha beta cost rule))
-    (unruled_with (option_and_then as_list alpha) (option_and_then as_list beta) (option_and_then as_list rule) (option_and_then as_whole cost) (option_and_then (number_below (2 ^ 53)) cost)))
+    (rule_fault_with (option_and_then as_list alpha) (option_and_then as_list beta) (option_and_then as_list rule) (option_and_then as_whole cost) (option_and_then (number_below (2 ^ 53)) cost)))
     ≡ is_none (read_with (option_and_then as_list alpha) (option_and_then as_list beta) (option_and_then as_list rule) (option_and_then as_whole cost) (option_and_then (number_below (2 ^ 53)) cost))
 rule_form None alpha beta cost rule h =
     ruled (option_and_then as_list alpha) (option_and_then as_list beta) (option_and_then as_list rule) (option_and_then as_whole cost) (option_and_then (number_below (2 ^ 53)) cost) (cost_number cost)
@@ -423,15 +423,15 @@ no_rule_form t (pos n) there is = no_rule_beside (nat_eq n 1) (nat_eq n 2) (is_s
 no_rule_form t (negsuc n) there is = cc
 
 by_form : (t : Shape) (form : Option Form) → (is_some (member_of (codes "none") t) ≡ true → form ≡ Some Rule → ⊥)
-    → is_some (option_or (option_or (kinds_by (member_of (codes "none") t) (member_of (codes "alpha") t) (member_of (codes "beta") t) (member_of (codes "cost") t) (member_of (codes "rule") t)) (misshapen_of t)) (unheld_of t form))
+    → is_some (option_or (option_or (kinds_by (member_of (codes "none") t) (member_of (codes "alpha") t) (member_of (codes "beta") t) (member_of (codes "cost") t) (member_of (codes "rule") t)) (shape_fault_of t)) (content_fault_of t form))
     ≡ is_none (option_and_then (answer_by t) form)
-by_form t None h = told_last (option_or (kinds_by (member_of (codes "none") t) (member_of (codes "alpha") t) (member_of (codes "beta") t) (member_of (codes "cost") t) (member_of (codes "rule") t)) (misshapen_of t)) UnknownForm
+by_form t None h = told_last (option_or (kinds_by (member_of (codes "none") t) (member_of (codes "alpha") t) (member_of (codes "beta") t) (member_of (codes "cost") t) (member_of (codes "rule") t)) (shape_fault_of t)) UnknownForm
 by_form t (Some Rule) h = rule_form (member_of (codes "none") t) (member_of (codes "alpha") t) (member_of (codes "beta") t) (member_of (codes "cost") t) (member_of (codes "rule") t) (λ there. h there refl)
 by_form t (Some (Set kind)) h = set_form kind (member_of (codes "none") t) (member_of (codes "alpha") t) (member_of (codes "beta") t) (member_of (codes "cost") t) (member_of (codes "rule") t)
 
 plan_first : (t : Shape) (number : Option ℤ) (kinds shapes : Option Misfit)
-    → ((n : ℤ) → is_some (option_or (option_or kinds shapes) (unheld_of t (form_of t n))) ≡ is_none (option_and_then (answer_by t) (form_of t n)))
-    → is_some (option_or (option_or (option_or (unless (is_some number) Plan) kinds) shapes) (unheld_of t (option_and_then (form_of t) number))) ≡ is_none (option_and_then (answer_by t) (option_and_then (form_of t) number))
+    → ((n : ℤ) → is_some (option_or (option_or kinds shapes) (content_fault_of t (form_of t n))) ≡ is_none (option_and_then (answer_by t) (form_of t n)))
+    → is_some (option_or (option_or (option_or (unless (is_some number) Plan) kinds) shapes) (content_fault_of t (option_and_then (form_of t) number))) ≡ is_none (option_and_then (answer_by t) (option_and_then (form_of t) number))
 plan_first t None kinds shapes h = refl
 plan_first t (Some n) kinds shapes h = h n
 
@@ -444,5 +444,5 @@ misfit-planned (text s) = refl
 misfit-planned (list ts) = refl
 misfit-planned (object ms) =
     let t = object ms in
-    plan_first t (option_and_then as_whole (member_of (codes "plan") t)) (kinds_by (member_of (codes "none") t) (member_of (codes "alpha") t) (member_of (codes "beta") t) (member_of (codes "cost") t) (member_of (codes "rule") t)) (misshapen_of t)
+    plan_first t (option_and_then as_whole (member_of (codes "plan") t)) (kinds_by (member_of (codes "none") t) (member_of (codes "alpha") t) (member_of (codes "beta") t) (member_of (codes "cost") t) (member_of (codes "rule") t)) (shape_fault_of t)
     (λ n. by_form t (form_of t n) (no_rule_form t n))

@@ -115,11 +115,11 @@ abbrev pub weights_of : Items → ℕ
 weights_of no_items = 0
 weights_of (item t ts) = weight_or_none (entry_of t) + weights_of ts
 
-abbrev pub unweighed : ℕ → Option Misfit
-unweighed total = if nat_lt 0 total then (if nat_lt total (2 ^ 31) then None else Some TooHeavy) else Some NoWeight
+abbrev pub total_fault : ℕ → Option Misfit
+total_fault total = if nat_lt 0 total then (if nat_lt total (2 ^ 31) then None else Some TooHeavy) else Some NoWeight
 
-abbrev pub unweighed_in : Shape → Option Misfit
-unweighed_in t = option_and_then (λ ts. unweighed (weights_of ts)) (items_in (codes "rule") t)
+abbrev pub total_fault_in : Shape → Option Misfit
+total_fault_in t = option_and_then (λ ts. total_fault (weights_of ts)) (items_in (codes "rule") t)
 
 -- ---- the whole
 
@@ -139,48 +139,48 @@ abbrev pub has_number : List ℕ → Shape → Bool
 has_number name t = is_some (option_and_then as_whole (member_of name t))
 
 -- the first member of a rule that is missing or of another kind
-abbrev pub unkind_of_rule : Shape → Option Misfit
-unkind_of_rule t =
+abbrev pub member_fault_of_rule : Shape → Option Misfit
+member_fault_of_rule t =
     unless (has_list Alpha t) (NoList Alpha)
     or unless (has_list Beta t) (NoList Beta)
     or unless (has_number (codes "cost") t) Cost
     or unless (has_list Buckets t) (NoList Buckets)
 
 -- the first member that is missing or of another kind; where `none` is there, no member of a rule is looked for
-abbrev pub unkind_of : Shape → Option Misfit
-unkind_of t =
+abbrev pub member_fault_of : Shape → Option Misfit
+member_fault_of t =
     unless (is_some (as_object t)) NoObject
     or unless (has_number (codes "plan") t) Plan
-    or (if has (codes "none") t then unless (has_list Names t) (NoList Names) else unkind_of_rule t)
+    or (if has (codes "none") t then unless (has_list Names t) (NoList Names) else member_fault_of_rule t)
 
 -- the first item that is not of its form
-abbrev pub misshapen_of : Shape → Option Misfit
-misshapen_of t =
+abbrev pub shape_fault_of : Shape → Option Misfit
+shape_fault_of t =
     faulty_in Misshapen Names t
     or faulty_in Misshapen Alpha t
     or faulty_in Misshapen Beta t
     or faulty_in Misshapen Buckets t
 
 -- what else keeps it from being a rule with its certificate
-abbrev pub unruled_of : Shape → Option Misfit
-unruled_of t =
+abbrev pub rule_fault_of : Shape → Option Misfit
+rule_fault_of t =
     faulty_in OutOfRange Alpha t
     or faulty_in OutOfOrder Alpha t
     or faulty_in OutOfOrder Beta t
     or unless (is_some (cost_in t)) CostRange
     or faulty_in OutOfRange Buckets t
-    or unweighed_in t
+    or total_fault_in t
     or faulty_in OutOfOrder Buckets t
 
 -- what else keeps it from being what it says that it holds
-abbrev pub unheld_of : Shape → Option Form → Option Misfit
-unheld_of t None = Some UnknownForm
-unheld_of t (Some Rule) = unruled_of t
-unheld_of t (Some (Set kind)) = if has_rule_member t then Some RuleMember else faulty_in OutOfOrder Names t
+abbrev pub content_fault_of : Shape → Option Form → Option Misfit
+content_fault_of t None = Some UnknownForm
+content_fault_of t (Some Rule) = rule_fault_of t
+content_fault_of t (Some (Set kind)) = if has_rule_member t then Some RuleMember else faulty_in OutOfOrder Names t
 
 -- the first member that is missing or of another kind, or else the first item that is not of its form, or else the rest
 abbrev pub misfit_of : Shape → Option Misfit
-misfit_of t = unkind_of t or misshapen_of t or unheld_of t (form_in t)
+misfit_of t = member_fault_of t or shape_fault_of t or content_fault_of t (form_in t)
 
 -- ---- what is lent
 

@@ -5,7 +5,7 @@ ghost use Rattle.std.specs.Ordering.{nat_cmp};
 ghost use Rattle.flag_text.specs.Readers.{as_object, as_text, as_whole};
 ghost use Rattle.flag_text.specs.View.{view, items_view};
 ghost use Rattle.transport_instance.specs.Groups.{group_cmp};
-ghost use Rattle.plan_text.specs.Misfit.{lent, list_name, is_list_of, is_group_row, is_bucket, is_formed, is_read, is_in_order, is_free, group_of, row_name, next, precedes, stands_apart, first_failing, faulty_in, weight_or_none, weights_of, unweighed, unweighed_in, unless, has_list, has_number, unkind_of_rule, unkind_of, misshapen_of, unruled_of, unheld_of, misfit_of};
+ghost use Rattle.plan_text.specs.Misfit.{lent, list_name, is_list_of, is_group_row, is_bucket, is_formed, is_read, is_in_order, is_free, group_of, row_name, next, precedes, stands_apart, first_failing, faulty_in, weight_or_none, weights_of, total_fault, total_fault_in, unless, has_list, has_number, member_fault_of_rule, member_fault_of, shape_fault_of, rule_fault_of, content_fault_of, misfit_of};
 ghost use Rattle.plan_text.specs.PlanFile.{entry_of};
 
 use crate::form::{Form, form_in, has, has_rule_member};
@@ -82,28 +82,28 @@ impl Misfit {
     pub fn of(tree: &Tree) -> Option<Misfit>
         ensures exact { result ≡ misfit_of (view tree.now) }
     {
-        unkind(tree)
-            .or(misshapen(tree))
-            .or(unheld(tree, form_in(tree)))
+        member_fault(tree)
+            .or(shape_fault(tree))
+            .or(content_fault(tree, form_in(tree)))
     }
 }
 
 /// The first member that is missing or of another kind.
-fn unkind(tree: &Tree) -> Option<Misfit>
-    ensures { result ≡ unkind_of (view tree.now) }
+fn member_fault(tree: &Tree) -> Option<Misfit>
+    ensures { result ≡ member_fault_of (view tree.now) }
 {
     let members = if has(tree, "none") {
         unlisted(tree, PlanList::Names)
     } else {
-        unkind_of_rule(tree)
+        member_fault_of_rule(tree)
     };
     unless(is_object(tree), Misfit::NoObject)
         .or(unless(has_number(tree, "plan"), Misfit::Plan))
         .or(members)
 }
 
-fn unkind_of_rule(tree: &Tree) -> Option<Misfit>
-    ensures { result ≡ unkind_of_rule (view tree.now) }
+fn member_fault_of_rule(tree: &Tree) -> Option<Misfit>
+    ensures { result ≡ member_fault_of_rule (view tree.now) }
 {
     unlisted(tree, PlanList::Alpha)
         .or(unlisted(tree, PlanList::Beta))
@@ -112,8 +112,8 @@ fn unkind_of_rule(tree: &Tree) -> Option<Misfit>
 }
 
 /// The first item that is not of its form.
-fn misshapen(tree: &Tree) -> Option<Misfit>
-    ensures { result ≡ misshapen_of (view tree.now) }
+fn shape_fault(tree: &Tree) -> Option<Misfit>
+    ensures { result ≡ shape_fault_of (view tree.now) }
 {
     faulty_in(tree, PlanList::Names, ItemFault::Misshapen)
         .or(faulty_in(tree, PlanList::Alpha, ItemFault::Misshapen))
@@ -122,12 +122,12 @@ fn misshapen(tree: &Tree) -> Option<Misfit>
 }
 
 /// What else keeps a tree from being what it says that it holds.
-fn unheld(tree: &Tree, form: Option<Form>) -> Option<Misfit>
-    ensures { result ≡ unheld_of (view tree.now) form }
+fn content_fault(tree: &Tree, form: Option<Form>) -> Option<Misfit>
+    ensures { result ≡ content_fault_of (view tree.now) form }
 {
     match form {
         None => Some(Misfit::UnknownForm),
-        Some(Form::Rule) => unruled(tree),
+        Some(Form::Rule) => rule_fault(tree),
         Some(Form::Set(_)) => {
             if has_rule_member(tree) {
                 Some(Misfit::RuleMember)
@@ -139,15 +139,15 @@ fn unheld(tree: &Tree, form: Option<Form>) -> Option<Misfit>
 }
 
 /// What else keeps a tree from being a rule with its certificate.
-fn unruled(tree: &Tree) -> Option<Misfit>
-    ensures { result ≡ unruled_of (view tree.now) }
+fn rule_fault(tree: &Tree) -> Option<Misfit>
+    ensures { result ≡ rule_fault_of (view tree.now) }
 {
     faulty_in(tree, PlanList::Alpha, ItemFault::OutOfRange)
         .or(faulty_in(tree, PlanList::Alpha, ItemFault::OutOfOrder))
         .or(faulty_in(tree, PlanList::Beta, ItemFault::OutOfOrder))
         .or(unless(cost_in(tree).is_some(), Misfit::CostRange))
         .or(faulty_in(tree, PlanList::Buckets, ItemFault::OutOfRange))
-        .or(unweighed_in(tree))
+        .or(total_fault_in(tree))
         .or(faulty_in(tree, PlanList::Buckets, ItemFault::OutOfOrder))
 }
 
@@ -363,15 +363,15 @@ fn stands_apart(entry: Option<(&str, u64)>, next: Option<(&str, u64)>) -> bool
     }
 }
 
-fn unweighed_in(tree: &Tree) -> Option<Misfit>
-    ensures { result ≡ unweighed_in (view tree.now) }
+fn total_fault_in(tree: &Tree) -> Option<Misfit>
+    ensures { result ≡ total_fault_in (view tree.now) }
 {
-    unweighed(items_in(tree, "rule")?)
+    total_fault(items_in(tree, "rule")?)
 }
 
 /// What keeps the sum of the weights from being that of a rule.
-fn unweighed(items: &[Tree]) -> Option<Misfit>
-    ensures { result ≡ unweighed (weights_of (items_view items.now)) }
+fn total_fault(items: &[Tree]) -> Option<Misfit>
+    ensures { result ≡ total_fault (weights_of (items_view items.now)) }
 {
     let mut total = 0u64;
     for item in items {

@@ -62,8 +62,8 @@ abbrev pub unless : Bool → Misfit → Option Misfit
 unless b m = if b then None else Some m
 
 -- the first member that is missing or of another kind
-abbrev pub unkind_of : Shape → Option Misfit
-unkind_of t =
+abbrev pub member_fault_of : Shape → Option Misfit
+member_fault_of t =
     unless (is_some (as_object t)) NoObject
     or unless (is_some (form_in t)) Plan
     or unless (is_some (flag_in t)) Flag
@@ -76,7 +76,7 @@ unkind_of t =
 -- the first member, or else the first total, or else the first item of a list, that is not of its form
 abbrev pub misshape_of : Shape → Option Misfit
 misshape_of t =
-    unkind_of t
+    member_fault_of t
     or option_map Total (unlimited_in t)
     or option_map PricesItem (unread_in price_parts (codes "prices") t)
     or option_map ForbidItem (unread_in bar_parts (codes "forbid") t)

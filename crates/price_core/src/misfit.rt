@@ -2,7 +2,7 @@
 ghost use Rattle.std.specs.Prelude.{◌≡◌, true, [], Ok, IfOk, is_some, option_map, option_and_then, codes};
 ghost use Rattle.flag_text.specs.Readers.{as_list};
 ghost use Rattle.flag_text.specs.View.{view, items_view, members_view};
-ghost use Rattle.price_core.specs.Misfit.{unless, unkind_of, misshape_of, misfit_of, first_unlimited, first_unread, first_again, change_parts, unlimited_in, unread_in, again_in};
+ghost use Rattle.price_core.specs.Misfit.{unless, member_fault_of, misshape_of, misfit_of, first_unlimited, first_unread, first_again, change_parts, unlimited_in, unread_in, again_in};
 ghost use Rattle.price_core.specs.Pricing.{lent_pair};
 ghost use Rattle.price_core.specs.Request.{limit_of, price_parts, bar_parts};
 
@@ -85,7 +85,7 @@ pub(crate) fn change_parts(parts: &[Tree]) -> Option<(&str, &str)>
 fn misshape(tree: &Tree) -> Option<Misfit>
     ensures { result ≡ misshape_of (view tree.now) }
 {
-    if let Some(misfit) = unkind(tree) {
+    if let Some(misfit) = member_fault(tree) {
         return Some(misfit);
     }
     if let Some(place) = unlimited_in(tree) {
@@ -98,8 +98,8 @@ fn misshape(tree: &Tree) -> Option<Misfit>
 }
 
 /// The first member that is missing or of another kind.
-fn unkind(tree: &Tree) -> Option<Misfit>
-    ensures { result ≡ unkind_of (view tree.now) }
+fn member_fault(tree: &Tree) -> Option<Misfit>
+    ensures { result ≡ member_fault_of (view tree.now) }
 {
     unless(tree.as_object().is_some(), Misfit::NoObject)
         .or(unless(form_in(tree).is_some(), Misfit::Plan))

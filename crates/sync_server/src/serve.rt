@@ -1,14 +1,12 @@
 //! Writing a stream of snapshots.
-ghost use Rattle.std.specs.Prelude.{◌≡◌, ℕ, ◌<◌, ◌≤◌, ◌+◌, ◌^◌, false, not, length, take, IfErr, IfNone, IfSome, MatchResult};
-ghost use Rattle.std.specs.Bool.{MatchBool};
-ghost use Rattle.std.specs.Io.KnownBytes.{Appends};
+ghost use Rattle.std.specs.Prelude.{◌≡◌, ◌≤◌, ◌+◌, ◌<◌, ◌^◌, false, IfErr, IfNone, IfSome, MatchResult};
 ghost use Rattle.sync_server.specs.End.{is_closed_end, is_limit_end, is_write_fault};
 ghost use Rattle.snap_share.specs.Lists.{StartsWith};
 ghost use Rattle.sync_server.specs.Served.{SendsLast, SendsOn, Serves, Wrote};
 
 use crate::end::StreamEnd;
 use crate::next::NextNumber;
-use flag_text::Outlet;
+use flag_text::{Outlet, write_whole};
 use snap_share::{Current, ShareFault};
 
 /// What was written of a stream: the last number, 0 at first, and how many frames.
@@ -98,30 +96,9 @@ fn write_newer<C: Current, O: Outlet>(
     if number <= last {
         return Ok(None);
     }
-    if write_all(out, snapshot.frame()) {
+    if write_whole(out, snapshot.frame()) {
         Ok(Some(number))
     } else {
         Err(StreamEnd::WriteFault)
     }
-}
-
-/// Writes all of the bytes, in as many writes as it takes, and says whether all were taken.
-fn write_all<O: Outlet>(out: &mut O, bytes: &[u8]) -> bool
-    requires { O.is_broken out.old ≡ false }
-    ensures bytes { MatchBool result (Appends (O.bytes out.old) (O.bytes out.new) bytes.now) ((n : ℕ) × (n < length bytes.now) × Appends (O.bytes out.old) (O.bytes out.new) (take n bytes.now)) }
-    ensures broken { O.is_broken out.new ≡ not result }
-{
-    let mut rest = bytes;
-    while !rest.is_empty() {
-        match out.write(rest) {
-            Ok(n) => {
-                if n == 0 {
-                    return false;
-                }
-                rest = &rest[n..];
-            }
-            Err(_) => return false,
-        }
-    }
-    true
 }

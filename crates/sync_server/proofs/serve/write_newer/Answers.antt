@@ -13,7 +13,7 @@ returns-clause-wrote g c =
     let s = arc_value c.in-Ok.snapshot in
     let bytes = c.frame.result.now in
     let framed = subst (λ (x : Snapshot). IsFrameOf (snapshot_view x) bytes) c.deref-2.ensures c.frame.ensures in
-    let b = c.if-write_all.ensures.bytes in (
+    let b = c.if-write_whole.ensures.exact in (
       snapshot_view s,
       take b.0 bytes,
       c.in-Ok.ensures.known,

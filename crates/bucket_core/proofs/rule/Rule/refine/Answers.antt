@@ -4,7 +4,7 @@ use Rattle.bucket_core.specs.Rule.{IsRuleTotal, all_named, names_view, refinemen
 use Rattle.bucket_core.proofs.Named.{AreNamed-weights, refinement_named, weight_named}
 use Rattle.bucket_core.proofs.Refined.{total_weight-refinement, choice-refinement, rule_of_entries-good, rule_of_entries-heavy}
 use Rattle.bucket_core.proofs.rule.Rule.refine.Goals as goal
-use Rattle.bucket_core.proofs.rule.Rule.refine.Goals.{In_ok-refined, In_ok-of_numbered}
+use Rattle.bucket_core.proofs.rule.Rule.refine.Goals.{In_ok-refined, In_ok-of_named}
 
 pub returns-then-from-clause-exact : goal.returns-then-from-clause-exact
 returns-then-from-clause-exact c = λ _.
@@ -22,8 +22,8 @@ made : (c : In_ok-refined) → all_named (names_view c.in_ok-names.names.items) 
 made c = rw (c.in_ok-names.ensures, c.deref.ensures.value, c.in_ok-refined.ensures, c.deref-2.ensures.value)
     (refinement_named (names_view c.self.inside.names.items) c.args.m c.self.inside.entries.items ∙ ap (refinement c.args.m) c.self.view_is)
 
-pub of_numbered-requires : goal.of_numbered-requires
-of_numbered-requires c =
+pub of_named-requires : goal.of_named-requires
+of_named-requires c =
     let r = c.args.self.now in
     let product : c.from.result * c.from-2.result ≡ total_weight r * c.args.m = cc in
     let total = total_weight-refinement c.args.m r in
@@ -36,8 +36,8 @@ of_numbered-requires c =
       };
     }
 
-rule_is : (c : In_ok-of_numbered) → c.in_ok-of_numbered.field-0 ≡ refinement c.args.m c.args.self.now
-rule_is c = rw (c.in_ok-of_numbered.ensures, c.in_ok-names.ensures, c.deref.ensures.value, c.in_ok-refined.ensures, c.deref-2.ensures.value)
+rule_is : (c : In_ok-of_named) → c.in_ok-of_named.field-0 ≡ refinement c.args.m c.args.self.now
+rule_is c = rw (c.in_ok-of_named.ensures, c.in_ok-names.ensures, c.deref.ensures.value, c.in_ok-refined.ensures, c.deref-2.ensures.value)
     (refinement_named (names_view c.self.inside.names.items) c.args.m c.self.inside.entries.items ∙ ap (refinement c.args.m) c.self.view_is)
 
 pub returns-clause-exact : goal.returns-clause-exact

@@ -7,7 +7,7 @@ use Rattle.price_core.specs.Misfit.{unless, list_in}
 use Rattle.price_core.specs.Request.{form_in, flag_in, site_in, usual_in, members_in}
 use Rattle.price_core.specs.declared.misfit.Misfit.TheVariants.{NoObject, Plan, Flag, Site, Totals, Price, Prices, Forbid}
 use Rattle.price_core.proofs.Misfits.{unless-read, unless-seen, or-both}
-use Rattle.price_core.proofs.misfit.unkind.Goals as goal
+use Rattle.price_core.proofs.misfit.member_fault.Goals as goal
 
 pub returns : goal.returns
 returns c =

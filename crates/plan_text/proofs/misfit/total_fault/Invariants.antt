@@ -1,7 +1,7 @@
 use Rattle.std.proofs.Common.{◌≡◌, ◌+◌, ◌<◌, ◌^◌, drop}
 use Rattle.flag_text.specs.View.{items_view}
 use Rattle.plan_text.specs.Misfit.{weights_of}
-use Rattle.plan_text.proofs.misfit.unweighed.Given as goal
+use Rattle.plan_text.proofs.misfit.total_fault.Given as goal
 
 -- what was added and the weights of the rest are all
 abbrev pub invariant-loop-item : goal.invariant-loop-item
