@@ -1,4 +1,4 @@
-pub mod Breach
+pub mod DefinitionError
 pub mod Changes
 pub mod Definition
 pub mod Document

@@ -2,7 +2,7 @@
 //!
 //! [`read_flags`] reads a document, [`print_flags`] writes one. [`Flags`] are flags by their keys, which rise strictly; by
 //! their type they keep both limits, and each of them can be printed. A [`Flag`] is broken, or has its state, variants, default
-//! variant and targeting; [`breaches`] tells why each broken one is.
+//! variant and targeting; [`definition_errors`] tells why each broken one is.
 //!
 //! ```rust
 //! use flag_defs::{Flag, read_flags};
@@ -24,7 +24,7 @@
 //!   printed at least; whatever expands asks for that sum within the limit (`Targeting`, `Weighing`).
 //! - [`print_flags`] writes `printed` (`Document`): keys sorted, targetings inlined, a broken flag as `{}`. What it writes
 //!   is a document that means these flags.
-//! - [`breaches`] tells of each definition the first rule that it breaks (`Breach`). Each reader of a flag gives the part that
+//! - [`definition_errors`] tells of each definition the first rule that it breaks (`DefinitionError`). Each reader of a flag gives the part that
 //!   it names (`Flag`), and [`Flag::with_site`] the flag with other entries at one site and all else as it was (`Changes`). The
 //!   rules of each good flag can be printed and read again (`Rules`).
 //! - [`Flags::get`] gives what is looked up, [`Flags::make`] the map of its list, [`Flags::copied`] copies of flags that
@@ -32,9 +32,9 @@
 #![tactic(auto)]
 
 mod bounded;
-mod breach;
 mod copy;
 mod definition;
+mod definition_error;
 mod document;
 mod entries;
 mod fault;
@@ -58,7 +58,7 @@ mod targeting;
 mod write;
 mod written_bytes;
 
-pub use breach::{Breach, breaches};
+pub use definition_error::{DefinitionError, definition_errors};
 pub use document::read_flags;
 pub use fault::DefFault;
 pub use flag::Flag;

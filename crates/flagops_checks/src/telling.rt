@@ -10,7 +10,7 @@ use crate::reasons::{reason, repeated};
 use flag_doubts::Doubt;
 use flag_text::Tree;
 use flagops_files::quoted;
-use flagops_remarks::{of_breaches, of_unread};
+use flagops_remarks::{of_definition_errors, of_unread};
 use std::alloc::{AllocError, Global};
 use unread_members::Reader;
 
@@ -50,7 +50,7 @@ fn broken_lines(
         return Ok(String::new(alloc));
     }
     let head = head_line(alloc, form, path)?;
-    let lines = of_breaches(alloc, bytes)?;
+    let lines = of_definition_errors(alloc, bytes)?;
     format!(in alloc; "{head}{lines}")
 }
 

@@ -3,13 +3,13 @@ use Rattle.std.proofs.Common.{◌≡◌, ℕ, ◌+◌, List, [], ◌∷◌, ◌+
 use Rattle.std.proofs.lemmas.List.{drop_all}
 use Rattle.flag_text.specs.View.{members_view}
 use Rattle.flag_text.specs.declared.tree.Tree.{Tree}
-use Rattle.flag_defs.specs.declared.breach.Breach.{Breach}
+use Rattle.flag_defs.specs.declared.definition_error.DefinitionError.{DefinitionError}
 use Rattle.flag_text.specs.Shape.{Members, no_members, member}
-use Rattle.flag_defs.specs.Breach.{AllTell}
+use Rattle.flag_defs.specs.DefinitionError.{AllTell}
 use Rattle.flagops_remarks.specs.Broken.{BrokenLines, IsBrokenLine}
 
--- the breach that was found at a place, before those after it
-pub found_here : (found : List (Option Breach)) (i : ℕ) (o : Option Breach) → i < length found → get_or found i None ≡ o → drop i found ≡ o ∷ drop (i + 1) found
+-- the definition_error that was found at a place, before those after it
+pub found_here : (found : List (Option DefinitionError)) (i : ℕ) (o : Option DefinitionError) → i < length found → get_or found i None ≡ o → drop i found ≡ o ∷ drop (i + 1) found
 found_here found i o below is = rw add-one (drop-cons found i None below ∙ ap (λ y. y ∷ drop (suc i) found) is)
 
 -- the flag at a place, before those after it
@@ -20,7 +20,7 @@ flag_here [] i below = absurd (nothing i below)
     nothing i below = omega (arith, below)
 flag_here (x ∷ xs) i below = (get_or (x ∷ xs) i x, rw add-one (drop-cons (x ∷ xs) i x below))
 
-module _ (flags : List (String Global × Tree)) (found : List (Option Breach)) where
+module _ (flags : List (String Global × Tree)) (found : List (Option DefinitionError)) where
   -- whatever lines are told of the flags from a place on, behind this text they are told of all
   abbrev pub Whole : ℕ → List ℕ → Type 0
   Whole i text = (rest : List ℕ) → BrokenLines (members_view (drop i flags)) (drop i found) rest → BrokenLines (members_view flags) found (text ++ rest)
@@ -35,7 +35,7 @@ module _ (flags : List (String Global × Tree)) (found : List (Option Breach)) w
     pub good : drop i flags ≡ flag ∷ drop (i + 1) flags → drop i found ≡ None ∷ drop (i + 1) found → Whole i text → Whole (i + 1) text
     good here told whole rest lines = whole rest (rw (here, told) lines)
 
-    pub bad : (b : Breach) (line : List ℕ) → drop i flags ≡ flag ∷ drop (i + 1) flags → drop i found ≡ Some b ∷ drop (i + 1) found → IsBrokenLine (string_bytes flag.0) b line
+    pub bad : (b : DefinitionError) (line : List ℕ) → drop i flags ≡ flag ∷ drop (i + 1) flags → drop i found ≡ Some b ∷ drop (i + 1) found → IsBrokenLine (string_bytes flag.0) b line
         → Whole i text → Whole (i + 1) (text ++ line)
     bad b line here told is whole rest lines = rw (append_assoc text line rest) (whole (line ++ rest) (rw (here, told) (line, rest, is, refl, lines)))
 
@@ -43,8 +43,8 @@ abbrev rest_of : Members → Members
 rest_of no_members = no_members
 rest_of (member k t flags) = flags
 
--- as many breaches as flags
-tell_all : (evaluators flags : Members) (found : List (Option Breach)) → AllTell evaluators flags found → (ms : List (String Global × Tree)) → members_view ms ≡ flags → length found ≡ length ms
+-- as many definition_errors as flags
+tell_all : (evaluators flags : Members) (found : List (Option DefinitionError)) → AllTell evaluators flags found → (ms : List (String Global × Tree)) → members_view ms ≡ flags → length found ≡ length ms
 tell_all evaluators no_members [] told [] is = refl
 tell_all evaluators no_members [] told (m ∷ ms) is = cc
 tell_all evaluators no_members (b ∷ found) told ms is = absurd told
@@ -52,5 +52,5 @@ tell_all evaluators (member k t flags) [] told ms is = absurd told
 tell_all evaluators (member k t flags) (b ∷ found) told [] is = cc
 tell_all evaluators (member k t flags) (b ∷ found) told (m ∷ ms) is = ap suc (tell_all evaluators flags found told.1 ms (ap rest_of is))
 
-pub as_many : (evaluators : Members) (ms : List (String Global × Tree)) (flags : Members) (found : List (Option Breach)) → members_view ms ≡ flags → AllTell evaluators flags found → length found ≡ length ms
+pub as_many : (evaluators : Members) (ms : List (String Global × Tree)) (flags : Members) (found : List (Option DefinitionError)) → members_view ms ≡ flags → AllTell evaluators flags found → length found ≡ length ms
 as_many evaluators ms flags found is told = tell_all evaluators flags found told ms is

@@ -21,9 +21,9 @@
 
 mod asks;
 mod books;
-mod breaches;
 mod checks;
 mod computed;
+mod definition_errors;
 mod documents;
 mod ends;
 mod evaluators;
@@ -46,8 +46,8 @@ mod way;
 
 pub use asks::{Drive, of_asks, of_driven, of_unread_asks, of_unrecorded_asks, of_workers};
 pub use books::{of_book, of_foreign, of_full_book, of_other_file, of_unrecorded};
-pub use breaches::of_breaches;
 pub use checks::of_check;
+pub use definition_errors::of_definition_errors;
 pub use documents::of_document;
 pub use ends::Ends;
 pub use explained::of_planned;

@@ -6,7 +6,7 @@ use crate::lines::{Lines, Opening};
 use crate::texts::of_text;
 use flag_text::{Tree, read_tree};
 use limits::TEXT_BYTES;
-use price_core::{Breach, Misfit, PriceFault, change_in, limit_of};
+use price_core::{Misfit, PriceFault, RequestError, change_in, limit_of};
 use std::alloc::{AllocError, Global};
 
 /// What a request looks like.
@@ -116,12 +116,12 @@ fn put_doubled(lines: &mut Lines, tree: &Tree, list: &str, place: usize) {
 
 /// What refuses a request.
 fn put_refused(lines: &mut Lines, tree: &Tree, fault: PriceFault) {
-    match Breach::of(tree) {
-        Some(Breach::PricesSelf(place)) => put_self_pair(lines, tree, "prices", place),
-        Some(Breach::ForbidSelf(place)) => put_self_pair(lines, tree, "forbid", place),
-        Some(Breach::UsualPrice) => put_usual_price(lines, tree),
-        Some(Breach::Price(place)) => put_price(lines, tree, place),
-        Some(Breach::EmptyRange(place)) => put_empty_range(lines, tree, place),
+    match RequestError::of(tree) {
+        Some(RequestError::PricesSelf(place)) => put_self_pair(lines, tree, "prices", place),
+        Some(RequestError::ForbidSelf(place)) => put_self_pair(lines, tree, "forbid", place),
+        Some(RequestError::UsualPrice) => put_usual_price(lines, tree),
+        Some(RequestError::Price(place)) => put_price(lines, tree, place),
+        Some(RequestError::EmptyRange(place)) => put_empty_range(lines, tree, place),
         None => write!(lines, "{fault}"),
     }
 }

@@ -1,4 +1,4 @@
-pub mod Breach
+pub mod RequestError
 pub mod Cost
 pub mod Fault
 pub mod Limits

@@ -18,14 +18,13 @@
 //! ```
 //!
 //! Proved, over the definitions of `specs/`: which request a text stands for, with each refusal in its order
-//! (`Request`); what keeps a tree from being one (`Misfit`), or refuses one (`Breach`), and where; which limits the
+//! (`Request`); what keeps a tree from being one (`Misfit`), or refuses one (`RequestError`), and where; which limits the
 //! variants of a site have (`Limits`); what a change costs and which are forbidden (`Pricing`); the least forbidden point
 //! of two rules, and the cost of a new rule: over inputs, which is added up by as many threads as there are processors,
 //! and over the numbers of inputs that fall on the points (`Cost`). Where both are asked of the same rules, a
 //! [`Switching`] numbers their names once.
 #![tactic(auto)]
 
-mod breach;
 mod change;
 mod cost;
 mod draft;
@@ -35,10 +34,10 @@ mod misfit;
 mod numbering;
 mod prices;
 mod request;
+mod request_error;
 mod switching;
 mod totals;
 
-pub use breach::Breach;
 pub use cost::{first_forbidden, switch_cost, switch_cost_of};
 pub use draft::limit_of;
 pub use fault::PriceFault;
@@ -46,5 +45,6 @@ pub use laws::a_misfit_is_all_that_refuses;
 pub use misfit::{Misfit, change_in};
 pub use prices::Prices;
 pub use request::Request;
+pub use request_error::RequestError;
 pub use switching::Switching;
 pub use totals::{Limit, Totals};

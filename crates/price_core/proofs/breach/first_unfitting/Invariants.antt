@@ -1,9 +1,0 @@
-use Rattle.std.proofs.Common.{◌≡◌, drop}
-use Rattle.flag_text.specs.View.{items_view}
-use Rattle.price_core.specs.Breach.{fitting_parts}
-use Rattle.price_core.specs.Misfit.{first_unread}
-use Rattle.price_core.proofs.breach.first_unfitting.Given as goal
-
--- the rest answers as the whole
-abbrev pub invariant-loop-place : goal.invariant-loop-place
-invariant-loop-place l = first_unread fitting_parts l.place (items_view (drop l.place l.items)) ≡ first_unread fitting_parts 0 (items_view l.items)
