@@ -1,19 +1,17 @@
 //! The lines of a book file, one at a time.
-ghost use Rattle.std.specs.Prelude.{◌≡◌, ◌+◌, ◌<◌, ◌^◌, [], ◌∷◌, length, codes, option_map, option_and_then, MatchOption, IfSome, Ok, IfOk, IfErr};
-ghost use Rattle.std.specs.Option.{option_copied};
+ghost use Rattle.std.specs.Prelude.{◌≡◌, ◌+◌, ◌<◌, ◌^◌, [], ◌∷◌, length, MatchOption, IfSome, Ok, IfOk, IfErr};
 ghost use Rattle.std.specs.List.{position, slice_split};
 ghost use Rattle.flag_text.specs.Outcome.{GivesUnless};
 ghost use Rattle.flag_text.specs.View.{view, members_view};
-ghost use Rattle.flag_text.specs.Readers.{as_text, member_of};
 ghost use Rattle.flag_text.specs.Reading.{tree_of};
 ghost use Rattle.book_core.specs.Lines.{line_view};
-ghost use Rattle.book_core.specs.Reading.{is_feed, is_header, is_book_shape, is_book_member, is_one, site_of, by_of, page_of, page_line, shape_line, line_of, lines_of};
+ghost use Rattle.book_core.specs.Reading.{is_feed, is_header, is_book_shape, is_book_member, is_one, page_of, page_line, shape_line, line_of, lines_of};
 
 use crate::fault::BookFileFault;
+use crate::members::page_in;
 use crate::page::Page;
 use flag_text::{TextFault, Tree, plain_text, read_tree};
-use limits::SITES;
-use std::alloc::{AllocError, Global};
+use std::alloc::Global;
 
 /// What a line of a book file stands for.
 #[derive(Drop)]
@@ -121,53 +119,6 @@ fn page_line(alloc: Global, tree: &Tree) -> Result<Line, BookFileFault>
     match page_in(alloc, tree)? {
         Some(page) => Ok(Line::Page(page)),
         None => Ok(Line::Other),
-    }
-}
-
-/// The page that an object names.
-#[tactic(auto, unfolding(crate::specs::Reading::page_of))]
-fn page_in(alloc: Global, tree: &Tree) -> Result<Option<Page>, AllocError>
-    ensures { IfOk result (λ page. page ≡ page_of (view tree.now)) }
-{
-    let Some(flag) = flag_in(tree) else {
-        return Ok(None);
-    };
-    let Some(site) = site_in(tree) else {
-        return Ok(None);
-    };
-    let Some(by) = by_in(tree) else {
-        return Ok(None);
-    };
-    let by = match by {
-        None => None,
-        Some(text) => Some(String::from_str(alloc, text)?),
-    };
-    let flag = String::from_str(alloc, flag)?;
-    Ok(Some(Page { flag, site, by }))
-}
-
-fn flag_in(tree: &Tree) -> Option<&str>
-    ensures { option_copied result ≡ option_and_then as_text (member_of (codes "flag") (view tree.now)) }
-{
-    tree.member("flag")?.as_text()
-}
-
-fn site_in(tree: &Tree) -> Option<u32>
-    ensures { result ≡ option_and_then site_of (member_of (codes "site") (view tree.now)) }
-{
-    match tree.member("site")? {
-        Tree::Whole(n) if 0 <= *n && *n < SITES => Some(*n as u32),
-        _ => None,
-    }
-}
-
-fn by_in(tree: &Tree) -> Option<Option<&str>>
-    ensures { option_map option_copied result ≡ option_and_then by_of (member_of (codes "by") (view tree.now)) }
-{
-    match tree.member("by")? {
-        Tree::Null => Some(None),
-        Tree::Text(text) => Some(Some(text.as_str())),
-        _ => None,
     }
 }
 

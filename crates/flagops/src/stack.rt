@@ -6,6 +6,7 @@ use crate::watching::Watcher;
 use flag_text::Outlet;
 use flagops_files::FileSet;
 use flagops_filters::Opening;
+use limits::STACK_BYTES;
 use line_batches::Inlet;
 use std::convert::AsStr;
 use std::fs::File;
@@ -17,9 +18,6 @@ use std::rt::Files;
 use std::sync::Wait;
 use std::thread::{self, Builder, Threads};
 use std::time::Clock;
-
-/// The bytes of the stack that the commands run on: more than the deepest of documents, contexts and plans take.
-const STACK: usize = 4 * 1024 * 1024;
 
 /// Does what the words ask for on a stack of its own, where there is memory for one.
 pub fn on_stack<R, D, S, I, F, O, E, W>(
@@ -77,7 +75,7 @@ where
             requires { C.pre commands }
         {
             match Builder::new()
-                .stack_size(STACK)
+                .stack_size(STACK_BYTES)
                 .spawn_scoped(scope, commands)
             {
                 Ok(thread) => {

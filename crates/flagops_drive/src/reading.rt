@@ -7,9 +7,7 @@ ghost use Rattle.flagops_drive.specs.Asks.{ask_in, ask_view, context_in, default
 use book_share::Ask;
 use flag_resolve::Kind;
 use flag_text::Tree;
-
-/// The first moment that is too late, 2^53 seconds after 1970.
-const MOMENTS: i64 = 1 << 53;
+use limits::LATEST_MOMENT;
 
 /// The ask that an object is. Each of its members is required; others are passed over.
 #[tactic(auto, unfolding(crate::specs::Asks::ask_in))]
@@ -72,7 +70,9 @@ pub(crate) fn moment_of(tree: &Tree) -> Option<u64>
     ensures small { IfSome result (λ n. n < 2 ^ 53) }
 {
     match tree {
-        Tree::Whole(moment) if 0 <= *moment && *moment < MOMENTS => Some(*moment as u64),
+        Tree::Whole(moment) if 0 <= *moment && *moment <= LATEST_MOMENT as i64 => Some(
+            *moment as u64,
+        ),
         _ => None,
     }
 }

@@ -49,5 +49,9 @@ pub const SEATS: usize = 64;
 /// The most steps of a ramp.
 pub const RAMP_STEPS: usize = 100;
 
+/// The bytes of the stack of a thread: more than the deepest of documents, targetings, contexts and plans take, and the values
+/// that they may make.
+pub const STACK_BYTES: usize = 4_194_304;
+
 /// How often a read or write that a signal interrupts is made again.
 pub const INTERRUPTIONS: u32 = 1_000_000;

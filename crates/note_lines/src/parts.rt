@@ -1,15 +1,12 @@
 //! From a tree to the note that it stands for.
-ghost use Rattle.std.specs.Prelude.{◌≡◌, option_map, IfOk};
-ghost use Rattle.std.specs.Option.{option_copied};
+ghost use Rattle.std.specs.Prelude.{◌≡◌, IfOk};
 ghost use Rattle.flag_text.specs.Shape.{no_items, item};
 ghost use Rattle.flag_text.specs.View.{view, items_view};
-ghost use Rattle.book_core.specs.Reading.{site_of, by_of};
 ghost use Rattle.note_lines.specs.Reading.{parts_note, shape_note};
 
 use crate::note::Note;
-use book_core::Page;
+use book_core::{Page, by_of, site_of};
 use flag_text::Tree;
-use limits::SITES;
 use std::alloc::{AllocError, Global};
 
 /// The note of a list `[FLAG,SITE,BY,INPUT]`.
@@ -47,10 +44,10 @@ fn four_note(
     let Some(flag) = flag.as_text() else {
         return Ok(None);
     };
-    let Some(site) = site_in(site) else {
+    let Some(site) = site_of(site) else {
         return Ok(None);
     };
-    let Some(by) = by_in(by) else {
+    let Some(by) = by_of(by) else {
         return Ok(None);
     };
     let Some(input) = input.as_text() else {
@@ -66,23 +63,4 @@ fn four_note(
         page: Page { flag, site, by },
         input,
     }))
-}
-
-fn site_in(tree: &Tree) -> Option<u32>
-    ensures { result ≡ site_of (view tree.now) }
-{
-    match tree {
-        Tree::Whole(n) if 0 <= *n && *n < SITES => Some(*n as u32),
-        _ => None,
-    }
-}
-
-fn by_in(tree: &Tree) -> Option<Option<&str>>
-    ensures { option_map option_copied result ≡ by_of (view tree.now) }
-{
-    match tree {
-        Tree::Null => Some(None),
-        Tree::Text(text) => Some(Some(text.as_str())),
-        _ => None,
-    }
 }

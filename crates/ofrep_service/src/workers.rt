@@ -6,7 +6,7 @@ use crate::posts::Post;
 use crate::streams::stream_beside;
 use flag_text::WriteOutlet;
 use http_server::Config;
-use limits::TEXT_BYTES;
+use limits::{STACK_BYTES, TEXT_BYTES};
 use note_log::NoteLog;
 use ofrep_connections::answer_connections;
 use ofrep_worker::OfrepWorker;
@@ -21,9 +21,6 @@ use std::time::Clock;
 
 /// While more bytes than this wait to be sent on a connection, no request is read from it.
 const MOST_PENDING: usize = 16_777_216;
-
-/// The bytes of the stack of a worker: more than the deepest of targetings, bodies and contexts take.
-const STACK: usize = 4 * 1024 * 1024;
 
 /// Runs a worker on a thread for each post, and serves the stream on a thread for each listener, each with the seat of the same
 /// place, and does `beside` meanwhile on its own. It ends when all workers have ended, and they end where the system fails them.
@@ -79,7 +76,7 @@ where
         {
             for (seat, post) in seats.into_iter().zip(posts) {
                 let spawned = Builder::new()
-                    .stack_size(STACK)
+                    .stack_size(STACK_BYTES)
                     .spawn_scoped(scope, move || work(rt, alloc, keys, board, seat, post));
                 if spawned.is_err() {
                     board.end();

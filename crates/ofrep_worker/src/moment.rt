@@ -1,10 +1,8 @@
 //! The moment of an evaluation.
 ghost use Rattle.std.specs.Prelude.{◌<◌, ◌^◌};
 
+use limits::LATEST_MOMENT;
 use std::time::{Clock, SystemTime, UNIX_EPOCH};
-
-/// The last second that an evaluation may have.
-const LAST: u64 = (1 << 53) - 1;
 
 /// The seconds since 1970: 0 where the clock can't be read or is set before.
 pub(crate) fn moment_of<R: Clock>(rt: &R) -> u64
@@ -14,7 +12,7 @@ pub(crate) fn moment_of<R: Clock>(rt: &R) -> u64
         return 0;
     };
     match now.duration_since(UNIX_EPOCH) {
-        Ok(since) => since.as_secs().min(LAST),
+        Ok(since) => since.as_secs().min(LATEST_MOMENT),
         Err(_) => 0,
     }
 }

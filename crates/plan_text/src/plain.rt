@@ -19,14 +19,14 @@ use crate::planned::Planned;
 use crate::print::planned_text;
 use crate::scan::scan;
 use bucket_core::Rule;
-use flag_text::is_in_range;
+use flag_text::{MAX_WHOLE, is_in_range};
 use limits::FILE_BYTES;
 use simdutf8::basic;
 use std::alloc::{AllocError, Global};
 use transport_instance::Certificate;
 
 /// Costs are below it.
-pub(crate) const COSTS: u64 = 1 << 53;
+pub(crate) const COSTS: u64 = MAX_WHOLE + 1;
 
 /// The answer of bytes that were printed of a rule with its certificate, with or without a line end. Of any others there may
 /// be none, and takes no memory of more than 67108864 or that are not UTF-8.

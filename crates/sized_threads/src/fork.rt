@@ -2,14 +2,12 @@
 ghost use Rattle.std.specs.Prelude.{◌≡◌};
 
 use core::thread::Stack;
+use limits::STACK_BYTES;
 use std::marker::Send;
 use std::snapshot::Snapshot;
 use std::sync::Wait;
 use std::thread;
 use std::thread::{Promise, Threads};
-
-/// The bytes of the stack of a thread: more than the deepest of targetings, and of the values that it may make, takes.
-const STACK: usize = 1 << 22;
 
 /// What a thread does.
 trait Task<T> {
@@ -79,7 +77,7 @@ where
             ensures { W.gives task result.0 × G.post g result.1 }
         {
             let promise = GivenBy(Snapshot::of(&task));
-            let started = Stack::new().stack_size(STACK).spawn_scoped_with(
+            let started = Stack::new().stack_size(STACK_BYTES).spawn_scoped_with(
                 scope,
                 promise,
                 move || -> A

@@ -4,9 +4,10 @@ ghost use Rattle.sync_frames.specs.Frames.{ShowsLength, ShowsNotRising, length_i
 ghost use Rattle.sync_frames.specs.Header.{Finds};
 
 use crate::fault::FrameFault;
+use limits::TEXT_BYTES;
 
-/// The most that the length of a frame may say.
-const MAX_LENGTH: u32 = 4_194_312;
+/// The most that the length of a frame may say: its number and a document.
+const MAX_LENGTH: u32 = 8 + TEXT_BYTES as u32;
 
 /// What bytes begin with.
 pub(crate) enum Begun {
