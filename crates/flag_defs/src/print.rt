@@ -32,12 +32,12 @@ pub(crate) fn print_entries(alloc: Global, flags: &[(String, Flag)]) -> Result<S
     ensures reads { IfOk result (λ s. ReadsBack (string_bytes s) (document_written (entries_view flags.now))) }
 {
     let definitions = write_entries(alloc, flags)?;
-    let document = in_document(alloc, definitions)?;
+    let document = document_of(alloc, definitions)?;
     print_tree(alloc, &document)
 }
 
 /// The document with these definitions.
-fn in_document(alloc: Global, definitions: Vec<(String, Tree)>) -> Result<Tree, AllocError>
+fn document_of(alloc: Global, definitions: Vec<(String, Tree)>) -> Result<Tree, AllocError>
     ensures { IfOk result (λ t. view t ≡ object (member (codes "flags") (object (members_view definitions.items)) no_members)) }
 {
     let name = String::from_str(alloc, "flags")?;

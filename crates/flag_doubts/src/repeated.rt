@@ -58,7 +58,7 @@ fn of_text(alloc: Global, text: &str) -> Result<Repeated, Stop>
     let mut scratch = Scratch::new(alloc);
     let mut reader = Reader::new(text, &mut scratch)?;
     let mut names = Vec::new(alloc);
-    let found = in_document(alloc, &mut reader, &mut names)?;
+    let found = pass_document(alloc, &mut reader, &mut names)?;
     if reader.next().is_some() {
         return Err(Stop::Invalid);
     }
@@ -73,7 +73,7 @@ fn nothing(alloc: Global) -> Repeated
 }
 
 /// Passes a document.
-fn in_document<'a>(
+fn pass_document<'a>(
     alloc: Global,
     reader: &mut Reader<'a>,
     names: &mut Vec<&'a str>,

@@ -11,7 +11,7 @@ use std::io::Write;
 /// A place that bytes are written to, as `std::io::Write`. Contracts see the bytes in it, and
 /// whether it is broken: a write has failed, or took no byte of a buffer that had some.
 ///
-/// A function that is handed an outlet asks for one that is not broken.
+/// A function that is handed an outlet asks for one that is not broken, but for [`write_whole`].
 pub trait Outlet {
     // The bytes that were written, where they are known.
     ghost bytes: { Self → Option (List ℕ) };

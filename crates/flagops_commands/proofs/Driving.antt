@@ -5,7 +5,7 @@ use Rattle.book_core.specs.Book.{Contents}
 use Rattle.flag_defs.specs.Document.{Definitions}
 use Rattle.flag_text.specs.Shape.{Shape}
 use Rattle.flagops_drive.specs.Asks.{Ask, asks_of}
-use Rattle.flagops_drive.specs.Driven.{Drove, IsDriveOf, refusal_of, workers_refusal}
+use Rattle.flagops_drive.specs.Driven.{DriveOutput, IsDriveOf, refusal_of, workers_refusal}
 use Rattle.flagops_drive.specs.Fault.{want}
 use Rattle.flagops_drive.specs.declared.fault.DriveRefusal.{DriveRefusal}
 use Rattle.flagops_drive.specs.declared.fault.DriveRefusal.TheVariants as reason
@@ -20,7 +20,7 @@ use Rattle.flagops_files.specs.declared.refusal.Call.TheVariants as call
 use Rattle.flagops_files.specs.declared.refusal.Refusal.{Refusal}
 use Rattle.flagops_files.specs.declared.refusal.Refusal.TheVariants.{Drive}
 use Rattle.flagops_commands.specs.Doubts.{settle}
-use Rattle.flagops_commands.specs.Drive.{AreRead, IsAnswered, IsDriveReport, IsDroveOf, IsWritten, KeepsUnlessDone, LeavesBook, admitted, before_at, doubt_of_asks, recorded}
+use Rattle.flagops_commands.specs.Drive.{AreRead, IsAnswered, IsDriveReport, IsDriveOutputOf, IsWritten, KeepsUnlessDone, LeavesBook, admitted, before_at, doubt_of_asks, recorded}
 
 -- files that stayed until the storing
 pub kept_after : {E : Type 0} (old mid last new : Option Holding) (r : Result Outcome E) → mid ≡ old → last ≡ mid → KeepsUnlessDone last new r → KeepsUnlessDone old new r
@@ -32,12 +32,12 @@ others_after old mid new path same kept = subst (λ (h : Option Holding). KeepsO
 
 -- ---- the book is written
 
-pub book_stored : (old new : Option Holding) (book : List ℕ) (d : Drove) (r : Result Report Refusal) → r ≡ beside true (done d.text) → Stores old new book d.book → KeepsOthers old new book
+pub book_stored : (old new : Option Holding) (book : List ℕ) (d : DriveOutput) (r : Result Report Refusal) → r ≡ beside true (done d.text) → Stores old new book d.book → KeepsOthers old new book
     → IfSome old (λ at. IsWritten at new book (Ok d) r)
 book_stored None new book d r is stored kept = tt
 book_stored (Some at) new book d r is stored kept = inl (is, stored, kept)
 
-pub book_refused : (old new : Option Holding) (book : List ℕ) (d : Drove) (e : Refused) → (is_want e.refusal ≡ false → e.refusal ≡ unwritable) → new ≡ old
+pub book_refused : (old new : Option Holding) (book : List ℕ) (d : DriveOutput) (e : Refused) → (is_want e.refusal ≡ false → e.refusal ≡ unwritable) → new ≡ old
     → IfSome old (λ at. is_want e.refusal ≡ false → IsWritten at new book (Ok d) (Err e.refusal))
 book_refused None new book d e fault same = tt
 book_refused (Some at) new book d e fault same = λ wanted. inr (rw (fault wanted) refl, same)
@@ -73,13 +73,13 @@ module _ (path asks : List ℕ) (workers : ℕ) (book : List ℕ) (add strict js
 
       module _ (before : Option Contents) where
         pub not_driven : (old after : Option Holding) (e : Refused) → after ≡ old → IfSome old (λ at. IsDocumentAt at path (Ok flags)) → IfSome old (λ at. tree_at at asks max_text ≡ Ok t)
-            → IfSome old (λ at. before_at at book add ≡ Ok before) → (is_want e.refusal ≡ false → IsDroveOf (Ok flags) (Ok t) (Ok before) workers strict json (Err e.refusal)) → Is old after (Err e)
+            → IfSome old (λ at. before_at at book add ≡ Ok before) → (is_want e.refusal ≡ false → IsDriveOutputOf (Ok flags) (Ok t) (Ok before) workers strict json (Err e.refusal)) → Is old after (Err e)
         unfolding IsDriveReport
         not_driven None after e same document tree had drove = tt
         not_driven (Some at) after e same document tree had drove = λ wanted. (Ok flags, document, Err e.refusal, rw (tree, had) (drove wanted), (refl, same))
 
-        pub driven : (old after : Option Holding) (d : Drove) (r : Result Outcome Refused) → IfSome old (λ at. IsDocumentAt at path (Ok flags)) → IfSome old (λ at. tree_at at asks max_text ≡ Ok t)
-            → IfSome old (λ at. before_at at book add ≡ Ok before) → IsDroveOf (Ok flags) (Ok t) (Ok before) workers strict json (Ok d)
+        pub driven : (old after : Option Holding) (d : DriveOutput) (r : Result Outcome Refused) → IfSome old (λ at. IsDocumentAt at path (Ok flags)) → IfSome old (λ at. tree_at at asks max_text ≡ Ok t)
+            → IfSome old (λ at. before_at at book add ≡ Ok before) → IsDriveOutputOf (Ok flags) (Ok t) (Ok before) workers strict json (Ok d)
             → IfSome old (λ at. GivesOne outcome_view r (IsWritten at after book (Ok d))) → Is old after r
         unfolding IsDriveReport
         driven None after d r document tree had drove written = tt
@@ -120,11 +120,11 @@ module _ (strict : Bool) (t : Shape) (flags : Definitions) (workers : ℕ) (befo
       ap (λ (e : DriveRefusal). Err (Drive e)) same
 
 -- asks that were driven are not refused before one is answered
-driven_unrefused : (o : Option (List Ask)) (flags : Definitions) (workers : ℕ) (before : Option Contents) (json : Bool) (d : Drove) → IsDriveOf flags o workers before json (Ok d) → refusal_of o workers ≡ None
+driven_unrefused : (o : Option (List Ask)) (flags : Definitions) (workers : ℕ) (before : Option Contents) (json : Bool) (d : DriveOutput) → IsDriveOf flags o workers before json (Ok d) → refusal_of o workers ≡ None
 driven_unrefused None flags workers before json d h = cc
 driven_unrefused (Some asks) flags workers before json d h = ap (option_map reason.Drive) h.0
 
-module _ (strict : Bool) (t : Shape) (flags : Definitions) (workers : ℕ) (before : Option Contents) (json : Bool) (d : Drove) where
+module _ (strict : Bool) (t : Shape) (flags : Definitions) (workers : ℕ) (before : Option Contents) (json : Bool) (d : DriveOutput) where
   driven_settled : (s : Result Bool Refusal) → IsOk s → IsDriveOf flags (asks_of t) workers before json (Ok d) → IsAnswered s flags t before workers strict json (recorded strict d)
   driven_settled (Ok noted) ok is = (Ok d, is, refl)
   driven_settled (Err e) ok is = not_ok e ok
@@ -149,18 +149,18 @@ admits : (strict : Bool) (o : Option DriveRefusal) (t : Shape) (noted : Bool) �
 admits strict None t noted is = is
 admits strict (Some e) t noted is = cc
 
-answered : (flags : Definitions) (o : Option (List Ask)) (workers : ℕ) (before : Option Contents) (json : Bool) (d : Drove) → IsDriveOf flags o workers before json (Ok d) → (workers_refusal workers ≡ None) × (is_some o ≡ true)
+answered : (flags : Definitions) (o : Option (List Ask)) (workers : ℕ) (before : Option Contents) (json : Bool) (d : DriveOutput) → IsDriveOf flags o workers before json (Ok d) → (workers_refusal workers ≡ None) × (is_some o ≡ true)
 answered flags None workers before json d is = cc
 answered flags (Some asks) workers before json d is = (ap (option_map reason.Drive) is.0, refl)
 
 -- ---- what is left
 
 -- asks that came to something were admitted
-drove_by : (flags : Definitions) (t : Shape) (workers : ℕ) (before : Option Contents) (strict json : Bool) (d : Drove) → IsDroveOf (Ok flags) (Ok t) (Ok before) workers strict json (Ok d)
+drove_by : (flags : Definitions) (t : Shape) (workers : ℕ) (before : Option Contents) (strict json : Bool) (d : DriveOutput) → IsDriveOutputOf (Ok flags) (Ok t) (Ok before) workers strict json (Ok d)
     → (workers_refusal workers ≡ None) × (is_some (asks_of t) ≡ true) × IsOk (settle call.Drive strict (doubt_of_asks t))
 drove_by flags t workers before strict json d came = go (admitted strict (refusal_of (asks_of t) workers) t) refl came
   where
-    made : (noted : Bool) → admitted strict (refusal_of (asks_of t) workers) t ≡ Ok noted → (r : Result Drove DriveRefusal) → IsDriveOf flags (asks_of t) workers before json r → Ok d ≡ (refused_by Drive r >>= recorded strict)
+    made : (noted : Bool) → admitted strict (refusal_of (asks_of t) workers) t ≡ Ok noted → (r : Result DriveOutput DriveRefusal) → IsDriveOf flags (asks_of t) workers before json r → Ok d ≡ (refused_by Drive r >>= recorded strict)
         → (workers_refusal workers ≡ None) × (is_some (asks_of t) ≡ true) × IsOk (settle call.Drive strict (doubt_of_asks t))
     made noted is (Ok x) drove same =
         let fit : (workers_refusal workers ≡ None) × (is_some (asks_of t) ≡ true) = answered flags (asks_of t) workers before json x drove in
@@ -173,9 +173,9 @@ drove_by flags t workers before strict json d came = go (admitted strict (refusa
     go (Ok noted) is came = made noted is came.0 came.1 came.2
     go (Err e) is came = cc
 
-pub left_by_storing : (path asks : List ℕ) (workers : ℕ) (book : List ℕ) (add strict json : Bool) (flags : Definitions) (t : Shape) (before : Option Contents) (old after : Option Holding) (d : Drove)
+pub left_by_storing : (path asks : List ℕ) (workers : ℕ) (book : List ℕ) (add strict json : Bool) (flags : Definitions) (t : Shape) (before : Option Contents) (old after : Option Holding) (d : DriveOutput)
     → IfSome old (λ at. IsDocumentAt at path (Ok flags)) → IfSome old (λ at. tree_at at asks max_text ≡ Ok t) → IfSome old (λ at. before_at at book add ≡ Ok before)
-    → IsDroveOf (Ok flags) (Ok t) (Ok before) workers strict json (Ok d) → KeepsOthers old after book → LeavesBook old after path asks workers book add strict
+    → IsDriveOutputOf (Ok flags) (Ok t) (Ok before) workers strict json (Ok d) → KeepsOthers old after book → LeavesBook old after path asks workers book add strict
 left_by_storing path asks workers book add strict json flags t before old after d document tree had drove kept =
     let fit : (workers_refusal workers ≡ None) × (is_some (asks_of t) ≡ true) × IsOk (settle call.Drive strict (doubt_of_asks t)) = drove_by flags t workers before strict json d drove in
     inr (fit.0, read old document tree had fit.1 fit.2, kept)

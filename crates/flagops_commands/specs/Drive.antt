@@ -4,7 +4,7 @@ use Rattle.book_core.specs.Book.{Contents}
 use Rattle.flag_defs.specs.Document.{Definitions}
 use Rattle.flag_text.specs.Shape.{Shape}
 use Rattle.flagops_drive.specs.Asks.{asks_of}
-use Rattle.flagops_drive.specs.Driven.{Drove, IsDriveOf, refusal_of, workers_refusal}
+use Rattle.flagops_drive.specs.Driven.{DriveOutput, IsDriveOf, refusal_of, workers_refusal}
 use Rattle.flagops_drive.specs.Unread.{has_unread_ask}
 use Rattle.flagops_drive.specs.declared.fault.DriveRefusal.{DriveRefusal}
 use Rattle.flagops_commands.specs.Doubts.{settle}
@@ -32,7 +32,7 @@ abbrev pub doubt_of_asks : Shape → Option Doubt
 doubt_of_asks t = if has_unread_ask t then Some doubt.Unread else None
 
 -- and of what they came to: they reached no input, so nothing was recorded
-abbrev pub doubt_of_drove : Drove → Option Doubt
+abbrev pub doubt_of_drove : DriveOutput → Option Doubt
 doubt_of_drove d = if d.reached == 0 then Some doubt.Unrecorded else None
 
 -- why asks are refused before one of them is answered: by `drive` itself, or for what is doubted of them
@@ -41,30 +41,30 @@ admitted strict (Some e) t = Err (Drive e)
 admitted strict None t = settle call.Drive strict (doubt_of_asks t)
 
 -- what they came to, unless that is doubted and refused
-abbrev pub recorded : Bool → Drove → Result Drove Refusal
+abbrev pub recorded : Bool → DriveOutput → Result DriveOutput Refusal
 recorded strict d = settle call.Drive strict (doubt_of_drove d) >>= λ _. Ok d
 
 -- what comes of asks that were admitted, or refused
-abbrev pub IsAnswered : Result Bool Refusal → Definitions → Shape → Option Contents → ℕ → Bool → Bool → Result Drove Refusal → Type 0
+abbrev pub IsAnswered : Result Bool Refusal → Definitions → Shape → Option Contents → ℕ → Bool → Bool → Result DriveOutput Refusal → Type 0
 IsAnswered (Err e) flags t before workers strict json r = r ≡ Err e
 IsAnswered (Ok noted) flags t before workers strict json r =
-    (d : Result Drove DriveRefusal) × IsDriveOf flags (asks_of t) workers before json d × (r ≡ (refused_by Drive d >>= recorded strict))
+    (d : Result DriveOutput DriveRefusal) × IsDriveOf flags (asks_of t) workers before json d × (r ≡ (refused_by Drive d >>= recorded strict))
 
 -- what comes of the asks, where the document, the asks and the book before were read, each before the next
-abbrev pub IsDroveOf : Result Definitions Refusal → Result Shape Refusal → Result (Option Contents) Refusal → ℕ → Bool → Bool → Result Drove Refusal → Type 0
-IsDroveOf (Err e) asks before workers strict json r = r ≡ Err e
-IsDroveOf (Ok flags) (Err e) before workers strict json r = r ≡ Err e
-IsDroveOf (Ok flags) (Ok t) (Err e) workers strict json r = r ≡ Err e
-IsDroveOf (Ok flags) (Ok t) (Ok before) workers strict json r = IsAnswered (admitted strict (refusal_of (asks_of t) workers) t) flags t before workers strict json r
+abbrev pub IsDriveOutputOf : Result Definitions Refusal → Result Shape Refusal → Result (Option Contents) Refusal → ℕ → Bool → Bool → Result DriveOutput Refusal → Type 0
+IsDriveOutputOf (Err e) asks before workers strict json r = r ≡ Err e
+IsDriveOutputOf (Ok flags) (Err e) before workers strict json r = r ≡ Err e
+IsDriveOutputOf (Ok flags) (Ok t) (Err e) workers strict json r = r ≡ Err e
+IsDriveOutputOf (Ok flags) (Ok t) (Ok before) workers strict json r = IsAnswered (admitted strict (refusal_of (asks_of t) workers) t) flags t before workers strict json r
 
 -- The book is written before the output, and no other file changes; none does where there is no book, or where it is refused to be written. A person is told how many asks ended in what, and how many inputs they reached.
-abbrev pub IsWritten : Holding → Option Holding → List ℕ → Result Drove Refusal → Outcomes
+abbrev pub IsWritten : Holding → Option Holding → List ℕ → Result DriveOutput Refusal → Outcomes
 IsWritten at after book (Err e) r = (r ≡ Err e) × (after ≡ Some at)
 IsWritten at after book (Ok d) r = ((r ≡ beside true (done d.text)) × Stores (Some at) after book d.book × KeepsOthers (Some at) after book) ⊎ ((r ≡ Err unwritable) × (after ≡ Some at))
 
 unfoldable pub IsDriveReport : Holding → Option Holding → List ℕ → List ℕ → ℕ → List ℕ → Bool → Bool → Bool → Outcomes
 IsDriveReport at after path asks workers book add strict json r =
-    (document : Result Definitions Refusal) × IsDocumentAt at path document × (d : Result Drove Refusal) × IsDroveOf document (tree_at at asks max_text) (before_at at book add) workers strict json d × IsWritten at after book d r
+    (document : Result Definitions Refusal) × IsDocumentAt at path document × (d : Result DriveOutput Refusal) × IsDriveOutputOf document (tree_at at asks max_text) (before_at at book add) workers strict json d × IsWritten at after book d r
 
 -- the document and the asks of these files were read, of which nothing is doubted that is refused, and the book that is added to
 abbrev pub AreRead : Holding → List ℕ → List ℕ → List ℕ → Bool → Bool → Type 0

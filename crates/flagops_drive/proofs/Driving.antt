@@ -13,9 +13,9 @@ use Rattle.book_share.specs.declared.ask.Ask as program
 use Rattle.book_share.specs.declared.drive_fault.DriveFault.{DriveFault}
 use Rattle.book_share.specs.declared.drive_fault.DriveFault.TheVariants.{WantOfMemory, NoWorkers, TooManyWorkers, Stalled}
 use Rattle.flagops_drive.specs.Asks.{Ask, ask_view, if_asks}
-use Rattle.flagops_drive.specs.Driven.{Drives, Drove, IsDriveOf, IsOutput, IsReached, IsRefused, IsUnadded, Reached, drove_view}
+use Rattle.flagops_drive.specs.Driven.{Drives, DriveOutput, IsDriveOf, IsOutput, IsReached, IsRefused, IsUnadded, Reached, drive_output_view}
 use Rattle.flagops_drive.specs.Fault.{of_union, want}
-use Rattle.flagops_drive.specs.declared.command.Drove as program_drove
+use Rattle.flagops_drive.specs.declared.command.DriveOutput as program_output
 use Rattle.flagops_drive.specs.declared.fault.DriveRefusal.{DriveRefusal}
 use Rattle.flagops_drive.specs.declared.fault.DriveRefusal.TheVariants.{Drive, BadAsks, PageFull}
 
@@ -34,7 +34,7 @@ reached_of flags asks given items r read same answered noted counted =
     record { given = given; same = ap (map ask_view) same ∙ read; answers = answered; noted = noted; long = counted }
 
 -- the whole output, of asks that were driven
-drove_of : (flags : Definitions) (o : Option (List Ask)) (asks : List Ask) (workers : ℕ) (before : Option Contents) (json : Bool) (r : Reached) (d : Drove) → if_asks o ≡ Ok asks
+drove_of : (flags : Definitions) (o : Option (List Ask)) (asks : List Ask) (workers : ℕ) (before : Option Contents) (json : Bool) (r : Reached) (d : DriveOutput) → if_asks o ≡ Ok asks
     → ((e : DriveFault) → workers_fault workers ≡ Some e → ⊥) → IsReached flags asks r → IsOutput before json r d → IsDriveOf flags o workers before json (Ok d)
 drove_of flags o asks workers before json r d read workers_fit reached output =
     subst (λ (p : Option (List Ask)). IsDriveOf flags p workers before json (Ok d)) (sym (there o asks read))
@@ -52,10 +52,10 @@ unadded_of flags o asks workers before json r e read workers_fit reached unadded
     go BadAsks is wants = absurd is
 
 -- what was driven, as what the command comes to
-pub output_is : (flags : Definitions) (o : Option (List Ask)) (asks : List Ask) (workers : ℕ) (before : Option Contents) (json : Bool) (r : Reached) (result : Result program_drove.Drove DriveRefusal) → if_asks o ≡ Ok asks
-    → ((e : DriveFault) → workers_fault workers ≡ Some e → ⊥) → IsReached flags asks r → IfOk result (λ d. IsOutput before json r (drove_view d)) → IfErr result (IsUnadded before r.book)
+pub output_is : (flags : Definitions) (o : Option (List Ask)) (asks : List Ask) (workers : ℕ) (before : Option Contents) (json : Bool) (r : Reached) (result : Result program_output.DriveOutput DriveRefusal) → if_asks o ≡ Ok asks
+    → ((e : DriveFault) → workers_fault workers ≡ Some e → ⊥) → IsReached flags asks r → IfOk result (λ d. IsOutput before json r (drive_output_view d)) → IfErr result (IsUnadded before r.book)
     → Drives flags o workers before json result
-output_is flags o asks workers before json r (Ok d) read workers_fit reached output unadded = drove_of flags o asks workers before json r (drove_view d) read workers_fit reached output
+output_is flags o asks workers before json r (Ok d) read workers_fit reached output unadded = drove_of flags o asks workers before json r (drive_output_view d) read workers_fit reached output
 output_is flags o asks workers before json r (Err e) read workers_fit reached output unadded = λ wanted. unadded_of flags o asks workers before json r e read workers_fit reached unadded wanted
 
 -- the refusals of asks that were read

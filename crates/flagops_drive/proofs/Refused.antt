@@ -7,7 +7,7 @@ use Rattle.book_share.specs.DriveFault.{workers_fault}
 use Rattle.book_share.specs.declared.drive_fault.DriveFault.{DriveFault}
 use Rattle.flagops_drive.specs.Asks.{Ask}
 use Rattle.flagops_drive.specs.Driven.{Drives, IsDriveOf, refusal_of}
-use Rattle.flagops_drive.specs.declared.command.Drove as program_drove
+use Rattle.flagops_drive.specs.declared.command.DriveOutput as program_output
 use Rattle.flagops_drive.specs.declared.fault.DriveRefusal.{DriveRefusal}
 use Rattle.flagops_drive.specs.declared.fault.DriveRefusal.TheVariants.{Drive, BadAsks}
 
@@ -37,5 +37,5 @@ pub none_first : {X : Type 0} (o : Option (List Ask)) (workers : ℕ) (e : Drive
 none_first None workers e h is first = cc
 none_first (Some asks) workers e h is first = let same : None ≡ Some e = ap (option_map Drive) is ∙ first in cc
 
-pub same_asks : (flags : Definitions) (items o : Option (List Ask)) (workers : ℕ) (before : Option Contents) (json : Bool) (r : Result program_drove.Drove DriveRefusal) → items ≡ o → Drives flags items workers before json r → Drives flags o workers before json r
+pub same_asks : (flags : Definitions) (items o : Option (List Ask)) (workers : ℕ) (before : Option Contents) (json : Bool) (r : Result program_output.DriveOutput DriveRefusal) → items ≡ o → Drives flags items workers before json r → Drives flags o workers before json r
 same_asks flags items o workers before json r is h = subst (λ (asks : Option (List Ask)). Drives flags asks workers before json r) is h

@@ -16,18 +16,18 @@ use Rattle.book_share.specs.declared.driving.Driven as program_driven
 use Rattle.flagops_drive.specs.Asks.{Ask, ask_view}
 use Rattle.flagops_drive.specs.Fault.{want}
 use Rattle.flagops_drive.specs.Lines.{drive_text}
-use Rattle.flagops_drive.specs.declared.command.Drove as program_drove
+use Rattle.flagops_drive.specs.declared.command.DriveOutput as program_output
 use Rattle.flagops_drive.specs.declared.fault.DriveRefusal.{DriveRefusal}
 use Rattle.flagops_drive.specs.declared.fault.DriveRefusal.TheVariants.{Drive, BadAsks, PageFull}
 
 -- the lines that are printed, the file of the book, and how many inputs the asks reached
-pub record Drove : Type 0 where
+pub record DriveOutput : Type 0 where
   pub text : List ℕ
   pub book : List ℕ
   pub reached : ℕ
 
-abbrev pub drove_view : program_drove.Drove → Drove
-drove_view d = record { text = d.text.items; book = d.book.items; reached = d.tally.reached }
+abbrev pub drive_output_view : program_output.DriveOutput → DriveOutput
+drive_output_view d = record { text = d.text.items; book = d.book.items; reached = d.tally.reached }
 
 -- what asks resolve to, the book in which was noted what they reached, and the counts of the notes
 pub record Reached : Type 0 where
@@ -61,7 +61,7 @@ HaveNoSum None reached = ⊥
 HaveNoSum (Some before) reached = HaveNoUnion before reached
 
 -- the lines of what was reached, with the number of inputs of the book that is written, and its file; each input that was reached counts once
-pub record IsOutput (before : Option Contents) (json : Bool) (r : Reached) (d : Drove) : Type 0 where
+pub record IsOutput (before : Option Contents) (json : Bool) (r : Reached) (d : DriveOutput) : Type 0 where
   pub book : Contents
   pub adds : Adds before r.book book
   pub text : d.text ≡ drive_text json r.answers (input_count book) r.calls r.news r.full r.long
@@ -70,7 +70,7 @@ pub record IsOutput (before : Option Contents) (json : Bool) (r : Reached) (d : 
   pub reached : d.reached ≡ r.news
 
 -- the output of these asks, whose book keeps what a book had before
-pub record IsDrove (flags : Definitions) (asks : List Ask) (before : Option Contents) (json : Bool) (d : Drove) : Type 0 where
+pub record IsDriveOutput (flags : Definitions) (asks : List Ask) (before : Option Contents) (json : Bool) (d : DriveOutput) : Type 0 where
   pub reached : Reached
   pub is_reached : IsReached flags asks reached
   pub output : IsOutput before json reached d
@@ -103,12 +103,12 @@ IsRefused flags asks workers before PageFull = (workers_fault workers ≡ None) 
 IsRefused flags asks workers before BadAsks = ⊥
 
 -- what comes of these asks, if there are any, by so many workers, beside a book that was there before; want of memory is no part of it
-abbrev pub IsDriveOf : Definitions → Option (List Ask) → ℕ → Option Contents → Bool → Result Drove DriveRefusal → Type 0
+abbrev pub IsDriveOf : Definitions → Option (List Ask) → ℕ → Option Contents → Bool → Result DriveOutput DriveRefusal → Type 0
 IsDriveOf flags None workers before json r = r ≡ Err BadAsks
-IsDriveOf flags (Some asks) workers before json (Ok d) = (workers_fault workers ≡ None) × IsDrove flags asks before json d
+IsDriveOf flags (Some asks) workers before json (Ok d) = (workers_fault workers ≡ None) × IsDriveOutput flags asks before json d
 IsDriveOf flags (Some asks) workers before json (Err e) = IsRefused flags asks workers before e
 
 -- what was returned is so, unless memory ran out
-abbrev pub Drives : Definitions → Option (List Ask) → ℕ → Option Contents → Bool → Result program_drove.Drove DriveRefusal → Type 0
-Drives flags asks workers before json (Ok d) = IsDriveOf flags asks workers before json (Ok (drove_view d))
+abbrev pub Drives : Definitions → Option (List Ask) → ℕ → Option Contents → Bool → Result program_output.DriveOutput DriveRefusal → Type 0
+Drives flags asks workers before json (Ok d) = IsDriveOf flags asks workers before json (Ok (drive_output_view d))
 Drives flags asks workers before json (Err e) = e ≢ want → IsDriveOf flags asks workers before json (Err e)

@@ -5,7 +5,7 @@ use Rattle.book_core.specs.Book.{Contents, input_count}
 use Rattle.flag_resolve.specs.Resolved.{Resolved}
 use Rattle.flag_resolve.specs.Words.{code_word, reason_word}
 use Rattle.flagops_drive.specs.Lines.{drive_text}
-use Rattle.flagops_drive.specs.declared.command.Drove.{Drove}
+use Rattle.flagops_drive.specs.declared.command.DriveOutput.{DriveOutput}
 use Rattle.flagops_drive.specs.declared.tally.Endings.{Endings}
 
 -- what went wrong with an ask, and else the reason of its value, in OpenFeature's words
@@ -35,7 +35,7 @@ inputs_before None = 0
 inputs_before (Some book) = input_count book
 
 -- The tally is of the resolutions that are printed, and has the counts that are printed below them: the inputs of the book that is written, and those that the asks reached.
-unfoldable pub IsTallied : Option Contents → Bool → Drove → Type 0
+unfoldable pub IsTallied : Option Contents → Bool → DriveOutput → Type 0
 IsTallied before json d =
     (answers : List Resolved) × (calls full long : ℕ) × (d.text.items ≡ drive_text json answers d.tally.inputs calls d.tally.reached full long) × IsEndings answers d.tally.endings
     × (d.tally.had ≡ inputs_before before)

@@ -4,7 +4,7 @@ ghost use Rattle.book_share.specs.DriveFault.{workers_fault};
 ghost use Rattle.flag_defs.specs.Flags.{flags_view};
 ghost use Rattle.flag_text.specs.Shape.{is_whole, items_are_whole};
 ghost use Rattle.flagops_drive.specs.Asks.{asks_in, asks_of as asks_of_shape};
-ghost use Rattle.flagops_drive.specs.Driven.{Adds, Drives, IsOutput, IsUnadded, drove_view, reached_view, refusal_of};
+ghost use Rattle.flagops_drive.specs.Driven.{Adds, Drives, IsOutput, IsUnadded, drive_output_view, reached_view, refusal_of};
 ghost use Rattle.flagops_drive.specs.File.{count_of, file_view, items_of};
 ghost use Rattle.flagops_drive.specs.Tally.{IsTallied};
 ghost use Rattle.flagops_drive.specs.declared.fault.DriveRefusal.{DriveRefusal as Refusal};
@@ -27,7 +27,7 @@ use std::thread::Threads;
 
 /// The whole output of the command.
 #[derive(Drop)]
-pub struct Drove {
+pub struct DriveOutput {
     /// The lines that are printed.
     pub text: Vec<u8>,
     /// The file of the book.
@@ -76,7 +76,7 @@ pub fn drive_asks<R: Threads + Wait + Sync>(
     before: Option<Book>,
     json: bool,
     meter: Option<&Meter>,
-) -> Result<Drove, DriveRefusal>
+) -> Result<DriveOutput, DriveRefusal>
     requires { is_whole (file_view asks.now) ≡ true }
     ensures driven { Drives (flags_view flags.now) (asks_of_shape (file_view asks.now)) workers before json result }
     ensures tally { IfOk result (IsTallied before json) }
@@ -101,7 +101,7 @@ fn drive_items<R: Threads + Wait + Sync>(
     before: Option<Book>,
     json: bool,
     meter: Option<&Meter>,
-) -> Result<Drove, DriveRefusal>
+) -> Result<DriveOutput, DriveRefusal>
     requires whole { items_are_whole (items_of items) ≡ true }
     requires few { count_of items < 2 ^ 32 }
     ensures driven { Drives (flags_view flags.now) (asks_in (items_of items.entry)) workers before json result }
@@ -135,8 +135,8 @@ fn output_of(
     driven: Driven,
     before: Option<Book>,
     json: bool,
-) -> Result<Drove, DriveRefusal>
-    ensures output { IfOk result (λ d. IsOutput before json (reached_view driven) (drove_view d)) }
+) -> Result<DriveOutput, DriveRefusal>
+    ensures output { IfOk result (λ d. IsOutput before json (reached_view driven) (drive_output_view d)) }
     ensures tally { IfOk result (IsTallied before json) }
     ensures refused { IfErr result (IsUnadded before driven.book) }
 {
@@ -165,7 +165,7 @@ fn output_of(
         inputs: counts.inputs,
     };
     let file = print_book(alloc, &book)?;
-    Ok(Drove {
+    Ok(DriveOutput {
         text,
         book: file,
         tally,

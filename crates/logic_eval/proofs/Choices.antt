@@ -11,12 +11,12 @@ use Rattle.flag_text.specs.Shape.{Shape, null, boolean, whole, other, text, list
 use Rattle.bucket_core.specs.Point.{point_of}
 use Rattle.logic_values.specs.declared.fault.EvalFault.{EvalFault}
 use Rattle.logic_values.specs.declared.fault.EvalFault.TheVariants.{BadBuckets}
-use Rattle.logic_eval.specs.declared.fractional.Share.{Share}
+use Rattle.logic_eval.specs.declared.fractional.WeightedVariant.{WeightedVariant}
 use Rattle.logic_eval.specs.Budget.{Progress, paid}
 use Rattle.logic_eval.specs.Run.{Run, ends}
 use Rattle.logic_eval.specs.Fractional.{entries_of, buckets_of, not_too_heavy, by_buckets, decided, input_result, reached, chosen}
 use Rattle.logic_values.specs.Number.{below}
-use Rattle.logic_eval.specs.Views.{share_view}
+use Rattle.logic_eval.specs.Views.{weighted_variant_view}
 use Rattle.logic_eval.proofs.Budgets.{bind_ok, bind_err, ends_ok, ends_err, paid-gives, paid-faults, paid-reach}
 use Rattle.logic_values.proofs.Items.{drop_at}
 
@@ -33,15 +33,15 @@ totals-start ps = go (entries_of ps)
         let z : 0 + total_weight es ≡ total_weight es = omega arith in
         elim (cases_Bool (nat_lt (total_weight es) (2 ^ 31))) [ inl e ↦ rw (z, e) refl | inr e ↦ rw (z, e) refl ]
 
-module _ (sum : ℕ) (xs : List Share) (i : ℕ) (x : Share) (within : i < length xs) (is : x ≡ get_or xs i x) where
-  pub totals_next : (e : List ℕ × ℕ) → Some e ≡ bucket_with (weight_of (share_view x).1) (share_view x).0 → totals sum (map share_view (drop i xs)) ≡ totals (sum + e.1) (map share_view (drop (i + 1) xs))
-  totals_next e h = rw (drop_at xs i x within is, ← h) (go (entries_of (map share_view (drop (i + 1) xs))))
+module _ (sum : ℕ) (xs : List WeightedVariant) (i : ℕ) (x : WeightedVariant) (within : i < length xs) (is : x ≡ get_or xs i x) where
+  pub totals_next : (e : List ℕ × ℕ) → Some e ≡ bucket_with (weight_of (weighted_variant_view x).1) (weighted_variant_view x).0 → totals sum (map weighted_variant_view (drop i xs)) ≡ totals (sum + e.1) (map weighted_variant_view (drop (i + 1) xs))
+  totals_next e h = rw (drop_at xs i x within is, ← h) (go (entries_of (map weighted_variant_view (drop (i + 1) xs))))
     where
       go : (o : Option Entries) → option_and_then (λ es. below (2 ^ 31) (sum + total_weight es)) (option_map (λ es. e ∷ es) o) ≡ option_and_then (λ es. below (2 ^ 31) (sum + e.1 + total_weight es)) o
       go None = refl
       go (Some es) = ap (below (2 ^ 31)) (let k = total_weight-cons e es in omega arith)
 
-  pub totals_none : None ≡ bucket_with (weight_of (share_view x).1) (share_view x).0 → totals sum (map share_view (drop i xs)) ≡ None
+  pub totals_none : None ≡ bucket_with (weight_of (weighted_variant_view x).1) (weighted_variant_view x).0 → totals sum (map weighted_variant_view (drop i xs)) ≡ None
   totals_none h = rw (drop_at xs i x within is, ← h) refl
 
 pub totals_heavy : (sum : ℕ) (ps : List (Shape × Shape)) → 2 ^ 31 ≤ sum → totals sum ps ≡ None
@@ -51,7 +51,7 @@ totals_heavy sum ps h = go (entries_of ps)
     go None = refl
     go (Some es) = let k : nat_lt (sum + total_weight es) (2 ^ 31) ≡ false = grind arith in rw k refl
 
-pub totals_end : (sum : ℕ) (xs : List Share) (i : ℕ) → length xs ≤ i → sum < 2 ^ 31 → totals sum (map share_view (drop i xs)) ≡ Some sum
+pub totals_end : (sum : ℕ) (xs : List WeightedVariant) (i : ℕ) → length xs ≤ i → sum < 2 ^ 31 → totals sum (map weighted_variant_view (drop i xs)) ≡ Some sum
 totals_end sum xs i h k =
     let z : sum + 0 ≡ sum = omega arith in
     let t : nat_lt sum (2 ^ 31) ≡ true = grind arith in
@@ -69,31 +69,31 @@ is_named w (list ts) e h = absurd (cc h)
 is_named w (object ms) e h = absurd (cc h)
 
 -- the rest of the entries, and the place of the point among theirs
-pub record Rest (xs : List Share) (i point left : ℕ) (r : Entries) : Type 0 where
+pub record Rest (xs : List WeightedVariant) (i point left : ℕ) (r : Entries) : Type 0 where
   pub rest : Entries
-  pub entries : entries_of (map share_view (drop i xs)) ≡ Some rest
+  pub entries : entries_of (map weighted_variant_view (drop i xs)) ≡ Some rest
   pub same : at r point ≡ at rest left
 
-module _ (xs : List Share) (i : ℕ) (x : Share) (within : i < length xs) (is : x ≡ get_or xs i x) (point left : ℕ) (r : Entries) (now : Rest xs i point left r) where
-  parted : (e : List ℕ × ℕ) → Some e ≡ bucket_with (weight_of (share_view x).1) (share_view x).0
-      → (es : Entries) × (entries_of (map share_view (drop (i + 1) xs)) ≡ Some es) × (now.rest ≡ e ∷ es)
-  parted e h = go (entries_of (map share_view (drop (i + 1) xs))) refl (rw (drop_at xs i x within is, ← h) at now.entries)
+module _ (xs : List WeightedVariant) (i : ℕ) (x : WeightedVariant) (within : i < length xs) (is : x ≡ get_or xs i x) (point left : ℕ) (r : Entries) (now : Rest xs i point left r) where
+  parted : (e : List ℕ × ℕ) → Some e ≡ bucket_with (weight_of (weighted_variant_view x).1) (weighted_variant_view x).0
+      → (es : Entries) × (entries_of (map weighted_variant_view (drop (i + 1) xs)) ≡ Some es) × (now.rest ≡ e ∷ es)
+  parted e h = go (entries_of (map weighted_variant_view (drop (i + 1) xs))) refl (rw (drop_at xs i x within is, ← h) at now.entries)
     where
-      go : (o : Option Entries) → entries_of (map share_view (drop (i + 1) xs)) ≡ o → option_map (λ es. e ∷ es) o ≡ Some now.rest
-          → (es : Entries) × (entries_of (map share_view (drop (i + 1) xs)) ≡ Some es) × (now.rest ≡ e ∷ es)
+      go : (o : Option Entries) → entries_of (map weighted_variant_view (drop (i + 1) xs)) ≡ o → option_map (λ es. e ∷ es) o ≡ Some now.rest
+          → (es : Entries) × (entries_of (map weighted_variant_view (drop (i + 1) xs)) ≡ Some es) × (now.rest ≡ e ∷ es)
       go None g k = absurd (cc k)
       go (Some es) g k = (es, g, cc k)
 
-  pub name_here : (e : List ℕ × ℕ) → Some e ≡ bucket_with (weight_of (share_view x).1) (share_view x).0 → left < e.1 → at r point ≡ Some e.0
+  pub name_here : (e : List ℕ × ℕ) → Some e ≡ bucket_with (weight_of (weighted_variant_view x).1) (weighted_variant_view x).0 → left < e.1 → at r point ≡ Some e.0
   name_here e h k = let p = parted e h in now.same ∙ (ap (λ es. at es left) p.2 ∙ at-here e p.0 left k)
 
-  pub name_later : (e : List ℕ × ℕ) → Some e ≡ bucket_with (weight_of (share_view x).1) (share_view x).0 → e.1 ≤ left → Rest xs (i + 1) point (left - e.1) r
+  pub name_later : (e : List ℕ × ℕ) → Some e ≡ bucket_with (weight_of (weighted_variant_view x).1) (weighted_variant_view x).0 → e.1 ≤ left → Rest xs (i + 1) point (left - e.1) r
   name_later e h k = let p = parted e h in record { rest = p.0; entries = p.1; same = now.same ∙ (ap (λ es. at es left) p.2 ∙ at-past e p.0 left k) }
 
-  pub no_entry : None ≡ bucket_with (weight_of (share_view x).1) (share_view x).0 → at r point ≡ None
+  pub no_entry : None ≡ bucket_with (weight_of (weighted_variant_view x).1) (weighted_variant_view x).0 → at r point ≡ None
   no_entry h = absurd (cc (rw (drop_at xs i x within is, ← h) at now.entries))
 
-pub name_end : (xs : List Share) (i point left : ℕ) (r : Entries) → Rest xs i point left r → length xs ≤ i → at r point ≡ None
+pub name_end : (xs : List WeightedVariant) (i point left : ℕ) (r : Entries) → Rest xs i point left r → length xs ≤ i → at r point ≡ None
 name_end xs i point left r now h =
     let e = rw (drop_all i xs h) at now.entries in
     let n : now.rest ≡ [] = cc e in

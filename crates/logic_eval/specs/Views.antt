@@ -16,8 +16,8 @@ use Rattle.logic_eval.specs.declared.find.Place.{Place}
 use Rattle.logic_eval.specs.declared.find.Place.TheVariants as place
 use Rattle.logic_eval.specs.declared.fractional.Input.{Input}
 use Rattle.logic_eval.specs.declared.fractional.Input.TheVariants.{Given, Default}
-use Rattle.logic_eval.specs.declared.fractional.Share.{Share}
-use Rattle.logic_eval.specs.declared.fractional.Share.TheVariants.{Literal, Computed}
+use Rattle.logic_eval.specs.declared.fractional.WeightedVariant.{WeightedVariant}
+use Rattle.logic_eval.specs.declared.fractional.WeightedVariant.TheVariants.{Literal, Computed}
 use Rattle.logic_eval.specs.Run.{Reach}
 use Rattle.logic_eval.specs.Scope.{Situation, is_dot}
 use Rattle.logic_eval.specs.declared.context.Context.{Context}
@@ -49,9 +49,9 @@ abbrev pub input_view : Option (List ℕ) → Input → Option (Result (List ℕ
 input_view default (Given v) = given_input (value_view v)
 input_view default Default = made_input default
 
-abbrev pub share_view : Share → Shape × Shape
-share_view (Literal name weight) = (text name.now, whole (pos weight))
-share_view (Computed name weight) = (value_view name, value_view weight)
+abbrev pub weighted_variant_view : WeightedVariant → Shape × Shape
+weighted_variant_view (Literal name weight) = (text name.now, whole (pos weight))
+weighted_variant_view (Computed name weight) = (value_view name, value_view weight)
 
 -- what stands at a place
 abbrev pub place_view : Place → Shape

@@ -11,10 +11,10 @@ ghost use Rattle.logic_values.specs.declared.fault.EvalFault.TheVariants.{WantOf
 ghost use Rattle.logic_eval.specs.Budget.{Follows};
 ghost use Rattle.logic_eval.specs.Fractional.{entries_of, buckets_of, input_result, decided};
 ghost use Rattle.logic_values.specs.Text.{made};
-ghost use Rattle.logic_eval.specs.Views.{progress, default_view, input_view, share_view};
+ghost use Rattle.logic_eval.specs.Views.{progress, default_view, input_view, weighted_variant_view};
 ghost use Rattle.logic_values.specs.Views.{seen_view, value_view};
 
-use crate::fractional::{Input, Share};
+use crate::fractional::{Input, WeightedVariant};
 use crate::meter::{Meter, Reached};
 use crate::scope::Subject;
 use bucket_core::point;
@@ -30,10 +30,10 @@ pub(crate) fn decide<'a>(
     meter: &mut Meter,
     site: u32,
     input: Input,
-    shares: &[Share<'a>],
+    shares: &[WeightedVariant<'a>],
     subject: Subject,
 ) -> Result<Value<'a>, EvalFault>
-    ensures exact { Follows value_view (progress meter.old) (progress meter.new) result (decided site (input_view (default_view subject.entry) input.entry) (map share_view shares.now)) }
+    ensures exact { Follows value_view (progress meter.old) (progress meter.new) result (decided site (input_view (default_view subject.entry) input.entry) (map weighted_variant_view shares.now)) }
 {
     let Some(total) = total_of(shares) else {
         return Err(EvalFault::BadBuckets);
@@ -50,12 +50,12 @@ pub(crate) fn decide<'a>(
 }
 
 // The name of the share, or null.
-fn chosen<'a>(alloc: Global, share: Option<&Share<'a>>) -> Result<Value<'a>, AllocError>
-    ensures { IfOk result (λ v. value_view v ≡ option_map_or (λ s. (share_view s.now).0) share.entry null) }
+fn chosen<'a>(alloc: Global, share: Option<&WeightedVariant<'a>>) -> Result<Value<'a>, AllocError>
+    ensures { IfOk result (λ v. value_view v ≡ option_map_or (λ s. (weighted_variant_view s.now).0) share.entry null) }
 {
     match share {
-        Some(Share::Literal(name, _)) => Ok(Value::Name(name)),
-        Some(Share::Computed(name, _)) => copy(alloc, name),
+        Some(WeightedVariant::Literal(name, _)) => Ok(Value::Name(name)),
+        Some(WeightedVariant::Computed(name, _)) => copy(alloc, name),
         None => Ok(Value::Null),
     }
 }
@@ -122,8 +122,8 @@ fn joined(alloc: Global, flag: &str, key: &str) -> Result<String, AllocError>
 }
 
 // The total weight, where each name is a text, each weight is a whole number from 0 to 2^31-1 and the total is one.
-fn total_of(shares: &[Share]) -> Option<u32>
-    ensures value { result ≡ option_map total_weight (buckets_of (map share_view shares.now)) }
+fn total_of(shares: &[WeightedVariant]) -> Option<u32>
+    ensures value { result ≡ option_map total_weight (buckets_of (map weighted_variant_view shares.now)) }
     ensures small { IfSome result (λ n. n < 2 ^ 31) }
 {
     let mut total: u64 = 0;
@@ -138,8 +138,11 @@ fn total_of(shares: &[Share]) -> Option<u32>
 }
 
 // The share at a point of the entries.
-fn share_at<'s, 'a>(shares: &'s [Share<'a>], point: u32) -> Option<&'s Share<'a>>
-    ensures { (r : Entries) → entries_of (map share_view shares.now) ≡ Some r → option_map (λ s. (share_view s.now).0) result ≡ option_map text (at r point) }
+fn share_at<'s, 'a>(
+    shares: &'s [WeightedVariant<'a>],
+    point: u32,
+) -> Option<&'s WeightedVariant<'a>>
+    ensures { (r : Entries) → entries_of (map weighted_variant_view shares.now) ≡ Some r → option_map (λ s. (weighted_variant_view s.now).0) result ≡ option_map text (at r point) }
 {
     let mut left = point as u64;
     for share in shares {
@@ -153,19 +156,19 @@ fn share_at<'s, 'a>(shares: &'s [Share<'a>], point: u32) -> Option<&'s Share<'a>
 }
 
 // A name that is a text, and a weight.
-fn entry_of<'s, 'a>(share: &'s Share<'a>) -> Option<(&'s str, u64)>
-    ensures value { option_map (λ e. (e.0.now, e.1)) result ≡ bucket_with (weight_of (share_view share.now).1) (share_view share.now).0 }
+fn entry_of<'s, 'a>(share: &'s WeightedVariant<'a>) -> Option<(&'s str, u64)>
+    ensures value { option_map (λ e. (e.0.now, e.1)) result ≡ bucket_with (weight_of (weighted_variant_view share.now).1) (weighted_variant_view share.now).0 }
     ensures small { IfSome result (λ e. e.1 < 2 ^ 31) }
 {
     match share {
-        Share::Literal(name, weight) => {
+        WeightedVariant::Literal(name, weight) => {
             if *weight <= MAX_TOTAL {
                 Some((name, *weight))
             } else {
                 None
             }
         }
-        Share::Computed(name, weight) => match (name.seen(), weight_of(weight.seen())) {
+        WeightedVariant::Computed(name, weight) => match (name.seen(), weight_of(weight.seen())) {
             (Seen::Text(name), Some(weight)) => Some((name, weight)),
             _ => None,
         },

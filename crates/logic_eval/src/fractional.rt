@@ -12,7 +12,7 @@ pub(crate) enum Input<'a> {
 
 /// A name and its weight.
 #[derive(Drop)]
-pub(crate) enum Share<'a> {
+pub(crate) enum WeightedVariant<'a> {
     /// Both stand in the expression.
     Literal(&'a str, u64),
     /// Both are values that may be no name and no weight.

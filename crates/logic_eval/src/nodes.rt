@@ -5,11 +5,11 @@ ghost use Rattle.logic_eval.specs.Evaluated.{Evaluates, by_meaning_of, bucket_me
 ghost use Rattle.logic_eval.specs.Evaluation.{input, pairs, part_of};
 ghost use Rattle.logic_eval.specs.Operators.{values, operated, conditional, first_of_truth, strict, over, over_items, over_from_start, start, mapped, kept, occurs, reduced};
 ghost use Rattle.logic_values.specs.Views.{value_view};
-ghost use Rattle.logic_eval.specs.Views.{scope_view, default_view, input_view, share_view};
+ghost use Rattle.logic_eval.specs.Views.{scope_view, default_view, input_view, weighted_variant_view};
 
 use crate::apply::apply;
 use crate::choice::decide;
-use crate::fractional::{Input, Share};
+use crate::fractional::{Input, WeightedVariant};
 use crate::meter::{Meter, pay_for};
 use crate::scope::{Scope, Subject};
 use crate::variable::variable;
@@ -340,19 +340,19 @@ fn shares<'s, 'a>(
     buckets: &'a Vec<Bucket<Node>>,
     scope: Scope<'s, 'a>,
     subject: Subject<'a>,
-) -> Result<Vec<Share<'a>>, EvalFault>
-    ensures exact { Evaluates (λ ss. map share_view ss.items) meter.old meter.new result (pairs (bucket_meanings_of subject.entry buckets.now.items) (scope_view scope.entry)) }
+) -> Result<Vec<WeightedVariant<'a>>, EvalFault>
+    ensures exact { Evaluates (λ ss. map weighted_variant_view ss.items) meter.old meter.new result (pairs (bucket_meanings_of subject.entry buckets.now.items) (scope_view scope.entry)) }
 {
     let mut shares = Vec::with_capacity(meter.alloc, buckets.len())?;
     for bucket in buckets {
         match bucket {
             Bucket::Literal(name, weight) => {
-                shares.push(Share::Literal(name.as_str(), *weight as u64))?;
+                shares.push(WeightedVariant::Literal(name.as_str(), *weight as u64))?;
             }
             Bucket::Computed(name, weight) => {
                 let name = part(meter, name, scope, subject)?;
                 let weight = part(meter, weight, scope, subject)?;
-                shares.push(Share::Computed(name, weight))?;
+                shares.push(WeightedVariant::Computed(name, weight))?;
             }
         }
     }

@@ -39,7 +39,7 @@ use Rattle.rollout.proofs.Sites.{steps_of}
 use Rattle.rollout.specs.Applied.{applied}
 use Rattle.rollout.specs.Planned.{IsPlan}
 use Rattle.rollout_checks.proofs.Bounded.{came}
-use Rattle.rollout_checks.specs.Lawful.{Place, Problem, and_then, by_logic, by_price, has_names_of, limits_for, or_refuse, place_in, place_of, problem_at, sized, weighed}
+use Rattle.rollout_checks.specs.Lawful.{Place, Problem, and_then, by_logic, by_price, names_are_variants, limits_for, or_refuse, place_in, place_of, problem_at, sized, weighed}
 use Rattle.rollout_checks.specs.Refined.{problem_refined}
 use Rattle.rollout_checks.specs.declared.fault.RolloutFault.{RolloutFault}
 use Rattle.rollout_checks.specs.declared.fault.RolloutFault.TheVariants.{NoSite, NoWeight, UnknownFlag, UnknownVariant}
@@ -87,7 +87,7 @@ unpriced (Ok x) asked h = cc
 unpriced (Err e) asked h = absurd (cc)
 
 limited : (place : Place) (asked : Asked) (limits : Limits) → limits_for place asked ≡ Ok limits → limits_on asked.totals (variant_names place.flag) ≡ limits
-limited place asked limits h = by (has_names_of place.flag place.entries) (all_known (variant_names place.flag) asked) h
+limited place asked limits h = by (names_are_variants place.flag place.entries) (all_known (variant_names place.flag) asked) h
   where
     by : (a b : Bool) → cond a (by_price (cond b (Ok (limits_on asked.totals (variant_names place.flag))) (Err price.UnknownVariant))) (Err UnknownVariant) ≡ Ok limits → limits_on asked.totals (variant_names place.flag) ≡ limits
     by true true h = cc

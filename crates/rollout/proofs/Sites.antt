@@ -10,7 +10,7 @@ use Rattle.flag_defs.specs.Flag.{is_broken}
 use Rattle.rollout.specs.Applied.{applied, by_document}
 use Rattle.flag_defs.specs.declared.fault.DefFault.{DefFault}
 use Rattle.logic_ast.specs.declared.fault.LogicFault.{LogicFault}
-use Rattle.rollout_checks.specs.Lawful.{and_then, by_logic, or_refuse, has_names_of}
+use Rattle.rollout_checks.specs.Lawful.{and_then, by_logic, or_refuse, names_are_variants}
 use Rattle.rollout_checks.specs.declared.fault.RolloutFault.{RolloutFault}
 use Rattle.rollout_checks.specs.declared.fault.RolloutFault.TheVariants.{UnknownFlag, UnknownVariant}
 
@@ -20,7 +20,7 @@ site_good n r broken changed h = cc
 site_good n r (good rules) changed h = refl
 
 -- nothing is refused but a document that is too large
-pub applied_with : (fs : Definitions) (key : List ℕ) (n : ℕ) (r : Entries) (flag changed : Definition) → lookup (bytes_eq key) fs ≡ Some flag → with_site n r flag ≡ Ok changed → has_names_of flag r ≡ true
+pub applied_with : (fs : Definitions) (key : List ℕ) (n : ℕ) (r : Entries) (flag changed : Definition) → lookup (bytes_eq key) fs ≡ Some flag → with_site n r flag ≡ Ok changed → names_are_variants flag r ≡ true
     → applied fs key n r ≡ by_document (limited (by_key (fs ++ (key, changed) ∷ [])))
 applied_with fs key n r flag changed found made named = rw (found, made, named) refl
 
@@ -46,11 +46,11 @@ module _ (fs : Definitions) (key : List ℕ) (n : ℕ) (r : Entries) (after : De
   named true changed h = in_limits (limited (by_key (fs ++ (key, changed) ∷ []))) h
   named false changed h = absurd (cc)
 
-  of_site : (flag : Definition) (x : Result Definition LogicFault) → lookup (bytes_eq key) fs ≡ Some flag → with_site n r flag ≡ x → and_then (by_logic x) (by_names (has_names_of flag r)) ≡ Ok after → Steps fs key n r after
-  of_site flag (Ok changed) was made h = record { flag = flag; changed = changed; was = was; made = made; is = named (has_names_of flag r) changed h }
+  of_site : (flag : Definition) (x : Result Definition LogicFault) → lookup (bytes_eq key) fs ≡ Some flag → with_site n r flag ≡ x → and_then (by_logic x) (by_names (names_are_variants flag r)) ≡ Ok after → Steps fs key n r after
+  of_site flag (Ok changed) was made h = record { flag = flag; changed = changed; was = was; made = made; is = named (names_are_variants flag r) changed h }
   of_site flag (Err e) was made h = absurd (cc)
 
-  of_flag : (o : Option Definition) → lookup (bytes_eq key) fs ≡ o → and_then (or_refuse UnknownFlag o) (λ flag. and_then (by_logic (with_site n r flag)) (by_names (has_names_of flag r))) ≡ Ok after → Steps fs key n r after
+  of_flag : (o : Option Definition) → lookup (bytes_eq key) fs ≡ o → and_then (or_refuse UnknownFlag o) (λ flag. and_then (by_logic (with_site n r flag)) (by_names (names_are_variants flag r))) ≡ Ok after → Steps fs key n r after
   of_flag (Some flag) was h = of_site flag (with_site n r flag) was refl h
   of_flag None was h = absurd (cc)
 

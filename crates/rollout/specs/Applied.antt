@@ -7,7 +7,7 @@ use Rattle.flag_defs.specs.Changes.{by_key, with_site}
 use Rattle.flag_defs.specs.Document.{Definitions, limited}
 use Rattle.flag_defs.specs.declared.fault.DefFault.{DefFault}
 use Rattle.rollout_checks.specs.Fault.{of_document}
-use Rattle.rollout_checks.specs.Lawful.{and_then, by_logic, or_refuse, has_names_of}
+use Rattle.rollout_checks.specs.Lawful.{and_then, by_logic, or_refuse, names_are_variants}
 use Rattle.rollout_checks.specs.declared.fault.RolloutFault.{RolloutFault}
 use Rattle.rollout_checks.specs.declared.fault.RolloutFault.TheVariants.{UnknownFlag, UnknownVariant}
 
@@ -21,4 +21,4 @@ abbrev pub applied : Definitions → List ℕ → ℕ → Entries → Result Def
 applied flags key site rule =
     and_then (or_refuse UnknownFlag (lookup (bytes_eq key) flags)) (λ flag.
     and_then (by_logic (with_site site rule flag)) (λ changed.
-    if has_names_of flag rule then by_document (limited (by_key (flags ++ (key, changed) ∷ []))) else Err UnknownVariant))
+    if names_are_variants flag rule then by_document (limited (by_key (flags ++ (key, changed) ∷ []))) else Err UnknownVariant))

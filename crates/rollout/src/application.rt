@@ -9,7 +9,7 @@ ghost use Rattle.flag_defs.specs.Document.{limited};
 ghost use Rattle.flag_defs.specs.Flag.{entries_view, flag_view, is_broken};
 ghost use Rattle.flag_defs.specs.Flags.{flags_view};
 ghost use Rattle.rollout.specs.Applied.{applied};
-ghost use Rattle.rollout_checks.specs.Lawful.{has_names_of};
+ghost use Rattle.rollout_checks.specs.Lawful.{names_are_variants};
 ghost use Rattle.rollout.specs.Change.{IsChanged, OthersStay, ResolveAsBefore};
 
 use bucket_core::Rule;
@@ -45,7 +45,7 @@ pub fn apply(
         return Err(RolloutFault::UnknownFlag);
     };
     let changed = flag.with_site(alloc, site, rule)?;
-    if !has_names_of(flag, rule) {
+    if !names_are_variants(flag, rule) {
         return Err(RolloutFault::UnknownVariant);
     }
     // what is proved of the other flags and of resolutions rests on both
@@ -55,9 +55,9 @@ pub fn apply(
 }
 
 /// Whether each name of the rule is a variant of the flag.
-fn has_names_of(flag: &Flag, rule: &Rule) -> bool
+fn names_are_variants(flag: &Flag, rule: &Rule) -> bool
     requires { is_broken (flag_view flag.now) ≡ false }
-    ensures { result ≡ has_names_of (flag_view flag.now) rule.now }
+    ensures { result ≡ names_are_variants (flag_view flag.now) rule.now }
 {
     for (name, _) in rule.entries() {
         if flag.variant(name).is_none() {

@@ -25,7 +25,7 @@ use Rattle.price_core.specs.declared.fault.PriceFault.TheVariants as price
 use Rattle.tally_core.specs.Tally.{PageTally}
 use Rattle.transport_instance.specs.Instance.{AreListed, MissTotal, max_planned_total, max_names}
 use Rattle.rollout_checks.proofs.Variants.{names_limited}
-use Rattle.rollout_checks.specs.Lawful.{Problem, Place, and_then, by_price, by_logic, or_refuse, place_in, place_of, has_names_of, limits_for, is_unmet, max_planned, factor, sized, weighed, problem_at, problem_of, problem_on}
+use Rattle.rollout_checks.specs.Lawful.{Problem, Place, and_then, by_price, by_logic, or_refuse, place_in, place_of, names_are_variants, limits_for, is_unmet, max_planned, factor, sized, weighed, problem_at, problem_of, problem_on}
 use Rattle.rollout_checks.specs.Tallied.{TallyProblem, of_place, tally_problem_at, tally_problem_of, with_counts, with_inputs}
 use Rattle.rollout_checks.specs.declared.fault.RolloutFault.{RolloutFault}
 use Rattle.rollout_checks.specs.declared.fault.RolloutFault.TheVariants.{UnknownFlag, NoSite, UnknownVariant, TotalsSum, TotalTooLarge}
@@ -98,16 +98,16 @@ limits_in : Result Limits RolloutFault → Limits
 limits_in (Ok limits) = limits
 limits_in (Err e) = []
 
-named : (place : Place) (asked : Asked) (limits : Limits) → limits_for place asked ≡ Ok limits → has_names_of place.flag place.entries ≡ true
-named place asked limits h = by (has_names_of place.flag place.entries) refl h
+named : (place : Place) (asked : Asked) (limits : Limits) → limits_for place asked ≡ Ok limits → names_are_variants place.flag place.entries ≡ true
+named place asked limits h = by (names_are_variants place.flag place.entries) refl h
   where
-    by : (b : Bool) → has_names_of place.flag place.entries ≡ b → cond b (by_price (cond (all_known (variant_names place.flag) asked) (Ok (limits_on asked.totals (variant_names place.flag))) (Err price.UnknownVariant))) (Err UnknownVariant) ≡ Ok limits → has_names_of place.flag place.entries ≡ true
+    by : (b : Bool) → names_are_variants place.flag place.entries ≡ b → cond b (by_price (cond (all_known (variant_names place.flag) asked) (Ok (limits_on asked.totals (variant_names place.flag))) (Err price.UnknownVariant))) (Err UnknownVariant) ≡ Ok limits → names_are_variants place.flag place.entries ≡ true
     by true is h = is
     by false is h = cc
 
 limited : (place : Place) (asked : Asked) (limits : Limits) → limits_for place asked ≡ Ok limits → limits_on asked.totals (variant_names place.flag) ≡ limits
 unfolding limits_in
-limited place asked limits h = by (has_names_of place.flag place.entries) (all_known (variant_names place.flag) asked) h
+limited place asked limits h = by (names_are_variants place.flag place.entries) (all_known (variant_names place.flag) asked) h
   where
     by : (a b : Bool) → cond a (by_price (cond b (Ok (limits_on asked.totals (variant_names place.flag))) (Err price.UnknownVariant))) (Err UnknownVariant) ≡ Ok limits → limits_on asked.totals (variant_names place.flag) ≡ limits
     by true true h = ap limits_in h

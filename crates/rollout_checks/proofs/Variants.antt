@@ -18,7 +18,7 @@ use Rattle.flag_defs.specs.Flag.{member_names, variant_names, variant_of, varian
 use Rattle.price_core.specs.Limits.{Limits, limits_of}
 use Rattle.price_core.specs.Request.{limits_on}
 use Rattle.transport_instance.proofs.Placed.{name_ties}
-use Rattle.rollout_checks.specs.Lawful.{has_names_of}
+use Rattle.rollout_checks.specs.Lawful.{names_are_variants}
 
 contains_first : (x : List ℕ) (xs : List (List ℕ)) → Contains (x ∷ xs) x
 contains_first x xs = (0, omega arith, refl)
@@ -79,7 +79,7 @@ refined_names : (k : ℕ) (es : Entries) → keys_of (refinement k es) ≡ keys_
 refined_names k [] = refl
 refined_names k (e ∷ es) = ap (λ ns. e.0 ∷ ns) (refined_names k es)
 
-pub names_limited : (d : Definition) (entries : Entries) (k : ℕ) (asked : Limits) → has_names_of d entries ≡ true → All (Contains (keys_of (limits_on asked (variant_names d)))) (keys_of (refinement k entries))
+pub names_limited : (d : Definition) (entries : Entries) (k : ℕ) (asked : Limits) → names_are_variants d entries ≡ true → All (Contains (keys_of (limits_on asked (variant_names d)))) (keys_of (refinement k entries))
 names_limited d entries k asked has = λ i x below.
     let names = variant_names d in
     let same = refined_names k entries in

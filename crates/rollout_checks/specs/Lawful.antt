@@ -72,12 +72,12 @@ place_of flags key site =
 -- ---- limits
 
 -- each name of the rule, also one without weight, is a variant of the flag
-abbrev pub has_names_of : Definition → Entries → Bool
-has_names_of flag entries = list_all (λ name. is_some (variant_of name flag)) (keys_of entries)
+abbrev pub names_are_variants : Definition → Entries → Bool
+names_are_variants flag entries = list_all (λ name. is_some (variant_of name flag)) (keys_of entries)
 
 -- the limits on the flag's variants, where the rule and the request name no others
 abbrev pub limits_for : Place → Asked → Result Limits RolloutFault
-limits_for place asked = if has_names_of place.flag place.entries then by_price (totals_of (variant_names place.flag) asked) else Err UnknownVariant
+limits_for place asked = if names_are_variants place.flag place.entries then by_price (totals_of (variant_names place.flag) asked) else Err UnknownVariant
 
 -- the low limits sum above the total, or the high ones below it
 abbrev pub is_unmet : Limits → ℕ → Bool

@@ -4,7 +4,7 @@ ghost use Rattle.flag_text.specs.Outcome.{GivesUnless};
 ghost use Rattle.bucket_core.specs.Rule.{entries_view};
 ghost use Rattle.flag_defs.specs.Flag.{flag_view, is_broken};
 ghost use Rattle.flag_defs.specs.Flags.{flags_view};
-ghost use Rattle.rollout_checks.specs.Lawful.{place_of, place_view, has_names_of, limits_for};
+ghost use Rattle.rollout_checks.specs.Lawful.{place_of, place_view, names_are_variants, limits_for};
 
 use crate::fault::RolloutFault;
 use book_core::Page;
@@ -55,7 +55,7 @@ pub(crate) fn limits_for(
     requires { is_broken (flag_view place.now.flag.now) ≡ false }
     ensures { GivesUnless RolloutFault.WantOfMemory (λ t. t) result (limits_for (place_view place.now) request.now) }
 {
-    if !has_names_of(place.flag, place.entries.as_slice()) {
+    if !names_are_variants(place.flag, place.entries.as_slice()) {
         return Err(RolloutFault::UnknownVariant);
     }
     let names = place.flag.names(alloc)?;
@@ -63,9 +63,9 @@ pub(crate) fn limits_for(
 }
 
 /// Whether each name of the entries is a variant of the flag.
-fn has_names_of(flag: &Flag, entries: &[(String, u64)]) -> bool
+fn names_are_variants(flag: &Flag, entries: &[(String, u64)]) -> bool
     requires { is_broken (flag_view flag.now) ≡ false }
-    ensures { result ≡ has_names_of (flag_view flag.now) (entries_view entries.now) }
+    ensures { result ≡ names_are_variants (flag_view flag.now) (entries_view entries.now) }
 {
     for (name, _) in entries {
         if flag.variant(name.as_str()).is_none() {

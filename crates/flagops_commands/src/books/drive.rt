@@ -1,6 +1,6 @@
 //! The command `drive`: what the asks of a file resolve to, and the book of what they reach.
 ghost use Rattle.std.specs.Prelude.{◌≡◌, ◌||◌, true, IfOk, IfSome, Ok, Some, [], ◌∷◌};
-ghost use Rattle.flagops_drive.specs.Driven.{drove_view, workers_refusal};
+ghost use Rattle.flagops_drive.specs.Driven.{drive_output_view, workers_refusal};
 ghost use Rattle.flagops_drive.specs.declared.fault.DriveRefusal.{DriveRefusal as Reason};
 ghost use Rattle.flagops_commands.specs.Calls.{drive_calls};
 ghost use Rattle.flagops_commands.specs.Drive.{HasNoAsks, HasUnreadAsk, IsDriveReport, IsRefusedByName, IsWritten, KeepsUnlessDone, LeavesBook, before_at};
@@ -14,7 +14,7 @@ ghost use Rattle.flagops_commands.specs.Subjects.{drive_subjects};
 use crate::books::asks::load_asks;
 use crate::books::driving::{drove, remark_on};
 use book_core::Book;
-use flagops_drive::Drove;
+use flagops_drive::DriveOutput;
 use flagops_files::{
     FileSet, Outcome, Refused, Remark, Status, check_replaceable, load_book, load_flags, store,
 };
@@ -104,10 +104,10 @@ fn written<F: FileSet>(
     alloc: Global,
     files: &mut F,
     book: &str,
-    drove: Drove,
+    drove: DriveOutput,
     remark: Remark,
 ) -> Result<Outcome, Refused>
-    ensures exact { IfSome (F.holding files.old) (λ at. GivesOne outcome_view result (IsWritten at (F.holding files.new) book.now (Ok (drove_view drove)))) }
+    ensures exact { IfSome (F.holding files.old) (λ at. GivesOne outcome_view result (IsWritten at (F.holding files.new) book.now (Ok (drive_output_view drove)))) }
     ensures calls { ComesFrom stores_file result }
     ensures failed { F.has_failed files.new ≡ (F.has_failed files.old || is_file_fault result) }
     ensures others { KeepsOthers (F.holding files.old) (F.holding files.new) book.now }
@@ -116,7 +116,7 @@ fn written<F: FileSet>(
     ensures remark { IfOk result (λ o. o.remark ≡ Some remark) }
 {
     store(alloc, files, book, drove.book.as_slice())?;
-    let Drove { text, rest, .. } = drove;
+    let DriveOutput { text, rest, .. } = drove;
     // The program ends soon, and its memory with it.
     mem::forget(rest);
     Ok(Outcome {

@@ -3,11 +3,11 @@ ghost use Rattle.std.specs.Prelude.{◌≡◌, false, true, IfErr, IfOk, IsErrAn
 ghost use Rattle.flag_defs.specs.Flags.{flags_view};
 ghost use Rattle.flag_text.specs.Shape.{is_whole};
 ghost use Rattle.flagops_drive.specs.Asks.{asks_of};
-ghost use Rattle.flagops_drive.specs.Driven.{drove_view, refusal_of};
+ghost use Rattle.flagops_drive.specs.Driven.{drive_output_view, refusal_of};
 ghost use Rattle.flagops_drive.specs.File.{file_view};
 ghost use Rattle.flagops_commands.specs.Calls.{drive_itself};
 ghost use Rattle.flagops_commands.specs.Doubts.{settle};
-ghost use Rattle.flagops_commands.specs.Drive.{IsDroveOf, admitted, doubt_of_asks, recorded};
+ghost use Rattle.flagops_commands.specs.Drive.{IsDriveOutputOf, admitted, doubt_of_asks, recorded};
 ghost use Rattle.flagops_commands.specs.Subjects.{NamesDriven, driven_subjects, is_of_asks};
 ghost use Rattle.flagops_files.specs.Refusal.{ComesFrom, GivesOne, GivesUnlessWant, is_file_fault};
 ghost use Rattle.flagops_files.specs.Told.{Says, TellsOfOne, file};
@@ -21,7 +21,7 @@ use crate::rollouts::doubts::joined;
 use book_core::Book;
 use flag_defs::Flags;
 use flagops_drive::{
-    AsksFile, DriveRefusal, Drove, Endings, Tally, drive_asks, has_unread_ask, refusal_of,
+    AsksFile, DriveOutput, DriveRefusal, Endings, Tally, drive_asks, has_unread_ask, refusal_of,
 };
 use flagops_files::{Call, Doubt, Refusal, Refused, Remark};
 use flagops_remarks::{of_driven, of_full_book, of_unrecorded_asks, of_workers};
@@ -44,9 +44,9 @@ pub fn drove<R: Threads + Wait + Sync>(
     strict: bool,
     json: bool,
     meter: Option<&Meter>,
-) -> Result<Drove, Refused>
+) -> Result<DriveOutput, Refused>
     requires { is_whole (file_view asks.now) ≡ true }
-    ensures exact { GivesOne drove_view result (IsDroveOf (Ok (flags_view flags.now)) (Ok (file_view asks.now)) (Ok before) workers strict json) }
+    ensures exact { GivesOne drive_output_view result (IsDriveOutputOf (Ok (flags_view flags.now)) (Ok (file_view asks.now)) (Ok before) workers strict json) }
     ensures calls { ComesFrom drive_itself result }
     ensures read { is_file_fault result ≡ false }
     ensures refused { (e : Reason) → admitted strict (refusal_of (asks_of (file_view asks.now)) workers) (file_view asks.now) ≡ Err e → IsErrAnd result (λ r. r.refusal ≡ e) }
@@ -92,8 +92,13 @@ fn check_members(
 
 /// What was driven, or that it reached no input, where that is to be refused.
 #[tactic(auto, using(flagops_files::proofs::Told::says))]
-fn recorded(alloc: Global, path: &str, drove: Drove, strict: bool) -> Result<Drove, Refused>
-    ensures exact { GivesUnlessWant drove_view result (recorded strict (drove_view drove)) }
+fn recorded(
+    alloc: Global,
+    path: &str,
+    drove: DriveOutput,
+    strict: bool,
+) -> Result<DriveOutput, Refused>
+    ensures exact { GivesUnlessWant drive_output_view result (recorded strict (drive_output_view drove)) }
     ensures calls { ComesFrom drive_itself result }
     ensures read { is_file_fault result ≡ false }
     ensures names { TellsOfOne ((file path.now, is_of_asks) ∷ []) result }

@@ -10,7 +10,7 @@ use Rattle.logic_eval.specs.Evaluation.{meaning, meanings, by_meaning, bucket_me
 use Rattle.logic_eval.specs.Fractional.{decided}
 use Rattle.logic_eval.specs.Operators.{values, operated, mapped, kept, occurs, reduced, over_items}
 use Rattle.logic_values.specs.Truth.{is_true}
-use Rattle.logic_eval.specs.Views.{progress, scope_view, default_view, input_view, share_view}
+use Rattle.logic_eval.specs.Views.{progress, scope_view, default_view, input_view, weighted_variant_view}
 use Rattle.logic_values.specs.Views.{value_view}
 use Rattle.logic_eval.proofs.Branches.{node_view-literal, node_view-list, node_view-operation, as_seen, operated-other, conditional_err, conditional_true, conditional_false, conditional_end, first_of_truth_err, first_of_truth_found, first_of_truth_next, first_of_truth_none}
 use Rattle.logic_eval.proofs.Budgets.{bind_ok, bind_err, cost_ok, cost_err, paid-gives}
@@ -111,7 +111,7 @@ evaluate_node-returns-in_err-shares-in-Fractional t c = record {
 
 pub evaluate_node-returns-in_ok-shares-in-Fractional : goal.evaluate_node-returns-in_ok-shares-in-Fractional
 evaluate_node-returns-in_ok-shares-in-Fractional t c = record {
-  exact = gives_same _ _ _ _ (as_seen _ _ _ _ _ (ap node_view c.in-Fractional.is ∙ node_view-fractional _ _ _) ∙ (cost_ok _ _ _ _ _ c.in_ok-pay-in-Fractional.ensures.exact ∙ (bind_ok _ _ _ _ _ c.in_ok-input-in-Fractional.ensures.exact ∙ (bind_ok _ _ _ _ _ c.in_ok-shares-in-Fractional.ensures.exact ∙ ap (λ ss. paid (progress c.shares.new.meter) (decided c.in-Fractional.site (input_view (default_view c.args.subject) c.in_ok-input-in-Fractional.input) (map share_view ss))) (sym c.as_slice.ensures.value))))) c.decide.ensures.exact;
+  exact = gives_same _ _ _ _ (as_seen _ _ _ _ _ (ap node_view c.in-Fractional.is ∙ node_view-fractional _ _ _) ∙ (cost_ok _ _ _ _ _ c.in_ok-pay-in-Fractional.ensures.exact ∙ (bind_ok _ _ _ _ _ c.in_ok-input-in-Fractional.ensures.exact ∙ (bind_ok _ _ _ _ _ c.in_ok-shares-in-Fractional.ensures.exact ∙ ap (λ ss. paid (progress c.shares.new.meter) (decided c.in-Fractional.site (input_view (default_view c.args.subject) c.in_ok-input-in-Fractional.input) (map weighted_variant_view ss))) (sym c.as_slice.ensures.value))))) c.decide.ensures.exact;
 }
 
 pub evaluate_all-loop-node-init : goal.evaluate_all-loop-node-init
@@ -436,7 +436,7 @@ shares-returns-in_err-name-in-Computed t c = let xs = c.deref-bucket-items.resul
     let s = scope_view c.args.scope in record {
       exact = exits _ _ _ _ c.from_residual-in_err-name-in-Computed.ensures.1
           (λ n. ap (λ bs. paid (progress c.args.meter.now) (pairs (bucket_meanings (default_view c.args.subject) (buckets_view bs)) (scope_view c.args.scope))) (sym c.deref-bucket-items.ensures.value)
-          ∙ (c.loop-bucket.invariant ∙ (ap (prepended (map share_view c.loop-bucket.shares.items)) (computed_name_err d s xs i c.bucket-item.result h c.bucket-item.is c.in-Computed.name c.in-Computed.weight (progress c.loop-bucket.meter) _ c.in-Computed.is (c.in_err-name-in-Computed.ensures.exact n)) ∙ prepended-err _ _)));
+          ∙ (c.loop-bucket.invariant ∙ (ap (prepended (map weighted_variant_view c.loop-bucket.shares.items)) (computed_name_err d s xs i c.bucket-item.result h c.bucket-item.is c.in-Computed.name c.in-Computed.weight (progress c.loop-bucket.meter) _ c.in-Computed.is (c.in_err-name-in-Computed.ensures.exact n)) ∙ prepended-err _ _)));
     }
 
 pub shares-returns-in_err-weight-in-Computed : goal.shares-returns-in_err-weight-in-Computed
@@ -447,17 +447,17 @@ shares-returns-in_err-weight-in-Computed t c = let xs = c.deref-bucket-items.res
     let s = scope_view c.args.scope in record {
       exact = exits _ _ _ _ c.from_residual-in_err-weight-in-Computed.ensures.1
           (λ n. ap (λ bs. paid (progress c.args.meter.now) (pairs (bucket_meanings (default_view c.args.subject) (buckets_view bs)) (scope_view c.args.scope))) (sym c.deref-bucket-items.ensures.value)
-          ∙ (c.loop-bucket.invariant ∙ (ap (prepended (map share_view c.loop-bucket.shares.items)) (computed_weight_err d s xs i c.bucket-item.result h c.bucket-item.is c.in-Computed.name c.in-Computed.weight (progress c.loop-bucket.meter) (progress c.part.new.meter) _ _ c.in-Computed.is c.in_ok-name-in-Computed.ensures.exact (c.in_err-weight-in-Computed.ensures.exact n)) ∙ prepended-err _ _)));
+          ∙ (c.loop-bucket.invariant ∙ (ap (prepended (map weighted_variant_view c.loop-bucket.shares.items)) (computed_weight_err d s xs i c.bucket-item.result h c.bucket-item.is c.in-Computed.name c.in-Computed.weight (progress c.loop-bucket.meter) (progress c.part.new.meter) _ _ c.in-Computed.is c.in_ok-name-in-Computed.ensures.exact (c.in_err-weight-in-Computed.ensures.exact n)) ∙ prepended-err _ _)));
     }
 
 pub shares-returns : goal.shares-returns
 shares-returns t c = let xs = c.deref-bucket-items.result.now in
     let end : drop c.loop-bucket.bucket-index xs ≡ [] = drop_all c.loop-bucket.bucket-index xs (omega arith) in record {
-      exact = ap (λ bs. paid (progress c.args.meter.now) (pairs (bucket_meanings (default_view c.args.subject) (buckets_view bs)) (scope_view c.args.scope))) (sym c.deref-bucket-items.ensures.value) ∙ (c.loop-bucket.invariant ∙ (ap (λ bs. prepended (map share_view c.loop-bucket.shares.items) (paid (progress c.loop-bucket.meter) (pairs (bucket_meanings (default_view c.args.subject) (buckets_view bs)) (scope_view c.args.scope)))) end ∙ prepended_all _ _));
+      exact = ap (λ bs. paid (progress c.args.meter.now) (pairs (bucket_meanings (default_view c.args.subject) (buckets_view bs)) (scope_view c.args.scope))) (sym c.deref-bucket-items.ensures.value) ∙ (c.loop-bucket.invariant ∙ (ap (λ bs. prepended (map weighted_variant_view c.loop-bucket.shares.items) (paid (progress c.loop-bucket.meter) (pairs (bucket_meanings (default_view c.args.subject) (buckets_view bs)) (scope_view c.args.scope)))) end ∙ prepended_all _ _));
     }
 
 pub shares-loop-bucket-init : goal.shares-loop-bucket-init
-shares-loop-bucket-init t c = sym (ap (λ ss. prepended (map share_view ss) (paid (progress c.args.meter.now) (pairs (bucket_meanings (default_view c.args.subject) (buckets_view c.deref-bucket-items.result.now)) (scope_view c.args.scope)))) c.in_ok-shares.ensures.items ∙ prepended-none _)
+shares-loop-bucket-init t c = sym (ap (λ ss. prepended (map weighted_variant_view ss) (paid (progress c.args.meter.now) (pairs (bucket_meanings (default_view c.args.subject) (buckets_view c.deref-bucket-items.result.now)) (scope_view c.args.scope)))) c.in_ok-shares.ensures.items ∙ prepended-none _)
 
 pub shares-loop-bucket-preserved : goal.shares-loop-bucket-preserved
 shares-loop-bucket-preserved t c = let xs = c.deref-bucket-items.result.now in
@@ -469,11 +469,11 @@ shares-loop-bucket-preserved t c = let xs = c.deref-bucket-items.result.now in
     let before = c.loop-bucket.shares.items in
     elim c.match-bucket.branch [
       | shares-in-Literal+in_ok-push-in-Literal w ↦
-          c.loop-bucket.invariant ∙ (one_more (map share_view before) (map share_view w.push.new.self.items) _ _ _
-          (pushed share_view before w.push.new.self.items _ _ w.in_ok-push-in-Literal.ensures.items (ap (λ (b : List ℕ). let e : Shape × Shape = (text b, whole (pos w.in-Literal.weight)) in e) w.as_str.ensures.value))
+          c.loop-bucket.invariant ∙ (one_more (map weighted_variant_view before) (map weighted_variant_view w.push.new.self.items) _ _ _
+          (pushed weighted_variant_view before w.push.new.self.items _ _ w.in_ok-push-in-Literal.ensures.items (ap (λ (b : List ℕ). let e : Shape × Shape = (text b, whole (pos w.in-Literal.weight)) in e) w.as_str.ensures.value))
           (literal_ok d s xs i c.bucket-item.result h c.bucket-item.is w.in-Literal.name w.in-Literal.weight p w.in-Literal.is) ∙ rw (w.meter-is, w.shares-is) refl)
       | shares-in-Computed+in_ok-name-in-Computed+in_ok-weight-in-Computed+in_ok-push-in-Computed w ↦
-          c.loop-bucket.invariant ∙ (one_more (map share_view before) (map share_view w.push-in-Computed.new.self.items) _ _ _
-          (pushed share_view before w.push-in-Computed.new.self.items _ _ w.in_ok-push-in-Computed.ensures.items refl)
+          c.loop-bucket.invariant ∙ (one_more (map weighted_variant_view before) (map weighted_variant_view w.push-in-Computed.new.self.items) _ _ _
+          (pushed weighted_variant_view before w.push-in-Computed.new.self.items _ _ w.in_ok-push-in-Computed.ensures.items refl)
           (computed_ok d s xs i c.bucket-item.result h c.bucket-item.is w.in-Computed.name w.in-Computed.weight p (progress w.part.new.meter) (progress w.part-in-Computed.new.meter) _ _ w.in-Computed.is w.in_ok-name-in-Computed.ensures.exact w.in_ok-weight-in-Computed.ensures.exact) ∙ rw (w.meter-is, w.shares-is) refl)
     ]

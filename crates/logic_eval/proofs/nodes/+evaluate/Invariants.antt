@@ -3,7 +3,7 @@ use Rattle.logic_ast.specs.View.{node_view, nodes_view, buckets_view}
 use Rattle.logic_eval.specs.Budget.{paid}
 use Rattle.logic_eval.specs.Evaluation.{meaning, meanings, bucket_meanings, pairs}
 use Rattle.logic_eval.specs.Operators.{values, conditional, first_of_truth, mapped, kept, occurs, reduced}
-use Rattle.logic_eval.specs.Views.{progress, scope_view, default_view, share_view}
+use Rattle.logic_eval.specs.Views.{progress, scope_view, default_view, weighted_variant_view}
 use Rattle.logic_values.specs.Views.{value_view}
 use Rattle.logic_eval.proofs.Values.{prepended}
 use Rattle.logic_eval.proofs.nodes.+evaluate.Given as goal
@@ -46,4 +46,4 @@ invariant-reduced-loop-item l =
 abbrev pub invariant-shares-loop-bucket : goal.invariant-shares-loop-bucket
 invariant-shares-loop-bucket l =
     paid (progress l.fn.meter) (pairs (bucket_meanings (default_view l.subject) (buckets_view l.bucket-items)) (scope_view l.scope))
-    ≡ prepended (map share_view l.shares.items) (paid (progress l.meter) (pairs (bucket_meanings (default_view l.subject) (buckets_view (drop l.bucket-index l.bucket-items))) (scope_view l.scope)))
+    ≡ prepended (map weighted_variant_view l.shares.items) (paid (progress l.meter) (pairs (bucket_meanings (default_view l.subject) (buckets_view (drop l.bucket-index l.bucket-items))) (scope_view l.scope)))

@@ -8,12 +8,12 @@ use Rattle.rollout.proofs.Resolved.{as_before}
 use Rattle.rollout.proofs.Sites.{site_good, applied_with}
 use Rattle.rollout.proofs.application.apply.Goals as goal
 
-pub has_names_of-requires : goal.has_names_of-requires
-has_names_of-requires c = site_good c.args.site c.args.rule.now (flag_view c.in-Some.flag.now) (flag_view c.in_ok-changed.changed) c.in_ok-changed.ensures.exact
+pub names_are_variants-requires : goal.names_are_variants-requires
+names_are_variants-requires c = site_good c.args.site c.args.rule.now (flag_view c.in-Some.flag.now) (flag_view c.in_ok-changed.changed) c.in_ok-changed.ensures.exact
 
 pub returns-clause-exact : goal.returns-clause-exact
 returns-clause-exact c =
-    let named = sym c.has_names_of.ensures ∙ c.if-not-has_names_of.false in
+    let named = sym c.names_are_variants.ensures ∙ c.if-not-names_are_variants.false in
     applied_with (flags_view c.args.flags.now) c.args.key.now c.args.site c.args.rule.now (flag_view c.in-Some.flag.now) (flag_view c.in_ok-changed.changed) (sym c.in-Some.ensures) c.in_ok-changed.ensures.exact named
     ∙ ap by_document c.in_ok-with_flag.ensures.exact
 

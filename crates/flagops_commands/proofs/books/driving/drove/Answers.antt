@@ -1,8 +1,8 @@
 use Rattle.std.proofs.Common.{◌≡◌, ◌∙◌, ℕ, Ok, Err, ap, sym, subst, false}
 use Rattle.flagops_drive.specs.Asks.{asks_of}
-use Rattle.flagops_drive.specs.Driven.{drove_view, refusal_of}
+use Rattle.flagops_drive.specs.Driven.{drive_output_view, refusal_of}
 use Rattle.flagops_drive.specs.File.{file_view}
-use Rattle.flagops_commands.specs.Drive.{IsAnswered, IsDroveOf, admitted, recorded}
+use Rattle.flagops_commands.specs.Drive.{IsAnswered, IsDriveOutputOf, admitted, recorded}
 use Rattle.flagops_files.specs.Refusal.{is_want}
 use Rattle.flagops_files.specs.declared.refusal.Refusal.{Refusal}
 use Rattle.flagops_files.specs.declared.refusal.Refusal.TheVariants.{Drive}
@@ -28,13 +28,13 @@ pub returns-in-Ok-clause-exact : goal.returns-in-Ok-clause-exact
 returns-in-Ok-clause-exact g c =
     let asks = file_view c.args.asks.now in
     let flags = flags_view c.args.flags.now in
-    let d = drove_view c.in-Ok.drove in
-    gives_one drove_view c.recorded.result (recorded c.args.strict d) (IsDroveOf (Ok flags) (Ok asks) (Ok c.args.before) c.args.workers c.args.strict c.args.json) c.recorded.ensures.exact
+    let d = drive_output_view c.in-Ok.drove in
+    gives_one drive_output_view c.recorded.result (recorded c.args.strict d) (IsDriveOutputOf (Ok flags) (Ok asks) (Ok c.args.before) c.args.workers c.args.strict c.args.json) c.recorded.ensures.exact
     (subst (λ (n : ℕ). IsAnswered (admitted c.args.strict (refusal_of (asks_of asks) n) asks) flags asks c.args.before n c.args.strict c.args.json (recorded c.args.strict d)) c.from-workers.ensures
     (driven_so c.args.strict asks flags c.from-workers.result c.args.before c.args.json d c.in_ok-check_members.ensures.ok c.in-Ok.ensures.driven))
 
 pub returns-in-Ok-clause-refused : goal.returns-in-Ok-clause-refused
 returns-in-Ok-clause-refused g c = λ e is.
     let asks = file_view c.args.asks.now in
-    driven_admitted c.args.strict asks (flags_view c.args.flags.now) c.from-workers.result c.args.before c.args.json (drove_view c.in-Ok.drove) c.in_ok-check_members.ensures.ok c.in-Ok.ensures.driven e
+    driven_admitted c.args.strict asks (flags_view c.args.flags.now) c.from-workers.result c.args.before c.args.json (drive_output_view c.in-Ok.drove) c.in_ok-check_members.ensures.ok c.in-Ok.ensures.driven e
     (ap (λ (n : ℕ). admitted c.args.strict (refusal_of (asks_of asks) n) asks) c.from-workers.ensures ∙ is)

@@ -5,8 +5,8 @@ use Rattle.json.proofs.Grammar.{value-begin_object}
 use Rattle.flag_doubts.specs.Passed.{Begins}
 use Rattle.flag_doubts.proofs.Others.{finds_nothing}
 use Rattle.json.specs.Json.{max_depth}
-use Rattle.flag_doubts.proofs.repeated.in_document.Goals as goal
-use Rattle.flag_doubts.proofs.repeated.in_document.Goals.{in-Object, in-Other}
+use Rattle.flag_doubts.proofs.repeated.pass_document.Goals as goal
+use Rattle.flag_doubts.proofs.repeated.pass_document.Goals.{in-Object, in-Other}
 
 pub returns-clause-ok : goal.returns-clause-ok
 returns-clause-ok c =
