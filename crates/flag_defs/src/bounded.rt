@@ -38,7 +38,7 @@ fn weighs_too_much(alloc: Global, flags: &[(String, Flag)]) -> Result<bool, Allo
     ensures { IfOk result (λ b. b ≡ nat_lt max_bytes (length (printed (entries_view flags.now)))) }
 {
     let lent = lent(alloc, flags)?;
-    are_heavy(alloc, lent.as_slice())
+    Ok(are_heavy(lent.as_slice()))
 }
 
 /// The same flags under the same keys, lent.

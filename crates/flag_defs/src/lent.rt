@@ -20,19 +20,19 @@ const BYTES_AROUND: usize = 11;
 
 /// True if printing these flags as a document would exceed the size limit. Nothing is printed, and no memory is taken. The keys
 /// must rise strictly as bytes.
-pub(crate) fn are_heavy(_alloc: Global, entries: &[(&str, &Flag)]) -> Result<bool, AllocError>
+pub(crate) fn are_heavy(entries: &[(&str, &Flag)]) -> bool
     requires { IsStrictlySortedBy (slice_cmp nat_cmp) (keys_of (lent_view entries.now)) }
-    ensures { IfOk result (λ b. b ≡ nat_lt max_bytes (length (printed (lent_view entries.now)))) }
+    ensures { result ≡ nat_lt max_bytes (length (printed (lent_view entries.now))) }
 {
     let mut left = TEXT_BYTES - BYTES_AROUND;
     for (key, flag) in entries {
         let bytes = entry_bytes(key, flag) as usize;
         if left < bytes {
-            return Ok(true);
+            return true;
         }
         left -= bytes;
     }
-    Ok(false)
+    false
 }
 
 /// In how many bytes a flag is printed with its key and a comma, up to the most that is counted.

@@ -41,7 +41,7 @@ impl Flags {
         if entries.len() > FLAGS {
             return Err(DefFault::TooLarge);
         }
-        if are_heavy(alloc, entries)? {
+        if are_heavy(entries) {
             return Err(DefFault::TooLarge);
         }
         let flags = copy_lent(alloc, entries)?;

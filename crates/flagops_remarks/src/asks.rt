@@ -18,7 +18,7 @@ const MANY: u128 = 20;
 const NOTHING: &str =
     "  nothing was recorded: no ask reached a \"fractional\" with an input of at most 1,024 bytes\n  check the keys and the contexts\n";
 
-/// Of a tree that is no list of asks.
+/// Explains why `tree`, read from the file at `path`, is no list of asks.
 pub fn of_asks(alloc: Global, path: &str, tree: &Tree) -> Result<String, AllocError>
     ensures names { IfOk result (λ s. Names path.now (string_bytes s)) }
 {
@@ -57,7 +57,7 @@ fn member_at<'a>(tree: &'a Tree, place: usize, name: &str) -> Option<&'a Tree> {
     tree.as_list()?.get(place)?.member(name)
 }
 
-/// Of asks that have a member that is not read: how many have one, and the first such member.
+/// Says how many asks have a member that is not read, and names the first such member.
 pub fn of_unread_asks(alloc: Global, path: &str, tree: &Tree) -> Result<String, AllocError>
     ensures names { IfOk result (λ s. Names path.now (string_bytes s)) }
 {
@@ -80,7 +80,7 @@ pub fn of_unread_asks(alloc: Global, path: &str, tree: &Tree) -> Result<String, 
     lines.headed(Opening::Note, path)
 }
 
-/// Of asks that were read and not driven, by the name of the fault.
+/// Explains why asks that were read were not answered: `fault` is the name of the refusal, `workers` the number asked for.
 pub fn of_workers(alloc: Global, workers: usize, fault: &str) -> Result<String, AllocError>
     ensures names { IfOk result (λ s. NamesWord (codes "WORKERS") (string_bytes s)) }
 {
@@ -111,7 +111,7 @@ pub struct Drive<'a> {
     pub has: u128,
 }
 
-/// Of asks that were driven.
+/// Says what the asks of the file at `path` came to.
 pub fn of_driven(alloc: Global, path: &str, drive: Drive<'_>) -> Result<String, AllocError>
     ensures names { IfOk result (λ s. Names path.now (string_bytes s)) }
 {
@@ -147,7 +147,7 @@ fn put_sharing(lines: &mut Lines, drive: Drive<'_>) {
     }
 }
 
-/// Of asks that were driven and reached no input, where the book is left as it was.
+/// Explains why a book is left as it was: the asks reached no input.
 pub fn of_unrecorded_asks(
     alloc: Global,
     path: &str,

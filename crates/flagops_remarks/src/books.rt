@@ -13,7 +13,7 @@ use std::fmt::Display;
 /// The most pages that are listed.
 const MOST_PAGES: usize = 10;
 
-/// Of bytes that are no book.
+/// Explains why the file at `path`, whose ends are known, is no book.
 pub fn of_book(
     alloc: Global,
     path: &str,
@@ -74,7 +74,7 @@ fn taken(fault: BookFileFault) -> &'static str {
     }
 }
 
-/// Of a path at which a book is to be written, and whose file is none.
+/// Explains why the file at `path` is not replaced by a book: it is no book.
 pub fn of_other_file(alloc: Global, path: &str, fault: BookFileFault) -> Result<String, AllocError>
     ensures names { IfOk result (λ s. Names path.now (string_bytes s)) }
 {
@@ -86,7 +86,7 @@ pub fn of_other_file(alloc: Global, path: &str, fault: BookFileFault) -> Result<
     lines.headed(Opening::Error, path)
 }
 
-/// Of a book whose inputs are too many beside those of another.
+/// Explains why the book at `path` is not added to: a page would have more than 1,000,000 inputs.
 pub fn of_full_book(alloc: Global, path: &str) -> Result<String, AllocError>
     ensures names { IfOk result (λ s. Names path.now (string_bytes s)) }
 {
@@ -98,7 +98,7 @@ pub fn of_full_book(alloc: Global, path: &str) -> Result<String, AllocError>
     lines.headed(Opening::Error, path)
 }
 
-/// Of a request whose page has no input in the book, which has these pages of its flag.
+/// Says that the book has no input on the page of the request, and which pages of its flag it has.
 pub fn of_unrecorded(
     alloc: Global,
     path: &str,

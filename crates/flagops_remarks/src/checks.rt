@@ -11,7 +11,7 @@ use price_core::{Limit, PriceFault, Request};
 use std::alloc::{AllocError, Global};
 use transport_instance::{Certificate, CheckFault};
 
-/// Of the answer of a plan file to a request over a document.
+/// Explains why the plan in a file is no right answer to the request.
 pub fn of_check(
     alloc: Global,
     path: &str,

@@ -49,7 +49,7 @@ impl<'a> Causes<'a> {
     }
 }
 
-/// A line for each flag of which a definition_error was found.
+/// A line for each flag for which a definition error was found.
 fn lines_of(
     alloc: Global,
     flags: &[(String, Tree)],

@@ -12,7 +12,7 @@ use std::alloc::{AllocError, Global};
 /// What a document looks like.
 const LOOK: &str = "{\"flags\":{\"KEY\":{\"state\":\"ENABLED\",\"variants\":{..}}}}";
 
-/// Of the bytes of a file.
+/// Explains why `bytes`, read from the file at `path`, are no flag document.
 pub fn of_document(
     alloc: Global,
     path: &str,

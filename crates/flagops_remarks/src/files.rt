@@ -9,7 +9,7 @@ use flag_text::Tree;
 use std::alloc::{AllocError, Global};
 use std::io;
 
-/// Of a path whose file is not read, and why, as far as the system says.
+/// Says that the file at `path` can't be read, and why, as far as the system tells.
 pub fn of_unreadable(
     alloc: Global,
     path: &str,
@@ -22,7 +22,7 @@ pub fn of_unreadable(
     of_trouble(alloc, path, "cannot be read", trouble, causes)
 }
 
-/// Of a path at which no file is written, and why, as far as the system says.
+/// Says that no file can be written at `path`, and why, as far as the system tells.
 pub fn of_unwritable(
     alloc: Global,
     path: &str,
@@ -52,7 +52,7 @@ fn of_trouble(
     lines.headed(Opening::File, path)
 }
 
-/// Of the path of a book that has more bytes than are read.
+/// Says that the book at `path` has more bytes than are read.
 pub fn of_long_book(alloc: Global, path: &str) -> Result<String, AllocError>
     ensures names { IfOk result (λ s. Names path.now (string_bytes s)) }
 {
@@ -64,7 +64,7 @@ pub fn of_long_book(alloc: Global, path: &str) -> Result<String, AllocError>
     lines.headed(Opening::File, path)
 }
 
-/// Of a text that is no rule, with its tree, unless it is too large to be looked into.
+/// Explains why a text is no rule; `tree` is what it was read as, unless it is too large to be looked into.
 pub fn of_rule(
     alloc: Global,
     path: &str,
@@ -125,7 +125,7 @@ fn is_bucket(tree: &Tree) -> bool {
     }
 }
 
-/// Of a value that is no list of keys, or that is no key at a place in such a list.
+/// Explains why a value is no list of keys, and at which place it has none.
 pub fn of_keys(
     alloc: Global,
     path: &str,
@@ -147,7 +147,7 @@ pub fn of_keys(
     lines.headed(Opening::Error, path)
 }
 
-/// Of a key that is not noted, in the file of keys at a path.
+/// Explains why a key of the file at `path` is not noted.
 pub fn of_noted(
     alloc: Global,
     path: &str,
@@ -165,7 +165,7 @@ pub fn of_noted(
     lines.headed(Opening::Error, path)
 }
 
-/// Of two rules that differ in their totals.
+/// Says that two rules differ in their totals.
 pub fn of_weights(alloc: Global, old: u32, new: u32) -> Result<String, AllocError>
     ensures names { IfOk result (λ s. NamesWord (codes "the weights of OLD") (string_bytes s)) }
 {

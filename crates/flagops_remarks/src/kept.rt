@@ -14,7 +14,7 @@ use logic_ast::write_expr;
 use site_places::{SitePlace, place_of_site};
 use std::alloc::{AllocError, Global};
 
-/// Of the document at a path, whose bytes mean these flags, and the site of a flag in it.
+/// Explains why the document at `path` can't keep its bytes where the rule of a site is replaced.
 pub fn of_kept(
     alloc: Global,
     path: &str,

@@ -9,7 +9,7 @@ use limits::FILE_BYTES;
 use plan_text::{ItemFault, Misfit, PlanFileFault, PlanList};
 use std::alloc::{AllocError, Global};
 
-/// Of bytes that are no plan.
+/// Explains why `bytes` are no plan.
 pub fn of_plan_file(
     alloc: Global,
     path: &str,
@@ -67,7 +67,7 @@ fn put_item(lines: &mut Lines, list: PlanList, place: usize) {
     write!(lines, "{name}[{place}] is no {form}");
 }
 
-/// Of an answer that no plan file takes.
+/// Says that a plan is too large for a file.
 pub fn of_large_plan(alloc: Global) -> Result<String, AllocError>
     ensures names { IfOk result (λ s. NamesWord (codes "the plan") (string_bytes s)) }
 {

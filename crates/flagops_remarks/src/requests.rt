@@ -12,7 +12,7 @@ use std::alloc::{AllocError, Global};
 /// What a request looks like.
 const LOOK: &str = "{\"plan\":1,\"flag\":\"KEY\",\"site\":0,\"totals\":{\"NAME\":n,..}}";
 
-/// Of the bytes of a file.
+/// Explains why `bytes`, read from the file at `path`, are no request, or are refused as one.
 pub fn of_request(
     alloc: Global,
     path: &str,

@@ -16,7 +16,7 @@ use price_core::{PriceFault, Request};
 use rollout_checks::RolloutFault;
 use std::alloc::{AllocError, Global};
 
-/// Of a request that is refused over a document, on the site's rule refined by a factor.
+/// Explains why a request is refused over the flags of a document, where the rule of its site is refined by a factor.
 pub fn of_rollout(
     alloc: Global,
     path: &str,
@@ -47,7 +47,7 @@ pub fn of_rollout(
     lines.headed(Opening::Request, path)
 }
 
-/// Of a rule that is not put at a site.
+/// Explains why a rule can't be put at a site.
 pub fn of_applied(
     alloc: Global,
     path: &str,

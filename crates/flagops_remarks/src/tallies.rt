@@ -14,7 +14,7 @@ use std::alloc::{AllocError, Global};
 use tally_core::PageTally;
 use tally_text::TallyFileFault;
 
-/// Of bytes that begin as the file of a tally and are none.
+/// Explains why the file at `path`, which begins as a tally, is none.
 pub fn of_tally(
     alloc: Global,
     path: &str,
@@ -50,7 +50,7 @@ fn taken(fault: TallyFileFault) -> &'static str {
     }
 }
 
-/// Of a tally of a page that has no input.
+/// Says that the tally at `path` has no input.
 pub fn of_empty_tally(alloc: Global, path: &str, page: &Page) -> Result<String, AllocError>
     ensures names { IfOk result (λ s. Names path.now (string_bytes s)) }
 {
@@ -63,7 +63,7 @@ pub fn of_empty_tally(alloc: Global, path: &str, page: &Page) -> Result<String, 
     lines.headed(Opening::Note, path)
 }
 
-/// Of a request over a document that is for another page or total than those of the tally at a path.
+/// Explains why the tally at `tally_path` doesn't serve the request at `path`: it is of another page or total.
 pub fn of_other_tally(
     alloc: Global,
     path: &str,

@@ -18,7 +18,7 @@ const MOST_OF_WAY: usize = 40;
 /// The most bytes of a text in which a fault is looked for: the values that are made for it take some 30 times as many.
 const LOOKED_INTO: usize = 1 << 22;
 
-/// Of the text of a file.
+/// Explains why `bytes`, read from the file at `path`, are not read as a JSON text.
 pub fn of_text(
     alloc: Global,
     path: &str,
@@ -33,7 +33,7 @@ pub fn of_text(
     lines.headed(Opening::Error, path)
 }
 
-/// Of a word that is a JSON text.
+/// Explains why a word of the command line is not read as a JSON text.
 pub fn of_word(
     alloc: Global,
     name: &str,

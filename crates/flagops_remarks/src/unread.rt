@@ -10,7 +10,7 @@ use unread_members::Reader;
 /// The most members that are listed.
 const MOST_MEMBERS: usize = 10;
 
-/// Of the object of a file, some members of which its reader passes over.
+/// Names the members of an object in the file at `path` that its reader passes over.
 pub fn of_unread(
     alloc: Global,
     path: &str,

@@ -1,5 +1,5 @@
-//! The tests of the libraries up to `book_core` and `flag_resolve` by what no command shows, in a crate of their own, so that each of those is
-//! proved once. `tests/` shows all else on the built program.
+//! Tests of the libraries from `murmur_core` to `line_tally` by what no command shows, in a crate of their own, so that each of those
+//! is proved once. `tests/` shows all else on the built program.
 #![tactic(auto)]
 
 #[cfg(test)]

@@ -12,7 +12,8 @@ use crate::misfit::change_parts;
 use crate::request::as_price;
 use flag_text::Tree;
 
-/// What refuses a tree that is a request. Places are counted from 0.
+/// Why a request that has no [`Misfit`](crate::Misfit) is refused: a change to the same variant, a price out of range or an empty
+/// range. Places are counted from 0.
 #[derive(Clone, Copy, Debug, PartialEq, Eq)]
 pub enum RequestError {
     /// The item of `prices` at this place is a change from a variant to itself.

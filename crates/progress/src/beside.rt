@@ -5,7 +5,7 @@ use crate::terminal::TerminalLine;
 use std::io::{self, Write};
 use std::sync::Wait;
 
-/// A writer before whose writes no line stands on the terminal.
+/// A writer that erases the line on the terminal before each of its writes.
 #[derive(Drop)]
 pub struct BesideLine<'a, R, L, W> {
     rt: &'a R,

@@ -1,4 +1,4 @@
-//! Why a file that is judged by its first piece is judged as all of its bytes are.
+//! Proof that the first 4,096 bytes of a file decide whether it can be a book or a tally.
 //!
 //! A crate of its own, though it is small: its proofs are long, and only the commands on books cite them (`flagops_books`). In
 //! `flagops_files` every other command would wait for them.

@@ -19,7 +19,7 @@ pub struct Recorded {
 }
 
 impl Recorded {
-    /// Of no line.
+    /// Nothing recorded: no line was taken yet.
     pub fn nothing(alloc: Global) -> Recorded
         ensures { recorded_view result ≡ nothing }
     {

@@ -1,4 +1,4 @@
-//! The engines of a stream of snapshots.
+//! Writes and reads streams of snapshots.
 //!
 //! [`serve_stream`] writes frames of the current snapshot to an [`flag_text::Outlet`] as numbers come; [`follow_stream`]
 //! reads frames from an [`Inlet`], that of `line_batches`, and hands each snapshot to a [`Sink`] when its last byte has come; [`read_stream`] is the

@@ -27,7 +27,7 @@ impl Model for TallyFilter {
 }
 
 impl TallyFilter {
-    /// Of no line. The condition is a total from 1 to 1,000,000.
+    /// A filter that has taken no line yet. The condition is a total from 1 to 1,000,000.
     pub fn new(alloc: Global, page: Page, total: u32) -> Result<TallyFilter, AllocError>
         requires { IsTallyTotal total }
         ensures { IfOk result (λ f. f ≡ record { tally = untallied page total; lines = 0 }) }

@@ -13,7 +13,7 @@ use price_core::{Limit, Totals};
 use std::alloc::{AllocError, Global};
 use std::collections::{BTreeMap, HashMap};
 
-/// Whether the total of each text is within its limits. It takes `O(n)` steps at n entries, and `O(k)` for each of k names.
+/// Whether the total of each name is within its limits. It takes `O(n)` steps at n entries, and `O(k)` for each of k names.
 pub fn keeps_limits(alloc: Global, rule: &Rule, limits: &Totals) -> Result<bool, AllocError>
     ensures { IfOk result (λ kept. MatchBool kept (KeepsLimits rule.now limits.now) ((name : List ℕ) × BreaksLimit rule.now limits.now name)) }
 {
