@@ -1,7 +1,6 @@
 -- A page that is full stays full, whatever is noted after.
-use Rattle.std.proofs.Common.{◌≡◌, ℕ, ◌+◌, ◌≤◌, Bool, true, false, ◌&&◌, ◌||◌, cond, List, [], ◌∷◌, ◌++◌, get_or, length, length-append, nat_lt, Result, Ok, Err, is_ok, refl, sym, ap, ◌∙◌, subst, arith}
-use Rattle.std.specs.Prelude.{All, IfOk, string_bytes}
-use Rattle.std.specs.declared.alloc.AllocError.{AllocError}
+use Rattle.std.proofs.Common.{◌≡◌, ℕ, ◌+◌, ◌≤◌, Bool, true, false, ◌&&◌, ◌||◌, cond, List, [], ◌∷◌, ◌++◌, append_assoc, get_or, length, length-append, nat_lt, Result, Ok, Err, is_ok, refl, sym, ap, ◌∙◌, subst, arith}
+use Rattle.std.specs.Prelude.{All}
 use Rattle.std.specs.Str.{bytes_eq}
 use Rattle.std.proofs.lemmas.List.Elements.{All-append, All-nil, All-push}
 use borrow.Author.Tests.{le-ltb, ltb-false}
@@ -12,16 +11,14 @@ use Rattle.book_core.specs.declared.noted.Noted.{Noted}
 use Rattle.book_core.specs.declared.fault.BookFault.{BookFault}
 use Rattle.book_core.specs.declared.noted.Noted.TheVariants.{New, Again}
 use Rattle.book_core.specs.declared.fault.BookFault.TheVariants.{PageFull, InputTooLong}
-use Rattle.book_lock.specs.Notes.{Looks}
 use Rattle.book_lock.specs.Sealed.{IsSealed}
 use Rattle.book_lock.specs.Seen.{AllKnow, IsLegal, Knows, StartsWith, one_if}
 use Rattle.book_lock.specs.Told.{times_new}
 use Rattle.book_lock.specs.declared.call.Sight.{Sight}
 use Rattle.book_lock.proofs.Gained.{first_sightings}
 use Rattle.book_lock.proofs.Notes.{replies}
-use Rattle.book_share.specs.Asked.{Mention, mention}
-use Rattle.book_share.specs.Driven.{AreFull, AreFullToAll, IsFullAfter, refused_mention}
-use Rattle.book_share.specs.declared.reach.Refusal.{Refusal}
+use Rattle.book_share.specs.Asked.{Mention}
+use Rattle.book_share.specs.Driven.{AreFull, IsFullAfter}
 
 full_parts : (long among room : Bool) → cond long (Err InputTooLong) (cond among (Ok Again) (cond room (Ok New) (Err PageFull))) ≡ Err PageFull → (long ≡ false) × (among ≡ false) × (room ≡ false)
 full_parts true among room e = cc
@@ -101,34 +98,29 @@ stays_full all seen page input legal starts full =
 
 -- ---- lists that begin with more
 
-pub starts_later : (all new old : List Call) → StartsWith all new → StartsWith new old → StartsWith all old
-starts_later all new old a b = (b.0 ++ a.0, a.1 ∙ ap (λ l. l ++ a.0) b.1 ∙ assoc old b.0 a.0)
-  where
-    assoc : (xs ys zs : List Call) → (xs ++ ys) ++ zs ≡ xs ++ (ys ++ zs)
-    assoc [] ys zs = refl
-    assoc (x ∷ xs) ys zs = ap (λ l. x ∷ l) (assoc xs ys zs)
+-- each legal list that begins with these calls
+abbrev pub AreFullAfter : List Call → List Mention → Type 0
+AreFullAfter seen refused = AreFull (λ all. StartsWith all seen) refused
 
-pub full_later : (new old : List Call) (refused : List Refusal) → StartsWith new old → AreFull old refused → AreFull new refused
+starts_later : (all new old : List Call) → StartsWith all new → StartsWith new old → StartsWith all old
+starts_later all new old a b = (b.0 ++ a.0, a.1 ∙ ap (λ l. l ++ a.0) b.1 ∙ append_assoc old b.0 a.0)
+
+pub full_later : (new old : List Call) (refused : List Mention) → StartsWith new old → AreFullAfter old refused → AreFullAfter new refused
 full_later new old refused more full = λ all legal starts. full all legal (starts_later all new old starts more)
 
-pub full_none : (seen : List Call) (refused : List Refusal) → refused ≡ [] → AreFull seen refused
-full_none seen refused none = λ all legal starts. subst (All (IsFullAfter all)) (sym none) (All-nil (IsFullAfter all))
+pub full_none : (IsKind : List Call → Type 0) → AreFull IsKind []
+full_none IsKind all legal kind = All-nil (IsFullAfter all)
 
 -- one more
-pub full_more : (new old : List Call) (refused others : List Refusal) (r : Refusal) → StartsWith new old → reply_after new r.page (string_bytes r.input) ≡ Err PageFull → others ≡ refused ++ r ∷ []
-    → AreFull old refused → AreFull new others
-full_more new old refused others r more now is full = λ all legal starts.
-    subst (All (IsFullAfter all)) (sym is)
-    (All-push (IsFullAfter all) refused r (full_later new old refused more full all legal starts) (stays_full all new r.page (string_bytes r.input) legal starts now))
-
--- what is kept of a refused input
-pub full_kept : (r : Result (Unit {0}) AllocError) (page : PageName) (input : List ℕ) (old new : Sight) (refused others : List Refusal) → Looks old new × (reply_after new.seen page input ≡ Err PageFull)
-    → IfOk r (λ _. (x : Refusal) × (others ≡ refused ++ x ∷ []) × (refused_mention x ≡ mention page input)) → IfOk r (λ _. AreFull old.seen refused → AreFull new.seen others)
-full_kept (Err e) page input old new refused others looks kept = tt
-full_kept (Ok u) page input old new refused others looks kept = λ full.
-    full_more new.seen old.seen refused others kept.0 looks.0.grown (ap (λ (m : Mention). reply_after new.seen m.page m.input) kept.2 ∙ looks.1) kept.1 full
+pub full_more : (new old : List Call) (refused : List Mention) (m : Mention) → StartsWith new old → IsFullAfter new m → AreFullAfter old refused → AreFullAfter new (refused ++ m ∷ [])
+full_more new old refused m more now full all legal starts =
+    All-push (IsFullAfter all) refused m (full_later new old refused more full all legal starts) (stays_full all new m.page m.input legal starts now)
 
 -- ---- several seats
+
+-- each legal list that these seats know
+abbrev pub AreFullToAll : List Sight → List Mention → Type 0
+AreFullToAll seats refused = AreFull (λ all. AllKnow all seats) refused
 
 know_front : (all : List Call) (seats : List Sight) (seat : Sight) → AllKnow all (seats ++ seat ∷ []) → AllKnow all seats
 know_front all [] seat know = tt
@@ -138,23 +130,18 @@ know_last : (all : List Call) (seats : List Sight) (seat : Sight) → AllKnow al
 know_last all [] seat know = know.0
 know_last all (x ∷ xs) seat know = know_last all xs seat know.1
 
-pub full_to_none : (seats : List Sight) (refused : List Refusal) → refused ≡ [] → AreFullToAll seats refused
-full_to_none seats refused none = λ all legal know. subst (All (IsFullAfter all)) (sym none) (All-nil (IsFullAfter all))
-
-pub full_to_more : (seats new : List Sight) (seat : Sight) (refused others both : List Refusal) → new ≡ seats ++ seat ∷ [] → both ≡ refused ++ others → AreFullToAll seats refused → AreFull seat.seen others → AreFullToAll new both
-full_to_more seats new seat refused others both is_seats is_both first last = λ all legal know.
-    let known : AllKnow all (seats ++ seat ∷ []) = subst (AllKnow all) is_seats know in
-    subst (All (IsFullAfter all)) (sym is_both)
-    (All-append (IsFullAfter all) refused others (first all legal (know_front all seats seat known)) (last all legal (know_last all seats seat known).0))
+pub full_to_more : (seats : List Sight) (seat : Sight) (refused others : List Mention) → AreFullToAll seats refused → AreFullAfter seat.seen others → AreFullToAll (seats ++ seat ∷ []) (refused ++ others)
+full_to_more seats seat refused others first last all legal know =
+    All-append (IsFullAfter all) refused others (first all legal (know_front all seats seat know)) (last all legal (know_last all seats seat know).0)
 
 -- ---- the sealed book
 
 -- the book refuses the input for its full page
-abbrev pub IsFull : Contents → Refusal → Type 0
-IsFull book r = reply_to book r.page (string_bytes r.input) ≡ Err PageFull
+abbrev pub IsFull : Contents → Mention → Type 0
+IsFull book m = reply_to book m.page m.input ≡ Err PageFull
 
-pub sealed_full : (n : ℕ) (seats : List Sight) (book : Contents) (refused : List Refusal) → IsSealed n seats book → AreFullToAll seats refused → All (IsFull book) refused
+pub sealed_full : (n : ℕ) (seats : List Sight) (book : Contents) (refused : List Mention) → IsSealed n seats book → AreFullToAll seats refused → All (IsFull book) refused
 sealed_full n seats book refused s full = λ k d within. here (get_or refused k d) (full s.all s.legal s.seen k d within)
   where
-    here : (r : Refusal) → IsFullAfter s.all r → IsFull book r
-    here r h = ap (λ b. reply_to b r.page (string_bytes r.input)) s.left ∙ replies s.all r.page (string_bytes r.input) s.legal ∙ h
+    here : (m : Mention) → IsFullAfter s.all m → IsFull book m
+    here m h = ap (λ b. reply_to b m.page m.input) s.left ∙ replies s.all m.page m.input s.legal ∙ h

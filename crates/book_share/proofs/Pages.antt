@@ -1,7 +1,7 @@
 -- What each page has, from what was mentioned for it and what full pages refused.
-use Rattle.std.proofs.Common.{◌≡◌, ℕ, suc, ◌+◌, ◌<◌, ◌≤◌, Bool, true, false, ◌||◌, ◌&&◌, cond, List, [], ◌∷◌, map, length, nat_lt, Ordering, Ok, Err, refl, sym, ap, ap₂, ◌∙◌, subst, arith, zero, get_or, ◌⊎◌, inl, inr, ⊎_elim}
+use Rattle.std.proofs.Common.{◌≡◌, ℕ, suc, ◌+◌, ◌<◌, ◌≤◌, Bool, true, false, ◌||◌, ◌&&◌, cond, List, [], ◌∷◌, length, nat_lt, Ordering, Ok, Err, refl, sym, ap, ap₂, ◌∙◌, subst, arith, zero, get_or, ◌⊎◌, inl, inr, ⊎_elim}
 use borrow.Author.Tests.{ltb-false}
-use Rattle.std.specs.Prelude.{All, string_bytes, ◌↔◌}
+use Rattle.std.specs.Prelude.{All, ◌↔◌}
 use Rattle.std.specs.Cmp.{Equal-is, IsEquivalence, IsTotalOrder, alike_right}
 use Rattle.std.specs.declared.cmp.Ordering.TheVariants.{Less, Equal, Greater}
 use Rattle.std.specs.Ordering.{is_eq, match_ordering, eq_by_cmp}
@@ -25,8 +25,7 @@ use Rattle.book_core.specs.declared.fault.BookFault.TheVariants.{PageFull, Input
 use Rattle.book_core.proofs.Noting.{exposure_found, is_among-by_order}
 use Rattle.book_core.proofs.Ordered.{length-insert_key, sorted-insert_key}
 use Rattle.book_share.specs.Asked.{Mention, is_mention, mentioned_on}
-use Rattle.book_share.specs.Driven.{refused_mention, reached_on}
-use Rattle.book_share.specs.declared.reach.Refusal.{Refusal}
+use Rattle.book_share.specs.Driven.{reached_on}
 use Rattle.book_share.proofs.Full.{IsFull}
 use Rattle.book_core.proofs.Answered.{same_page}
 
@@ -113,10 +112,10 @@ full_parts false true room e = cc
 full_parts false false true e = cc
 full_parts false false false e = (refl, refl)
 
-pub full_page : (book : Contents) (r : Refusal) → IsFull book r → (is_among (string_bytes r.input) (inputs_on book r.page) ≡ false) × (most_inputs ≤ length (inputs_on book r.page))
+pub full_page : (book : Contents) (r : Mention) → IsFull book r → (is_among r.input (inputs_on book r.page) ≡ false) × (most_inputs ≤ length (inputs_on book r.page))
 unfolding reply_to
 full_page book r full =
-    let input = string_bytes r.input in
+    let input = r.input in
     let parts = full_parts (nat_lt most_bytes (length input)) (is_among input (inputs_on book r.page)) (nat_lt (length (inputs_on book r.page)) most_inputs) full in
     (parts.0, ltb-false _ _ parts.1)
 
@@ -140,12 +139,12 @@ either : {P : Type 0} (a b : Bool) → (a || b) ≡ true → (a ≡ true → P) 
 either true b e f g = f refl
 either false b e f g = g e
 
-refused_here : (r : Refusal) (rest : List Refusal) (q : List ℕ) → bytes_eq q (string_bytes r.input) ≡ true → list_any (is_mention r.page q) (map refused_mention (r ∷ rest)) ≡ true
+refused_here : (r : Mention) (rest : List Mention) (q : List ℕ) → bytes_eq q r.input ≡ true → list_any (is_mention r.page q) (r ∷ rest) ≡ true
 refused_here r rest q same =
     let here : page_eq r.page r.page ≡ true = pages_equal.refl r.page in
-    or_first (page_eq r.page r.page && bytes_eq q (string_bytes r.input)) (list_any (is_mention r.page q) (map refused_mention rest)) (rw (here, same) refl)
+    or_first (page_eq r.page r.page && bytes_eq q r.input) (list_any (is_mention r.page q) rest) (rw (here, same) refl)
 
-no_refusals : (refused : List Refusal) → length refused ≡ 0 → refused ≡ []
+no_refusals : (refused : List Mention) → length refused ≡ 0 → refused ≡ []
 no_refusals [] e = refl
 no_refusals (r ∷ rest) e = absurd (omega (arith, e))
 
@@ -153,10 +152,10 @@ no_refusals (r ∷ rest) e = absurd (omega (arith, e))
 
 module _ (ms : List Mention) (book : Contents) (is_book : IsBook book) where
   -- more different inputs are mentioned for the page of a refused input than a page takes
-  over : (r : Refusal) → IsFull book r → ((q : List ℕ) → is_among q (inputs_on book r.page) ≡ true → list_any (is_mention r.page q) ms ≡ true) → ((q : List ℕ) → bytes_eq q (string_bytes r.input) ≡ true → list_any (is_mention r.page q) ms ≡ true)
+  over : (r : Mention) → IsFull book r → ((q : List ℕ) → is_among q (inputs_on book r.page) ≡ true → list_any (is_mention r.page q) ms ≡ true) → ((q : List ℕ) → bytes_eq q r.input ≡ true → list_any (is_mention r.page q) ms ≡ true)
       → most_inputs < reached_on r.page ms
   over r full held mentioned =
-      let input = string_bytes r.input in
+      let input = r.input in
       let inputs = inputs_on book r.page in
       let parts = full_page book r full in
       let more = insert_key bytes_cmp inputs input in
@@ -175,18 +174,18 @@ module _ (ms : List Mention) (book : Contents) (is_book : IsBook book) where
       omega (arith, counts, few)
 
 -- an input that full pages refused, among all of them
-refused_at : (rs : List Refusal) (k : ℕ) (d : Refusal) (q : List ℕ) → k < length rs → bytes_eq q (string_bytes (get_or rs k d).input) ≡ true → list_any (is_mention (get_or rs k d).page q) (map refused_mention rs) ≡ true
+refused_at : (rs : List Mention) (k : ℕ) (d : Mention) (q : List ℕ) → k < length rs → bytes_eq q (get_or rs k d).input ≡ true → list_any (is_mention (get_or rs k d).page q) rs ≡ true
 refused_at [] k d q lt same = absurd (omega (arith, lt))
 refused_at (r ∷ rs) zero d q lt same = refused_here r rs q same
 refused_at (r ∷ rs) (suc k) d q lt same =
-    or_last (page_eq (get_or rs k d).page r.page && bytes_eq q (string_bytes r.input)) (list_any (is_mention (get_or rs k d).page q) (map refused_mention rs)) (refused_at rs k d q (omega (arith, lt)) same)
+    or_last (page_eq (get_or rs k d).page r.page && bytes_eq q r.input) (list_any (is_mention (get_or rs k d).page q) rs) (refused_at rs k d q (omega (arith, lt)) same)
 
 -- one of them was of this page, or none
-on_page : (Q : Refusal → Type 0) (page : PageName) (rs : List Refusal) → All Q rs → ((r : Refusal) × Q r × (page_eq page r.page ≡ true)) ⊎ ((q : List ℕ) → list_any (is_mention page q) (map refused_mention rs) ≡ false)
+on_page : (Q : Mention → Type 0) (page : PageName) (rs : List Mention) → All Q rs → ((r : Mention) × Q r × (page_eq page r.page ≡ true)) ⊎ ((q : List ℕ) → list_any (is_mention page q) rs ≡ false)
 on_page Q page [] all = inr (λ q. refl)
 on_page Q page (r ∷ rs) all = by (page_eq page r.page) refl (on_page Q page rs (All-tail Q r rs all))
   where
-    by : (b : Bool) → page_eq page r.page ≡ b → ((x : Refusal) × Q x × (page_eq page x.page ≡ true)) ⊎ ((q : List ℕ) → list_any (is_mention page q) (map refused_mention rs) ≡ false) → ((x : Refusal) × Q x × (page_eq page x.page ≡ true)) ⊎ ((q : List ℕ) → list_any (is_mention page q) (map refused_mention (r ∷ rs)) ≡ false)
+    by : (b : Bool) → page_eq page r.page ≡ b → ((x : Mention) × Q x × (page_eq page x.page ≡ true)) ⊎ ((q : List ℕ) → list_any (is_mention page q) rs ≡ false) → ((x : Mention) × Q x × (page_eq page x.page ≡ true)) ⊎ ((q : List ℕ) → list_any (is_mention page q) (r ∷ rs) ≡ false)
     by true e later = inl (r, All-head Q r rs all, e)
     by false e later = ⊎_elim (λ found. inl found) (λ none. inr (λ q. rw e (none q))) later
 
@@ -200,15 +199,15 @@ mentioned_same page other (m ∷ ms) same =
 -- ---- each page
 
 -- what is known of a book and of what full pages refused it
-pub record AreKept (ms : List Mention) (book : Contents) (refused : List Refusal) : Type 0 where
+pub record AreKept (ms : List Mention) (book : Contents) (refused : List Mention) : Type 0 where
   pub lawful : IsBook book
   pub held : (page : PageName) (q : List ℕ) → is_among q (inputs_on book page) ≡ true → list_any (is_mention page q) ms ≡ true
   pub full : All (IsFull book) refused
-  pub within : (page : PageName) (q : List ℕ) → list_any (is_mention page q) (map refused_mention refused) ≡ true → list_any (is_mention page q) ms ≡ true
-  pub exact : (page : PageName) (q : List ℕ) → list_any (is_mention page q) (map refused_mention refused) ≡ false → is_among q (inputs_on book page) ≡ list_any (is_mention page q) ms
+  pub within : (page : PageName) (q : List ℕ) → list_any (is_mention page q) refused ≡ true → list_any (is_mention page q) ms ≡ true
+  pub exact : (page : PageName) (q : List ℕ) → list_any (is_mention page q) refused ≡ false → is_among q (inputs_on book page) ≡ list_any (is_mention page q) ms
 
-module _ (ms : List Mention) (book : Contents) (refused : List Refusal) (kept : AreKept ms book refused) where
-  abbrev IsOver : Refusal → Type 0
+module _ (ms : List Mention) (book : Contents) (refused : List Mention) (kept : AreKept ms book refused) where
+  abbrev IsOver : Mention → Type 0
   IsOver r = (most_inputs ≤ length (inputs_on book r.page)) × (most_inputs < reached_on r.page ms)
 
   all_over : All IsOver refused
@@ -222,7 +221,7 @@ module _ (ms : List Mention) (book : Contents) (refused : List Refusal) (kept : 
   abbrev IsExact : PageName → Type 0
   IsExact page = (q : List ℕ) → is_among q (inputs_on book page) ≡ list_any (is_mention page q) ms
 
-  filled_as : (page : PageName) (r : Refusal) → IsOver r → page_eq page r.page ≡ true → IsFilled page
+  filled_as : (page : PageName) (r : Mention) → IsOver r → page_eq page r.page ≡ true → IsFilled page
   filled_as page r is same =
       let few = few_on_page book page kept.lawful in
       let many : most_inputs ≤ length (inputs_on book page) = subst (λ (l : Inputs). most_inputs ≤ length l) (sym (same_page book r.page page same)) is.0 in (
@@ -254,10 +253,10 @@ module _ (ms : List Mention) (book : Contents) (refused : List Refusal) (kept : 
   -- no page was full exactly where none is reached by too many inputs
   pub none_full : (length refused ≡ 0) ↔ ((page : PageName) → reached_on page ms ≤ most_inputs)
   none_full = (
-    (λ none page. few_exact ms book kept.lawful page (λ q. kept.exact page q (ap (λ l. list_any (is_mention page q) (map refused_mention l)) (no_refusals refused none)))),
+    (λ none page. few_exact ms book kept.lawful page (λ q. kept.exact page q (ap (list_any (is_mention page q)) (no_refusals refused none)))),
     go refused all_over,
   )
     where
-      go : (rs : List Refusal) → All IsOver rs → ((page : PageName) → reached_on page ms ≤ most_inputs) → length rs ≡ 0
+      go : (rs : List Mention) → All IsOver rs → ((page : PageName) → reached_on page ms ≤ most_inputs) → length rs ≡ 0
       go [] all few = refl
       go (r ∷ rs) all few = absurd (let many = (All-head IsOver r rs all).1 in let bound = few r.page in omega (arith, many, bound))

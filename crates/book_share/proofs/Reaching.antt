@@ -1,7 +1,6 @@
 -- Mentions that are noted one after another.
-use Rattle.std.proofs.Common.{◌≡◌, ℕ, ◌+◌, ◌<◌, Bool, true, false, cond, List, [], ◌∷◌, ◌++◌, append-nil, append_assoc, map, take, length, length-append, get_or, add-one, nat_lt, Option, Some, option_map, ⊎_elim, refl, sym, ap, ◌∙◌, subst, arith}
+use Rattle.std.proofs.Common.{◌≡◌, ℕ, ◌+◌, ◌<◌, ◌≤◌, Bool, true, false, cond, List, [], ◌∷◌, ◌++◌, append-nil, append_assoc, map, take, length, length-append, get_or, add-one, nat_lt, Option, Some, option_map, refl, sym, ap, ◌∙◌, subst, arith}
 use Rattle.std.proofs.Math.Seq.{take-suc}
-use Rattle.std.proofs.lemmas.Bool.{cases_Bool}
 use Rattle.std.proofs.lemmas.List.{map-append}
 use Rattle.std.proofs.lemmas.List.Elements.{All-push}
 use Rattle.std.proofs.lemmas.List.Sums.{sum_by-append}
@@ -17,20 +16,30 @@ use Rattle.flag_resolve.specs.declared.resolution.Resolution.{Resolution}
 use Rattle.book_core.specs.Book.{most_bytes}
 use Rattle.book_core.specs.Page.{PageName}
 use Rattle.book_share.specs.Asked.{Mention, mention, targeting_of, resolved, is_long, page_of, mentions_in, mentions_of}
-use Rattle.book_core.specs.Calls.{Call}
+use Rattle.book_core.specs.Calls.{Call, reply_after}
+use Rattle.book_core.specs.declared.fault.BookFault.TheVariants.{PageFull}
+use Rattle.book_core.specs.declared.noted.Noted.{Noted}
 use Rattle.book_lock.specs.Counts.{own}
+use Rattle.book_lock.specs.Notes.{Adds, Looks, accepted}
 use Rattle.book_lock.specs.Told.{all_told}
 use Rattle.book_lock.specs.declared.call.Sight.{Sight}
-use Rattle.book_share.specs.Driven.{called_mention, refused_mention, noted_by, Notes, NotesAsk, IsAnswer}
+use Rattle.book_share.specs.Driven.{HasNoted, IsAnswer, Notes, NotesAsk, called_mention, noted_by}
 use Rattle.book_share.specs.declared.ask.Ask.{Ask}
-use Rattle.book_share.specs.declared.reach.Refusal.{Refusal}
-use borrow.Author.Tests.{ltb-true, lt-ltb}
+use Rattle.book_share.proofs.Full.{full_later, full_more}
+use borrow.Author.Tests.{le-ltb, lt-ltb}
 
 pub count-append : (p : Mention → Bool) (xs ys : List Mention) → count_by p (xs ++ ys) ≡ count_by p xs + count_by p ys
 count-append p xs ys = sum_by-append (λ m. cond (p m) 1 0) xs ys
 
-pub notes_none : (old : List Mention) → Notes [] old old
-notes_none old p = omega arith
+-- what was noted first, and what was noted then
+pub count-noted_by : (p : Mention → Bool) (first last : List Call) (refused others : List Mention) → count_by p (noted_by (first ++ last) (refused ++ others)) ≡ count_by p (noted_by first refused) + count_by p (noted_by last others)
+count-noted_by p first last refused others =
+    let all = count-append p (map called_mention (first ++ last)) (refused ++ others) in
+    let calls = ap (count_by p) (map-append called_mention first last) ∙ count-append p (map called_mention first) (map called_mention last) in
+    let refusals = count-append p refused others in
+    let a = count-append p (map called_mention first) refused in
+    let b = count-append p (map called_mention last) others in
+    omega (arith, all, calls, refusals, a, b)
 
 -- ---- the reached inputs of an evaluation
 
@@ -45,84 +54,87 @@ mentions_in-append key t (x ∷ xs) ys =
       | false ↦ ap (λ l. m ∷ l) later
     ]
 
-pub notes_before : (key : List ℕ) (t : Option Expression) (old : List Mention) → Notes (mentions_in key t []) old old
-unfolding mentions_in
-notes_before key t old p = omega arith
+-- nothing was noted
+pub notes_none : (seat : Sight) (refusals : ℕ) → Notes [] seat refusals seat refusals
+notes_none seat refusals before has = subst (HasNoted seat refusals) (sym (append-nil before)) has
 
-pub notes_more : (key : List ℕ) (t : Option Expression) (rs : List Reached) (i : ℕ) (r : Reached) (a b c : List Mention) → i < length rs → r ≡ get_or rs i r
-    → Notes (mentions_in key t (map reach_view (take i rs))) a b → Notes (cond (is_long (reach_view r)) [] (mention (page_of key t r.site) (reach_view r).input ∷ [])) b c
-    → Notes (mentions_in key t (map reach_view (take (i + 1) rs))) a c
+pub notes_before : (key : List ℕ) (t : Option Expression) (seat : Sight) (refusals : ℕ) → Notes (mentions_in key t []) seat refusals seat refusals
 unfolding mentions_in
-notes_more key t rs i r a b c within at before one p =
-    let more : take (i + 1) rs ≡ take i rs ++ r ∷ [] = ap (λ n. take n rs) (add-one i) ∙ take-suc rs i r within ∙ ap (λ x. take i rs ++ x ∷ []) (sym at) in
+notes_before key t seat refusals = notes_none seat refusals
+
+pub notes_more : (key : List ℕ) (t : Option Expression) (rs : List Reached) (i : ℕ) (r : Reached) (a b c : Sight) (x y z : ℕ) → i < length rs → r ≡ get_or rs i r
+    → Notes (mentions_in key t (map reach_view (take i rs))) a x b y → Notes (cond (is_long (reach_view r)) [] (mention (page_of key t r.site) (reach_view r).input ∷ [])) b y c z
+    → Notes (mentions_in key t (map reach_view (take (i + 1) rs))) a x c z
+unfolding mentions_in
+notes_more key t rs i r a b c x y z within at first one before has =
+    let more : take (i + 1) rs ≡ take i rs ++ r ∷ [] = ap (λ n. take n rs) (add-one i) ∙ take-suc rs i r within ∙ ap (λ e. take i rs ++ e ∷ []) (sym at) in
     let views : map reach_view (take (i + 1) rs) ≡ map reach_view (take i rs) ++ reach_view r ∷ [] = ap (map reach_view) more ∙ map-append reach_view (take i rs) (r ∷ []) in
-    let both = ap (λ l. count_by p (mentions_in key t l)) views ∙ ap (count_by p) (mentions_in-append key t (map reach_view (take i rs)) (reach_view r ∷ []))
-    ∙ count-append p (mentions_in key t (map reach_view (take i rs))) (mentions_in key t (reach_view r ∷ [])) in
-    let first = before p in
-    let last = one p in
-    omega (arith, first, last, both)
+    let front = mentions_in key t (map reach_view (take i rs)) in
+    let last = mentions_in key t (reach_view r ∷ []) in
+    let both : mentions_in key t (map reach_view (take (i + 1) rs)) ≡ front ++ last = ap (mentions_in key t) views ∙ mentions_in-append key t (map reach_view (take i rs)) (reach_view r ∷ []) in
+    subst (HasNoted c z) (append_assoc before front last ∙ ap (λ l. before ++ l) (sym both)) (one (before ++ front) (first before has))
 
 -- ---- one input
 
+-- the input, unless it is too long
+abbrev pub one_mention : PageName → List ℕ → List Mention
+one_mention page input = cond (nat_lt most_bytes (length input)) [] (mention page input ∷ [])
+
 -- the book accepted it
-pub noted_one : (page : PageName) (input : List ℕ) (c : Call) (old new : List Call) (refused : List Refusal) → (most_bytes < length input → ⊥) → c.page ≡ page → c.input ≡ input → new ≡ old ++ c ∷ []
-    → Notes (cond (nat_lt most_bytes (length input)) [] (mention page input ∷ [])) (noted_by old refused) (noted_by new refused)
-noted_one page input c old new refused short page_is input_is is p =
-    let m = mention page input in
-    let one : called_mention c ≡ m = ap (λ q. mention q c.input) page_is ∙ ap (mention page) input_is in
-    let views = ap (λ l. map called_mention l ++ map refused_mention refused) is ∙ ap (λ l. l ++ map refused_mention refused) (map-append called_mention old (c ∷ []))
-    ∙ ap (λ x. (map called_mention old ++ x ∷ []) ++ map refused_mention refused) one in
-    let after = ap (count_by p) views ∙ count-append p (map called_mention old ++ m ∷ []) (map refused_mention refused) in
-    let middle = count-append p (map called_mention old) (m ∷ []) in
-    let before = count-append p (map called_mention old) (map refused_mention refused) in
-    ⊎_elim
-    (λ (e : nat_lt most_bytes (length input) ≡ true). absurd (short (ltb-true _ _ e)))
-    (λ (e : nat_lt most_bytes (length input) ≡ false). rw e (omega (arith, after, middle, before)))
-    (cases_Bool (nat_lt most_bytes (length input)))
+pub accepted_one : (number : ℕ) (page : PageName) (input : List ℕ) (noted : Noted) (old new : Sight) (refusals : ℕ) → length input ≤ most_bytes → Adds (accepted number page input noted) old new → Notes (one_mention page input) old refusals new refusals
+accepted_one number page input noted old new refusals short adds =
+    let plain : nat_lt most_bytes (length input) ≡ false = le-ltb _ _ short in
+    let c = accepted number page input noted in
+    let added : Notes (mention page input ∷ []) old refusals new refusals = λ before has. record {
+      refused = has.refused;
+      many = has.many;
+      noted = λ p.
+          let all = ap (λ l. count_by p (noted_by l has.refused)) adds.mine in
+          let both = ap (λ l. count_by p (noted_by (own old ++ c ∷ []) l)) (sym (append-nil has.refused)) ∙ count-noted_by p (own old) (c ∷ []) has.refused [] in
+          let more = count-append p before (mention page input ∷ []) in
+          let first = has.noted p in
+          omega (arith, all, both, more, first);
+      full = full_later new.seen old.seen has.refused (adds.grown.0 ++ c ∷ [], adds.grown.1 ∙ append_assoc old.seen adds.grown.0 (c ∷ [])) has.full;
+    } in
+    subst (λ b. Notes (cond b [] (mention page input ∷ [])) old refusals new refusals) (sym plain) added
 
 -- its page was full
-pub refused_one : (page : PageName) (input : List ℕ) (r : Refusal) (calls later : List Call) (old new : List Refusal) → (most_bytes < length input → ⊥) → later ≡ calls → refused_mention r ≡ mention page input → new ≡ old ++ r ∷ []
-    → Notes (cond (nat_lt most_bytes (length input)) [] (mention page input ∷ [])) (noted_by calls old) (noted_by later new)
-refused_one page input r calls later old new short same one is p =
+pub refused_one : (page : PageName) (input : List ℕ) (old new : Sight) (refusals : ℕ) → length input ≤ most_bytes → Looks old new → reply_after new.seen page input ≡ Err PageFull → Notes (one_mention page input) old refusals new (refusals + 1)
+refused_one page input old new refusals short looks full =
+    let plain : nat_lt most_bytes (length input) ≡ false = le-ltb _ _ short in
     let m = mention page input in
-    let views : map refused_mention new ≡ map refused_mention old ++ m ∷ [] = ap (map refused_mention) is ∙ map-append refused_mention old (r ∷ []) ∙ ap (λ x. map refused_mention old ++ x ∷ []) one in
-    let after = ap (λ l. count_by p (map called_mention l ++ map refused_mention new)) same ∙ ap (λ l. count_by p (map called_mention calls ++ l)) views ∙ count-append p (map called_mention calls) (map refused_mention old ++ m ∷ []) in
-    let middle = count-append p (map refused_mention old) (m ∷ []) in
-    let before = count-append p (map called_mention calls) (map refused_mention old) in
-    ⊎_elim
-    (λ (e : nat_lt most_bytes (length input) ≡ true). absurd (short (ltb-true _ _ e)))
-    (λ (e : nat_lt most_bytes (length input) ≡ false). rw e (omega (arith, after, middle, before)))
-    (cases_Bool (nat_lt most_bytes (length input)))
+    let added : Notes (m ∷ []) old refusals new (refusals + 1) = λ before has. record {
+      refused = has.refused ++ m ∷ [];
+      many = let all = length-append has.refused (m ∷ []) in let first = has.many in omega (arith, all, first);
+      noted = λ p.
+          let all = ap (λ l. count_by p (noted_by l (has.refused ++ m ∷ []))) (looks.mine ∙ sym (append-nil (own old))) in
+          let both = count-noted_by p (own old) [] has.refused (m ∷ []) in
+          let more = count-append p before (m ∷ []) in
+          let first = has.noted p in
+          omega (arith, all, both, more, first);
+      full = full_more new.seen old.seen has.refused m looks.grown full has.full;
+    } in
+    subst (λ b. Notes (cond b [] (m ∷ [])) old refusals new (refusals + 1)) (sym plain) added
 
 -- it was too long
-pub long_one : (page : PageName) (input : List ℕ) (old : List Mention) → most_bytes < length input → Notes (cond (nat_lt most_bytes (length input)) [] (mention page input ∷ [])) old old
-long_one page input old long p = rw (lt-ltb _ _ long) (omega arith)
+pub long_one : (page : PageName) (input : List ℕ) (seat : Sight) (refusals : ℕ) → most_bytes < length input → Notes (one_mention page input) seat refusals seat refusals
+long_one page input seat refusals long =
+    let past : nat_lt most_bytes (length input) ≡ true = lt-ltb _ _ long in
+    subst (λ b. Notes (cond b [] (mention page input ∷ [])) seat refusals seat refusals) (sym past) (notes_none seat refusals)
 
 -- what holds of an answer that came
 pub of_ok : {X E : Type 0} (P : X → Type 0) (r : Result X E) (x : X) → r ≡ Ok x → IfOk r P → P x
 of_ok P r x is holds = subst (λ s. IfOk s P) is holds
 
--- a page knows its site
-pub page_known : (key : List ℕ) (t u : Option Expression) (site : ℕ) (page : PageName) → t ≡ u → page ≡ page_of key t site → page ≡ page_of key u page.site
-page_known key t u site page same is =
-    let number : page.site ≡ site = ap (λ p. p.site) is in
-    is ∙ ap (λ v. page_of key v site) same ∙ ap (page_of key u) (sym number)
-
 -- the same input and page, spelled in another way
-pub one_as : (key : List ℕ) (t : Option Expression) (site : ℕ) (page : PageName) (input text : List ℕ) (old new : List Mention) → page ≡ page_of key t site → text ≡ input
-    → Notes (cond (nat_lt most_bytes (length text)) [] (mention page text ∷ [])) old new → Notes (cond (nat_lt most_bytes (length input)) [] (mention (page_of key t site) input ∷ [])) old new
-one_as key t site page input text old new page_is text_is notes =
-    subst (λ q. Notes (cond (nat_lt most_bytes (length input)) [] (mention q input ∷ [])) old new) page_is
-    (subst (λ s. Notes (cond (nat_lt most_bytes (length s)) [] (mention page s ∷ [])) old new) text_is notes)
+pub one_as : (P : List Mention → Type 0) (key : List ℕ) (t : Option Expression) (site : ℕ) (page : PageName) (input text : List ℕ) → page ≡ page_of key t site → text ≡ input → P (one_mention page text) → P (one_mention (page_of key t site) input)
+one_as P key t site page input text page_is text_is holds = subst (λ q. P (one_mention q input)) page_is (subst (λ s. P (one_mention page s)) text_is holds)
 
 -- what was reached is what the resolution tells
-pub noted_as : (flags : Definitions) (a : Ask) (key : List ℕ) (rs : List Reached) (r : Resolution) (old new : List Mention) → key ≡ a.key.now → rs ≡ r.reached.items → resolution_view r ≡ resolved flags a
-    → Notes (mentions_in key (targeting_of flags key) (map reach_view rs)) old new → Notes (mentions_of flags a) old new
+pub noted_as : (P : List Mention → Type 0) (flags : Definitions) (a : Ask) (rs : List Reached) (r : Resolution) → rs ≡ r.reached.items → resolution_view r ≡ resolved flags a
+    → P (mentions_in a.key.now (targeting_of flags a.key.now) (map reach_view rs)) → P (mentions_of flags a)
 unfolding mentions_of
-noted_as flags a key rs r old new key_is rs_is r_is notes =
-    subst (λ l. Notes l old new)
-    (ap (λ k. mentions_in k (targeting_of flags k) (map reach_view rs)) key_is
-    ∙ ap (mentions_in a.key.now (targeting_of flags a.key.now)) (ap (map reach_view) rs_is ∙ ap (λ x. x.reached) r_is)) notes
+noted_as P flags a rs r rs_is r_is holds = subst P (ap (mentions_in a.key.now (targeting_of flags a.key.now)) (ap (map reach_view) rs_is ∙ ap (λ x. x.reached) r_is)) holds
 
 found_at : (asks : List Ask) (n : ℕ) (x : Ask) → n < length asks → x ≡ get_or asks n x → slice_get asks n ≡ Some x
 found_at asks n x within at = slice_get-get_or asks n x within ∙ ap Some (sym at)
@@ -133,9 +145,10 @@ unfolding IsAnswer
 answer_is flags asks x n r within at is = ap (option_map (resolved flags)) (found_at asks n x within at) ∙ ap Some (sym is)
 
 -- what was noted for it
-pub noted_at : (flags : Definitions) (asks : List Ask) (x : Ask) (n : ℕ) (old new : List Mention) → n < length asks → x ≡ get_or asks n x → Notes (mentions_of flags x) old new → NotesAsk flags asks n old new
+pub noted_at : (flags : Definitions) (asks : List Ask) (x : Ask) (n : ℕ) (old : Sight) (refusals : ℕ) (new : Sight) (more : ℕ) → n < length asks → x ≡ get_or asks n x → Notes (mentions_of flags x) old refusals new more
+    → NotesAsk flags asks n old refusals new more
 unfolding NotesAsk
-noted_at flags asks x n old new within at notes a is = subst (λ (y : Ask). Notes (mentions_of flags y) old new) (some_is x a (sym (found_at asks n x within at) ∙ is)) notes
+noted_at flags asks x n old refusals new more within at notes a is = subst (λ (y : Ask). Notes (mentions_of flags y) old refusals new more) (some_is x a (sym (found_at asks n x within at) ∙ is)) notes
   where
     some_is : (x y : Ask) → Some x ≡ Some y → x ≡ y
     some_is x y e = cc
@@ -156,21 +169,6 @@ calls_more ss i seat within at =
 -- the page of a site
 pub page_named : (key : List ℕ) (t u : Option Expression) (site : ℕ) (page : PageName) → t ≡ u → page ≡ page_of key t site → page ≡ page_of key u site
 page_named key t u site page same is = is ∙ ap (λ v. page_of key v site) same
-
--- ---- several workers
-
--- what one worker more noted
-pub noted_both : (p : Mention → Bool) (seats new : List Sight) (seat : Sight) (refused others both : List Refusal) → new ≡ seats ++ seat ∷ [] → both ≡ refused ++ others
-    → count_by p (noted_by (all_told new) both) ≡ count_by p (noted_by (all_told seats) refused) + count_by p (noted_by (own seat) others)
-noted_both p seats new seat refused others both is_seats is_both =
-    let told = told_more seats new seat is_seats in
-    let whole = ap (λ l. count_by p (noted_by l both)) told ∙ ap (λ l. count_by p (noted_by (all_told seats ++ own seat) l)) is_both in
-    let c = count-append p (map called_mention (all_told seats ++ own seat)) (map refused_mention (refused ++ others)) in
-    let d = ap (count_by p) (map-append called_mention (all_told seats) (own seat)) ∙ count-append p (map called_mention (all_told seats)) (map called_mention (own seat)) in
-    let e = ap (count_by p) (map-append refused_mention refused others) ∙ count-append p (map refused_mention refused) (map refused_mention others) in
-    let f = count-append p (map called_mention (all_told seats)) (map refused_mention refused) in
-    let g = count-append p (map called_mention (own seat)) (map refused_mention others) in
-    omega (arith, whole, c, d, e, f, g)
 
 -- ---- what a call in several threads gives
 

@@ -3,7 +3,6 @@ use Rattle.std.proofs.Common.{◌≡◌, ℕ, zero, suc, ◌+◌, ◌-◌, ◌*�
 use Rattle.std.proofs.Math.ListN.{drop_of_length-le}
 use Rattle.std.proofs.Math.Seq.{drop-cons, take-suc}
 use Rattle.std.proofs.lemmas.List.{drop-drop, map-append}
-use Rattle.std.proofs.lemmas.List.Sums.{sum_by-cons}
 use Rattle.std.proofs.lemmas.Option.{slice_get-get_or, slice_get_cases}
 use Rattle.std.specs.Prelude.{All, IfSome, count_by, slice_get}
 use Rattle.std.proofs.lemmas.List.Elements.{All-cons, All-nil}
@@ -13,15 +12,14 @@ use Rattle.flag_resolve.specs.Views.{resolution_view}
 use Rattle.flag_resolve.specs.declared.resolution.Resolution.{Resolution}
 use Rattle.logic_eval.specs.Run.{most_units}
 use Rattle.book_lock.specs.Counts.{own}
-use Rattle.book_lock.specs.Seen.{sight, unseen}
+use Rattle.book_lock.specs.Seen.{AllKnow, StartsWith, sight, unseen}
 use Rattle.book_lock.specs.Told.{all_told}
 use Rattle.book_lock.specs.declared.call.Sight.{Sight}
-use Rattle.book_share.specs.Asked.{Mention, asks_of, every, mentions_of, resolved}
-use Rattle.book_share.specs.Driven.{AreFull, AreInTurn, AreWorks, IsAnswer, IsWork, NotesAsk, mentions_to_all, mentions_with, noted_by}
+use Rattle.book_share.specs.Asked.{Mention, asks_of, every, mentions, mentions_of, resolved}
+use Rattle.book_share.specs.Driven.{AreInTurn, AreWorks, HasNoted, HaveNoted, IsAnswer, IsWork, NotesAsk, mentions_to_all, noted_by}
 use Rattle.book_share.specs.declared.ask.Ask.{Ask}
-use Rattle.book_share.specs.declared.reach.Refusal.{Refusal}
-use Rattle.book_share.proofs.Full.{full_none, full_to_none, full_to_more}
-use Rattle.book_share.proofs.Reaching.{noted_both}
+use Rattle.book_share.proofs.Full.{full_none, full_to_more}
+use Rattle.book_share.proofs.Reaching.{count-append, count-noted_by, told_more}
 
 -- ---- the asks of one worker
 
@@ -43,57 +41,66 @@ every_next m n asks a within at =
 
 -- ---- the asks of all workers
 
-none_to_all : (flags : Definitions) (p : Mention → Bool) (m last : ℕ) → mentions_to_all flags p m last [] ≡ 0
-none_to_all flags p m zero = refl
-none_to_all flags p m (suc c) = let later = none_to_all flags p m c in omega (arith, later)
-
-with-cons : (flags : Definitions) (p : Mention → Bool) (a : Ask) (rest : List Ask) → mentions_with flags p (a ∷ rest) ≡ count_by p (mentions_of flags a) + mentions_with flags p rest
-with-cons flags p a rest = sum_by-cons (λ x. count_by p (mentions_of flags x)) a rest
+none_to_all : (flags : Definitions) (m last : ℕ) → mentions_to_all flags m last [] ≡ []
+none_to_all flags m zero = refl
+none_to_all flags m (suc c) = none_to_all flags m c
 
 -- once the first worker took an ask, it comes behind the last
 turn_to_all : (flags : Definitions) (p : Mention → Bool) (m c : ℕ) (a : Ask) (rest : List Ask)
-    → mentions_to_all flags p m (suc c) (a ∷ rest) ≡ (count_by p (mentions_of flags a) + mentions_with flags p (every m m rest)) + mentions_to_all flags p m c rest
-turn_to_all flags p m zero a rest = let one = with-cons flags p a (every m m rest) in omega (arith, one)
-turn_to_all flags p m (suc c) a rest = let later = turn_to_all flags p m c a rest in omega (arith, later)
+    → count_by p (mentions_to_all flags m (suc c) (a ∷ rest)) ≡ (count_by p (mentions_of flags a) + count_by p (mentions flags (every m m rest))) + count_by p (mentions_to_all flags m c rest)
+turn_to_all flags p m zero a rest =
+    let all = count-append p (mentions_of flags a ++ mentions flags (every m m rest)) [] in
+    let one = count-append p (mentions_of flags a) (mentions flags (every m m rest)) in
+    omega (arith, all, one)
+turn_to_all flags p m (suc c) a rest =
+    let later = turn_to_all flags p m c a rest in
+    let all = count-append p (mentions flags (every m c rest)) (mentions_to_all flags m (suc c) (a ∷ rest)) in
+    let one = count-append p (mentions flags (every m c rest)) (mentions_to_all flags m c rest) in
+    omega (arith, later, all, one)
 
-pub to_all : (flags : Definitions) (p : Mention → Bool) (m : ℕ) (asks : List Ask) → mentions_to_all flags p m (suc m) asks ≡ mentions_with flags p asks
-to_all flags p m [] = none_to_all flags p m (suc m)
+pub to_all : (flags : Definitions) (p : Mention → Bool) (m : ℕ) (asks : List Ask) → count_by p (mentions_to_all flags m (suc m) asks) ≡ count_by p (mentions flags asks)
+to_all flags p m [] = ap (count_by p) (none_to_all flags m (suc m))
 to_all flags p m (a ∷ rest) =
     let turn = turn_to_all flags p m m a rest in
+    let all = count-append p (mentions flags (every m m rest)) (mentions_to_all flags m m rest) in
     let later = to_all flags p m rest in
-    let one = with-cons flags p a rest in
-    omega (arith, turn, later, one)
+    let one = count-append p (mentions_of flags a) (mentions flags rest) in
+    omega (arith, turn, all, later, one)
 
 -- ---- what one worker made so far
 
-pub record IsSoFar (flags : Definitions) (asks : List Ask) (m first ask : ℕ) (seat : Sight) (given : List Resolution) (refused : List Refusal) : Type 0 where
+pub record IsSoFar (flags : Definitions) (asks : List Ask) (m first ask : ℕ) (seat : Sight) (given : List Resolution) (refusals : ℕ) : Type 0 where
   pub answers : map resolution_view given ++ map (resolved flags) (every m 0 (drop ask asks)) ≡ map (resolved flags) (every m first asks)
-  pub noted : (p : Mention → Bool) → count_by p (noted_by (own seat) refused) + mentions_with flags p (every m 0 (drop ask asks)) ≡ mentions_with flags p (every m first asks)
-  pub full : AreFull seat.seen refused
-  pub few : length (own seat) ≤ ask * most_units
+  pub done : List Mention
+  pub noted : HasNoted seat refusals done
+  pub left : (p : Mention → Bool) → count_by p done + count_by p (mentions flags (every m 0 (drop ask asks))) ≡ count_by p (mentions flags (every m first asks))
+  pub few : length (own seat) + refusals ≤ ask * most_units
 
-pub so_far_none : (flags : Definitions) (asks : List Ask) (m first : ℕ) (seat : Sight) (given : List Resolution) (refused : List Refusal) → own seat ≡ [] → given ≡ [] → refused ≡ [] → IsSoFar flags asks m first first seat given refused
-so_far_none flags asks m first seat given refused fresh no_given no_refused = record {
+pub so_far_none : (flags : Definitions) (asks : List Ask) (m first : ℕ) (seat : Sight) (given : List Resolution) → own seat ≡ [] → given ≡ [] → IsSoFar flags asks m first first seat given 0
+so_far_none flags asks m first seat given fresh no_given = record {
   answers = ap (λ l. map resolution_view l ++ map (resolved flags) (every m 0 (drop first asks))) no_given ∙ ap (map (resolved flags)) (sym (every-drop m first asks));
-  noted = λ p.
-      let none : count_by p (noted_by (own seat) refused) ≡ 0 = ap (λ l. count_by p (noted_by l refused)) fresh ∙ ap (λ l. count_by p (noted_by [] l)) no_refused in
-      let same = ap (mentions_with flags p) (every-drop m first asks) in
-      omega (arith, none, same);
-  full = full_none seat.seen refused no_refused;
+  done = [];
+  noted = record {
+    refused = [];
+    many = refl;
+    noted = λ p. ap (λ l. count_by p (noted_by l [])) fresh;
+    full = full_none (λ all. StartsWith all seat.seen);
+  };
+  left = λ p. ap (λ l. count_by p (mentions flags l)) (sym (every-drop m first asks));
   few = let none = ap length fresh in omega (arith, none);
 }
 
-pub so_far_more : (flags : Definitions) (asks : List Ask) (m first ask : ℕ) (seat later : Sight) (given new : List Resolution) (refused others : List Refusal) (r : Resolution) → ask < length asks → new ≡ given ++ r ∷ []
-    → IsSoFar flags asks m first ask seat given refused → IsAnswer flags asks ask r → NotesAsk flags asks ask (noted_by (own seat) refused) (noted_by (own later) others)
-    → (AreFull seat.seen refused → AreFull later.seen others) → length (own later) ≤ length (own seat) + most_units → IsSoFar flags asks m first (ask + (m + 1)) later new others
+pub so_far_more : (flags : Definitions) (asks : List Ask) (m first ask : ℕ) (seat later : Sight) (given new : List Resolution) (refusals more : ℕ) (r : Resolution) → ask < length asks → new ≡ given ++ r ∷ []
+    → IsSoFar flags asks m first ask seat given refusals → IsAnswer flags asks ask r → NotesAsk flags asks ask seat refusals later more → length (own later) + more ≤ length (own seat) + refusals + most_units
+    → IsSoFar flags asks m first (ask + (m + 1)) later new more
 unfolding IsAnswer NotesAsk
-so_far_more flags asks m first ask seat later given new refused others r within is before answer notes full grown = go (get_or asks ask (asks_at asks ask within)) (slice_get-get_or asks ask (asks_at asks ask within) within)
+so_far_more flags asks m first ask seat later given new refusals more r within is before answer notes grown = go (get_or asks ask (asks_at asks ask within)) (slice_get-get_or asks ask (asks_at asks ask within) within)
   where
     asks_at : (xs : List Ask) (n : ℕ) → n < length xs → Ask
     asks_at [] n lt = absurd (omega (arith, lt))
     asks_at (x ∷ xs) n lt = x
 
-    go : (a : Ask) → slice_get asks ask ≡ Some a → IsSoFar flags asks m first (ask + (m + 1)) later new others
+    go : (a : Ask) → slice_get asks ask ≡ Some a → IsSoFar flags asks m first (ask + (m + 1)) later new more
     go a at =
         let next = every_next m ask asks a within at in
         let rest = every m 0 (drop (ask + (m + 1)) asks) in
@@ -103,25 +110,30 @@ so_far_more flags asks m first ask seat later given new refused others r within 
               ∙ append_assoc (map resolution_view given) (resolution_view r ∷ []) (map (resolved flags) rest)
               ∙ ap (λ x. map resolution_view given ++ (x ∷ map (resolved flags) rest)) (sym same)
               ∙ ap (λ l. map resolution_view given ++ map (resolved flags) l) (sym next) ∙ before.answers;
-          noted = λ p.
-              let last = notes a at p in
-              let first_ones = before.noted p in
-              let one = ap (mentions_with flags p) next ∙ with-cons flags p a rest in
-              omega (arith, last, first_ones, one);
-          full = full before.full;
+          done = before.done ++ mentions_of flags a;
+          noted = notes a at before.done before.noted;
+          left = λ p.
+              let first_ones = before.left p in
+              let both = count-append p before.done (mentions_of flags a) in
+              let one = ap (λ l. count_by p (mentions flags l)) next ∙ count-append p (mentions_of flags a) (mentions flags rest) in
+              omega (arith, first_ones, both, one);
           few = let old = before.few in omega (arith, old, grown);
         }
       where
         some_is : (x y : Resolved) → Some x ≡ Some y → x ≡ y
         some_is x y e = cc
 
-pub so_far_done : (flags : Definitions) (asks : List Ask) (m first ask : ℕ) (seat : Sight) (given : List Resolution) (refused : List Refusal) → length asks ≤ ask → IsSoFar flags asks m first ask seat given refused
-    → IsWork flags (every m first asks) seat given refused
-so_far_done flags asks m first ask seat given refused past so_far =
+pub so_far_done : (flags : Definitions) (asks : List Ask) (m first ask : ℕ) (seat : Sight) (given : List Resolution) (refusals : ℕ) → length asks ≤ ask → IsSoFar flags asks m first ask seat given refusals
+    → IsWork flags (every m first asks) seat given refusals
+so_far_done flags asks m first ask seat given refusals past so_far =
     let none : drop ask asks ≡ [] = drop_of_length-le asks past in record {
       answers = sym (append-nil (map resolution_view given)) ∙ ap (λ l. map resolution_view given ++ map (resolved flags) (every m 0 l)) (sym none) ∙ so_far.answers;
-      noted = λ p. (let all = so_far.noted p in let left = ap (λ l. mentions_with flags p (every m 0 l)) none in omega (arith, all, left));
-      full = so_far.full;
+      noted = record {
+        refused = so_far.noted.refused;
+        many = so_far.noted.many;
+        noted = λ p. (let seen = so_far.noted.noted p in let all = so_far.left p in let left = ap (λ l. count_by p (mentions flags (every m 0 l))) none in omega (arith, seen, all, left));
+        full = so_far.noted.full;
+      };
     }
 
 -- ---- workers in a line
@@ -248,19 +260,42 @@ fresh_all n seats is = subst (All (λ (x : Sight). own x ≡ [])) (sym is) (fres
 
 -- ---- several workers
 
-pub works_none : (flags : Definitions) (workers : ℕ) (asks : List Ask) (seats : List Sight) (given : Line) (refused : List Refusal) → seats ≡ [] → given ≡ [] → refused ≡ [] → AreWorks flags workers asks seats given refused
-works_none flags workers asks seats given refused a b c = record {
-  answers = line_none flags (workers - 1) (length seats) asks given b (ap length a);
-  noted = λ p. (let n = ap (λ k. mentions_to_all flags p (workers - 1) (length k) asks) a in let z = ap (λ k. count_by p (noted_by (all_told k) refused)) a ∙ ap (λ k. count_by p (noted_by [] k)) c in omega (arith, n, z));
-  full = full_to_none seats refused c;
+pub works_none : (flags : Definitions) (workers : ℕ) (asks : List Ask) (seats : List Sight) (given : Line) → seats ≡ [] → given ≡ [] → AreWorks flags workers asks seats given 0
+works_none flags workers asks seats given no_seats no_given = subst (λ (l : List Sight). AreWorks flags workers asks l given 0) (sym no_seats) (record {
+  answers = line_none flags (workers - 1) 0 asks given no_given refl;
+  noted = record {
+    refused = [];
+    many = refl;
+    noted = λ p. refl;
+    full = full_none (λ all. AllKnow all []);
+  };
+})
+
+-- one worker more
+pub noted_both : (flags : Definitions) (m : ℕ) (asks : List Ask) (seats : List Sight) (seat : Sight) (refusals more : ℕ) → HaveNoted seats refusals (mentions_to_all flags m (length seats) asks)
+    → HasNoted seat more (mentions flags (every m (length seats) asks)) → HaveNoted (seats ++ seat ∷ []) (refusals + more) (mentions_to_all flags m (suc (length seats)) asks)
+noted_both flags m asks seats seat refusals more first last = record {
+  refused = first.refused ++ last.refused;
+  many = let all = length-append first.refused last.refused in let a = first.many in let b = last.many in omega (arith, all, a, b);
+  noted = λ p.
+      let told = ap (λ l. count_by p (noted_by l (first.refused ++ last.refused))) (told_more seats (seats ++ seat ∷ []) seat refl) in
+      let mixed = count-noted_by p (all_told seats) (own seat) first.refused last.refused in
+      let all = count-append p (mentions flags (every m (length seats) asks)) (mentions_to_all flags m (length seats) asks) in
+      let a = first.noted p in
+      let b = last.noted p in
+      omega (arith, told, mixed, all, a, b);
+  full = full_to_more seats seat first.refused last.refused first.full last.full;
 }
 
-pub works_more : (flags : Definitions) (workers : ℕ) (asks : List Ask) (seats new : List Sight) (seat : Sight) (given more : Line) (answers : List Resolution) (refused others both : List Refusal)
-    → new ≡ seats ++ seat ∷ [] → more ≡ given ++ answers ∷ [] → both ≡ refused ++ others → AreWorks flags workers asks seats given refused → IsWork flags (asks_of workers (length seats) asks) seat answers others
-    → AreWorks flags workers asks new more both
-works_more flags workers asks seats new seat given more answers refused others both is_seats is_given is_both first last =
+pub works_more : (flags : Definitions) (workers : ℕ) (asks : List Ask) (seats new : List Sight) (seat : Sight) (given longer : Line) (answers : List Resolution) (refusals more both : ℕ)
+    → new ≡ seats ++ seat ∷ [] → longer ≡ given ++ answers ∷ [] → both ≡ refusals + more → AreWorks flags workers asks seats given refusals → IsWork flags (asks_of workers (length seats) asks) seat answers more
+    → AreWorks flags workers asks new longer both
+works_more flags workers asks seats new seat given longer answers refusals more both is_seats is_given is_both first last =
     let next : length new ≡ suc (length seats) = ap length is_seats ∙ length-append seats (seat ∷ []) ∙ add-one (length seats) in record {
-      answers = line_more flags (workers - 1) (length seats) (length new) asks given more answers is_given next first.answers last.answers;
-      noted = λ p. (let n = ap (λ k. mentions_to_all flags p (workers - 1) k asks) next in let a = first.noted p in let b = last.noted p in let c = noted_both p seats new seat refused others both is_seats is_both in omega (arith, n, a, b, c));
-      full = full_to_more seats new seat refused others both is_seats is_both first.full last.full;
+      answers = line_more flags (workers - 1) (length seats) (length new) asks given longer answers is_given next first.answers last.answers;
+      noted =
+          subst (λ n. HaveNoted new both (mentions_to_all flags (workers - 1) n asks)) (sym next)
+          (subst (λ n. HaveNoted new n (mentions_to_all flags (workers - 1) (suc (length seats)) asks)) (sym is_both)
+          (subst (λ (l : List Sight). HaveNoted l (refusals + more) (mentions_to_all flags (workers - 1) (suc (length seats)) asks)) (sym is_seats)
+          (noted_both flags (workers - 1) asks seats seat refusals more first.noted last.noted)));
     }

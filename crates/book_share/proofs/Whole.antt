@@ -16,10 +16,9 @@ use Rattle.logic_eval.specs.Views.{reach_view}
 use Rattle.flag_resolve.specs.Views.{resolution_view}
 use Rattle.flag_resolve.specs.Resolved.{Resolved}
 use Rattle.flag_resolve.specs.declared.resolution.Resolution.{Resolution}
-use Rattle.book_share.specs.Asked.{Mention, mentions, mentions_of, is_mention, long_inputs, long_of, resolved}
-use Rattle.book_share.specs.Driven.{AreNoted, AreWorks, noted_by, called_mention, refused_mention, mentions_to_all, is_noted}
+use Rattle.book_share.specs.Asked.{Mention, mentions, is_mention, long_inputs, long_of, resolved}
+use Rattle.book_share.specs.Driven.{AreNoted, AreWorks, noted_by, called_mention, mentions_to_all, is_noted}
 use Rattle.book_share.specs.declared.ask.Ask.{Ask}
-use Rattle.book_share.specs.declared.reach.Refusal.{Refusal}
 use Rattle.book_core.proofs.Answered.{shows_its_calls}
 use Rattle.book_lock.specs.Sealed.{IsSealed}
 use Rattle.book_lock.specs.Seen.{AllKnow, all_ok, calls_by}
@@ -51,14 +50,6 @@ any_from_count p xs ys e = any_count p xs ∙ ap (nat_lt 0) e ∙ sym (any_count
 length_map : {X Y : Type 0} (f : X → Y) (xs : List X) → length (map f xs) ≡ length xs
 length_map f [] = refl
 length_map f (x ∷ xs) = let later = length_map f xs in omega (arith, later)
-
-count-mentions : (flags : Definitions) (p : Mention → Bool) (asks : List Ask) → count_by p (mentions flags asks) ≡ sum_by (λ a. count_by p (mentions_of flags a)) asks
-count-mentions flags p [] = refl
-count-mentions flags p (a ∷ rest) =
-    let later = count-mentions flags p rest in
-    let split = count-append p (mentions_of flags a) (mentions flags rest) in
-    let more = sum_by-cons (λ x. count_by p (mentions_of flags x)) a rest in
-    omega (arith, later, split, more)
 
 -- each call of a seat was accepted
 ok_both : (b d : Bool) → cond b d false ≡ true → (b ≡ true) × (d ≡ true)
@@ -98,11 +89,11 @@ any_called page input (c ∷ cs) ok =
     rw (both.0) (ap (λ b. (page_eq page c.page && bytes_eq input c.input) || b) later)
 
 -- what is accepted or refused is mentioned, and nothing else
-any_noted : (page : PageName) (input : List ℕ) (calls : List Call) (refused : List Refusal) → all_ok calls ≡ true
-    → list_any (is_mention page input) (noted_by calls refused) ≡ (stands calls page input || list_any (is_mention page input) (map refused_mention refused))
+any_noted : (page : PageName) (input : List ℕ) (calls : List Call) (refused : List Mention) → all_ok calls ≡ true
+    → list_any (is_mention page input) (noted_by calls refused) ≡ (stands calls page input || list_any (is_mention page input) refused)
 any_noted page input calls refused ok =
-    list_any-append (is_mention page input) (map called_mention calls) (map refused_mention refused)
-    ∙ ap (λ b. b || list_any (is_mention page input) (map refused_mention refused)) (any_called page input calls ok)
+    list_any-append (is_mention page input) (map called_mention calls) refused
+    ∙ ap (λ b. b || list_any (is_mention page input) refused) (any_called page input calls ok)
 
 or_empty : (a : Bool) → (a || false) ≡ a
 or_empty true = refl
@@ -142,53 +133,55 @@ called_noted book (c ∷ cs) within ok =
     omega (arith, later, more, one)
 
 -- and none that a full page refused
-refused_noted : (book : Contents) (rs : List Refusal) → All (IsFull book) rs → count_by (is_noted book) (map refused_mention rs) ≡ 0
+refused_noted : (book : Contents) (rs : List Mention) → All (IsFull book) rs → count_by (is_noted book) rs ≡ 0
 refused_noted book [] full = refl
 refused_noted book (r ∷ rs) full =
-    let absent : is_noted book (refused_mention r) ≡ false = (full_page book r (All-head (IsFull book) r rs full)).0 in
-    let one : ◌≡◌ {A = ℕ} (cond (is_noted book (refused_mention r)) 1 0) 0 = ap (λ b. cond b 1 0) absent in
+    let absent : is_noted book r ≡ false = (full_page book r (All-head (IsFull book) r rs full)).0 in
+    let one : ◌≡◌ {A = ℕ} (cond (is_noted book r) 1 0) 0 = ap (λ b. cond b 1 0) absent in
     let later = refused_noted book rs (All-tail (IsFull book) r rs full) in
-    let more = sum_by-cons (λ m. cond (is_noted book m) 1 0) (refused_mention r) (map refused_mention rs) in
+    let more = sum_by-cons (λ m. cond (is_noted book m) 1 0) r rs in
     omega (arith, later, more, one)
 
 -- ---- the whole
 
-pub noted_whole : (flags : Definitions) (workers : ℕ) (asks : List Ask) (seats : List Sight) (given : Line) (refused : List Refusal) (n : ℕ) (book : Contents) (accepted new : ℕ)
-    → 0 < workers → length seats ≡ workers → AreWorks flags workers asks seats given refused → IsSealed n seats book → IsTold seats book → accepted ≡ length (all_told seats) → new ≡ input_count book
-    → AreNoted (mentions flags asks) book accepted new (length refused)
-noted_whole flags workers asks seats given refused n book accepted new some len works sealed told accepted_is news =
+pub noted_whole : (flags : Definitions) (workers : ℕ) (asks : List Ask) (seats : List Sight) (given : Line) (refusals n : ℕ) (book : Contents) (accepted new : ℕ)
+    → 0 < workers → length seats ≡ workers → AreWorks flags workers asks seats given refusals → IsSealed n seats book → IsTold seats book → accepted ≡ length (all_told seats) → new ≡ input_count book
+    → AreNoted (mentions flags asks) book accepted new refusals
+noted_whole flags workers asks seats given refusals n book accepted new some len works sealed told accepted_is news =
     let ms = mentions flags asks in
     let calls = all_told seats in
+    let refused = works.noted.refused in
+    let many : length refused ≡ refusals = works.noted.many in
     let ok : all_ok calls ≡ true = ok_told sealed.all seats sealed.legal.1 sealed.seen in
     let is_book : IsBook book = subst IsBook (sym sealed.left) (shows_its_calls sealed.all sealed.legal.0).0 in
-    let full : All (IsFull book) refused = sealed_full n seats book refused sealed works.full in
+    let full : All (IsFull book) refused = sealed_full n seats book refused sealed works.noted.full in
     let last : length seats ≡ suc (workers - 1) = omega (arith, some, len) in
     let counted : (p : Mention → Bool) → count_by p (noted_by calls refused) ≡ count_by p ms =
-    λ p. works.noted p ∙ ap (λ k. mentions_to_all flags p (workers - 1) k asks) last ∙ to_all flags p (workers - 1) asks ∙ sym (count-mentions flags p asks) in
-    let any : (page : PageName) (q : List ℕ) → (stands calls page q || list_any (is_mention page q) (map refused_mention refused)) ≡ list_any (is_mention page q) ms =
+    λ p. works.noted.noted p ∙ ap (λ k. count_by p (mentions_to_all flags (workers - 1) k asks)) last ∙ to_all flags p (workers - 1) asks in
+    let any : (page : PageName) (q : List ℕ) → (stands calls page q || list_any (is_mention page q) refused) ≡ list_any (is_mention page q) ms =
     λ page q. sym (any_noted page q calls refused ok) ∙ any_from_count (is_mention page q) (noted_by calls refused) ms (counted (is_mention page q)) in
     let union : (page : PageName) (q : List ℕ) → is_among q (inputs_on book page) ≡ stands calls page q = λ page q. told.told.union page q in
     let kept : AreKept ms book refused = record {
       lawful = is_book;
-      held = λ page q e. sym (any page q) ∙ or_first (stands calls page q) (list_any (is_mention page q) (map refused_mention refused)) (sym (union page q) ∙ e);
+      held = λ page q e. sym (any page q) ∙ or_first (stands calls page q) (list_any (is_mention page q) refused) (sym (union page q) ∙ e);
       full = full;
-      within = λ page q e. sym (any page q) ∙ or_last (stands calls page q) (list_any (is_mention page q) (map refused_mention refused)) e;
+      within = λ page q e. sym (any page q) ∙ or_last (stands calls page q) (list_any (is_mention page q) refused) e;
       exact = λ page q e. union page q ∙ sym (or_empty (stands calls page q)) ∙ ap (λ b. stands calls page q || b) (sym e) ∙ any page q;
     } in
     let whole = sym (count_all (noted_by calls refused)) ∙ counted (λ _. true) ∙ count_all ms in
-    let parts = length-append (map called_mention calls) (map refused_mention refused) in
+    let parts = length-append (map called_mention calls) refused in
     let a = length_map called_mention calls in
-    let b = length_map refused_mention refused in
-    let split = sym (counted (is_noted book)) ∙ count-append (is_noted book) (map called_mention calls) (map refused_mention refused) in
+    let split = sym (counted (is_noted book)) ∙ count-append (is_noted book) (map called_mention calls) refused in
     let accepted_ones = called_noted book calls (λ page q e. union page q ∙ e) ok in
-    let refused_ones = refused_noted book refused full in record {
+    let refused_ones = refused_noted book refused full in
+    let none = none_full ms book refused kept in record {
       contents = page_contents ms book refused kept;
       filled = page_filled ms book refused kept;
       held = kept.held;
       calls = omega (arith, split, accepted_ones, refused_ones, accepted_is);
       news = news;
-      refusals = let both = count_both (is_noted book) ms in omega (arith, split, accepted_ones, refused_ones, both, whole, parts, a, b);
-      full = none_full ms book refused kept;
+      refusals = let both = count_both (is_noted book) ms in omega (arith, split, accepted_ones, refused_ones, both, whole, parts, a, many);
+      full = ((λ zero_now. none.0 (many ∙ zero_now)), (λ few. sym many ∙ none.1 few));
     }
 
 -- where nothing was refused, the book has just what is mentioned

@@ -1,5 +1,5 @@
 -- What a drive ends with, and what its workers end with.
-use Rattle.std.specs.Prelude.{◌≡◌, ◌↔◌, ◌<◌, ◌≤◌, ℕ, zero, suc, ◌+◌, ◌-◌, List, [], ◌∷◌, ◌++◌, length, map, count_by, sum_by, All, Bool, true, false, not, Some, Result, Err, IfErr, IfOk, IfSome, option_map, slice_get, string_bytes}
+use Rattle.std.specs.Prelude.{◌≡◌, ◌↔◌, ◌<◌, ◌≤◌, ℕ, zero, suc, ◌+◌, ◌-◌, List, [], ◌∷◌, ◌++◌, length, map, count_by, All, Bool, true, false, not, Some, Result, Err, IfErr, IfOk, IfSome, option_map, slice_get}
 use Rattle.std.specs.List.{list_any}
 use Rattle.std.specs.Set.{distinct_count}
 use Rattle.std.specs.Str.{bytes_eq}
@@ -15,12 +15,11 @@ use Rattle.book_lock.specs.Counts.{own}
 use Rattle.book_lock.specs.Seen.{AllKnow, IsLegal, StartsWith}
 use Rattle.book_lock.specs.Told.{all_told}
 use Rattle.book_lock.specs.declared.call.Sight.{Sight}
-use Rattle.book_share.specs.Asked.{Mention, asks_of, every, is_mention, mentioned_on, mentions_of, resolved}
+use Rattle.book_share.specs.Asked.{Mention, asks_of, every, is_mention, mentioned_on, mentions, mentions_of, resolved}
 use Rattle.book_share.specs.DriveFault.{is_of_workers}
 use Rattle.book_share.specs.declared.ask.Ask.{Ask}
 use Rattle.book_share.specs.declared.drive_fault.DriveFault.{DriveFault}
 use Rattle.book_share.specs.declared.gather.WorkerResults.{WorkerResults}
-use Rattle.book_share.specs.declared.reach.Refusal.{Refusal}
 use Rattle.book_share.specs.declared.worker.Part.{Part}
 
 -- how many different inputs are mentioned for the page
@@ -43,70 +42,72 @@ pub record AreNoted (mentions : List Mention) (book : Contents) (accepted new re
   pub full : (refused ≡ 0) ↔ ((page : PageName) → reached_on page mentions ≤ most_inputs)
 
 -- after these calls the page refuses the input, for it is full
-abbrev pub IsFullAfter : List Call → Refusal → Type 0
-IsFullAfter calls r = reply_after calls r.page (string_bytes r.input) ≡ Err PageFull
+abbrev pub IsFullAfter : List Call → Mention → Type 0
+IsFullAfter calls m = reply_after calls m.page m.input ≡ Err PageFull
 
--- each legal list that begins with these calls ends in a full page for each of these inputs
-abbrev pub AreFull : List Call → List Refusal → Type 0
-AreFull seen refused = (all : List Call) → IsLegal all → StartsWith all seen → All (IsFullAfter all) refused
-
--- the same of a list that begins with what each of these seats has seen
-abbrev pub AreFullToAll : List Sight → List Refusal → Type 0
-AreFullToAll seats refused = (all : List Call) → IsLegal all → AllKnow all seats → All (IsFullAfter all) refused
+-- each legal list of this kind ends in a full page for each of these inputs
+abbrev pub AreFull : (List Call → Type 0) → List Mention → Type 0
+AreFull IsKind refused = (all : List Call) → IsLegal all → IsKind all → All (IsFullAfter all) refused
 
 -- the input of a call
 abbrev pub called_mention : Call → Mention
 called_mention c = record { page = c.page; input = c.input }
 
--- the input that a full page refused
-abbrev pub refused_mention : Refusal → Mention
-refused_mention r = record { page = r.page; input = string_bytes r.input }
+-- what was noted: the inputs of these calls, and those that full pages refused
+abbrev pub noted_by : List Call → List Mention → List Mention
+noted_by calls refused = map called_mention calls ++ refused
 
--- what a worker noted: the inputs of these calls, and those that full pages refused
-abbrev pub noted_by : List Call → List Refusal → List Mention
-noted_by calls refused = map called_mention calls ++ map refused_mention refused
+-- These mentions, in any order, are the inputs of these calls and so many others, which full pages refused, as each legal list of
+-- this kind shows. The others are in no memory: it is enough that there are such.
+pub record AreCounted (IsKind : List Call → Type 0) (calls : List Call) (refusals : ℕ) (mentions : List Mention) : Type 0 where
+  pub refused : List Mention
+  pub many : length refused ≡ refusals
+  pub noted : (p : Mention → Bool) → count_by p (noted_by calls refused) ≡ count_by p mentions
+  pub full : AreFull IsKind refused
 
--- these were noted beside the old ones, in any order
-abbrev pub Notes : List Mention → List Mention → List Mention → Type 0
-Notes more old new = (p : Mention → Bool) → count_by p new ≡ count_by p old + count_by p more
+-- a seat has noted these mentions, of which full pages refused so many
+abbrev pub HasNoted : Sight → ℕ → List Mention → Type 0
+HasNoted seat refusals mentions = AreCounted (λ all. StartsWith all seat.seen) (own seat) refusals mentions
+
+-- the same of several seats
+abbrev pub HaveNoted : List Sight → ℕ → List Mention → Type 0
+HaveNoted seats refusals mentions = AreCounted (λ all. AllKnow all seats) (all_told seats) refusals mentions
+
+-- whatever a seat had noted before, it has noted these mentions beside it
+abbrev pub Notes : List Mention → Sight → ℕ → Sight → ℕ → Type 0
+Notes more old refusals new refusals' = (before : List Mention) → HasNoted old refusals before → HasNoted new refusals' (before ++ more)
 
 -- the resolution is that of the ask of this number
 unfoldable pub IsAnswer : Definitions → List Ask → ℕ → Resolution → Type 0
 IsAnswer flags asks n r = option_map (resolved flags) (slice_get asks n) ≡ Some (resolution_view r)
 
--- what the ask of this number mentions was noted beside the old ones
-unfoldable pub NotesAsk : Definitions → List Ask → ℕ → List Mention → List Mention → Type 0
-NotesAsk flags asks n old new = (a : Ask) → slice_get asks n ≡ Some a → Notes (mentions_of flags a) old new
+-- what the ask of this number mentions was noted beside what was noted before
+unfoldable pub NotesAsk : Definitions → List Ask → ℕ → Sight → ℕ → Sight → ℕ → Type 0
+NotesAsk flags asks n old refusals new refusals' = (a : Ask) → slice_get asks n ≡ Some a → Notes (mentions_of flags a) old refusals new refusals'
 
--- how many of the mentions of the asks pass the test
-abbrev pub mentions_with : Definitions → (Mention → Bool) → List Ask → ℕ
-mentions_with flags p asks = sum_by (λ a. count_by p (mentions_of flags a)) asks
-
--- what one worker made of its asks: the answers in their order, what they mention was noted, and what was refused is so for a full page
-pub record IsWork (flags : Definitions) (asks : List Ask) (seat : Sight) (given : List Resolution) (refused : List Refusal) : Type 0 where
+-- what one worker made of its asks: the answers in their order, and its seat has noted what they mention
+pub record IsWork (flags : Definitions) (asks : List Ask) (seat : Sight) (given : List Resolution) (refusals : ℕ) : Type 0 where
   pub answers : map resolution_view given ≡ map (resolved flags) asks
-  pub noted : (p : Mention → Bool) → count_by p (noted_by (own seat) refused) ≡ mentions_with flags p asks
-  pub full : AreFull seat.seen refused
+  pub noted : HasNoted seat refusals (mentions flags asks)
 
 -- the workers from the first to the one before the last stand in a line, each with the answers to its asks, between two of which so many others come
 abbrev pub AreInTurn : Definitions → ℕ → ℕ → ℕ → List Ask → List (List Resolution) → Type 0
 AreInTurn flags between first last asks [] = first ≡ last
 AreInTurn flags between first last asks (w ∷ ws) = (map resolution_view w ≡ map (resolved flags) (every between first asks)) × AreInTurn flags between (suc first) last asks ws
 
--- how many of the mentions of the asks of the first workers pass the test
-abbrev pub mentions_to_all : Definitions → (Mention → Bool) → ℕ → ℕ → List Ask → ℕ
-mentions_to_all flags p between zero asks = 0
-mentions_to_all flags p between (suc last) asks = mentions_with flags p (every between last asks) + mentions_to_all flags p between last asks
+-- the mentions of the asks of the first workers
+abbrev pub mentions_to_all : Definitions → ℕ → ℕ → List Ask → List Mention
+mentions_to_all flags between zero asks = []
+mentions_to_all flags between (suc last) asks = mentions flags (every between last asks) ++ mentions_to_all flags between last asks
 
 -- what the first workers of so many made
-pub record AreWorks (flags : Definitions) (workers : ℕ) (asks : List Ask) (seats : List Sight) (given : List (List Resolution)) (refused : List Refusal) : Type 0 where
+pub record AreWorks (flags : Definitions) (workers : ℕ) (asks : List Ask) (seats : List Sight) (given : List (List Resolution)) (refusals : ℕ) : Type 0 where
   pub answers : AreInTurn flags (workers - 1) 0 (length seats) asks given
-  pub noted : (p : Mention → Bool) → count_by p (noted_by (all_told seats) refused) ≡ mentions_to_all flags p (workers - 1) (length seats) asks
-  pub full : AreFullToAll seats refused
+  pub noted : HaveNoted seats refusals (mentions_to_all flags (workers - 1) (length seats) asks)
 
 -- the part of worker w is what its asks come to
 abbrev pub IsPart : {L : Type 0} → Definitions → ℕ → List Ask → ℕ → Part L → Type 0
-IsPart flags workers asks w p = IsWork flags (asks_of workers w asks) p.seat p.answers.items p.refused.items
+IsPart flags workers asks w p = IsWork flags (asks_of workers w asks) p.seat p.answers.items p.refused
 
 -- each part that there is, in the order of the workers
 abbrev pub AreParts : {L : Type 0} → Definitions → ℕ → List Ask → List (Result (Part L) DriveFault) → Type 0
@@ -114,12 +115,8 @@ AreParts flags workers asks parts = (w : ℕ) → IfSome (slice_get parts w) (λ
 
 -- the parts of all workers, put together
 abbrev pub AreWorkerResults : {L : Type 0} → Definitions → ℕ → List Ask → WorkerResults L → Type 0
-AreWorkerResults flags workers asks h = AreWorks flags workers asks h.seats.items (map deque_items h.answers.items) h.refused.items
+AreWorkerResults flags workers asks h = AreWorks flags workers asks h.seats.items (map deque_items h.answers.items) h.refused
 
 -- a worker was not refused for the number of workers
 abbrev pub HasStarted : {X : Type 0} → Result X DriveFault → Type 0
 HasStarted r = IfErr r (λ e. is_of_workers e ≡ false)
-
--- a seat noted these and no more, where full pages refused some of them
-abbrev pub NotesTo : List Mention → Sight → Sight → List Refusal → List Refusal → Type 0
-NotesTo more old new refused refused' = Notes more (noted_by (own old) refused) (noted_by (own new) refused')

@@ -138,7 +138,7 @@ fn driven_by<'x, L: BookName + Send + Sync, G: Gate, R: Threads + Wait + Sync>(
         book,
         calls,
         news,
-        full: refused.len() as u128,
+        full: refused,
         long,
     })
 }

@@ -10,7 +10,6 @@ ghost use Rattle.book_share.specs.declared.ask.Ask.{Ask};
 
 use crate::drive_fault::DriveFault;
 use crate::gate::Gate;
-use crate::reach::Refusal;
 use crate::worker::{Job, Part, Round, work};
 use book_lock::{BookName, Seat};
 use flag_resolve::Resolution;
@@ -20,12 +19,12 @@ use std::collections::VecDeque;
 use std::sync::Wait;
 use std::thread::Threads;
 
-/// What all workers made: their seats, the answers of each, and what full pages refused.
+/// What all workers made: their seats, the answers of each, and how many inputs full pages refused.
 #[derive(Drop)]
 pub(crate) struct WorkerResults<L: BookName> {
     pub(crate) seats: Vec<Seat<L>>,
     pub(crate) answers: VecDeque<VecDeque<Resolution>>,
-    pub(crate) refused: Vec<Refusal>,
+    pub(crate) refused: u128,
 }
 
 /// A job for each seat, numbered from 0.
@@ -96,16 +95,16 @@ pub(crate) fn gathered<L: BookName, G: Gate>(
     let _ = round;
     let mut seats = Vec::with_capacity(alloc, parts.len())?;
     let mut answers = VecDeque::with_capacity(alloc, parts.len())?;
-    let mut refused = Vec::new(alloc);
+    let mut refused: u128 = 0;
     for part in parts {
         let Part {
             seat,
             answers: more,
-            refused: mut others,
+            refused: others,
         } = part?;
         seats.push(seat)?;
         answers.push_back(more)?;
-        refused.append(&mut others)?;
+        refused += u128::from(others);
     }
     Ok(WorkerResults {
         seats,

@@ -1,14 +1,13 @@
 //! The inputs that an evaluation reached, noted on their pages.
-ghost use Rattle.std.specs.Prelude.{◌≡◌, ◌<◌, ◌≤◌, ◌+◌, ◌-◌, ◌^◌, [], ◌∷◌, ◌++◌, map, nat_lt, length, if◌then◌else◌, Some, IfOk, IfSome, option_map, string_bytes};
+ghost use Rattle.std.specs.Prelude.{◌≡◌, ◌<◌, ◌≤◌, ◌+◌, ◌-◌, ◌^◌, [], ◌∷◌, map, nat_lt, length, if◌then◌else◌, Some, IfOk, IfSome, option_map, string_bytes};
 ghost use Rattle.flag_defs.specs.Flags.{flags_view};
 ghost use Rattle.logic_ast.specs.Expr.{view};
 ghost use Rattle.logic_eval.specs.Views.{reach_view};
 ghost use Rattle.book_core.specs.Book.{most_bytes};
 ghost use Rattle.book_lock.specs.Counts.{own};
 ghost use Rattle.book_share.specs.Asked.{by_at, mention, mention_by, mentions_by, page_of};
-ghost use Rattle.book_share.specs.Driven.{AreFull, Notes, NotesTo, noted_by, refused_mention};
+ghost use Rattle.book_share.specs.Driven.{Notes};
 ghost use Rattle.book_share.specs.Known.{AreSitePages};
-ghost use Rattle.book_share.specs.declared.reach.Refusal.{Refusal as Kept};
 
 use crate::known::targeting_of;
 use book_core::{BookFault, Page};
@@ -20,13 +19,6 @@ use logic_eval::Reached;
 use std::alloc::{AllocError, Global};
 use std::sync::Wait;
 
-/// An input that a full page refused.
-#[derive(Drop)]
-pub(crate) struct Refusal {
-    pub(crate) page: Page,
-    pub(crate) input: String,
-}
-
 /// The sites of a flag: its key, and the pages of those that are known.
 #[derive(Clone, Copy, Drop)]
 pub(crate) struct Sites<'a> {
@@ -36,20 +28,19 @@ pub(crate) struct Sites<'a> {
     pub(crate) ghost known: { AreSitePages (flags_view flags.now) key.now pages.now },
 }
 
-/// Notes each reached input on the page of its site.
+/// Notes each reached input on the page of its site, and counts those that full pages refused.
 pub(crate) fn note_reached<L: BookName, R: Wait>(
     rt: &R,
     alloc: Global,
     book: &SharedBook<L>,
     seat: &mut Seat<L>,
-    refused: &mut Vec<Refusal>,
+    refused: &mut u64,
     sites: &Sites<'_>,
     reached: &[Reached],
 ) -> Result<(), AllocError>
-    requires room { length (own seat.old) + length reached.now < 2 ^ 64 - 1 }
-    ensures noted { IfOk result (λ _. NotesTo (mentions_by (flags_view sites.now.flags.now) sites.now.key.now (map reach_view reached.now)) seat.old seat.new refused.old.items refused.new.items) }
-    ensures full { IfOk result (λ _. AreFull seat.old.seen refused.old.items → AreFull seat.new.seen refused.new.items) }
-    ensures grown { IfOk result (λ _. length (own seat.new) ≤ length (own seat.old) + length reached.now) }
+    requires room { length (own seat.old) + refused.old + length reached.now < 2 ^ 64 - 1 }
+    ensures noted { IfOk result (λ _. Notes (mentions_by (flags_view sites.now.flags.now) sites.now.key.now (map reach_view reached.now)) seat.old refused.old seat.new refused.new) }
+    ensures grown { IfOk result (λ _. length (own seat.new) + refused.new ≤ length (own seat.old) + refused.old + length reached.now) }
 {
     for reach in reached {
         note_at(rt, alloc, book, seat, refused, sites, reach)?;
@@ -63,14 +54,13 @@ fn note_at<L: BookName, R: Wait>(
     alloc: Global,
     book: &SharedBook<L>,
     seat: &mut Seat<L>,
-    refused: &mut Vec<Refusal>,
+    refused: &mut u64,
     sites: &Sites<'_>,
     reach: &Reached,
 ) -> Result<(), AllocError>
-    requires room { length (own seat.old) < 2 ^ 64 - 1 }
-    ensures noted { IfOk result (λ _. Notes (mention_by (flags_view sites.now.flags.now) sites.now.key.now (reach_view reach.now)) (noted_by (own seat.old) refused.old.items) (noted_by (own seat.new) refused.new.items)) }
-    ensures full { IfOk result (λ _. AreFull seat.old.seen refused.old.items → AreFull seat.new.seen refused.new.items) }
-    ensures grown { IfOk result (λ _. length (own seat.new) ≤ length (own seat.old) + 1) }
+    requires room { length (own seat.old) + refused.old < 2 ^ 64 - 1 }
+    ensures noted { IfOk result (λ _. Notes (mention_by (flags_view sites.now.flags.now) sites.now.key.now (reach_view reach.now)) seat.old refused.old seat.new refused.new) }
+    ensures grown { IfOk result (λ _. length (own seat.new) + refused.new ≤ length (own seat.old) + refused.old + 1) }
 {
     match sites.pages.get(reach.site as usize) {
         Some(page) => note_one(rt, alloc, book, seat, refused, page, reach.input.as_str()),
@@ -84,14 +74,13 @@ fn note_unknown<L: BookName, R: Wait>(
     alloc: Global,
     book: &SharedBook<L>,
     seat: &mut Seat<L>,
-    refused: &mut Vec<Refusal>,
+    refused: &mut u64,
     sites: &Sites<'_>,
     reach: &Reached,
 ) -> Result<(), AllocError>
-    requires room { length (own seat.old) < 2 ^ 64 - 1 }
-    ensures noted { IfOk result (λ _. Notes (mention_by (flags_view sites.now.flags.now) sites.now.key.now (reach_view reach.now)) (noted_by (own seat.old) refused.old.items) (noted_by (own seat.new) refused.new.items)) }
-    ensures full { IfOk result (λ _. AreFull seat.old.seen refused.old.items → AreFull seat.new.seen refused.new.items) }
-    ensures grown { IfOk result (λ _. length (own seat.new) ≤ length (own seat.old) + 1) }
+    requires room { length (own seat.old) + refused.old < 2 ^ 64 - 1 }
+    ensures noted { IfOk result (λ _. Notes (mention_by (flags_view sites.now.flags.now) sites.now.key.now (reach_view reach.now)) seat.old refused.old seat.new refused.new) }
+    ensures grown { IfOk result (λ _. length (own seat.new) + refused.new ≤ length (own seat.old) + refused.old + 1) }
 {
     let targeting = targeting_of(sites.flags, sites.key);
     let page = page_at(alloc, sites.key, targeting, reach.site)?;
@@ -127,45 +116,32 @@ fn text_at(alloc: Global, targeting: &Expr, site: u32) -> Result<Option<String>,
     }
 }
 
-/// Notes an input, and keeps it where its page is full. One that is too long is passed over.
+/// Notes an input, and counts it where its page is full. One that is too long is passed over.
 fn note_one<L: BookName, R: Wait>(
     rt: &R,
     alloc: Global,
     book: &SharedBook<L>,
     seat: &mut Seat<L>,
-    refused: &mut Vec<Refusal>,
+    refused: &mut u64,
     page: &Page,
     input: &str,
 ) -> Result<(), AllocError>
-    requires room { length (own seat.old) < 2 ^ 64 - 1 }
-    ensures noted { IfOk result (λ _. Notes (if nat_lt most_bytes (length input.now) then [] else mention page.now input.now ∷ []) (noted_by (own seat.old) refused.old.items) (noted_by (own seat.new) refused.new.items)) }
-    ensures full { IfOk result (λ _. AreFull seat.old.seen refused.old.items → AreFull seat.new.seen refused.new.items) }
-    ensures grown { IfOk result (λ _. length (own seat.new) ≤ length (own seat.old) + 1) }
+    requires room { length (own seat.old) + refused.old < 2 ^ 64 - 1 }
+    ensures noted { IfOk result (λ _. Notes (if nat_lt most_bytes (length input.now) then [] else mention page.now input.now ∷ []) seat.old refused.old seat.new refused.new) }
+    ensures grown { IfOk result (λ _. length (own seat.new) + refused.new ≤ length (own seat.old) + refused.old + 1) }
 {
     if input.len() > INPUT_BYTES {
         return Ok(());
     }
     match book.note(rt, alloc, seat, page, input) {
         Ok(_) => Ok(()),
-        Err(BookFault::PageFull) => keep(alloc, refused, page, input),
+        Err(BookFault::PageFull) => {
+            *refused += 1;
+            Ok(())
+        }
         Err(BookFault::WantOfMemory) => Err(AllocError),
         Err(BookFault::InputTooLong) => unreachable!(),
         Err(BookFault::LastCall) => unreachable!(),
         Err(BookFault::Stranger) => unreachable!(),
     }
-}
-
-/// Keeps an input that its page refused.
-fn keep(
-    alloc: Global,
-    refused: &mut Vec<Refusal>,
-    page: &Page,
-    input: &str,
-) -> Result<(), AllocError>
-    ensures { IfOk result (λ _. (refusal : Kept) × (refused.new.items ≡ refused.old.items ++ refusal ∷ []) × (refused_mention refusal ≡ mention page.now input.now)) }
-{
-    let page = page.copy(alloc)?;
-    let input = String::from_str(alloc, input)?;
-    refused.push(Refusal { page, input })?;
-    Ok(())
 }

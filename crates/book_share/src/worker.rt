@@ -7,7 +7,7 @@ ghost use Rattle.book_lock.specs.Counts.{own};
 ghost use Rattle.book_lock.specs.Limits.{most_seats};
 ghost use Rattle.book_share.specs.Asked.{asks_of, mentions_of, resolved as resolution_of_ask};
 ghost use Rattle.book_share.specs.DriveFault.{is_of_workers};
-ghost use Rattle.book_share.specs.Driven.{AreFull, IsAnswer, IsWork, Notes, NotesAsk, noted_by};
+ghost use Rattle.book_share.specs.Driven.{IsAnswer, IsWork, Notes, NotesAsk};
 ghost use Rattle.book_share.specs.Gated.{EachTurn, IsClosed, StallsOf};
 ghost use Rattle.book_share.specs.Known.{AreKnown};
 
@@ -15,7 +15,7 @@ use crate::ask::Ask;
 use crate::drive_fault::DriveFault;
 use crate::gate::{Attempt, Gate};
 use crate::known::pages_at;
-use crate::reach::{Refusal, Sites, note_reached};
+use crate::reach::{Sites, note_reached};
 use book_core::Page;
 use book_lock::{BookName, Seat, SharedBook};
 use flag_defs::Flags;
@@ -48,12 +48,12 @@ pub(crate) struct Job<L: BookName> {
     pub(crate) first: usize,
 }
 
-/// What a worker ends with: its seat, its answers in the order of its asks, and the inputs that full pages refused.
+/// What a worker ends with: its seat, its answers in the order of its asks, and how many inputs full pages refused.
 #[derive(Drop)]
 pub(crate) struct Part<L: BookName> {
     pub(crate) seat: Seat<L>,
     pub(crate) answers: VecDeque<Resolution>,
-    pub(crate) refused: Vec<Refusal>,
+    pub(crate) refused: u64,
 }
 
 /// Answers the first ask of the job, then each that comes a step after.
@@ -65,14 +65,14 @@ pub(crate) fn work<L: BookName, G: Gate, R: Wait>(
 ) -> Result<Part<L>, DriveFault>
     requires fresh { own job.seat ≡ [] }
     requires first { job.first < round.now.step }
-    ensures work { IfOk result (λ p. IsWork (flags_view round.now.flags.now) (asks_of round.now.step job.first round.now.asks.now) p.seat p.answers.items p.refused.items) }
+    ensures work { IfOk result (λ p. IsWork (flags_view round.now.flags.now) (asks_of round.now.step job.first round.now.asks.now) p.seat p.answers.items p.refused) }
     ensures gated { IfOk result (λ _. EachTurn (λ n. G.started round.now.gate.now n × G.told round.now.gate.now n) round.now.step job.first (length round.now.asks.now)) }
     ensures stalled { StallsOf (G.refused round.now.gate.now) (length round.now.asks.now) result }
     ensures started { IfErr result (λ e. is_of_workers e ≡ false) }
 {
     let Job { mut seat, first } = job;
     let mut answers = VecDeque::with_capacity(alloc, round.asks.len() / round.step + 1)?;
-    let mut refused = Vec::new(alloc);
+    let mut refused = 0;
     let mut ask = first;
     while ask < round.asks.len() {
         let answer = answered(rt, alloc, round, &mut seat, &mut refused, ask)?;
@@ -92,15 +92,14 @@ fn answered<L: BookName, G: Gate, R: Wait>(
     alloc: Global,
     round: &Round<'_, '_, L, G>,
     seat: &mut Seat<L>,
-    refused: &mut Vec<Refusal>,
+    refused: &mut u64,
     ask: usize,
 ) -> Result<Resolution, DriveFault>
     requires within { ask < length round.now.asks.now }
-    requires room { length (own seat.old) ≤ ask * most_units }
+    requires room { length (own seat.old) + refused.old ≤ ask * most_units }
     ensures answer { IfOk result (λ r. IsAnswer (flags_view round.now.flags.now) round.now.asks.now ask r) }
-    ensures noted { IfOk result (λ _. NotesAsk (flags_view round.now.flags.now) round.now.asks.now ask (noted_by (own seat.old) refused.old.items) (noted_by (own seat.new) refused.new.items)) }
-    ensures full { IfOk result (λ _. AreFull seat.old.seen refused.old.items → AreFull seat.new.seen refused.new.items) }
-    ensures grown { IfOk result (λ _. length (own seat.new) ≤ length (own seat.old) + most_units) }
+    ensures noted { IfOk result (λ _. NotesAsk (flags_view round.now.flags.now) round.now.asks.now ask seat.old refused.old seat.new refused.new) }
+    ensures grown { IfOk result (λ _. length (own seat.new) + refused.new ≤ length (own seat.old) + refused.old + most_units) }
     ensures gated { IfOk result (λ _. G.started round.now.gate.now ask × G.told round.now.gate.now ask) }
     ensures stalled { StallsOf (G.refused round.now.gate.now) (length round.now.asks.now) result }
     ensures started { IfErr result (λ e. is_of_workers e ≡ false) }
@@ -120,14 +119,13 @@ fn resolved<L: BookName, G: Gate, R: Wait>(
     alloc: Global,
     round: &Round<'_, '_, L, G>,
     seat: &mut Seat<L>,
-    refused: &mut Vec<Refusal>,
+    refused: &mut u64,
     ask: &Ask<'_>,
 ) -> Result<Resolution, AllocError>
-    requires room { length (own seat.old) ≤ 2 ^ 32 * most_units }
+    requires room { length (own seat.old) + refused.old ≤ 2 ^ 32 * most_units }
     ensures resolution { IfOk result (λ r. resolution_view r ≡ resolution_of_ask (flags_view round.now.flags.now) ask.now) }
-    ensures noted { IfOk result (λ _. Notes (mentions_of (flags_view round.now.flags.now) ask.now) (noted_by (own seat.old) refused.old.items) (noted_by (own seat.new) refused.new.items)) }
-    ensures full { IfOk result (λ _. AreFull seat.old.seen refused.old.items → AreFull seat.new.seen refused.new.items) }
-    ensures grown { IfOk result (λ _. length (own seat.new) ≤ length (own seat.old) + most_units) }
+    ensures noted { IfOk result (λ _. Notes (mentions_of (flags_view round.now.flags.now) ask.now) seat.old refused.old seat.new refused.new) }
+    ensures grown { IfOk result (λ _. length (own seat.new) + refused.new ≤ length (own seat.old) + refused.old + most_units) }
 {
     let resolution = resolution(alloc, round.flags, ask)?;
     let key = ask.key;

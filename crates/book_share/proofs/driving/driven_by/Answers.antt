@@ -1,12 +1,12 @@
-use Rattle.std.proofs.Common.{◌≡◌, ◌-◌, length, map, subst, sym, ap, ◌∙◌, arith, rules}
+use Rattle.std.proofs.Common.{◌≡◌, ◌-◌, length, map, subst, sym, ap, ◌∙◌, arith}
 use Rattle.std.specs.Prelude.{sum_by}
 use Rattle.std.specs.VecDeque.{deque_items}
 use Rattle.flag_defs.specs.Flags.{flags_view}
 use Rattle.flag_resolve.specs.declared.resolution.Resolution.{Resolution}
 use Rattle.logic_eval.specs.Views.{reach_view}
 use Rattle.book_lock.specs.Told.{all_told}
-use Rattle.book_share.specs.Asked.{long_inputs, mentions}
-use Rattle.book_share.specs.Driven.{AreInTurn, AreNoted}
+use Rattle.book_share.specs.Asked.{long_inputs}
+use Rattle.book_share.specs.Driven.{AreInTurn}
 use Rattle.book_share.proofs.Telling.{told_all}
 use Rattle.book_share.proofs.Turns.{line_count}
 use Rattle.book_share.proofs.Whole.{noted_whole, long_whole}
@@ -48,10 +48,8 @@ returns-clause-noted g c =
     let works = c.in_ok-seats.ensures.work flags asks c.args.workers c.in_ok-parts.ensures.work in
     let seats : length h.seats.items ≡ c.args.workers = c.in_ok-seats.ensures.len ∙ c.in_ok-parts.ensures.len in
     let calls : c.calls_of-calls.result ≡ length (all_told h.seats.items) = c.calls_of-calls.ensures ∙ ap (λ l. length (all_told l)) c.as_slice.ensures.value in
-    let count : length h.refused.items ≡ c.len.result = search (rules) in
-    subst (AreNoted (mentions flags asks) c.in-Ok.book c.calls_of-calls.result c.inputs-news.result) count
-    (noted_whole flags c.args.workers asks h.seats.items (map deque_items h.answers.items) h.refused.items _ c.in-Ok.book c.calls_of-calls.result c.inputs-news.result
-    c.requires.workers.1 seats works c.in-Ok.ensures.sealed c.in-Ok.ensures.told calls c.inputs-news.ensures.count)
+    noted_whole flags c.args.workers asks h.seats.items (map deque_items h.answers.items) h.refused _ c.in-Ok.book c.calls_of-calls.result c.inputs-news.result
+    c.requires.workers.1 seats works c.in-Ok.ensures.sealed c.in-Ok.ensures.told calls c.inputs-news.ensures.count
 
 pub returns-clause-long : goal.returns-clause-long
 returns-clause-long g c =

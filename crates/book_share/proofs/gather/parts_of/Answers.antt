@@ -39,7 +39,7 @@ returns-clause-len g c =
 pub returns-clause-work : goal.returns-clause-work
 returns-clause-work g c =
     both_ok c.map_vec.result _ _ _ c.map_vec.ensures.len c.map_vec.ensures.each (λ v len gives.
-    at_each c.in_ok-jobs.jobs.items v.items (λ j. j.first) (λ w r. IfOk r (λ p. IsWork (flags_view c.args.round.now.flags.now) (asks_of c.args.round.now.step w c.args.round.now.asks.now) p.seat p.answers.items p.refused.items)) (search (rules, len)) c.in_ok-jobs.ensures.first
+    at_each c.in_ok-jobs.jobs.items v.items (λ j. j.first) (λ w r. IfOk r (λ p. IsWork (flags_view c.args.round.now.flags.now) (asks_of c.args.round.now.step w c.args.round.now.asks.now) p.seat p.answers.items p.refused)) (search (rules, len)) c.in_ok-jobs.ensures.first
     (λ i d lt. let job = (gives i d lt).1 in (job.job, job.job_read, job.call.met.0)))
 
 pub returns-clause-gated : goal.returns-clause-gated

@@ -2,9 +2,8 @@ use Rattle.std.proofs.Common.{◌≡◌, ◌<◌, length, get_or, string_bytes, 
 use Rattle.std.specs.Arc.{arc_value}
 use Rattle.std.proofs.lemmas.Result.{IfOk-weaker}
 use Rattle.flag_defs.specs.Flags.{flags_view}
-use Rattle.book_lock.specs.Counts.{own}
 use Rattle.book_share.specs.Asked.{targeting_of}
-use Rattle.book_share.specs.Driven.{noted_by}
+use Rattle.book_share.specs.Driven.{Notes}
 use Rattle.book_share.proofs.Made.{known_page}
 use Rattle.book_share.proofs.Reaching.{one_as}
 use Rattle.book_share.proofs.reach.note_at.Goals as goal
@@ -18,6 +17,6 @@ returns-in-Some-clause-noted g c =
     let at : c.in-Some.page.now ≡ get_or sites.pages.now r.site c.in-Some.page.now = grind arith in
     let page = known_page flags sites.key.now sites.pages.now r.site c.in-Some.page.now sites.known within at in
     IfOk-weaker c.note_one.result _ _
-    (λ _ notes. one_as sites.key.now (targeting_of flags sites.key.now) r.site c.in-Some.page.now (string_bytes (arc_value r.input)) c.as_str.result.now (noted_by (own c.args.seat.now) c.args.refused.now.items) (noted_by (own c.note_one.new.seat) c.note_one.new.refused.items)
+    (λ _ notes. one_as (λ more. Notes more c.args.seat.now c.args.refused.now c.note_one.new.seat c.note_one.new.refused) sites.key.now (targeting_of flags sites.key.now) r.site c.in-Some.page.now (string_bytes (arc_value r.input)) c.as_str.result.now
     page (c.as_str.ensures.value ∙ ap string_bytes c.deref.ensures) notes)
     c.note_one.ensures.noted

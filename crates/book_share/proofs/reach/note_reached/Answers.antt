@@ -1,28 +1,21 @@
 use Rattle.std.proofs.Common.{arith}
 use Rattle.flag_defs.specs.Flags.{flags_view}
-use Rattle.book_lock.specs.Counts.{own}
 use Rattle.book_share.specs.Asked.{targeting_of}
-use Rattle.book_share.specs.Driven.{noted_by}
 use Rattle.book_share.proofs.Reaching.{notes_before, notes_more}
 use Rattle.book_share.proofs.reach.note_reached.Goals as goal
 
 pub loop-reach-init : goal.loop-reach-init
 loop-reach-init g c =
     let key = c.args.sites.now.key.now in (
-      notes_before key (targeting_of (flags_view c.args.sites.now.flags.now) key) (noted_by (own c.args.seat.now) c.args.refused.now.items),
-      (λ full. full),
+      notes_before key (targeting_of (flags_view c.args.sites.now.flags.now) key) c.args.seat.now c.args.refused.now,
       omega arith,
     )
 
 pub loop-reach-preserved : goal.loop-reach-preserved
 loop-reach-preserved g c =
     let key = c.args.sites.now.key.now in
-    let t = targeting_of (flags_view c.args.sites.now.flags.now) key in
-    let r = c.reach-item.result in
-    let before = noted_by (own c.args.seat.now) c.args.refused.now.items in
-    let middle = noted_by (own c.loop-reach.seat) c.loop-reach.refused.items in
-    let after = noted_by (own c.note_at.new.seat) c.note_at.new.refused.items in (
-      notes_more key t c.args.reached.now c.loop-reach.reach-index r before middle after c.loop-reach-test.true c.reach-item.is c.loop-reach.invariant.0 c.in_ok-note_at.ensures.noted,
-      (λ full. c.in_ok-note_at.ensures.full (c.loop-reach.invariant.1 full)),
-      (let a = c.loop-reach.invariant.2 in let b = c.in_ok-note_at.ensures.grown in omega (arith, a, b)),
+    let t = targeting_of (flags_view c.args.sites.now.flags.now) key in (
+      notes_more key t c.args.reached.now c.loop-reach.reach-index c.reach-item.result c.args.seat.now c.loop-reach.seat c.note_at.new.seat c.args.refused.now c.loop-reach.refused c.note_at.new.refused
+          c.loop-reach-test.true c.reach-item.is c.loop-reach.invariant.0 c.in_ok-note_at.ensures.noted,
+      (let a = c.loop-reach.invariant.1 in let b = c.in_ok-note_at.ensures.grown in omega (arith, a, b)),
     )

@@ -1,7 +1,6 @@
-use Rattle.std.proofs.Common.{length, refl, ap, arith}
+use Rattle.std.proofs.Common.{length, ap, arith}
 use Rattle.flag_defs.specs.Flags.{flags_view}
-use Rattle.book_lock.specs.Counts.{own}
-use Rattle.book_share.specs.Driven.{noted_by}
+use Rattle.book_share.specs.Driven.{Notes}
 use Rattle.book_share.proofs.Bounded.{few_of_view}
 use Rattle.book_share.proofs.Reaching.{noted_as}
 use Rattle.book_share.proofs.worker.resolved.Goals as goal
@@ -15,8 +14,8 @@ note_reached-requires g c =
 
 pub returns-clause-noted : goal.returns-clause-noted
 returns-clause-noted g c =
-    noted_as (flags_view c.args.round.now.flags.now) c.args.ask.now c.args.ask.now.key.now c.as_slice.result.now c.in_ok-resolution.resolution (noted_by (own c.args.seat.now) c.args.refused.now.items) (noted_by (own c.note_reached.new.seat) c.note_reached.new.refused.items)
-    refl c.as_slice.ensures.value c.in_ok-resolution.ensures c.in_ok-note_reached.ensures.noted
+    noted_as (λ more. Notes more c.args.seat.now c.args.refused.now c.note_reached.new.seat c.note_reached.new.refused) (flags_view c.args.round.now.flags.now) c.args.ask.now c.as_slice.result.now c.in_ok-resolution.resolution
+    c.as_slice.ensures.value c.in_ok-resolution.ensures c.in_ok-note_reached.ensures.noted
 
 pub returns-clause-grown : goal.returns-clause-grown
 returns-clause-grown g c =
