@@ -86,7 +86,9 @@ so_far_none flags asks m first seat given fresh no_given = record {
     noted = λ p. ap (λ l. count_by p (noted_by l [])) fresh;
     full = full_none (λ all. StartsWith all seat.seen);
   };
-  left = λ p. ap (λ l. count_by p (mentions flags l)) (sym (every-drop m first asks));
+  left = λ p.
+      let same : count_by p (mentions flags (every m 0 (drop first asks))) ≡ count_by p (mentions flags (every m first asks)) = ap (λ l. count_by p (mentions flags l)) (sym (every-drop m first asks)) in
+      omega (arith, same);
   few = let none = ap length fresh in omega (arith, none);
 }
 
