@@ -1,6 +1,6 @@
 -- The buckets that were found in a text, and what the text is refused for.
 use denote.Ref.{Bor}
-use Rattle.std.proofs.Common.{◌≡◌, ◌≢◌, ℕ, Bool, true, false, true≢false, cond, ◌&&◌, is_some, nat_lt, List, [], ◌∷◌, ◌++◌, String, Vec, Global, Option, Some, None, option_map, option_and_then, pos, ◌^◌, subst, Result, Ok, Err, refl, sym, ap, ap₂, ◌∙◌, append-nil, append_assoc}
+use Rattle.std.proofs.Common.{◌≡◌, ◌≢◌, ℕ, Bool, true, false, true≢false, cond, ◌&&◌, is_some, nat_lt, List, [], ◌∷◌, ◌++◌, Vec, Global, Option, Some, None, option_map, option_and_then, pos, ◌^◌, subst, Result, Ok, Err, refl, sym, ap, ap₂, ◌∙◌, append-nil, append_assoc}
 use Rattle.std.specs.Prelude.{ℤ}
 use Rattle.json.specs.Json as json
 use Rattle.json.specs.Lex.{tokens}
@@ -131,7 +131,7 @@ pub no_json : (text : List ℕ) → read text ≡ None → buckets_in (if_whole 
 no_json text e = ap (λ o. buckets_in (if_whole (if_json o))) e
 
 -- the fault of a value that was not read
-pub no_value : (text : List ℕ) (reader : List Token) (e : TextFault) (r : Result (Vec (String Global × ℕ) Global) RuleTextFault) → reader ≡ tokens text → r ≡ Err (Text e) → (e ≢ texts.WantOfMemory → e ≡ NotJson)
+pub no_value : (text : List ℕ) (reader : List Token) (e : TextFault) (r : Result (Vec (Bor (List ℕ) × ℕ) Global) RuleTextFault) → reader ≡ tokens text → r ≡ Err (Text e) → (e ≢ texts.WantOfMemory → e ≡ NotJson)
     → (e ≡ NotJson → converted of_json (json.value max_depth reader) ≡ None) → GivesEntries r (buckets_in (if_whole (if_json (read text))))
 no_value text reader e (Ok v) starts is kind none = absurd (cc)
 no_value text reader e (Err f) starts is kind none = λ no.
@@ -159,14 +159,15 @@ refused_text (Err f) e t is gives = λ no.
     let same : f ≡ e = cc in
     ruled t ∙ ap made (gives (ap is_want (sym same) ∙ no)) ∙ ap Err (sym same)
 
-pub refused_rule : (r : Result Entries RuleTextFault) (e : RuleFault) (es : Entries) (t : Result Shape TextFault) → r ≡ Err (Rule e) → (e ≢ WantOfMemory → rule_of_entries es ≡ Err e) → buckets_in t ≡ Ok es → GivesUnlessShort r (of_tree t)
-refused_rule (Ok x) e es t is gives got = absurd (cc)
-refused_rule (Err f) e es t is gives got = λ no.
-    let named : f ≡ Rule e = cc in
-    ruled t ∙ ap made got ∙ ap of_rule (gives (λ want. true≢false (sym (ap is_want (named ∙ ap Rule want)) ∙ no))) ∙ ap Err (sym named)
+pub ruled_by : (es : Entries) (t : Result Shape TextFault) → buckets_in t ≡ Ok es → of_tree t ≡ of_rule (rule_of_entries es)
+ruled_by es t got = ruled t ∙ ap made got
 
-pub made_rule : (es : Entries) (t : Result Shape TextFault) (x : Entries) → rule_of_entries es ≡ Ok x → buckets_in t ≡ Ok es → of_tree t ≡ Ok x
-made_rule es t x gives got = ruled t ∙ ap made got ∙ ap of_rule gives
+-- a fault of entries
+pub refused_entries : (r : Result Entries RuleTextFault) (e : RuleFault) (es : Entries) → r ≡ Err (Rule e) → (e ≢ WantOfMemory → rule_of_entries es ≡ Err e) → GivesUnlessShort r (of_rule (rule_of_entries es))
+refused_entries (Ok x) e es is gives = absurd (cc)
+refused_entries (Err f) e es is gives = λ no.
+    let named : f ≡ Rule e = cc in
+    ap of_rule (gives (λ want. true≢false (sym (ap is_want (named ∙ ap Rule want)) ∙ no))) ∙ ap Err (sym named)
 
 -- ---- a value that begins no list
 

@@ -4,6 +4,7 @@ pub mod Found
 pub mod Lending
 pub mod OnlyTexts
 pub mod Literal
+pub mod Placed
 pub mod Readings
 pub mod Texted
 pub mod Turns

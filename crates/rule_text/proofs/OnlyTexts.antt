@@ -1,5 +1,5 @@
 -- Bytes that are a list of texts have the tokens of one, so that a reader that meets another token has met none.
-use Rattle.std.proofs.Common.{◌≡◌, ℕ, zero, suc, ◌-◌, ◌<◌, ◌≤◌, ◌^◌, pos, Bool, true, false, cond, nat_lt, List, [], ◌∷◌, length, Option, Some, None, option_map, option_and_then, Result, Ok, Err, refl, sym, ap, ap₂, ◌∙◌, subst, arith}
+use Rattle.std.proofs.Common.{◌≡◌, ℕ, zero, suc, ◌≤◌, ◌^◌, pos, Bool, true, false, cond, nat_lt, List, [], ◌∷◌, length, Option, Some, None, option_map, option_and_then, Result, Ok, Err, refl, sym, ap, ap₂, ◌∙◌, subst, arith}
 use Rattle.std.specs.Prelude.{ℤ}
 use Rattle.std.specs.Option.{MatchOption}
 use Rattle.std.specs.Str.{IsUtf8}
@@ -11,7 +11,7 @@ use Rattle.json.proofs.Grammar.{value_is, value-begin_array}
 use Rattle.serde_json.specs.Data as parsed
 use Rattle.serde_json.specs.Data.{Data, Num}
 use Rattle.serde_json.specs.Read.{max_depth, number_of, of_json, of_items, of_members, read}
-use Rattle.flag_text.specs.Reading.{items_shape, number_shape, shape_of, if_json, if_whole, max_levels, tree_of}
+use Rattle.flag_text.specs.Reading.{items_shape, number_shape, shape_of, if_json, if_whole, max_levels}
 use Rattle.flag_text.specs.Shape.{Shape, whole, other, text, list, is_in_range, levels, has_other}
 use Rattle.flag_text.specs.declared.fault.TextFault.{TextFault}
 use Rattle.flag_text.specs.declared.fault.TextFault.TheVariants.{NotWhole, TooDeep}

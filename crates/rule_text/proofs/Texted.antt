@@ -1,6 +1,6 @@
 -- The tokens of a list of texts, a text at a time.
 use denote.Ref.{Bor}
-use Rattle.std.proofs.Common.{◌≡◌, ℕ, ◌-◌, ◌<◌, ◌≤◌, false, List, [], ◌∷◌, ◌++◌, length, Option, Some, None, Ok, option_and_then, IfSome, refl, sym, ap, ◌∙◌, arith}
+use Rattle.std.proofs.Common.{◌≡◌, ℕ, ◌-◌, ◌<◌, ◌≤◌, false, List, [], ◌∷◌, ◌++◌, length, Option, Some, None, Ok, option_and_then, refl, ap, ◌∙◌, arith}
 use Rattle.std.specs.Str.{IsUtf8}
 use Rattle.json.specs.Json as json
 use Rattle.json.specs.Json.{parse_map, after_end_array, items, value}
@@ -9,7 +9,7 @@ use Rattle.json.specs.Token.{Token}
 use Rattle.json.proofs.Grammar.{value_is, value-begin_array, items_end, items_more}
 use Rattle.serde_json.specs.Data as parsed
 use Rattle.serde_json.specs.Read.{max_depth, of_json, of_items, read}
-use Rattle.flag_text.specs.Reading.{items_shape, if_json, if_whole, tree_of}
+use Rattle.flag_text.specs.Reading.{items_shape, if_json, if_whole}
 use Rattle.flag_text.specs.Shape.{list, items_levels, items_have_other}
 use Rattle.flag_text.proofs.Readings.{doc_of-utf8}
 use Rattle.rule_text.specs.Texts.{AreTexts, AreTokensOf, text_items, texts_then, texts_view}

@@ -1,12 +1,14 @@
 -- The literal buckets of a tree, or what they are refused for (but for `buckets_in`, in private contracts alone).
-use Rattle.std.specs.Prelude.{◌≡◌, ℕ, Bool, false, cond, List, [], ◌∷◌, ◌++◌, String, Vec, Option, Some, None, option_map, option_and_then, Result, Ok, Err}
+use Rattle.std.specs.Prelude.{◌≡◌, ℕ, Bool, false, cond, List, [], ◌∷◌, ◌++◌, Vec, Option, Some, None, option_map, option_and_then, Result, Ok, Err}
+use Rattle.std.specs.Borrow.{Bor}
 use Rattle.std.specs.declared.alloc.Global.{Global}
 use Rattle.flag_text.specs.Readers.{as_list}
 use Rattle.flag_text.specs.Shape.{Shape, list, Items, levels, has_other}
 use Rattle.flag_text.specs.declared.fault.TextFault.{TextFault}
 use Rattle.bucket_core.specs.Reading.{buckets_of}
-use Rattle.bucket_core.specs.Rule.{Entries, entries_view}
+use Rattle.bucket_core.specs.Rule.{Entries}
 use Rattle.bucket_core.specs.declared.fault.RuleFault.TheVariants.{BadRule}
+use Rattle.rule_text.specs.Lent.{lent_view}
 use Rattle.rule_text.specs.Parts.{extent_at}
 use Rattle.rule_text.specs.Reading.{is_want}
 use Rattle.rule_text.specs.declared.fault.RuleTextFault.{RuleTextFault}
@@ -24,8 +26,8 @@ buckets_in (Ok t) = or_bad_rule (option_and_then buckets_of (as_list t))
 buckets_in (Err e) = Err (Text e)
 
 -- What was returned is what the definition gives, unless memory ran out.
-abbrev pub GivesEntries : Result (Vec (String Global × ℕ) Global) RuleTextFault → Result Entries RuleTextFault → Type 0
-GivesEntries (Ok v) wanted = wanted ≡ Ok (entries_view v.items)
+abbrev pub GivesEntries : Result (Vec (Bor (List ℕ) × ℕ) Global) RuleTextFault → Result Entries RuleTextFault → Type 0
+GivesEntries (Ok v) wanted = wanted ≡ Ok (lent_view v.items)
 GivesEntries (Err e) wanted = is_want e ≡ false → wanted ≡ Err e
 
 -- the buckets of a tree at the top of a text, and its extent

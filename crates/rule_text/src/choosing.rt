@@ -12,9 +12,10 @@ ghost use Rattle.rule_text.specs.Lent.{lent_view};
 ghost use Rattle.rule_text.specs.Reading.{of_rule, of_tree, rule_of_text};
 
 use crate::fault::RuleTextFault;
-use crate::listed::{LentEntry, listed};
+use crate::lent::{LentEntry, rule_total};
+use crate::listed::listed;
 use crate::read::rule_in;
-use bucket_core::{MAX_TOTAL, Rule, RuleFault, point};
+use bucket_core::{Rule, point};
 use flag_text::TextFault;
 use json::Scratch;
 use simdutf8::basic;
@@ -87,29 +88,11 @@ fn choice_among(
     ensures refused { (e : Fault) → rule_of_entries (lent_view entries.now) ≡ Err e → IsErrOf result (RuleTextFault.Rule e) }
     ensures kind { result ≢ Err (RuleTextFault.Text texts.TooLarge) }
 {
-    let total = total_of(entries);
-    if total == 0 {
-        return Err(RuleTextFault::Rule(RuleFault::NoWeight));
-    }
-    if total > u128::from(MAX_TOTAL) {
-        return Err(RuleTextFault::Rule(RuleFault::TooHeavy));
-    }
-    let point = point(total as u32, key);
+    let point = point(rule_total(entries)?, key);
     Ok(Choice {
         point,
         variant: String::from_str(alloc, name_at(entries, point))?,
     })
-}
-
-/// The sum of the weights, which is exact.
-fn total_of(entries: &[LentEntry<'_>]) -> u128
-    ensures { result ≡ total_weight (lent_view entries.now) }
-{
-    let mut sum = 0u128;
-    for (_, weight) in entries {
-        sum += u128::from(*weight);
-    }
-    sum
 }
 
 /// The name at a point below the total.

@@ -15,8 +15,10 @@
 mod buckets;
 mod choosing;
 mod fault;
+mod lent;
 mod listed;
 mod look;
+mod names;
 mod number;
 mod part;
 mod read;

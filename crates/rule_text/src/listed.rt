@@ -2,16 +2,13 @@
 ghost use Rattle.std.specs.Prelude.{◌≡◌, ◌<◌, length, Some, IfOk, IfSome};
 ghost use Rattle.json.specs.Json.{value, items};
 ghost use Rattle.serde_json.specs.Read.{converted};
-ghost use Rattle.bucket_core.specs.Rule.{entries_view};
 ghost use Rattle.rule_text.specs.Listed.{bucket_in, buckets_in, weight_in, Closes, IsListed};
 ghost use Rattle.rule_text.specs.Lent.{lent_entry, lent_view};
 
+use crate::lent::LentEntry;
 use crate::number::number;
 use json::{Reader, Scratch, Token};
 use std::alloc::{AllocError, Global};
-
-/// A name, where it lies in its text or in what its escapes were replaced in, and a weight.
-pub(crate) type LentEntry<'a> = (&'a str, u64);
 
 /// The entries of a JSON text that is a list of literal buckets. Of any other text there may be none.
 pub(crate) fn listed<'a>(
@@ -92,18 +89,4 @@ fn weight(text: &str) -> Option<u64>
         Some((weight, _)) => weight,
         None => None,
     }
-}
-
-/// Copies of the entries.
-pub(crate) fn owned(
-    alloc: Global,
-    entries: &[LentEntry<'_>],
-) -> Result<Vec<(String, u64)>, AllocError>
-    ensures { IfOk result (λ v. entries_view v.items ≡ lent_view entries.now) }
-{
-    let mut copies = Vec::with_capacity(alloc, entries.len())?;
-    for (name, weight) in entries {
-        copies.push((String::from_str(alloc, name)?, *weight))?;
-    }
-    Ok(copies)
 }

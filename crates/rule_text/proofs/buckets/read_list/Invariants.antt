@@ -3,7 +3,7 @@ use Rattle.json.specs.Json.{items, value, parse_map}
 use Rattle.serde_json.specs.Read.{converted, of_items}
 use Rattle.flag_text.specs.Reading.{items_shape}
 use Rattle.rule_text.specs.Buckets.{found_of}
-use Rattle.bucket_core.specs.Rule.{entries_view}
+use Rattle.rule_text.specs.Lent.{lent_view}
 use Rattle.rule_text.proofs.Found.{after}
 use Rattle.rule_text.proofs.buckets.read_list.Given as goal
 
@@ -11,7 +11,7 @@ use Rattle.rule_text.proofs.buckets.read_list.Given as goal
 abbrev pub invariant-buckets : goal.invariant-buckets
 invariant-buckets l =
     (n : ℕ) × (length l.reader ≤ n)
-    × (parse_map (λ ds. found_of (items_shape ds)) (converted of_items (items (value 126) (length l.initial.reader) l.initial.reader)) ≡ parse_map (after l.is_rule (entries_view l.found.items) l.extent) (converted of_items (items (value 126) n l.reader)))
+    × (parse_map (λ ds. found_of (items_shape ds)) (converted of_items (items (value 126) (length l.initial.reader) l.initial.reader)) ≡ parse_map (after l.is_rule (lent_view l.found.items) l.extent) (converted of_items (items (value 126) n l.reader)))
 
 abbrev pub decreases-buckets : goal.decreases-buckets
 decreases-buckets l = length l.reader

@@ -1,7 +1,7 @@
-use Rattle.std.proofs.Common.{◌≡◌, [], ◌∷◌, sym, ◌∙◌, arith, rules}
+use Rattle.std.proofs.Common.{◌≡◌, [], ◌∷◌, sym, ◌∙◌, rules}
 use Rattle.json.specs.Token.{Token}
 use Rattle.rule_text.specs.Texts.{texts_view}
-use Rattle.rule_text.proofs.OnlyTexts.{all_found, none_found}
+use Rattle.rule_text.proofs.OnlyTexts.{all_found}
 use Rattle.rule_text.proofs.texts.texts_in.Goals as goal
 
 pub returns : goal.returns

@@ -1,6 +1,6 @@
 use Rattle.std.proofs.Common.{arith}
 use Rattle.rule_text.proofs.Lending.{weight_next}
-use Rattle.rule_text.proofs.choosing.total_of.Goals as goal
+use Rattle.rule_text.proofs.lent.total_of.Goals as goal
 
 pub loop-weight-preserved : goal.loop-weight-preserved
 loop-weight-preserved c =

@@ -1,7 +1,7 @@
 use Rattle.std.proofs.Common.{◌≡◌, ◌+◌, ◌*◌, ◌^◌, ◌≤◌, drop}
 use Rattle.bucket_core.specs.Rule.{total_weight}
 use Rattle.rule_text.specs.Lent.{lent_view}
-use Rattle.rule_text.proofs.choosing.total_of.Given as goal
+use Rattle.rule_text.proofs.lent.total_of.Given as goal
 
 -- what is summed, with the rest, is the whole
 abbrev pub invariant-loop-weight : goal.invariant-loop-weight
