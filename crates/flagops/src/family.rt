@@ -7,7 +7,7 @@ use std::convert::AsStr;
 /// What a command is one of, by the first of its words.
 #[derive(Clone, Copy, Debug, PartialEq, Eq)]
 pub enum Family {
-    /// The commands over files alone, and words that name no command.
+    /// The eight commands that `flagops_commands::run` reads, and words that name no command.
     Files,
     /// `serve`.
     Serve,

@@ -1,12 +1,11 @@
 //! `flagops`, the program of the flag service: it reads a command and its words, does what they
 //! ask over the files of the system, writes one report, and ends with its status.
 //!
-//! What it does is `flagops_commands::run`, whose contract says what is written and which status is given; its clauses stand
-//! again at [`flagops`](dispatch::flagops), over the status of the process. Beside it stand the two commands that use the network, `serve` and
-//! `follow` of `flagops_streams`, those on a rollout in steps, `ramp`, `verify-ramp` and `apply --step` of `flagops_ramps`, and those
-//! that draw, `picture` and `plan --picture` of `flagops_pictures`, the service, `ofrep` of `flagops_service`, the filters of
-//! `flagops_filters`, `record` and `tally`, which read the standard input, and `join`, `book` of `flagops_books`, and `check` of
-//! `flagops_checks`.
+//! The words go to the crate of the command's family: `flagops_commands` (`bucket`, `price`, `resolve`, `plan`, `verify`, `apply`,
+//! `drive`, `completions`), `flagops_checks` (`check`), `flagops_books` (`book`), `flagops_filters` (`record`, `tally`, `join`),
+//! `flagops_ramps` (`ramp`, `verify-ramp`, `apply --step`), `flagops_pictures` (`picture`, `plan --picture`), `flagops_streams`
+//! (`serve`, `follow`) or `flagops_service` (`ofrep`). The contract of each says what is written and which status is given; its
+//! clauses stand again at [`flagops`](dispatch::flagops), over the status of the process.
 #![tactic(auto)]
 
 mod dispatch;

@@ -38,8 +38,8 @@ impl<R: AllocGlobal + Wait + Clock + Sync, W: Write + Send> Watcher for Watch<'_
     }
 }
 
-/// What a command does beside reading and answering, in a word. Of one that runs on purpose, or reads what is typed, nothing is
-/// told.
+/// The word for what a command does, for the line of its progress; None for one that runs until it is stopped or reads what is
+/// typed.
 pub fn work_of(words: &io::Result<Vec<String>>, is_typed: bool) -> Option<&'static str>
     ensures told { IfOk words.now (λ w. option_map (λ s. s.now) result ≡ work_of is_typed (map string_bytes w.items)) }
     ensures unread { IfErr words.now (λ _. option_map (λ s. s.now) result ≡ None) }

@@ -8,7 +8,7 @@ use std::alloc::Global;
 use std::env::Args;
 use std::io;
 
-/// The words that are asked, behind the program's name. At a terminal `plan` tells what it comes to.
+/// The arguments after the program's name; at a terminal `plan` gets `--explain`.
 pub fn asked_words(
     alloc: Global,
     words: io::Result<Args>,

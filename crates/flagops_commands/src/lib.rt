@@ -1,4 +1,5 @@
-//! The commands of the program, and the program itself over whatever files and outlets it is given.
+//! The commands `bucket`, `price`, `resolve`, `plan`, `verify`, `apply`, `drive` and `completions`, over whatever files and outlets
+//! they are given.
 //!
 //! Each command is one function from the files and its words to its whole output or its refusal; [`run`] reads the words,
 //! does the command and writes its report.

@@ -61,37 +61,9 @@ where
     let alloc = rt.alloc();
     let Documents { sources, texts } = documents;
     let texts = texts.as_slice();
-    let answer = publish_documents(rt, port, subscribers, wait, sources, texts, remarks, err);
+    forewarn(alloc, remarks, texts, err);
+    let answer = publish_in_turn(rt, port, subscribers, wait, sources, texts, err);
     report_answer(alloc, out, err, remarks, texts, answer)
-}
-
-/// Publishes documents in turn, and tells a person beforehand of each behind the first that will be refused.
-fn publish_documents<R, D, E>(
-    rt: &R,
-    port: u16,
-    subscribers: usize,
-    wait: u64,
-    sources: Sources,
-    texts: &[Vec<u8>],
-    remarks: &D,
-    err: &mut E,
-) -> Result<u64, Refusal>
-where
-    R: AllocGlobal
-        + Net<Listener = TcpListener, Stream = TcpStream>
-        + Clock
-        + Threads
-        + Wait
-        + Sync,
-    D: Remarks,
-    E: Outlet + Drop,
-    requires { 0 < length texts.now }
-    ensures serves { Counts (ServesTo subscribers (sources_view sources) (texts_of texts.now) []) result }
-    ensures lines { TellsLines (IsServeLine port subscribers (is_ok result)) (E.bytes err.old) (E.bytes err.new) (E.is_broken err.new) }
-    ensures stays { E.is_broken err.new ≡ false → E.is_broken err.old ≡ false }
-{
-    forewarn(rt.alloc(), remarks, texts, err);
-    publish_in_turn(rt, port, subscribers, wait, sources, texts, err)
 }
 
 /// Tells of each document behind the first that will be refused once its turn comes, and why.

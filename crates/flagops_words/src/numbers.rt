@@ -14,7 +14,7 @@ pub const LARGEST_32: u64 = 4_294_967_295;
 /// The largest port.
 pub const LARGEST_PORT: u64 = LARGEST_16;
 
-/// A moment, as a number of at most 2^53-1.
+/// The moment of an evaluation: a Unix timestamp in seconds, at most 2^53-1.
 #[derive(Clone, Copy, Debug, PartialEq, Eq)]
 pub struct Moment {
     pub number: u64,

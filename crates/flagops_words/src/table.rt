@@ -1,4 +1,4 @@
-//! The commands of the program with their words, as its help lists them.
+//! The commands of `flagops_commands` with their words, as the help of the program lists them.
 
 use crate::numbers::{LARGEST_16, LARGEST_32, LATEST_MOMENT};
 
