@@ -36,10 +36,10 @@ variant_listed name (member k t ms) h =
     (λ (not : bytes_eq k name ≡ false). contains_later k name (member_names ms) (variant_listed name ms (ap is_some (sym (cond-false (bytes_eq k name) (Some t) (find_member name ms) not)) ∙ h)))
     (cases_Bool (bytes_eq k name))
 
-names_are_variants : (d : Definition) (names : List (List ℕ)) → list_all (λ name. is_some (variant_of name d)) names ≡ true → All (Contains (variant_names d)) names
-names_are_variants d [] h = All-nil (Contains (variant_names d))
-names_are_variants d (name ∷ names) h =
-    All-cons (Contains (variant_names d)) name names (variant_listed name (variants_in d) (left (is_some (variant_of name d)) _ h)) (names_are_variants d names (right (is_some (variant_of name d)) _ h))
+each_is_listed : (d : Definition) (names : List (List ℕ)) → list_all (λ name. is_some (variant_of name d)) names ≡ true → All (Contains (variant_names d)) names
+each_is_listed d [] h = All-nil (Contains (variant_names d))
+each_is_listed d (name ∷ names) h =
+    All-cons (Contains (variant_names d)) name names (variant_listed name (variants_in d) (left (is_some (variant_of name d)) _ h)) (each_is_listed d names (right (is_some (variant_of name d)) _ h))
 
 -- ---- variants have limits
 
@@ -85,6 +85,6 @@ names_limited d entries k asked has = λ i x below.
     let same = refined_names k entries in
     let n = get_or (keys_of (refinement k entries)) i x in
     let is : get_or (keys_of entries) i x ≡ n = ap (λ ns. get_or ns i x) (sym same) in
-    let c = names_are_variants d (keys_of entries) has i x (omega (arith, below, ap length same)) in
+    let c = each_is_listed d (keys_of entries) has i x (omega (arith, below, ap length same)) in
     let one = variants_limited asked names c.0 n (omega (arith, c.1)) in
     subst (λ m. Contains (keys_of (limits_on asked names)) m) (ap (λ m. get_or names c.0 m) (sym is) ∙ (c.2 ∙ is)) one
