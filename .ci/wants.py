@@ -30,8 +30,10 @@ TAKEN = {
     ("crates/sync_server/src/follow.rt", "return Some(ReadEnd::WantOfMemory);"): (1, "`vec!` answers no vector only where memory ran out"),
     ("crates/sync_server/src/read.rt", "None => (collected.snapshots, ReadEnd::WantOfMemory),"): (1, "the sink there is a list, which takes a snapshot unless memory ran out"),
     ("crates/flagops_streams/src/following.rt", "None if wants => finish(out, ReadEnd::WantOfMemory),"): (1, "the printer sets `wants` only where there was no memory for a line"),
-    ("crates/flagops_streams/src/report.rt", 'if write_three(out, b"refused ", call.as_bytes(), b" 0 WantOfMemory\\n") {'): (1, "`want` writes the line; its calls are looked for"),
-    ("crates/flagops_files/src/reports.rt", 'b" 0 WantOfMemory\\n",'): (1, "`want` writes the line; its calls are looked for"),
+    ("crates/flagops_streams/src/report.rt", 'write_three(out, b"refused ", call.as_bytes(), b" 0 WantOfMemory\\n");'): (1, "`want` writes the line; its calls are looked for"),
+    ("crates/flagops_files/src/reports.rt", 'write_three(out, b"refused ", call.as_bytes(), b" 0 WantOfMemory\\n");'): (1, "`want` writes the line; its calls are looked for"),
+    ("crates/flagops_files/src/reports.rt", "want_of(out, err, call.name())"): (1, "`want` writes it by the name of its call"),
+    ("crates/flagops_files/src/reports.rt", "None => want_of(out, err, call),"): (1, "`Outcome::refused` gives none only where memory ran out"),
     ("crates/flagops_files/src/reports.rt", "tell(err, Remark::Short.text());"): (1, "`want` tells it; its calls are looked for"),
     ("crates/flagops_files/src/refused.rt", "refusal: Refusal::WantOfMemory(call),"): (1, "`out_of_memory` makes it; its calls are looked for"),
     ("crates/flagops_files/src/refused.rt", "remark: Remark::Short,"): (1, "the same"),
@@ -45,21 +47,12 @@ TAKEN = {
     ("crates/flagops/src/main.rt", "ExitCode::from(want(&mut out, &mut err, Call::Flagops))"): (1, "there is no memory for the stack that the commands run on"),
     ("crates/flagops_pictures/src/command.rt", "Err(call) => want(out, err, call),"): (1, "`answer` gives a call there only where that call ran out of memory"),
     ("crates/flagops_pictures/src/planning.rt", "Err(call) => want(out, err, call),"): (1, "`answer` gives a call there only where that call ran out of memory"),
-    ("crates/flagops_pictures/src/ramps.rt", 'let line = b"refused verify-ramp 0 WantOfMemory\\n";'): (1, "the line that `finish` writes of what came where memory ran out"),
-    ("crates/flagops_ramps/src/applying.rt", 'finish(alloc, came, b"refused apply 0 WantOfMemory\\n", out, err)'): (1, "the line that `finish` writes of what came where memory ran out"),
-    ("crates/flagops_ramps/src/ramping.rt", 'finish(alloc, came, b"refused ramp 0 WantOfMemory\\n", out, err)'): (1, "the line that `finish` writes of what came where memory ran out"),
-    ("crates/flagops_ramps/src/verifying.rt", 'let line = b"refused verify-ramp 0 WantOfMemory\\n";'): (1, "the line that `finish` writes of what came where memory ran out"),
-    ("crates/flagops_ramps/src/reports.rt", 'tell(err, "error: out of memory\\n");'): (1, "`want` tells it; its calls are looked for"),
     ("crates/flagops_ramps/src/judging.rt", "return Err(out_of_memory());"): (1, "the book was read before, so `count` fails only where memory ran out, as its clause says"),
     ("crates/flagops_ramps/src/ramping.rt", "return Err(out_of_memory());"): (1, "the same"),
     ("crates/flagops_ramps/src/judging.rt", "refusal: RampRefusal::Verify(VerifyFault::Request(RolloutFault::WantOfMemory)),"): (1, "`out_of_memory` tells of an `AllocError`; its calls are looked for"),
     ("crates/flagops_ramps/src/judging.rt", "remark: Remark::Short,"): (1, "the same"),
-    ("crates/flagops_filters/src/recording.rt", 'refuse(alloc, told, b"refused record 0 WantOfMemory\\n", out, err)'): (1, "the line that `refuse` writes where memory ran out"),
-    ("crates/flagops_filters/src/tallying.rt", 'finish(alloc, came, b"refused tally 0 WantOfMemory\\n", out, err)'): (1, "the line that `finish` writes of what came where memory ran out"),
-    ("crates/flagops_filters/src/joining.rt", 'finish(alloc, came, b"refused join 0 WantOfMemory\\n", out, err)'): (1, "the line that `finish` writes of what came where memory ran out"),
     ("crates/flagops_filters/src/joining.rt", "refusal: FilterRefusal::Load(Refusal::ReadTally(TallyFileFault::WantOfMemory)),"): (1, "`out_of_memory` tells of an `AllocError`; its calls are looked for"),
     ("crates/flagops_filters/src/joining.rt", "remark: Remark::Short,"): (1, "the same"),
-    ("crates/flagops_filters/src/reports.rt", 'tell(err, "error: out of memory\\n");'): (1, "`want` tells it; its calls are looked for"),
     ("crates/snap_core/src/names.rt", "Err(_) => return Err(WorldFault::WantOfMemory),"): (1, "of the faults of `add`, whose clause `exact` has Known and TooMany alone, only want of memory is left there"),
 }
 
@@ -69,7 +62,7 @@ NAMES = r"AllocError|AllocFailed|WantOfMemory|OutOfMemory|Unloaded|Short"
 MADE = re.compile(
     r"\b(?:AllocError|WantOfMemory|OutOfMemory|" + WORDS + r")\b|\bAllocFailed(?=\s*\{)"
     r"|(?<!struct )\bShort(?=\s*\{)|\bRemark::Short\b|(?<!struct )(?<!&)\bUnloaded\b(?!\s*[<{])"
-    r"|(?<![\w.])(?<!fn )(?:want|out_of_memory)(?=\s*\()|\bwants\b(?=\s*(?:\|?=(?!=)|:)(?!\s*(?:false|bool)\b))"
+    r"|(?<![\w.])(?<!fn )(?:want|want_of|out_of_memory)(?=\s*\()|\bwants\b(?=\s*(?:\|?=(?!=)|:)(?!\s*(?:false|bool)\b))"
 )
 NAMED = re.compile(r"\b(?:AllocError|AllocFailed|WantOfMemory|OutOfMemory)\b|\b(?:Refusal::Unloaded|Remark::Short)\b|\.is_memory\(\)|\.is_want\(\)")
 RENAMED = re.compile(r"\b(?:" + NAMES + r"|want)\s+as\s+\w")

@@ -16,7 +16,7 @@ use Rattle.flagops_files.specs.Files.{Holding}
 use Rattle.flagops_files.specs.Question.{notes_bytes_at}
 use Rattle.flagops_files.specs.declared.outcome.Outcome.{Outcome}
 use Rattle.flagops_files.specs.declared.refusal.Refusal.{Refusal}
-use Rattle.flagops_files.specs.declared.refused.Refused.{Refused}
+use Rattle.flagops_files.specs.Refusal.{Refused}
 use Rattle.note_books.specs.Blank.{begins_book}
 use Rattle.note_books.specs.Lines.{Taken}
 use Rattle.note_books.specs.Notes.{IsBookOf, Notes, both, no_notes, notes_in}

@@ -19,7 +19,7 @@ use Rattle.flagops_files.specs.Refusal.{is_want}
 use Rattle.flagops_files.specs.declared.refusal.Call.TheVariants as call
 use Rattle.flagops_files.specs.declared.refusal.Refusal.{Refusal}
 use Rattle.flagops_files.specs.declared.refusal.Refusal.TheVariants.{FullBook, ReadBook, WantOfMemory}
-use Rattle.flagops_files.specs.declared.refused.Refused.{Refused}
+use Rattle.flagops_files.specs.Refusal.{Refused}
 use Rattle.note_books.specs.Blank.{begins_book}
 use Rattle.line_batches.specs.Lines.{parts_of}
 use Rattle.note_books.specs.Lines.{Taken, Takes, TakesNotes}

@@ -4,9 +4,9 @@ use Rattle.clap.specs.Walk.{Text}
 use Rattle.flagops_books.specs.Calls.{can_want}
 use Rattle.flagops_books.specs.Report.{IsRunOutcome, remark_of}
 use Rattle.flagops_books.specs.Words.{book_by, book_faults}
+use Rattle.flagops_commands.specs.Telling.{TellsOne}
 use Rattle.flagops_files.specs.Files.{Holding}
 use Rattle.flagops_files.specs.Told.{AnswersTold}
-use Rattle.flagops_ramps.specs.Ended.{TellsOne}
 
 -- the output and what is told beside it, each by the bytes that are known of it and by whether it is broken
 module _ {O E : Type 0} (bytes : O → Option (List ℕ)) (is_broken : O → Bool) (out out' : O) (told : E → Option (List ℕ)) (is_mute : E → Bool) (err err' : E) (status : ℕ) where

@@ -9,7 +9,7 @@ use Rattle.flagops_files.specs.Refusal.{is_want}
 use Rattle.flagops_files.specs.Report.{outcome_view}
 use Rattle.flagops_files.specs.Told.{Says}
 use Rattle.flagops_files.specs.declared.refusal.Refusal.{Refusal}
-use Rattle.flagops_files.specs.declared.refused.Refused.{Refused}
+use Rattle.flagops_files.specs.Refusal.{Refused}
 use Rattle.note_books.specs.Notes.{Notes, IsBookOf}
 use Rattle.note_books.specs.declared.taking.NotesTaken.{NotesTaken}
 

@@ -20,7 +20,7 @@ use Rattle.flagops_files.specs.Refusal.{is_want}
 use Rattle.flagops_files.specs.Told.{NamesOne, NamesSubject, Says, by, file}
 use Rattle.flagops_files.specs.declared.refusal.Refusal.{Refusal}
 use Rattle.flagops_files.specs.declared.refusal.Refusal.TheVariants.{Load}
-use Rattle.flagops_files.specs.declared.refused.Refused.{Refused}
+use Rattle.flagops_files.specs.Refusal.{Refused}
 use Rattle.flagops_files.specs.declared.refused.Remark.{Remark}
 
 -- ---- one document

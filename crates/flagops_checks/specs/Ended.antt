@@ -1,12 +1,10 @@
 -- What `check` comes to, by what the two outlets show before and after, what the files show, and the status.
-use Rattle.std.specs.Prelude.{◌≡◌, ◌⊎◌, ℕ, Bool, List, Option, None, IfSome}
-use Rattle.clap.specs.Kinds.{IsAmong}
+use Rattle.std.specs.Prelude.{◌≡◌, ℕ, Bool, List, Option, None, IfSome}
 use Rattle.clap.specs.Walk.{Text}
-use Rattle.clap.specs.declared.error.kind.ErrorKind.{ErrorKind}
 use Rattle.flagops_checks.specs.Calls.{can_want}
 use Rattle.flagops_checks.specs.Report.{IsRunOutcome, remark_of}
 use Rattle.flagops_checks.specs.Words.{check_by, check_faults}
-use Rattle.flagops_commands.specs.Telling.{Tells, Wants}
+use Rattle.flagops_commands.specs.Telling.{TellsOne}
 use Rattle.flagops_files.specs.Files.{Holding}
 use Rattle.flagops_files.specs.Told.{AnswersTold}
 
@@ -20,6 +18,4 @@ module _ {O E : Type 0} (bytes : O → Option (List ℕ)) (is_broken : O → Boo
 
   -- words with a mistake are told by one of their mistakes, or memory ran out
   abbrev pub TellsCheck : List Text → Type 0
-  TellsCheck words = check_by words ≡ None →
-      Wants (bytes out) (bytes out') (is_broken out') (told err) (told err') (is_mute err') status
-      ⊎ ((kind : ErrorKind) × IsAmong kind (check_faults words) × Tells (bytes out) (bytes out') (is_broken out') (told err) (told err') (is_mute err') status kind)
+  TellsCheck words = check_by words ≡ None → TellsOne (bytes out) (bytes out') (is_broken out') (told err) (told err') (is_mute err') status (check_faults words)

@@ -8,7 +8,7 @@ use Rattle.flagops_checks.specs.declared.gathering.Gathered.{Gathered}
 use Rattle.flagops_checks.specs.declared.remark_lines.RemarkLines.{RemarkLines}
 use Rattle.flagops_files.specs.Refusal.{is_want}
 use Rattle.flagops_files.specs.declared.refusal.Refusal.{Refusal}
-use Rattle.flagops_files.specs.declared.refused.Refused.{Refused}
+use Rattle.flagops_files.specs.Refusal.{Refused}
 use Rattle.flagops_files.specs.declared.refused.Remark.{Remark}
 use Rattle.flagops_files.specs.declared.refused.Remark.TheVariants.{Lines, Short}
 

@@ -21,7 +21,7 @@ use Rattle.flagops_files.specs.declared.refusal.Doubt.{Doubt}
 use Rattle.flagops_files.specs.declared.refusal.Doubt.TheVariants as doubt
 use Rattle.flagops_files.specs.declared.refusal.Refusal.{Refusal}
 use Rattle.flagops_files.specs.declared.refusal.Refusal.TheVariants.{Doubted}
-use Rattle.flagops_files.specs.declared.refused.Refused.{Refused}
+use Rattle.flagops_files.specs.Refusal.{Refused}
 use Rattle.flagops_files.specs.declared.refused.Remark.{Remark}
 use Rattle.flagops_files.specs.declared.refused.Remark.TheVariants.{Short, Lines}
 use Rattle.flagops_remarks.specs.Named.{Names, opening_words, quoted}

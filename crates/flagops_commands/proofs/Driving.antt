@@ -15,7 +15,7 @@ use Rattle.flagops_files.specs.Loading.{◌>>=◌, max_text, refused_by, tree_at
 use Rattle.flagops_files.specs.Refusal.{GivesOne, GivesUnlessWant, is_want, unwritable}
 use Rattle.flagops_files.specs.Report.{Report, beside, done, outcome_view}
 use Rattle.flagops_files.specs.declared.outcome.Outcome.{Outcome}
-use Rattle.flagops_files.specs.declared.refused.Refused.{Refused}
+use Rattle.flagops_files.specs.Refusal.{Refused}
 use Rattle.flagops_files.specs.declared.refusal.Call.TheVariants as call
 use Rattle.flagops_files.specs.declared.refusal.Refusal.{Refusal}
 use Rattle.flagops_files.specs.declared.refusal.Refusal.TheVariants.{Drive}

@@ -3,7 +3,7 @@ use Rattle.std.proofs.Common.{Option, Some, None, Result, IfOk, IfSome}
 use Rattle.std.specs.Prelude.{Ok, Err}
 use Rattle.flagops_files.specs.Told.{Says}
 use Rattle.flagops_files.specs.declared.outcome.Outcome.{Outcome}
-use Rattle.flagops_files.specs.declared.refused.Refused.{Refused}
+use Rattle.flagops_files.specs.Refusal.{Refused}
 use Rattle.flagops_files.specs.declared.refused.Remark.{Remark}
 use Rattle.flagops_files.specs.declared.refused.Remark.TheVariants.{Short, Lines}
 

@@ -13,7 +13,7 @@ use Rattle.flagops_files.specs.Refusal.{GivesOne, GivesUnlessWant}
 use Rattle.flagops_files.specs.Report.{outcome_view}
 use Rattle.flagops_commands.specs.Verify.{IsVerdict, IsVerifyReport}
 use Rattle.flagops_files.specs.declared.outcome.Outcome.{Outcome}
-use Rattle.flagops_files.specs.declared.refused.Refused.{Refused}
+use Rattle.flagops_files.specs.Refusal.{Refused}
 
 -- two loads in turn, of which the first leaves the files as they are
 joined : {P Q R : Holding → Type 0} (old kept : Option Holding) → kept ≡ old → IfSome old P → IfSome kept Q → ((at : Holding) → P at → Q at → R at) → IfSome old R

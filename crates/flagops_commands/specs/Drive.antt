@@ -20,7 +20,7 @@ use Rattle.flagops_files.specs.declared.refusal.Doubt.{Doubt}
 use Rattle.flagops_files.specs.declared.refusal.Doubt.TheVariants as doubt
 use Rattle.flagops_files.specs.declared.refusal.Refusal.{Refusal}
 use Rattle.flagops_files.specs.declared.refusal.Refusal.TheVariants.{Drive}
-use Rattle.flagops_files.specs.declared.refused.Refused.{Refused}
+use Rattle.flagops_files.specs.Refusal.{Refused}
 
 -- the book that was there before: that of the file where it is added to, and else none, where the file may become another book
 unfoldable pub before_at : Holding → List ℕ → Bool → Result (Option Contents) Refusal

@@ -1,7 +1,7 @@
 -- What is written where the words ask for no command.
 use Rattle.std.specs.Prelude.{◌≡◌, ◌⊎◌, ℕ, Bool, false, List, Option}
 use Rattle.clap.specs.Walk.{Text}
-use Rattle.clap.specs.Kinds.{IsAmong}
+use Rattle.clap.specs.Kinds.{Kinds, IsAmong}
 use Rattle.clap.specs.declared.error.kind.ErrorKind.{ErrorKind}
 use Rattle.clap.specs.declared.error.kind.ErrorKind.TheVariants.{DisplayHelp, DisplayVersion, OutOfMemory}
 use Rattle.flagops_files.specs.Report.{PutsText, Reports, ReportsAll, want_report}
@@ -28,6 +28,10 @@ module _ (out : Option (List ℕ)) (out_after : Option (List ℕ)) (is_broken : 
   Tells DisplayVersion = Shows ⊎ Wants
   Tells kind = Complains ⊎ Wants
 
-  -- the same, by one of the faults that the words have
+  -- the same, by one of these mistakes, or memory ran out
+  abbrev pub TellsOne : Kinds → Type 0
+  TellsOne faults = Wants ⊎ ((kind : ErrorKind) × IsAmong kind faults × Tells kind)
+
+  -- by one of those that the words have
   abbrev pub TellsWords : List Text → Type 0
-  TellsWords words = Wants ⊎ ((kind : ErrorKind) × IsAmong kind (faults_of words) × Tells kind)
+  TellsWords words = TellsOne (faults_of words)

@@ -13,11 +13,10 @@ pub fn fault_line(
     number: u32,
     name: &str,
     items: &str,
-) -> Result<Vec<u8>, AllocError>
-    ensures { IfOk result (λ v. v.items ≡ line_with call.now (decimal number) name.now items.now) }
+) -> Result<String, AllocError>
+    ensures { IfOk result (λ s. string_bytes s ≡ line_with call.now (decimal number) name.now items.now) }
 {
-    let line = format!(in alloc; "refused {call} {number} {name}{items}\n")?;
-    Ok(line.into_bytes())
+    format!(in alloc; "refused {call} {number} {name}{items}\n")
 }
 
 /// A line that names a file and what is the matter with it.

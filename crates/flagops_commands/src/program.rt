@@ -85,17 +85,10 @@ pub fn refused(alloc: Global, refused: Refused) -> Result<Outcome, Call>
     ensures call { IfErr result (λ c. c ≡ call_of refused.refusal) }
     ensures remark { IfOk result (λ o. o.remark ≡ Some refused.remark) }
 {
-    let Refused { refusal, remark } = refused;
-    if refusal.is_want() {
-        return Err(refusal.call());
-    }
-    match refusal.line(alloc) {
-        Ok(text) => Ok(Outcome {
-            text: text.into_bytes(),
-            status: Status::Refused,
-            remark: Some(remark),
-        }),
-        Err(AllocError) => Err(refusal.call()),
+    let call = refused.refusal.call();
+    match Outcome::refused(alloc, refused) {
+        Some(outcome) => Ok(outcome),
+        None => Err(call),
     }
 }
 

@@ -1,3 +1,4 @@
+pub mod Ending
 pub mod Writes
 pub mod Told
 mod Recorded

@@ -7,7 +7,7 @@ use Rattle.flagops_files.specs.Question.{IsEvidenceAt, book_bytes_at}
 use Rattle.flagops_files.specs.Refusal.{GivesOne, is_want}
 use Rattle.flagops_files.specs.declared.evidence.Evidence.{Evidence}
 use Rattle.flagops_files.specs.declared.refusal.Refusal.{Refusal}
-use Rattle.flagops_files.specs.declared.refused.Refused.{Refused}
+use Rattle.flagops_files.specs.Refusal.{Refused}
 
 module _ (path : List ℕ) where
   pub no_bytes : (old : Option Holding) (e : Refused) → IfSome old (λ at. is_want e.refusal ≡ false → book_bytes_at at path ≡ Err e.refusal) → IfSome old (λ at. GivesOne (λ (x : Evidence). x) (Err e) (IsEvidenceAt at path))

@@ -7,7 +7,7 @@ use Rattle.std.specs.Io.KnownBytes.{Appends}
 use Rattle.flag_text.specs.Outlet.{AppendsPart}
 use Rattle.flagops_files.specs.Report.{Reports}
 
-whole_after : (old mid new : Option (List ℕ)) (a r : List ℕ) → Appends old mid a → Appends mid new r → Appends old new (a ++ r)
+pub whole_after : (old mid new : Option (List ℕ)) (a r : List ℕ) → Appends old mid a → Appends mid new r → Appends old new (a ++ r)
 whole_after None mid new a r p q = tt
 whole_after (Some xs) None new a r p q = absurd p
 whole_after (Some xs) (Some ys) None a r p q = absurd q

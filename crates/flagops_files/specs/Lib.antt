@@ -1,7 +1,9 @@
 pub mod Beginning
 pub mod Documents
+pub mod Ending
 pub mod Evidence
 pub mod Files
+pub mod Given
 pub mod Keeping
 pub mod Loading
 pub mod Payload

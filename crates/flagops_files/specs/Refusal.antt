@@ -10,6 +10,7 @@ use Rattle.plan_text.specs.Fault as plan_files
 use Rattle.rollout_checks.specs.VerifyFault as verdicts
 use Rattle.flagops_drive.specs.Fault as drives
 use Rattle.flagops_files.specs.Files.{load_number, load_name, store_number, store_name}
+use Rattle.flagops_files.specs.Given as given
 use Rattle.flagops_files.specs.Keeping as keeping
 use Rattle.flagops_files.specs.Payload.{file_items, keep_items, rollout_items, tally_items, verify_items}
 use Rattle.flagops_files.specs.Tallies as tallies
@@ -18,7 +19,7 @@ use Rattle.flagops_files.specs.declared.files.StoreFault.TheVariants.{Unwritable
 use Rattle.flagops_files.specs.declared.refusal.Call.{Call}
 use Rattle.flagops_files.specs.declared.refusal.Call.TheVariants as call
 use Rattle.flagops_files.specs.declared.refusal.Refusal.{Refusal}
-use Rattle.flagops_files.specs.declared.refused.Refused.{Refused}
+use Rattle.flagops_files.specs.declared.refused.Refused as refusals
 use Rattle.flagops_files.specs.declared.refusal.Refusal.TheVariants.{WantOfMemory, Load, LongBook, ReadTree, ReadRule, ReadRequest, Note, Price, ReadFlags, ReadBook, ReadTally, FullBook, ReadPlanned, Verify, Apply, Keep, Plan, PrintPlanned, Drive, Store, Doubted}
 use Rattle.flagops_files.specs.declared.refusal.Doubt.{Doubt}
 use Rattle.flagops_files.specs.declared.refusal.Doubt.TheVariants.{Unread, Unrecorded, Foreign}
@@ -214,19 +215,24 @@ line_with call number name payload = codes "refused " ++ (call ++ (codes " " ++ 
 unfoldable pub line_of : Refusal → List ℕ
 line_of r = line_with (call_name (call_of r)) (decimal (number_of r)) (name_of r) (payload_of r)
 
--- the line where a call ran out of memory
+-- the line where the call of a name ran out of memory
+abbrev pub want_line_of : List ℕ → List ℕ
+want_line_of name = codes "refused " ++ (name ++ codes " 0 WantOfMemory\n")
+
 unfoldable pub want_line : Call → List ℕ
-want_line c = codes "refused " ++ (call_name c ++ codes " 0 WantOfMemory\n")
+want_line c = want_line_of (call_name c)
+
+-- a refusal of one of these calls, with what is told of it
+abbrev pub Refused : Type 0
+Refused = refusals.Refused Refusal
 
 -- What was returned, seen by `seen`, is one of these, unless memory ran out.
 abbrev pub GivesOne : {X Y : Type 0} → (X → Y) → Result X Refused → (Result Y Refusal → Type 0) → Type 0
-GivesOne seen (Ok x) Wanted = Wanted (Ok (seen x))
-GivesOne seen (Err r) Wanted = is_want r.refusal ≡ false → Wanted (Err r.refusal)
+GivesOne seen r Wanted = given.GivesOne is_want seen r Wanted
 
 -- What was returned, seen by `seen`, is what the definition gives, unless memory ran out.
 abbrev pub GivesUnlessWant : {X Y : Type 0} → (X → Y) → Result X Refused → Result Y Refusal → Type 0
-GivesUnlessWant seen (Ok x) wanted = wanted ≡ Ok (seen x)
-GivesUnlessWant seen (Err r) wanted = is_want r.refusal ≡ false → wanted ≡ Err r.refusal
+GivesUnlessWant seen r wanted = given.GivesUnlessWant is_want seen r wanted
 
 -- a refusal comes from one of these calls
 abbrev pub ComesFrom : {X : Type 0} → (Call → Bool) → Result X Refused → Type 0

@@ -35,12 +35,19 @@ abbrev pub outcome_view : Outcome → Report
 outcome_view o = record { text = o.text.items; status = status_number o.status; is_told = is_some o.remark }
 
 -- a refusal is reported by its line, with status 1, and told in words
+abbrev pub refusal_report : List ℕ → Report
+refusal_report line = record { text = line; status = 1; is_told = true }
+
+-- what a command came to is reported, by the lines of its refusals
+abbrev pub report_by : {R : Type 0} → (R → List ℕ) → Result Report R → Report
+report_by line_of (Ok r) = r
+report_by line_of (Err e) = refusal_report (line_of e)
+
 abbrev pub report_of : Result Report Refusal → Report
-report_of (Ok r) = r
-report_of (Err e) = record { text = line_of e; status = 1; is_told = true }
+report_of r = report_by line_of r
 
 abbrev pub want_report : Call → Report
-want_report c = record { text = want_line c; status = 1; is_told = true }
+want_report c = refusal_report (want_line c)
 
 -- The text was written and the status given; or the outlet broke, and a front of it is there with status 1.
 abbrev pub Reports : Option (List ℕ) → Option (List ℕ) → Bool → ℕ → Report → Type 0

@@ -4,13 +4,14 @@
 //!   path to what the file stands for: a tree, a rule, a flag document, a plan file, or the [`Question`] of a rollout, whose
 //!   [`Evidence`] is a book or a tally by the file's first line.
 //!   [`store`] replaces a file whole: where it is refused, the files are as they were.
-//! - A [`Refusal`] is the fault of one of the calls that a command makes. [`Refusal::line`] is the line that it is written as;
-//!   a [`Refused`] has it with the [`Remark`] that a person is told.
+//! - A [`Refusal`] is the fault of one of the calls that a command makes. It is a [`CommandRefusal`], as those of other families
+//!   of commands, by which it has the line that it is written as; a [`Refused`] has it with the [`Remark`] that a person is told.
 //! - An [`Outcome`] is the whole output of a command with its [`Status`] and perhaps a remark; [`report`] writes both, and
-//!   [`want`] writes the line of a call that ran out of memory, for which it takes none.
+//!   [`want`] writes the line of a call that ran out of memory, for which it takes none. [`finish`] writes what a command came
+//!   to, an outcome or a refusal.
 //!
 //! ```rust
-//! use flagops_files::{SystemFiles, load_rule};
+//! use flagops_files::{CommandRefusal, SystemFiles, load_rule};
 //!
 //! let mut files = SystemFiles::new(&rt);
 //! match load_rule(alloc, &mut files, "rule.json") {
@@ -29,6 +30,7 @@
 mod beginning;
 mod book_question;
 mod books;
+mod command_refusal;
 mod documents;
 mod evidence;
 mod files;
@@ -51,18 +53,20 @@ mod tallies;
 pub use beginning::{ends_line, may_begin_record, may_note};
 pub use book_question::{BookQuestion, load_book_question};
 pub use books::{check_replaceable, load_book, load_notes};
+pub use command_refusal::CommandRefusal;
 pub use documents::{Document, load_document, load_flags};
 pub use evidence::Evidence;
 pub use files::{FileSet, LoadFault, NOTES_PIECE, StoreFault};
 pub use keeping::KeepRefusal;
 pub use loading::{TEXT_LIMIT, load, load_choice, load_rule, load_tree};
 pub use outcome::{Outcome, Status};
+pub use payload::{number_item, rollout_items, verify_items};
 pub use plan_file::load_planned;
 pub use question::{Question, load_question};
 pub use quoting::quoted;
 pub use refusal::{Call, Doubt, PriceMismatch, Refusal};
 pub use refused::{Refused, Remark};
-pub use reports::{report, tell, want};
+pub use reports::{finish, report, tell, want, write_three};
 pub use room::make_room_for;
 pub use storing::store;
 pub use system_files::SystemFiles;

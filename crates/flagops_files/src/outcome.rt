@@ -1,7 +1,9 @@
-ghost use Rattle.std.specs.Prelude.{◌≡◌, false};
-ghost use Rattle.flagops_files.specs.Report.{outcome_view, status_number};
+ghost use Rattle.std.specs.Prelude.{◌≡◌, IfSome, Some, false};
+ghost use Rattle.flagops_files.specs.Report.{outcome_view, refusal_report, status_number};
 
-use crate::refused::Remark;
+use crate::command_refusal::CommandRefusal;
+use crate::refused::{Refused, Remark};
+use std::alloc::{AllocError, Global};
 
 /// How a run ended.
 #[derive(Clone, Copy, Debug)]
@@ -50,6 +52,25 @@ impl Outcome {
             text,
             status,
             remark: None,
+        }
+    }
+
+    /// The line of a refusal, beside which its remark is told; `None` where memory ran out, in the command or for the line.
+    pub fn refused<R: CommandRefusal>(alloc: Global, refused: Refused<R>) -> Option<Outcome>
+        ensures line { IfSome result (λ o. (R.is_want refused.refusal ≡ false) × (outcome_view o ≡ refusal_report (R.line_of refused.refusal))) }
+        ensures remark { IfSome result (λ o. o.remark ≡ Some refused.remark) }
+    {
+        let Refused { refusal, remark } = refused;
+        if refusal.is_want() {
+            return None;
+        }
+        match refusal.line(alloc) {
+            Ok(text) => Some(Outcome {
+                text: text.into_bytes(),
+                status: Status::Refused,
+                remark: Some(remark),
+            }),
+            Err(AllocError) => None,
         }
     }
 }

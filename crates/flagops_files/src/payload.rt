@@ -1,6 +1,6 @@
 //! What the line of a refusal says beyond the name of its fault.
 ghost use Rattle.std.specs.Prelude.{◌≡◌, IfOk, string_bytes};
-ghost use Rattle.flagops_files.specs.Payload.{check_items, fault_items, file_items, number_item, pair_items, rollout_items, tally_items};
+ghost use Rattle.flagops_files.specs.Payload.{check_items, fault_items, file_items, number_item, pair_items, rollout_items, tally_items, verify_items};
 ghost use Rattle.flagops_files.specs.Refusal.{payload_of};
 
 use crate::keeping::KeepRefusal;
@@ -19,13 +19,9 @@ pub fn payload(alloc: Global, refusal: &Refusal) -> Result<String, AllocError>
     match refusal {
         Refusal::ReadBook(fault) => file_items(alloc, fault),
         Refusal::ReadTally(fault) => tally_items(alloc, fault),
-        Refusal::Verify(VerifyFault::Request(fault))
-        | Refusal::Keep(KeepRefusal::Verify(VerifyFault::Request(fault)))
-        | Refusal::Apply(fault)
-        | Refusal::Plan(fault) => rollout_items(alloc, fault),
-        Refusal::Verify(VerifyFault::Check(fault))
-        | Refusal::Keep(KeepRefusal::Verify(VerifyFault::Check(fault))) => {
-            check_items(alloc, fault)
+        Refusal::Apply(fault) | Refusal::Plan(fault) => rollout_items(alloc, fault),
+        Refusal::Verify(fault) | Refusal::Keep(KeepRefusal::Verify(fault)) => {
+            verify_items(alloc, fault)
         }
         _ => Ok(String::new(alloc)),
     }
@@ -54,13 +50,23 @@ fn tally_items(alloc: Global, fault: &TallyFileFault) -> Result<String, AllocErr
     }
 }
 
-/// The fault of a request.
-fn rollout_items(alloc: Global, fault: &RolloutFault) -> Result<String, AllocError>
+/// The fault of a request, behind a blank, where a request is at fault.
+pub fn rollout_items(alloc: Global, fault: &RolloutFault) -> Result<String, AllocError>
     ensures { IfOk result (λ s. string_bytes s ≡ rollout_items fault.now) }
 {
     match fault {
         RolloutFault::Request(inner) => fault_items(alloc, inner.number(), inner.name()),
         _ => Ok(String::new(alloc)),
+    }
+}
+
+/// What `verify` says of an answer that is not right, each item behind a blank.
+pub fn verify_items(alloc: Global, fault: &VerifyFault) -> Result<String, AllocError>
+    ensures { IfOk result (λ s. string_bytes s ≡ verify_items fault.now) }
+{
+    match fault {
+        VerifyFault::Request(fault) => rollout_items(alloc, fault),
+        VerifyFault::Check(fault) => check_items(alloc, fault),
     }
 }
 
@@ -77,7 +83,8 @@ fn check_items(alloc: Global, fault: &CheckFault) -> Result<String, AllocError>
     }
 }
 
-fn number_item(alloc: Global, n: u64) -> Result<String, AllocError>
+/// A number, behind a blank.
+pub fn number_item(alloc: Global, n: u64) -> Result<String, AllocError>
     ensures { IfOk result (λ s. string_bytes s ≡ number_item n) }
 {
     format!(in alloc; " {n}")

@@ -1,7 +1,8 @@
 //! Refusals, and the line that each is written as.
-ghost use Rattle.std.specs.Prelude.{◌≡◌, IfOk, string_bytes};
+ghost use Rattle.std.specs.Prelude.{◌≡◌};
 ghost use Rattle.flagops_files.specs.Refusal.{call_of, call_name, doubt_name, doubt_number, is_want, number_of, name_of, line_of, mismatch_number, mismatch_name};
 
+use crate::command_refusal::CommandRefusal;
 use crate::files::{LoadFault, StoreFault};
 use crate::keeping::KeepRefusal;
 use crate::payload::payload;
@@ -289,19 +290,19 @@ impl Refusal {
             Refusal::Doubted(_, doubt) => doubt.name(),
         }
     }
+}
 
-    /// Whether memory ran out.
-    pub fn is_want(&self) -> bool
-        ensures { result ≡ is_want self.now }
-    {
+impl CommandRefusal for Refusal {
+    ghost is_want = { is_want };
+
+    ghost line_of = { line_of };
+
+    fn is_want(&self) -> bool {
         self.number() == 0
     }
 
-    /// The line that the refusal is written as.
     #[tactic(auto, unfolding(crate::specs::Refusal::line_of))]
-    pub fn line(&self, alloc: Global) -> Result<String, AllocError>
-        ensures { IfOk result (λ s. string_bytes s ≡ line_of self.now) }
-    {
+    fn line(&self, alloc: Global) -> Result<String, AllocError> {
         let call = self.call().name();
         let number = self.number();
         let name = self.name();

@@ -40,8 +40,8 @@ impl Remark {
 
 /// Why a command was refused, and what a person is told of it.
 #[derive(Debug, Drop)]
-pub struct Refused {
-    pub refusal: Refusal,
+pub struct Refused<R = Refusal> {
+    pub refusal: R,
     pub remark: Remark,
 }
 
@@ -54,6 +54,20 @@ impl Refused {
         Refused {
             refusal: Refusal::WantOfMemory(call),
             remark: Remark::Short,
+        }
+    }
+}
+
+impl<R: From<Refusal>> Refused<R> {
+    /// A refusal of a file, as every command tells it, among those of a family of commands.
+    pub fn of(refused: Refused) -> Refused<R>
+        ensures refusal { R.from_gives refused.refusal result.refusal }
+        ensures remark { result.remark ≡ refused.remark }
+    {
+        let Refused { refusal, remark } = refused;
+        Refused {
+            refusal: R::from(refusal),
+            remark,
         }
     }
 }

@@ -1,15 +1,19 @@
 //! Writing what a run reports.
-ghost use Rattle.std.specs.Prelude.{◌≡◌, ◌<◌, ◌++◌, length, false, not, is_some};
+ghost use Rattle.std.specs.Prelude.{◌≡◌, ◌<◌, ◌++◌, length, false, not, is_some, Err};
 ghost use Rattle.std.specs.Bool.{OnTrue};
 ghost use Rattle.std.specs.Io.KnownBytes.{Appends};
 ghost use Rattle.flag_text.specs.Outlet.{AppendsPart};
+ghost use Rattle.flagops_files.specs.Ending.{Ends, told_view};
+ghost use Rattle.flagops_files.specs.Refusal.{want_line_of};
+ghost use Rattle.flagops_files.specs.Report.{Puts, PutsText, Reports, ReportsAll, TellsIf, outcome_view, refusal_report, want_report};
 ghost use Rattle.flagops_files.specs.Told.{PutsRemark, spoken};
-ghost use Rattle.flagops_files.specs.Report.{Puts, PutsText, Reports, ReportsAll, TellsIf, outcome_view, want_report};
 
+use crate::command_refusal::CommandRefusal;
 use crate::outcome::{Outcome, Status};
 use crate::refusal::Call;
-use crate::refused::Remark;
+use crate::refused::{Refused, Remark};
 use flag_text::{Outlet, write_whole};
+use std::alloc::Global;
 
 /// Writes the text of an outcome to `out` and what a person is told of it to `err`, and gives its status, or that of a
 /// refusal where the output failed. What becomes of `err` changes neither.
@@ -36,29 +40,69 @@ fn print<O: Outlet>(out: &mut O, outcome: &Outcome) -> u8
     }
 }
 
+/// Writes what a command came to: its report, or the line of its refusal with what a person is told of it. Where memory ran out,
+/// that is the line for want of memory of the call of this name.
+pub fn finish<R: CommandRefusal, O: Outlet, E: Outlet>(
+    alloc: Global,
+    came: Result<Outcome, Refused<R>>,
+    call: &str,
+    out: &mut O,
+    err: &mut E,
+) -> u8
+    requires out_whole { O.is_broken out.old ≡ false }
+    requires err_whole { E.is_broken err.old ≡ false }
+    ensures { Ends R.is_want R.line_of (O.bytes out.old) (O.bytes out.new) (O.is_broken out.new) (E.bytes err.old) (E.bytes err.new) (E.is_broken err.new) result (want_line_of call.now) (told_view came) }
+{
+    match came {
+        Ok(outcome) => report(out, err, &outcome),
+        Err(refused) => refuse(alloc, refused, call, out, err),
+    }
+}
+
+/// Writes the line of a refusal, or that for want of memory.
+fn refuse<R: CommandRefusal, O: Outlet, E: Outlet>(
+    alloc: Global,
+    refused: Refused<R>,
+    call: &str,
+    out: &mut O,
+    err: &mut E,
+) -> u8
+    requires out_whole { O.is_broken out.old ≡ false }
+    requires err_whole { E.is_broken err.old ≡ false }
+    ensures { Ends R.is_want R.line_of (O.bytes out.old) (O.bytes out.new) (O.is_broken out.new) (E.bytes err.old) (E.bytes err.new) (E.is_broken err.new) result (want_line_of call.now) (Err refused.refusal) }
+{
+    match Outcome::refused(alloc, refused) {
+        Some(outcome) => report(out, err, &outcome),
+        None => want_of(out, err, call),
+    }
+}
+
 /// Writes the line of a call that ran out of memory, and takes none for it; a person is told the same.
+#[tactic(auto, unfolding(crate::specs::Refusal::want_line))]
 pub fn want<O: Outlet, E: Outlet>(out: &mut O, err: &mut E, call: Call) -> u8
     requires out_whole { O.is_broken out.old ≡ false }
     requires err_whole { E.is_broken err.old ≡ false }
     ensures { ReportsAll (O.bytes out.old) (O.bytes out.new) (O.is_broken out.new) (E.bytes err.old) (E.bytes err.new) (E.is_broken err.new) result (want_report call) }
+{
+    want_of(out, err, call.name())
+}
+
+/// The same of the call of a name.
+fn want_of<O: Outlet, E: Outlet>(out: &mut O, err: &mut E, call: &str) -> u8
+    requires out_whole { O.is_broken out.old ≡ false }
+    requires err_whole { E.is_broken err.old ≡ false }
+    ensures { ReportsAll (O.bytes out.old) (O.bytes out.new) (O.is_broken out.new) (E.bytes err.old) (E.bytes err.new) (E.is_broken err.new) result (refusal_report (want_line_of call.now)) }
 {
     let status = print_want(out, call);
     tell(err, Remark::Short.text());
     status
 }
 
-#[tactic(auto, unfolding(crate::specs::Refusal::want_line))]
-fn print_want<O: Outlet>(out: &mut O, call: Call) -> u8
+fn print_want<O: Outlet>(out: &mut O, call: &str) -> u8
     requires { O.is_broken out.old ≡ false }
-    ensures { Reports (O.bytes out.old) (O.bytes out.new) (O.is_broken out.new) result
-        (want_report call) }
+    ensures { Reports (O.bytes out.old) (O.bytes out.new) (O.is_broken out.new) result (refusal_report (want_line_of call.now)) }
 {
-    write_three(
-        out,
-        b"refused ",
-        call.name().as_bytes(),
-        b" 0 WantOfMemory\n",
-    );
+    write_three(out, b"refused ", call.as_bytes(), b" 0 WantOfMemory\n");
     Status::Refused.number()
 }
 
@@ -95,7 +139,7 @@ fn spoken(text: &str) -> &str
 }
 
 /// Writes all three, and says whether that went well.
-fn write_three<O: Outlet>(out: &mut O, first: &[u8], second: &[u8], third: &[u8]) -> bool
+pub fn write_three<O: Outlet>(out: &mut O, first: &[u8], second: &[u8], third: &[u8]) -> bool
     requires { O.is_broken out.old ≡ false }
     ensures whole { OnTrue result (Appends (O.bytes out.old) (O.bytes out.new)
         (first.now ++ (second.now ++ third.now))) }

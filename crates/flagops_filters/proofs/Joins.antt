@@ -8,16 +8,15 @@ use Rattle.flagops_files.specs.Refusal as files
 use Rattle.flagops_files.specs.declared.outcome.Outcome.{Outcome}
 use Rattle.flagops_files.specs.declared.refusal.Refusal.{Refusal}
 use Rattle.flagops_files.specs.declared.refusal.Refusal.TheVariants.{Load as Unread, ReadTally}
-use Rattle.flagops_files.specs.declared.refused.Refused.{Refused}
+use Rattle.flagops_files.specs.Refusal.{Refused}
 use Rattle.tally_core.specs.Tally.{PageTally}
 use Rattle.tally_text.specs.Reading.{ReadsTally}
 use Rattle.tally_text.specs.declared.fault.TallyFileFault.{TallyFileFault}
 use Rattle.flagops_filters.specs.Join.{IsJoinReport, IsTallyIn, IsTallyOf, JoinsAllFiles, JoinsFiles, report_joined}
 use Rattle.flagops_filters.specs.Joined.{JoinsNext, JoinsTwo, JoinsUnless}
-use Rattle.flagops_filters.specs.Report.{GivesOne}
+use Rattle.flagops_filters.specs.Report.{GivesOne, Told}
 use Rattle.flagops_filters.specs.declared.refusal.FilterRefusal.{FilterRefusal}
 use Rattle.flagops_filters.specs.declared.refusal.FilterRefusal.TheVariants.{Load}
-use Rattle.flagops_filters.specs.declared.reports.Told.{Told}
 use Rattle.flagops_filters.proofs.Loaded.{not_want}
 
 -- ---- one file

@@ -7,13 +7,12 @@ use Rattle.flagops_files.specs.Documents.{IsDocumentAt}
 use Rattle.flagops_files.specs.Files.{Holding}
 use Rattle.flagops_files.specs.Refusal as files
 use Rattle.flagops_files.specs.declared.outcome.Outcome.{Outcome}
-use Rattle.flagops_files.specs.declared.refused.Refused.{Refused}
+use Rattle.flagops_files.specs.Refusal.{Refused}
 use Rattle.flagops_filters.specs.Refusal.{is_want}
-use Rattle.flagops_filters.specs.Report.{GivesOne}
+use Rattle.flagops_filters.specs.Report.{GivesOne, Told}
 use Rattle.flagops_filters.specs.Tally.{IsTallyIn, IsTallyReport}
 use Rattle.flagops_filters.specs.Words.{Tallying}
 use Rattle.flagops_filters.specs.declared.refusal.FilterRefusal.TheVariants.{Load}
-use Rattle.flagops_filters.specs.declared.reports.Told.{Told}
 
 -- no memory ran out, as every other command sees it
 pub not_want : (t : Told) (e : Refused) → t.refusal ≡ Load e.refusal → is_want t.refusal ≡ false → files.is_want e.refusal ≡ false

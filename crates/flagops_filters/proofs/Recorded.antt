@@ -13,7 +13,7 @@ use Rattle.flagops_files.specs.Refusal as files
 use Rattle.flagops_files.specs.Report.{ReportsAll, TellsIf}
 use Rattle.flagops_files.specs.declared.refusal.Refusal.TheVariants.{Plan}
 use Rattle.flag_defs.specs.Flags.{flags_view}
-use Rattle.flagops_files.specs.declared.refused.Refused.{Refused}
+use Rattle.flagops_files.specs.Refusal.{Refused}
 use Rattle.note_streams.specs.Recorded.{RecordsStream, recorded_of}
 use Rattle.note_streams.specs.declared.recording.Counted.{Counted}
 use Rattle.note_streams.specs.declared.stop.RecordStop.{RecordStop}

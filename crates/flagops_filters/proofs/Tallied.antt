@@ -18,11 +18,10 @@ use Rattle.tally_filters.specs.declared.fault.FilterFault.TheVariants.{WantOfMem
 use Rattle.tally_text.specs.File.{tally_text}
 use Rattle.flagops_filters.specs.Place.{PrintsTally}
 use Rattle.flagops_filters.specs.Refusal.{is_want}
-use Rattle.flagops_filters.specs.Report.{GivesOne}
+use Rattle.flagops_filters.specs.Report.{GivesOne, Told}
 use Rattle.flagops_filters.specs.Tally.{IsTallyAt, IsTallyIn, IsTallyOver, Target, target_of}
 use Rattle.flagops_filters.specs.Words.{Tallying}
 use Rattle.flagops_filters.specs.declared.refusal.FilterRefusal.TheVariants.{Load, Tally}
-use Rattle.flagops_filters.specs.declared.reports.Told.{Told}
 use Rattle.flagops_filters.proofs.Ending.{not_both}
 
 -- ---- a stream

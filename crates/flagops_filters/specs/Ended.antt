@@ -1,22 +1,14 @@
 -- What the filters come to, by what the standard input gives, what the two outlets show before and after, what the files show, and
 -- the status.
 use Rattle.std.specs.Prelude.{◌≡◌, ◌⊎◌, ℕ, Bool, List, Option, None, IfSome}
-use Rattle.clap.specs.Kinds.{Kinds, IsAmong}
 use Rattle.clap.specs.Walk.{Text}
-use Rattle.clap.specs.declared.error.kind.ErrorKind.{ErrorKind}
-use Rattle.flagops_commands.specs.Telling.{Tells, Wants}
+use Rattle.flagops_commands.specs.Telling.{TellsOne, Wants}
 use Rattle.flagops_files.specs.Files.{Holding}
 use Rattle.flagops_filters.specs.Join.{IsJoinReport, join_want}
 use Rattle.flagops_filters.specs.Record.{RecordAnswers}
 use Rattle.flagops_filters.specs.Report.{Reports}
 use Rattle.flagops_filters.specs.Tally.{IsTallyReport, tally_want}
 use Rattle.flagops_filters.specs.Words.{join_by, join_faults, record_by, record_faults, tally_by, tally_faults}
-
--- words with a mistake are told by one of their mistakes, as every other command tells one, or memory ran out
-abbrev pub TellsOne : Option (List ℕ) → Option (List ℕ) → Bool → Option (List ℕ) → Option (List ℕ) → Bool → ℕ → Kinds → Type 0
-TellsOne out out_after is_broken err err_after is_err_broken status faults =
-    Wants out out_after is_broken err err_after is_err_broken status
-    ⊎ ((kind : ErrorKind) × IsAmong kind faults × Tells out out_after is_broken err err_after is_err_broken status kind)
 
 -- the output and what is told beside it, each by the bytes that are known of it and by whether it is broken
 module _ {O E : Type 0} (bytes : O → Option (List ℕ)) (is_broken : O → Bool) (out out' : O) (told : E → Option (List ℕ)) (is_mute : E → Bool) (err err' : E) (status : ℕ) where

@@ -2,6 +2,7 @@
 use Rattle.std.specs.Prelude.{◌≡◌, ◌⊎◌, ℕ, false, List, [], ◌∷◌, Result, Ok, Err, codes}
 use Rattle.flagops_files.specs.Files.{Holding, load_of}
 use Rattle.flagops_files.specs.Loading.{max_rule, refused_by}
+use Rattle.flagops_files.specs.Refusal.{want_line_of}
 use Rattle.flagops_files.specs.declared.refusal.Refusal.{Refusal}
 use Rattle.flagops_files.specs.declared.refusal.Refusal.TheVariants.{Load as Unread, ReadTally}
 use Rattle.tally_core.specs.Join.{Joins}
@@ -15,7 +16,7 @@ use Rattle.flagops_filters.specs.declared.refusal.FilterRefusal.{FilterRefusal}
 use Rattle.flagops_filters.specs.declared.refusal.FilterRefusal.TheVariants.{Load, Join}
 
 abbrev pub join_want : List ℕ
-join_want = codes "refused join 0 WantOfMemory\n"
+join_want = want_line_of (codes "join")
 
 abbrev pub read_as : Result PageTally TallyFileFault → Result PageTally FilterRefusal
 read_as (Ok t) = Ok t

@@ -1,6 +1,7 @@
 -- What is joined, in private contracts alone.
-use Rattle.std.specs.Prelude.{◌≡◌, ◌⊎◌, ℕ, List, false, Result, Ok, Err}
+use Rattle.std.specs.Prelude.{◌≡◌, ◌⊎◌, ℕ, List, Result, Ok, Err}
 use Rattle.flagops_files.specs.Files.{Holding}
+use Rattle.flagops_files.specs.Given.{GivesOne}
 use Rattle.tally_core.specs.Join.{Joins}
 use Rattle.tally_core.specs.Tally.{PageTally}
 use Rattle.tally_core.specs.declared.joining.JoinFault.{JoinFault}
@@ -8,12 +9,11 @@ use Rattle.flagops_filters.specs.Join.{IsTallyOf}
 use Rattle.flagops_filters.specs.Refusal.{is_want}
 use Rattle.flagops_filters.specs.declared.refusal.FilterRefusal.{FilterRefusal}
 use Rattle.flagops_filters.specs.declared.refusal.FilterRefusal.TheVariants.{Join}
-use Rattle.flagops_filters.specs.declared.reports.Told.{Told}
+use Rattle.flagops_filters.specs.Report.{Told}
 
 -- what was returned is one of these, unless memory ran out
 abbrev pub JoinsUnless : Result PageTally Told → (Result PageTally FilterRefusal → Type 0) → Type 0
-JoinsUnless (Ok t) Wanted = Wanted (Ok t)
-JoinsUnless (Err told) Wanted = is_want told.refusal ≡ false → Wanted (Err told.refusal)
+JoinsUnless r Wanted = GivesOne is_want (λ t. t) r Wanted
 
 abbrev pub JoinsTwo : PageTally → PageTally → Result PageTally FilterRefusal → Type 0
 JoinsTwo one other (Ok both) = Joins one other (Ok both)

@@ -8,7 +8,7 @@ use Rattle.tally_core.specs.Tally.{PageTally}
 use Rattle.tally_text.specs.File.{tally_text}
 use Rattle.flagops_filters.specs.Refusal.{is_want}
 use Rattle.flagops_filters.specs.Tally.{Target}
-use Rattle.flagops_filters.specs.declared.reports.Told.{Told}
+use Rattle.flagops_filters.specs.Report.{Told}
 use Rattle.flagops_filters.specs.declared.tallying.Place as program
 use Rattle.flagops_filters.specs.declared.target.Target as program_target
 

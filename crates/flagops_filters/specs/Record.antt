@@ -7,7 +7,8 @@ use Rattle.flag_text.specs.Outlet.{AppendsPart}
 use Rattle.flag_defs.specs.Document.{Definitions}
 use Rattle.flagops_files.specs.Documents.{IsDocumentAt}
 use Rattle.flagops_files.specs.Files.{Holding}
-use Rattle.flagops_files.specs.Report.{ReportsAll, TellsIf}
+use Rattle.flagops_files.specs.Refusal.{want_line_of}
+use Rattle.flagops_files.specs.Report.{ReportsAll, TellsIf, refusal_report}
 use Rattle.flagops_files.specs.declared.refusal.Refusal.{Refusal}
 use Rattle.flagops_files.specs.declared.refusal.Refusal.TheVariants.{Plan}
 use Rattle.note_streams.specs.Recorded.{most_bytes, recorded_of}
@@ -18,12 +19,12 @@ use Rattle.record_lines.specs.declared.recorder.RecordFault.{RecordFault}
 use Rattle.record_lines.specs.declared.recorder.RecordFault.TheVariants as recording
 use Rattle.rollout_checks.specs.declared.fault.RolloutFault.{RolloutFault}
 use Rattle.rollout_checks.specs.declared.fault.RolloutFault.TheVariants as rollout
-use Rattle.flagops_filters.specs.Report.{ReportsAfter, ReportsBehind, report_of, want_report}
+use Rattle.flagops_filters.specs.Report.{ReportsAfter, ReportsBehind, report_of}
 use Rattle.flagops_filters.specs.Words.{Recording}
 use Rattle.flagops_filters.specs.declared.refusal.FilterRefusal.TheVariants.{Load, Record}
 
 abbrev pub record_want : List ℕ
-record_want = codes "refused record 0 WantOfMemory\n"
+record_want = want_line_of (codes "record")
 
 -- a flag that is not recorded is refused as `plan` refuses it: unknown, or without sites as it is broken
 abbrev pub of_record : RecordFault → RolloutFault
@@ -49,11 +50,11 @@ module _ (out out_after : Option (List ℕ)) (is_broken : Bool) (err err_after :
       ⊎ BreaksOff r.text
       ⊎ ((is_cut ≡ true) × ReportsBehind out out_after is_broken err err_after is_err_broken status r.text (report_of (Err (Record Unreadable))))
       ⊎ ((most_bytes < size) × ReportsBehind out out_after is_broken err err_after is_err_broken status r.text (report_of (Err (Record TooLong))))
-      ⊎ ReportsBehind out out_after is_broken err err_after is_err_broken status r.text (want_report record_want)
+      ⊎ ReportsBehind out out_after is_broken err err_after is_err_broken status r.text (refusal_report record_want)
 
   -- memory ran out before the first line
   abbrev pub NoneRecorded : Type 0
-  NoneRecorded = ReportsAll out out_after is_broken err err_after is_err_broken status (want_report record_want)
+  NoneRecorded = ReportsAll out out_after is_broken err err_after is_err_broken status (refusal_report record_want)
 
   -- of a flag of these flags, over a stream of these bytes
   abbrev pub RecordOver : Definitions → List ℕ → ℕ → List ℕ → Bool → Type 0

@@ -9,11 +9,10 @@ ghost use Rattle.flagops_filters.specs.declared.refusal.FilterRefusal.TheVariant
 ghost use Rattle.flagops_files.specs.declared.refusal.Refusal.TheVariants.{ReadTally};
 
 use crate::refusal::FilterRefusal;
-use crate::reports::{Told, finish};
 use crate::words::read_join;
 use flag_text::Outlet;
 use flagops_commands::{explain, file_line, whole_line};
-use flagops_files::{FileSet, Outcome, Refusal, Remark, Status, load};
+use flagops_files::{FileSet, Outcome, Refusal, Refused, Remark, Status, finish, load};
 use flagops_remarks::{Ends, of_tally};
 use std::alloc::{AllocError, Global};
 use std::convert::AsStr;
@@ -43,7 +42,7 @@ where
     match read_join(alloc, words) {
         Ok(asked) => {
             let came = reported(alloc, files, asked.first, asked.others.as_slice());
-            finish(alloc, came, b"refused join 0 WantOfMemory\n", out, err)
+            finish(alloc, came, "join", out, err)
         }
         Err(error) => explain(alloc, &error, out, err),
     }
@@ -55,7 +54,7 @@ fn reported<F: FileSet>(
     files: &mut F,
     first: &str,
     others: &[&str],
-) -> Result<Outcome, Told>
+) -> Result<Outcome, Refused<FilterRefusal>>
     ensures exact { IfSome (F.holding files.old) (λ at. GivesOne result (IsJoinReport at (first.now ∷ map (λ p. p.now) others.now))) }
     ensures kept { F.holding files.new ≡ F.holding files.old }
 {
@@ -66,7 +65,7 @@ fn reported<F: FileSet>(
 }
 
 /// The file of a tally.
-fn printed(alloc: Global, tally: &PageTally) -> Result<Outcome, Told>
+fn printed(alloc: Global, tally: &PageTally) -> Result<Outcome, Refused<FilterRefusal>>
     ensures { GivesOne result (λ came. came ≡ report_joined (Ok tally.now)) }
 {
     match print_tally(alloc, tally) {
@@ -79,10 +78,10 @@ fn printed(alloc: Global, tally: &PageTally) -> Result<Outcome, Told>
     }
 }
 
-fn out_of_memory() -> Told
+fn out_of_memory() -> Refused<FilterRefusal>
     ensures { is_want result.refusal ≡ true }
 {
-    Told {
+    Refused {
         refusal: FilterRefusal::Load(Refusal::ReadTally(TallyFileFault::WantOfMemory)),
         remark: Remark::Short,
     }
@@ -94,7 +93,7 @@ fn all_of<F: FileSet>(
     files: &mut F,
     first: &str,
     others: &[&str],
-) -> Result<PageTally, Told>
+) -> Result<PageTally, Refused<FilterRefusal>>
     ensures exact { IfSome (F.holding files.old) (λ at. JoinsUnless result (JoinsAllFiles at (first.now ∷ map (λ p. p.now) others.now))) }
     ensures kept { F.holding files.new ≡ F.holding files.old }
 {
@@ -108,7 +107,7 @@ fn all_with<F: FileSet>(
     files: &mut F,
     one: PageTally,
     paths: &[&str],
-) -> Result<PageTally, Told>
+) -> Result<PageTally, Refused<FilterRefusal>>
     ensures exact { IfSome (F.holding files.old) (λ at. JoinsUnless result (JoinsFiles at one (map (λ p. p.now) paths.now))) }
     ensures kept { F.holding files.new ≡ F.holding files.old }
 {
@@ -125,7 +124,7 @@ fn with_next<F: FileSet>(
     files: &mut F,
     one: PageTally,
     path: &str,
-) -> Result<PageTally, Told>
+) -> Result<PageTally, Refused<FilterRefusal>>
     ensures exact { IfSome (F.holding files.old) (λ at. JoinsUnless result (JoinsNext at one path.now)) }
     ensures kept { F.holding files.new ≡ F.holding files.old }
 {
@@ -134,7 +133,12 @@ fn with_next<F: FileSet>(
 }
 
 /// The tally of two, of which the second one stands in the file at a path.
-fn both_of(alloc: Global, path: &str, one: PageTally, next: PageTally) -> Result<PageTally, Told>
+fn both_of(
+    alloc: Global,
+    path: &str,
+    one: PageTally,
+    next: PageTally,
+) -> Result<PageTally, Refused<FilterRefusal>>
     ensures { JoinsUnless result (JoinsTwo one next) }
 {
     match joined(one, next) {
@@ -144,10 +148,10 @@ fn both_of(alloc: Global, path: &str, one: PageTally, next: PageTally) -> Result
 }
 
 /// A tally in a file that does not join those before it.
-fn unjoined(alloc: Global, path: &str, fault: JoinFault) -> Told
+fn unjoined(alloc: Global, path: &str, fault: JoinFault) -> Refused<FilterRefusal>
     ensures { result.refusal ≡ Join fault }
 {
-    Told {
+    Refused {
         refusal: FilterRefusal::Join(fault),
         remark: Remark::of(join_line(alloc, path, fault)),
     }
@@ -159,18 +163,22 @@ fn join_line(alloc: Global, path: &str, fault: JoinFault) -> Result<String, Allo
 }
 
 /// The tally of the file at a path.
-fn one_of<F: FileSet>(alloc: Global, files: &mut F, path: &str) -> Result<PageTally, Told>
+fn one_of<F: FileSet>(
+    alloc: Global,
+    files: &mut F,
+    path: &str,
+) -> Result<PageTally, Refused<FilterRefusal>>
     ensures exact { IfSome (F.holding files.old) (λ at. JoinsUnless result (IsTallyOf at path.now)) }
     ensures kept { F.holding files.new ≡ F.holding files.old }
 {
     match load(alloc, files, path, TALLY_LIMIT) {
         Ok(bytes) => read(alloc, path, bytes.as_slice()),
-        Err(refused) => Err(Told::of(refused)),
+        Err(refused) => Err(Refused::of(refused)),
     }
 }
 
 /// The tally that the bytes of a file are.
-fn read(alloc: Global, path: &str, bytes: &[u8]) -> Result<PageTally, Told>
+fn read(alloc: Global, path: &str, bytes: &[u8]) -> Result<PageTally, Refused<FilterRefusal>>
     ensures { JoinsUnless result (IsTallyIn (Ok bytes.now)) }
 {
     match read_tally(alloc, bytes) {
@@ -180,10 +188,10 @@ fn read(alloc: Global, path: &str, bytes: &[u8]) -> Result<PageTally, Told>
 }
 
 /// A file that is no tally.
-fn unread(alloc: Global, path: &str, ends: Ends, fault: TallyFileFault) -> Told
+fn unread(alloc: Global, path: &str, ends: Ends, fault: TallyFileFault) -> Refused<FilterRefusal>
     ensures { result.refusal ≡ Load (ReadTally fault) }
 {
-    Told {
+    Refused {
         refusal: FilterRefusal::Load(Refusal::ReadTally(fault)),
         remark: Remark::of(read_line(alloc, path, ends, fault)),
     }

@@ -31,7 +31,6 @@ mod opening;
 mod recording;
 mod refusal;
 mod remarks;
-mod reports;
 mod tallying;
 mod target;
 mod usage;

@@ -16,12 +16,11 @@ use crate::asked::Recording;
 use crate::opening::Opening;
 use crate::refusal::FilterRefusal;
 use crate::remarks::{counted_lines, flag_line, input_line, marked_line};
-use crate::reports::{Told, refuse};
 use crate::words::read_record;
 use flag_defs::Flags;
 use flag_text::Outlet;
 use flagops_commands::explain;
-use flagops_files::{FileSet, Refusal, Remark, load_flags, tell};
+use flagops_files::{FileSet, Refusal, Refused, Remark, finish, load_flags, tell};
 use flagops_remarks::Ends as FileEnds;
 use flagops_words::Moment;
 use line_batches::Inlet;
@@ -84,7 +83,7 @@ fn recorded<R: Threads + Sync, I: Inlet + Opening, F: FileSet, O: Outlet, E: Out
 {
     match load_flags(alloc, files, asked.document) {
         Ok(flags) => over(rt, alloc, asked, &flags, input, out, err),
-        Err(unread) => refused(alloc, Told::of(unread), out, err),
+        Err(unread) => refused(alloc, Refused::of(unread), out, err),
     }
 }
 
@@ -165,12 +164,17 @@ fn is_broken_off(stop: &RecordStop) -> bool
 }
 
 /// Writes the line of a refusal, behind what is written.
-fn refused<O: Outlet, E: Outlet>(alloc: Global, told: Told, out: &mut O, err: &mut E) -> u8
+fn refused<O: Outlet, E: Outlet>(
+    alloc: Global,
+    told: Refused<FilterRefusal>,
+    out: &mut O,
+    err: &mut E,
+) -> u8
     requires out_whole { O.is_broken out.old ≡ false }
     requires err_whole { E.is_broken err.old ≡ false }
     ensures { Ends (O.bytes out.old) (O.bytes out.new) (O.is_broken out.new) (E.bytes err.old) (E.bytes err.new) (E.is_broken err.new) result record_want (Err told.refusal) }
 {
-    refuse(alloc, told, b"refused record 0 WantOfMemory\n", out, err)
+    finish(alloc, Err(told), "record", out, err)
 }
 
 /// The moment of the evaluations, 0 where none is given.
@@ -185,7 +189,7 @@ fn moment_of(moment: Option<Moment>) -> u64
 }
 
 /// A flag that is not recorded, which is refused as `plan` refuses it.
-fn unrecorded(alloc: Global, asked: &Recording<'_>, fault: RecordFault) -> Told
+fn unrecorded(alloc: Global, asked: &Recording<'_>, fault: RecordFault) -> Refused<FilterRefusal>
     ensures { result.refusal ≡ Load (Plan (of_record fault)) }
 {
     let reason = match fault {
@@ -193,7 +197,7 @@ fn unrecorded(alloc: Global, asked: &Recording<'_>, fault: RecordFault) -> Told
         RecordFault::UnknownFlag => "no such flag",
         RecordFault::Broken => "it is broken",
     };
-    Told {
+    Refused {
         refusal: FilterRefusal::Load(Refusal::Plan(fault_of(fault))),
         remark: Remark::of(flag_line(alloc, asked.document, asked.key, reason)),
     }
@@ -210,10 +214,10 @@ fn fault_of(fault: RecordFault) -> RolloutFault
 }
 
 /// A stream that is not recorded to its end.
-fn stopped(alloc: Global, stop: RecordStop, opening: FileEnds) -> Told
+fn stopped(alloc: Global, stop: RecordStop, opening: FileEnds) -> Refused<FilterRefusal>
     ensures { result.refusal ≡ Record stop }
 {
-    Told {
+    Refused {
         refusal: FilterRefusal::Record(stop),
         remark: Remark::of(stop_line(alloc, stop, opening)),
     }

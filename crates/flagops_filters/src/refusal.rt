@@ -1,13 +1,12 @@
 //! Why a filter refuses.
 ghost use Rattle.std.specs.Prelude.{◌≡◌, IfOk, codes, decimal, string_bytes};
-ghost use Rattle.flagops_files.specs.Payload.{number_item};
 ghost use Rattle.flagops_files.specs.Refusal.{line_with};
 ghost use Rattle.tally_filters.specs.Fault as filters;
 ghost use Rattle.flagops_filters.specs.Refusal.{filter_items, filter_name, is_want, join_name, join_number, line_of, number_of, record_name};
-ghost use Rattle.flagops_filters.specs.declared.refusal.FilterRefusal.TheVariants.{Record, Tally};
+ghost use Rattle.flagops_filters.specs.declared.refusal.FilterRefusal.TheVariants.{Load, Record, Tally};
 
 use flagops_commands::fault_line;
-use flagops_files::Refusal;
+use flagops_files::{CommandRefusal, Refusal, number_item};
 use note_streams::{RecordStop, TallyStop};
 use std::alloc::{AllocError, Global};
 use tally_core::JoinFault;
@@ -38,36 +37,44 @@ impl FilterRefusal {
             FilterRefusal::Join(fault) => join_number(fault),
         }
     }
+}
 
-    /// Whether memory ran out.
-    pub fn is_want(&self) -> bool
-        ensures { result ≡ is_want self.now }
-    {
+impl From<Refusal> for FilterRefusal {
+    ghost from_gives = { λ r e. e ≡ Load r };
+
+    fn from(refusal: Refusal) -> FilterRefusal {
+        FilterRefusal::Load(refusal)
+    }
+}
+
+impl CommandRefusal for FilterRefusal {
+    ghost is_want = { is_want };
+
+    ghost line_of = { line_of };
+
+    fn is_want(&self) -> bool {
         self.number() == 0
     }
 
-    /// The line that the refusal is written as.
-    pub fn line(self, alloc: Global) -> Result<Vec<u8>, AllocError>
-        ensures { IfOk result (λ v. v.items ≡ line_of self) }
-    {
+    fn line(&self, alloc: Global) -> Result<String, AllocError> {
         match self {
-            FilterRefusal::Load(refusal) => Ok(refusal.line(alloc)?.into_bytes()),
+            FilterRefusal::Load(refusal) => refusal.line(alloc),
             FilterRefusal::Record(stop) => record_line(alloc, stop),
             FilterRefusal::Tally(stop) => tally_line(alloc, stop),
             FilterRefusal::Join(fault) => {
-                fault_line(alloc, "join", join_number(&fault), join_name(&fault), "")
+                fault_line(alloc, "join", join_number(fault), join_name(fault), "")
             }
         }
     }
 }
 
-fn record_line(alloc: Global, stop: RecordStop) -> Result<Vec<u8>, AllocError>
-    ensures { IfOk result (λ v. v.items ≡ line_of (Record stop)) }
+fn record_line(alloc: Global, stop: &RecordStop) -> Result<String, AllocError>
+    ensures { IfOk result (λ s. string_bytes s ≡ line_of (Record stop.now)) }
 {
-    let name = record_name(&stop);
+    let name = record_name(stop);
     match stop {
         RecordStop::Line(n) => {
-            let item = number_item(alloc, n)?;
+            let item = number_item(alloc, *n)?;
             fault_line(alloc, "record", 1, name, item.as_str())
         }
         _ => fault_line(alloc, "record", stop.number(), name, ""),
@@ -86,8 +93,8 @@ fn record_name(stop: &RecordStop) -> &'static str
     }
 }
 
-fn tally_line(alloc: Global, stop: TallyStop) -> Result<Vec<u8>, AllocError>
-    ensures { IfOk result (λ v. v.items ≡ line_of (Tally stop)) }
+fn tally_line(alloc: Global, stop: &TallyStop) -> Result<String, AllocError>
+    ensures { IfOk result (λ s. string_bytes s ≡ line_of (Tally stop.now)) }
 {
     match stop {
         TallyStop::Filter(fault) => filter_line(alloc, fault),
@@ -96,17 +103,17 @@ fn tally_line(alloc: Global, stop: TallyStop) -> Result<Vec<u8>, AllocError>
     }
 }
 
-fn filter_line(alloc: Global, fault: FilterFault) -> Result<Vec<u8>, AllocError>
-    ensures { IfOk result (λ v. v.items ≡ line_with (codes "tally") (decimal (filters.number_of fault)) (filter_name fault) (filter_items fault)) }
+fn filter_line(alloc: Global, fault: &FilterFault) -> Result<String, AllocError>
+    ensures { IfOk result (λ s. string_bytes s ≡ line_with (codes "tally") (decimal (filters.number_of fault.now)) (filter_name fault.now) (filter_items fault.now)) }
 {
-    let name = filter_name(&fault);
+    let name = filter_name(fault);
     match fault {
         FilterFault::Line(n) => {
-            let item = number_item(alloc, n)?;
+            let item = number_item(alloc, *n)?;
             fault_line(alloc, "tally", 1, name, item.as_str())
         }
         FilterFault::Order(n) => {
-            let item = number_item(alloc, n)?;
+            let item = number_item(alloc, *n)?;
             fault_line(alloc, "tally", 2, name, item.as_str())
         }
         _ => fault_line(alloc, "tally", fault.number(), name, ""),
@@ -142,11 +149,4 @@ fn join_name(fault: &JoinFault) -> &'static str
         JoinFault::Order => "Order",
         JoinFault::TooMany => "TooMany",
     }
-}
-
-/// The number of a line, behind a blank.
-fn number_item(alloc: Global, n: u64) -> Result<String, AllocError>
-    ensures { IfOk result (λ s. string_bytes s ≡ number_item n) }
-{
-    format!(in alloc; " {n}")
 }

@@ -15,7 +15,6 @@ use crate::asked::Tallying;
 use crate::opening::Opening;
 use crate::refusal::FilterRefusal;
 use crate::remarks::{flag_line, input_line, marked_line};
-use crate::reports::{Told, finish};
 use crate::target::Target;
 use crate::words::read_tally;
 use book_core::Page;
@@ -23,7 +22,7 @@ use bucket_core::total_weight;
 use flag_defs::Flags;
 use flag_text::Outlet;
 use flagops_commands::explain;
-use flagops_files::{FileSet, Outcome, Refusal, Remark, Status, load_flags};
+use flagops_files::{FileSet, Outcome, Refusal, Refused, Remark, Status, finish, load_flags};
 use flagops_remarks::Ends as FileEnds;
 use flagops_words::factor_of;
 use line_batches::Inlet;
@@ -36,7 +35,7 @@ use tally_filters::FilterFault;
 use tally_text::print_tally;
 
 /// The most points of a tally.
-const MOST_POINTS: u128 = 1_000_000;
+const MOST_POINTS: u128 = tally_core::MOST_POINTS as u128;
 
 /// Does what the words after the program's name ask of `tally`, which is the first of them, and gives the status to end with.
 /// It prints the tally of the note lines of the standard input that are of the page of a site, or the line of a refusal with
@@ -68,7 +67,7 @@ where
     match read_tally(alloc, words) {
         Ok(asked) => {
             let came = tallied(alloc, &asked, input, files);
-            finish(alloc, came, b"refused tally 0 WantOfMemory\n", out, err)
+            finish(alloc, came, "tally", out, err)
         }
         Err(error) => explain(alloc, &error, out, err),
     }
@@ -80,14 +79,14 @@ fn tallied<I: Inlet + Opening, F: FileSet>(
     asked: &Tallying<'_>,
     input: &mut I,
     files: &mut F,
-) -> Result<Outcome, Told>
+) -> Result<Outcome, Refused<FilterRefusal>>
     requires { I.is_broken input.old ≡ false }
     ensures exact { IfSome (F.holding files.old) (λ at. IfSome (I.bytes input.old) (λ bytes. GivesOne result (IsTallyReport at (tallying_view asked.now) bytes (I.is_broken input.new)))) }
     ensures kept { F.holding files.new ≡ F.holding files.old }
 {
     match load_flags(alloc, files, asked.document) {
         Ok(flags) => within(alloc, asked, &flags, input),
-        Err(refused) => Err(Told::of(refused)),
+        Err(refused) => Err(Refused::of(refused)),
     }
 }
 
@@ -97,7 +96,7 @@ fn within<I: Inlet + Opening>(
     asked: &Tallying<'_>,
     flags: &Flags,
     input: &mut I,
-) -> Result<Outcome, Told>
+) -> Result<Outcome, Refused<FilterRefusal>>
     requires { I.is_broken input.old ≡ false }
     ensures { IfSome (I.bytes input.old) (λ bytes. GivesOne result (IsTallyIn (Ok (flags_view flags.now)) (tallying_view asked.now) bytes (I.is_broken input.new))) }
 {
@@ -108,7 +107,11 @@ fn within<I: Inlet + Opening>(
 }
 
 /// The tally of a stream.
-fn over<I: Inlet + Opening>(alloc: Global, target: Target, input: &mut I) -> Result<Outcome, Told>
+fn over<I: Inlet + Opening>(
+    alloc: Global,
+    target: Target,
+    input: &mut I,
+) -> Result<Outcome, Refused<FilterRefusal>>
     requires { I.is_broken input.old ≡ false }
     ensures { IfSome (I.bytes input.old) (λ bytes. GivesOne result (IsTallyOver (target_view target) bytes (I.is_broken input.new))) }
 {
@@ -120,7 +123,11 @@ fn over<I: Inlet + Opening>(alloc: Global, target: Target, input: &mut I) -> Res
 }
 
 /// The file of a tally.
-fn printed(alloc: Global, came: &StreamTally, opening: FileEnds) -> Result<Outcome, Told>
+fn printed(
+    alloc: Global,
+    came: &StreamTally,
+    opening: FileEnds,
+) -> Result<Outcome, Refused<FilterRefusal>>
     ensures { PrintsTally came.now.tally result }
 {
     match print_tally(alloc, &came.tally) {
@@ -147,10 +154,10 @@ fn beside(alloc: Global, torn: bool, opening: FileEnds) -> Option<Remark> {
 }
 
 /// A stream that is not tallied to its end.
-fn stopped(alloc: Global, stop: TallyStop, opening: FileEnds) -> Told
+fn stopped(alloc: Global, stop: TallyStop, opening: FileEnds) -> Refused<FilterRefusal>
     ensures { result.refusal ≡ FilterRefusal.Tally stop }
 {
-    Told {
+    Refused {
         refusal: FilterRefusal::Tally(stop),
         remark: Remark::of(stop_line(alloc, stop, opening)),
     }
@@ -168,10 +175,10 @@ fn stop_line(alloc: Global, stop: TallyStop, opening: FileEnds) -> Result<String
 }
 
 /// A site that is not tallied at.
-fn untallied(alloc: Global, asked: &Tallying<'_>, fault: RolloutFault) -> Told
+fn untallied(alloc: Global, asked: &Tallying<'_>, fault: RolloutFault) -> Refused<FilterRefusal>
     ensures { result.refusal ≡ Load (Plan fault) }
 {
-    Told {
+    Refused {
         refusal: FilterRefusal::Load(Refusal::Plan(fault)),
         remark: Remark::of(refusal_line(alloc, asked, fault)),
     }

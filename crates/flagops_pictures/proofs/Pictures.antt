@@ -10,7 +10,7 @@ use Rattle.flagops_files.specs.Report.{AnswersOrWants, Outcomes, Report, beside,
 use Rattle.flagops_files.specs.declared.outcome.Outcome.{Outcome}
 use Rattle.flagops_files.specs.declared.refusal.Call.{Call}
 use Rattle.flagops_files.specs.declared.refusal.Refusal.{Refusal}
-use Rattle.flagops_files.specs.declared.refused.Refused.{Refused}
+use Rattle.flagops_files.specs.Refusal.{Refused}
 use Rattle.flagops_pictures.specs.Pictured.{IsDrawnOrDenied, IsPictureReport, IsPictured, as_question, asked_over, drawn_report}
 use Rattle.flagops_pictures.specs.Words.{Asked}
 use Rattle.plan_text.specs.Answer.{Answer}

@@ -13,7 +13,7 @@ use Rattle.flagops_files.specs.declared.outcome.Outcome.{Outcome}
 use Rattle.flagops_files.specs.declared.refusal.Call.{Call}
 use Rattle.flagops_files.specs.declared.refusal.Refusal.{Refusal}
 use Rattle.flagops_files.specs.declared.refusal.Refusal.TheVariants.{WantOfMemory}
-use Rattle.flagops_files.specs.declared.refused.Refused.{Refused}
+use Rattle.flagops_files.specs.Refusal.{Refused}
 use Rattle.plan_text.specs.Answer.{Answer, planned_view}
 use Rattle.plan_text.specs.PlanFile.{answer_of}
 use Rattle.plan_text.specs.declared.fault.PlanFileFault.{PlanFileFault}

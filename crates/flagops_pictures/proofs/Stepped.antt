@@ -6,10 +6,9 @@ use Rattle.flagops_files.specs.Report.{outcome_view}
 use Rattle.flagops_files.specs.declared.outcome.Outcome.{Outcome}
 use Rattle.flagops_ramps.specs.Judging.{IsFoundAt, answered_view}
 use Rattle.flagops_ramps.specs.Refusal.{is_want}
-use Rattle.flagops_ramps.specs.Report.{GivesOne}
+use Rattle.flagops_ramps.specs.Report.{GivesOne, Told}
 use Rattle.flagops_ramps.specs.Words.{Verifying}
 use Rattle.flagops_ramps.specs.declared.judging.RightAnswers.{RightAnswers}
-use Rattle.flagops_ramps.specs.declared.reports.Told.{Told}
 use Rattle.flagops_pictures.specs.Ramps.{IsRampPicture, IsRampPictureOf}
 
 module _ (v : Verifying) where

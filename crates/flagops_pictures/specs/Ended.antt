@@ -2,12 +2,13 @@
 use Rattle.std.specs.Prelude.{◌≡◌, ◌⊎◌, ℕ, Bool, List, Option, None, IfSome}
 use Rattle.clap.specs.Walk.{Text}
 use Rattle.flagops_commands.specs.Ended.{AnswersAt, WantsAt}
+use Rattle.flagops_commands.specs.Telling.{TellsOne}
 use Rattle.flagops_files.specs.Files.{Holding}
 use Rattle.flagops_pictures.specs.Pictured.{IsPictureReport, picture_calls}
 use Rattle.flagops_pictures.specs.Planning.{IsPlanPicture, plan_calls}
 use Rattle.flagops_pictures.specs.Ramps.{IsRampPicture}
 use Rattle.flagops_pictures.specs.Words.{picture_by, picture_faults, plan_by, plan_faults, ramp_by, ramp_faults}
-use Rattle.flagops_ramps.specs.Ended.{TellsOne, verify_want}
+use Rattle.flagops_ramps.specs.Ended.{verify_want}
 use Rattle.flagops_ramps.specs.Report.{Reports}
 
 -- the output and what is told beside it, each by the bytes that are known of it and by whether it is broken

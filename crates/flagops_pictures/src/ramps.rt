@@ -17,8 +17,8 @@ use crate::words::read_ramp;
 use flag_defs::Flags;
 use flag_text::Outlet;
 use flagops_commands::{explain, remark_in};
-use flagops_files::{FileSet, Outcome, Status};
-use flagops_ramps::{RightAnswers, Told, Verifying, doubted, finish, load_answers, out_of_memory};
+use flagops_files::{FileSet, Outcome, Refused, Status, finish};
+use flagops_ramps::{RampRefusal, RightAnswers, Verifying, doubted, load_answers, out_of_memory};
 use flagops_words::factor_number;
 use page_tally::BookFile;
 use picture::{draw_step, page};
@@ -55,8 +55,7 @@ where
     match read_ramp(alloc, words) {
         Ok(asked) => {
             let came = pictured(rt, alloc, files, &asked);
-            let line = b"refused verify-ramp 0 WantOfMemory\n";
-            finish(alloc, came, line, out, err)
+            finish(alloc, came, "verify-ramp", out, err)
         }
         Err(error) => explain(alloc, &error, out, err),
     }
@@ -68,7 +67,7 @@ fn pictured<R: Threads + Sync, F: FileSet>(
     alloc: Global,
     files: &mut F,
     asked: &Verifying<'_>,
-) -> Result<Outcome, Told>
+) -> Result<Outcome, Refused<RampRefusal>>
     ensures exact { IfSome (F.holding files.old) (λ at. GivesOne outcome_view result (IsRampPicture at (verifying_view asked.now))) }
     ensures kept { F.holding files.new ≡ F.holding files.old }
 {

@@ -11,16 +11,15 @@ use Rattle.flagops_files.specs.Files.{Holding}
 use Rattle.flagops_files.specs.Refusal as files
 use Rattle.flagops_files.specs.Report.{outcome_view}
 use Rattle.flagops_files.specs.declared.outcome.Outcome.{Outcome}
-use Rattle.flagops_files.specs.declared.refused.Refused.{Refused}
+use Rattle.flagops_files.specs.Refusal.{Refused}
 use Rattle.plan_text.specs.Answer.{Answer, planned_view}
 use Rattle.plan_text.specs.declared.planned.Planned.{Planned}
 use Rattle.flagops_ramps.specs.Apply.{IsStepApplied, IsStepPut, IsStepReport, answer_to, as_came}
 use Rattle.flagops_ramps.specs.Refusal.{is_want}
-use Rattle.flagops_ramps.specs.Report.{GivesOne, GivesUnlessWant}
+use Rattle.flagops_ramps.specs.Report.{GivesOne, GivesUnlessWant, Told}
 use Rattle.flagops_ramps.specs.Judging.{answers_at}
 use Rattle.flagops_ramps.specs.declared.refusal.RampRefusal.{RampRefusal}
 use Rattle.flagops_ramps.specs.declared.refusal.RampRefusal.TheVariants.{Load, NoStep}
-use Rattle.flagops_ramps.specs.declared.reports.Told.{Told}
 use Rattle.flagops_ramps.proofs.Loaded.{not_want}
 
 module _ (document path key : List ℕ) (site step : ℕ) where

@@ -4,9 +4,8 @@ use Rattle.flagops_files.specs.Report.{outcome_view}
 use Rattle.flagops_files.specs.declared.outcome.Outcome.{Outcome}
 use Rattle.flagops_ramps.specs.Doubts.{beside}
 use Rattle.flagops_ramps.specs.Refusal.{is_want}
-use Rattle.flagops_ramps.specs.Report.{Came, GivesUnlessWant}
+use Rattle.flagops_ramps.specs.Report.{Came, GivesUnlessWant, Told}
 use Rattle.flagops_ramps.specs.declared.refusal.RampRefusal.{RampRefusal}
-use Rattle.flagops_ramps.specs.declared.reports.Told.{Told}
 
 -- a person is told of it, or there is none
 pub told_so : (settled : Result Bool RampRefusal) (told : Bool) (report : Came) (r : Result Outcome Told) → settled ≡ Ok told → GivesUnlessWant outcome_view r (beside (Ok told) report) → GivesUnlessWant outcome_view r (beside settled report)

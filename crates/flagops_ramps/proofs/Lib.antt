@@ -1,6 +1,5 @@
 mod Applied
 mod Besides
-pub mod Ending
 mod Loaded
 pub mod Matched
 mod Stepped

@@ -9,20 +9,19 @@ use Rattle.flagops_files.specs.Report.{outcome_view}
 use Rattle.flagops_files.specs.declared.outcome.Outcome.{Outcome}
 use Rattle.flagops_files.specs.declared.book_question.BookQuestion.{BookQuestion}
 use Rattle.flagops_files.specs.declared.refusal.Refusal.TheVariants.{Load as Unread}
-use Rattle.flagops_files.specs.declared.refused.Refused.{Refused}
+use Rattle.flagops_files.specs.Refusal.{Refused}
 use Rattle.plan_text.specs.Answer.{Answer, planned_view}
 use Rattle.plan_text.specs.declared.planned.Planned.{Planned}
 use Rattle.ramp_steps.specs.Lines.{ramp_of}
 use Rattle.flagops_ramps.specs.Judging.{IsFoundAt, IsFoundOf, answered_view, answers_at, if_loaded, read_as}
 use Rattle.flagops_ramps.specs.Ramp.{IsRampOf, IsRampReport}
 use Rattle.flagops_ramps.specs.Refusal.{is_want}
-use Rattle.flagops_ramps.specs.Report.{GivesOne, GivesUnlessWant}
+use Rattle.flagops_ramps.specs.Report.{GivesOne, GivesUnlessWant, Told}
 use Rattle.flagops_ramps.specs.Verify.{IsVerdictReport, report_found}
 use Rattle.flagops_ramps.specs.Words.{Ramping, Verifying}
 use Rattle.flagops_ramps.specs.declared.judging.RightAnswers.{RightAnswers}
 use Rattle.flagops_ramps.specs.declared.refusal.RampRefusal.{RampRefusal}
 use Rattle.flagops_ramps.specs.declared.refusal.RampRefusal.TheVariants.{Load}
-use Rattle.flagops_ramps.specs.declared.reports.Told.{Told}
 
 -- no memory ran out, as every other command sees it
 pub not_want : (t : Told) (e : Refused) → t.refusal ≡ Load e.refusal → is_want t.refusal ≡ false → files.is_want e.refusal ≡ false

@@ -20,12 +20,11 @@ use Rattle.flagops_ramps.specs.Doubts.{beside, doubt_of_steps, settle}
 use Rattle.flagops_ramps.specs.Judging.{Found, IsFoundOf, IsFoundOver, answered_view, refused_as}
 use Rattle.flagops_ramps.specs.Ramp.{IsRampOf, IsRampOver, of_steps, report_ramp}
 use Rattle.flagops_ramps.specs.Refusal.{is_want}
-use Rattle.flagops_ramps.specs.Report.{GivesOne, GivesUnlessWant}
+use Rattle.flagops_ramps.specs.Report.{GivesOne, GivesUnlessWant, Told}
 use Rattle.flagops_ramps.specs.declared.judging.RightAnswers.{RightAnswers}
 use Rattle.flagops_ramps.specs.declared.refusal.RampRefusal.{RampRefusal}
 use Rattle.flagops_ramps.specs.declared.refusal.RampRefusal.TheVariants.{Ramp, Verify}
 use Rattle.flagops_ramps.specs.declared.refusal.StepCall.TheVariants as call
-use Rattle.flagops_ramps.specs.declared.reports.Told.{Told}
 
 -- a refusal that is no want of memory is of a fault that is none
 other_ramp : (t : RampRefusal) (f : RolloutFault) → t ≡ Ramp f → is_want t ≡ false → f ≢ WantOfMemory

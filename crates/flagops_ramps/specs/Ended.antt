@@ -1,10 +1,9 @@
 -- What `ramp`, `verify-ramp` and `apply --step` come to, by what the two outlets show before and after, what the files show, and the status.
 use Rattle.std.specs.Prelude.{◌≡◌, ◌⊎◌, ℕ, Bool, List, Option, None, IfSome, codes}
-use Rattle.clap.specs.Kinds.{Kinds, IsAmong}
 use Rattle.clap.specs.Walk.{Text}
-use Rattle.clap.specs.declared.error.kind.ErrorKind.{ErrorKind}
-use Rattle.flagops_commands.specs.Telling.{Tells, Wants}
+use Rattle.flagops_commands.specs.Telling.{TellsOne, Wants}
 use Rattle.flagops_files.specs.Files.{Holding}
+use Rattle.flagops_files.specs.Refusal.{want_line_of}
 use Rattle.flagops_ramps.specs.Apply.{IsStepReport}
 use Rattle.flagops_ramps.specs.Ramp.{IsRampReport}
 use Rattle.flagops_ramps.specs.Report.{Reports}
@@ -12,19 +11,13 @@ use Rattle.flagops_ramps.specs.Verify.{IsVerdictReport}
 use Rattle.flagops_ramps.specs.Words.{ramp_by, ramp_faults, step_by, step_faults, verify_by, verify_faults}
 
 abbrev pub ramp_want : List ℕ
-ramp_want = codes "refused ramp 0 WantOfMemory\n"
+ramp_want = want_line_of (codes "ramp")
 
 abbrev pub verify_want : List ℕ
-verify_want = codes "refused verify-ramp 0 WantOfMemory\n"
+verify_want = want_line_of (codes "verify-ramp")
 
 abbrev pub step_want : List ℕ
-step_want = codes "refused apply 0 WantOfMemory\n"
-
--- words with a mistake are told by one of their mistakes, as every other command tells one, or memory ran out
-abbrev pub TellsOne : Option (List ℕ) → Option (List ℕ) → Bool → Option (List ℕ) → Option (List ℕ) → Bool → ℕ → Kinds → Type 0
-TellsOne out out_after is_broken err err_after is_err_broken status faults =
-    Wants out out_after is_broken err err_after is_err_broken status
-    ⊎ ((kind : ErrorKind) × IsAmong kind faults × Tells out out_after is_broken err err_after is_err_broken status kind)
+step_want = want_line_of (codes "apply")
 
 -- the output and what is told beside it, each by the bytes that are known of it and by whether it is broken
 module _ {O E : Type 0} (bytes : O → Option (List ℕ)) (is_broken : O → Bool) (out out' : O) (told : E → Option (List ℕ)) (is_mute : E → Bool) (err err' : E) (status : ℕ) where

@@ -14,12 +14,11 @@ use crate::asked::Applying;
 use crate::judging::{load_ramp, out_of_memory};
 use crate::refusal::RampRefusal;
 use crate::remarks::step_line;
-use crate::reports::{Told, finish};
 use crate::words::read_step;
 use flag_defs::{Flags, print_flags};
 use flag_text::Outlet;
 use flagops_commands::explain;
-use flagops_files::{FileSet, Outcome, Refusal, Refused, Remark, Status, load_flags};
+use flagops_files::{FileSet, Outcome, Refusal, Refused, Remark, Status, finish, load_flags};
 use flagops_remarks::of_applied;
 use plan_text::Planned;
 use std::alloc::{AllocError, Global};
@@ -46,20 +45,24 @@ where
     match read_step(alloc, words) {
         Ok(asked) => {
             let came = applied(alloc, files, &asked);
-            finish(alloc, came, b"refused apply 0 WantOfMemory\n", out, err)
+            finish(alloc, came, "apply", out, err)
         }
         Err(error) => explain(alloc, &error, out, err),
     }
 }
 
 /// The report of the files that are asked for.
-fn applied<F: FileSet>(alloc: Global, files: &mut F, asked: &Applying<'_>) -> Result<Outcome, Told>
+fn applied<F: FileSet>(
+    alloc: Global,
+    files: &mut F,
+    asked: &Applying<'_>,
+) -> Result<Outcome, Refused<RampRefusal>>
     ensures exact { IfSome (F.holding files.old) (λ at. GivesOne outcome_view result (IsStepReport at asked.now.document.now asked.now.ramp.now asked.now.key.now asked.now.site asked.now.step)) }
     ensures kept { F.holding files.new ≡ F.holding files.old }
 {
     match load_flags(alloc, files, asked.document) {
         Ok(flags) => against(alloc, files, asked, &flags),
-        Err(refused) => Err(Told::of(refused)),
+        Err(refused) => Err(Refused::of(refused)),
     }
 }
 
@@ -69,7 +72,7 @@ fn against<F: FileSet>(
     files: &mut F,
     asked: &Applying<'_>,
     flags: &Flags,
-) -> Result<Outcome, Told>
+) -> Result<Outcome, Refused<RampRefusal>>
     ensures exact { IfSome (F.holding files.old) (λ at. GivesOne outcome_view result (IsStepApplied asked.now.key.now asked.now.site asked.now.step (Ok (flags_view flags.now)) (answers_at at asked.now.ramp.now))) }
     ensures kept { F.holding files.new ≡ F.holding files.old }
 {
@@ -85,12 +88,12 @@ fn put(
     asked: &Applying<'_>,
     flags: &Flags,
     answers: &[Planned],
-) -> Result<Outcome, Told>
+) -> Result<Outcome, Refused<RampRefusal>>
     ensures { GivesOne outcome_view result (IsStepApplied asked.now.key.now asked.now.site asked.now.step (Ok (flags_view flags.now)) (Ok (map planned_view answers.now))) }
 {
     match answer_to(answers, asked.step) {
         Some(planned) => answer_put(alloc, asked, flags, planned),
-        None => Err(Told {
+        None => Err(Refused {
             refusal: RampRefusal::NoStep,
             remark: Remark::of(of_no_step(alloc, asked)),
         }),
@@ -123,7 +126,7 @@ fn answer_put(
     asked: &Applying<'_>,
     flags: &Flags,
     planned: &Planned,
-) -> Result<Outcome, Told>
+) -> Result<Outcome, Refused<RampRefusal>>
     ensures exact { GivesUnlessWant outcome_view result (as_came (applied_report (flags_view flags.now) asked.now.key.now asked.now.site (planned_view planned.now))) }
     ensures local { IfOk result (λ o. IsLocalReport (flags_view flags.now) asked.now.key.now asked.now.site (planned_view planned.now) (outcome_view o)) }
 {
@@ -134,7 +137,7 @@ fn answer_put(
                 Err(fault) => {
                     let (key, site) = (asked.key, asked.site);
                     let lines = of_applied(alloc, asked.ramp, flags, key, site, rule, fault);
-                    Err(Told::of(Refused {
+                    Err(Refused::of(Refused {
                         refusal: Refusal::Apply(fault),
                         remark: Remark::of(lines),
                     }))
@@ -146,7 +149,7 @@ fn answer_put(
 }
 
 /// The report of the changed document.
-fn document(alloc: Global, flags: &Flags) -> Result<Outcome, Told>
+fn document(alloc: Global, flags: &Flags) -> Result<Outcome, Refused<RampRefusal>>
     ensures { GivesUnlessWant outcome_view result (as_came (done (document_line (flags_view flags.now)))) }
 {
     match document_line(alloc, flags) {
@@ -156,7 +159,7 @@ fn document(alloc: Global, flags: &Flags) -> Result<Outcome, Told>
 }
 
 /// The report of an answer without a rule.
-fn none(alloc: Global) -> Result<Outcome, Told>
+fn none(alloc: Global) -> Result<Outcome, Refused<RampRefusal>>
     ensures { GivesUnlessWant outcome_view result (Ok none_report) }
 {
     match Vec::from_slice(alloc, b"none\n") {

@@ -10,10 +10,9 @@ ghost use Rattle.ramp_steps.specs.Steps.{requests_view};
 use crate::asked::Ramping;
 use crate::judging::out_of_memory;
 use crate::refusal::{RampRefusal, StepCall};
-use crate::reports::Told;
 use flag_text::{TextFault, Tree, read_tree};
 use flagops_commands::{NotedDoubt, doubt_in_book, remark_in};
-use flagops_files::{BookQuestion, Doubt, Remark, TEXT_LIMIT};
+use flagops_files::{BookQuestion, Doubt, Refused, Remark, TEXT_LIMIT};
 use flagops_remarks::of_unread;
 use std::alloc::{AllocError, Global};
 use std::thread::Threads;
@@ -28,7 +27,7 @@ pub(crate) fn settled<R: Threads>(
     asked: &Ramping<'_>,
     question: &BookQuestion,
     steps: &[Vec<u8>],
-) -> Result<Option<Remark>, Told>
+) -> Result<Option<Remark>, Refused<RampRefusal>>
     ensures { GivesUnlessWant (λ r. is_some r) result (settle call asked.now.strict (doubt_of_steps (book_question_view question.now) (requests_view steps.now))) }
 {
     match doubted(rt, alloc, asked, question, steps) {
@@ -38,12 +37,16 @@ pub(crate) fn settled<R: Threads>(
 }
 
 /// The remark on a doubt, or its refusal.
-fn settle(call: StepCall, doubted: Option<NotedDoubt>, strict: bool) -> Result<Option<Remark>, Told>
+fn settle(
+    call: StepCall,
+    doubted: Option<NotedDoubt>,
+    strict: bool,
+) -> Result<Option<Remark>, Refused<RampRefusal>>
     ensures { GivesUnlessWant (λ r. is_some r) result (settle call strict (option_map (λ d. d.doubt) doubted)) }
 {
     match doubted {
         Some(NotedDoubt { doubt, remark }) => if strict {
-            Err(Told {
+            Err(Refused {
                 refusal: RampRefusal::Doubted(call, doubt),
                 remark,
             })

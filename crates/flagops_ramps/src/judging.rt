@@ -15,9 +15,8 @@ use crate::asked::Verifying;
 use crate::ramping::{count, of_steps};
 use crate::refusal::RampRefusal;
 use crate::remarks::{of_steps_in, step_line};
-use crate::reports::Told;
 use flagops_commands::{file_line, whole_line};
-use flagops_files::{BookQuestion, FileSet, Remark, load, load_book_question};
+use flagops_files::{BookQuestion, FileSet, Refused, Remark, load, load_book_question};
 use flagops_remarks::Ends;
 use flagops_words::{factor_number, factor_of};
 use plan_text::Planned;
@@ -44,7 +43,7 @@ pub fn load_answers<R: Threads + Sync, F: FileSet>(
     alloc: Global,
     files: &mut F,
     asked: &Verifying<'_>,
-) -> Result<RightAnswers, Told>
+) -> Result<RightAnswers, Refused<RampRefusal>>
     ensures exact { IfSome (F.holding files.old) (λ at. GivesOne answered_view result (IsFoundAt at (verifying_view asked.now))) }
     ensures right { IfOk result (AreRightAnswers (option_map (λ m. m.number) asked.now.rollout.refine)) }
     ensures kept { F.holding files.new ≡ F.holding files.old }
@@ -60,7 +59,7 @@ pub fn load_answers<R: Threads + Sync, F: FileSet>(
         factor_of(rollout.refine),
     ) {
         Ok(question) => against(rt, alloc, files, asked, question),
-        Err(refused) => Err(Told::of(refused)),
+        Err(refused) => Err(Refused::of(refused)),
     }
 }
 
@@ -71,7 +70,7 @@ fn against<R: Threads + Sync, F: FileSet>(
     files: &mut F,
     asked: &Verifying<'_>,
     question: BookQuestion,
-) -> Result<RightAnswers, Told>
+) -> Result<RightAnswers, Refused<RampRefusal>>
     ensures exact { IfSome (F.holding files.old) (λ at. GivesOne answered_view result (IsFoundOf (option_map (λ m. m.number) asked.now.rollout.refine) (Ok (book_question_view question)) (answers_at at asked.now.ramp.now))) }
     ensures right { IfOk result (AreRightAnswers (option_map (λ m. m.number) asked.now.rollout.refine)) }
     ensures kept { F.holding files.new ≡ F.holding files.old }
@@ -81,7 +80,7 @@ fn against<R: Threads + Sync, F: FileSet>(
         Ok(steps) => over(rt, alloc, asked, question, steps, answers),
         Err(fault) => {
             let fault = of_steps(fault);
-            Err(Told {
+            Err(Refused {
                 refusal: RampRefusal::Verify(VerifyFault::Request(fault.fault)),
                 remark: Remark::of(of_steps_in(alloc, asked.rollout.steps, &question, fault)),
             })
@@ -97,7 +96,7 @@ fn over<R: Threads + Sync>(
     question: BookQuestion,
     steps: Vec<Vec<u8>>,
     answers: Vec<Planned>,
-) -> Result<RightAnswers, Told>
+) -> Result<RightAnswers, Refused<RampRefusal>>
     requires { length steps.items ≤ most_steps }
     ensures exact { GivesOne answered_view result (IsFoundOver (option_map (λ m. m.number) asked.now.rollout.refine) (book_question_view question) (map planned_view answers.items) (Ok (requests_view steps.items))) }
     ensures right { IfOk result (AreRightAnswers (option_map (λ m. m.number) asked.now.rollout.refine)) }
@@ -131,23 +130,23 @@ pub(crate) fn load_ramp<F: FileSet>(
     alloc: Global,
     files: &mut F,
     path: &str,
-) -> Result<Vec<Planned>, Told>
+) -> Result<Vec<Planned>, Refused<RampRefusal>>
     ensures exact { IfSome (F.holding files.old) (λ at. GivesUnlessWant (λ v. map planned_view v.items) result (answers_at at path.now)) }
     ensures kept { F.holding files.new ≡ F.holding files.old }
 {
     match load(alloc, files, path, RAMP_LIMIT) {
         Ok(bytes) => read(alloc, path, bytes.as_slice()),
-        Err(refused) => Err(Told::of(refused)),
+        Err(refused) => Err(Refused::of(refused)),
     }
 }
 
 /// The answers of a file's bytes.
-fn read(alloc: Global, path: &str, bytes: &[u8]) -> Result<Vec<Planned>, Told>
+fn read(alloc: Global, path: &str, bytes: &[u8]) -> Result<Vec<Planned>, Refused<RampRefusal>>
     ensures { GivesUnlessWant (λ v. map planned_view v.items) result (read_as (ramp_of bytes.now)) }
 {
     match read_ramp(alloc, bytes) {
         Ok(answers) => Ok(answers),
-        Err(fault) => Err(Told {
+        Err(fault) => Err(Refused {
             refusal: RampRefusal::Read(fault),
             remark: Remark::of(of_ramp(alloc, path, Ends::of(bytes), fault)),
         }),
@@ -155,25 +154,25 @@ fn read(alloc: Global, path: &str, bytes: &[u8]) -> Result<Vec<Planned>, Told>
 }
 
 /// Memory that ran out.
-pub fn out_of_memory() -> Told
+pub fn out_of_memory() -> Refused<RampRefusal>
     ensures { is_want result.refusal ≡ true }
 {
-    Told {
+    Refused {
         refusal: RampRefusal::Verify(VerifyFault::Request(RolloutFault::WantOfMemory)),
         remark: Remark::Short,
     }
 }
 
 /// Answers that are not right, which a person is told of.
-fn wrong(alloc: Global, asked: &Verifying<'_>, fault: RampFault) -> Told
+fn wrong(alloc: Global, asked: &Verifying<'_>, fault: RampFault) -> Refused<RampRefusal>
     ensures { result.refusal ≡ refused_as fault }
 {
     match fault {
-        RampFault::Step(step, fault) => Told {
+        RampFault::Step(step, fault) => Refused {
             remark: Remark::of(of_verdict(alloc, asked, step, &fault)),
             refusal: RampRefusal::Verify(fault),
         },
-        RampFault::Lines => Told {
+        RampFault::Lines => Refused {
             refusal: RampRefusal::Lines,
             remark: Remark::of(file_line(
                 alloc,

@@ -18,12 +18,13 @@ use crate::doubts::{first_request, settled};
 use crate::judging::out_of_memory;
 use crate::refusal::{RampRefusal, StepCall};
 use crate::remarks::of_steps_in;
-use crate::reports::{Told, finish};
 use crate::words::read_ramp;
 use book_core::BookFileFault;
 use flag_text::Outlet;
 use flagops_commands::explain;
-use flagops_files::{BookQuestion, FileSet, Outcome, Remark, Status, load_book_question};
+use flagops_files::{
+    BookQuestion, FileSet, Outcome, Refused, Remark, Status, finish, load_book_question,
+};
 use flagops_remarks::of_large_plan;
 use flagops_words::factor_of;
 use plan_text::Planned;
@@ -56,7 +57,7 @@ where
     match read_ramp(alloc, words) {
         Ok(asked) => {
             let came = planned(rt, alloc, files, &asked);
-            finish(alloc, came, b"refused ramp 0 WantOfMemory\n", out, err)
+            finish(alloc, came, "ramp", out, err)
         }
         Err(error) => explain(alloc, &error, out, err),
     }
@@ -68,7 +69,7 @@ fn planned<R: Threads + Sync, F: FileSet>(
     alloc: Global,
     files: &mut F,
     asked: &Ramping<'_>,
-) -> Result<Outcome, Told>
+) -> Result<Outcome, Refused<RampRefusal>>
     ensures exact { IfSome (F.holding files.old) (λ at. GivesOne outcome_view result (IsRampReport at (ramping_view asked.now))) }
     ensures kept { F.holding files.new ≡ F.holding files.old }
 {
@@ -82,7 +83,7 @@ fn planned<R: Threads + Sync, F: FileSet>(
         factor_of(asked.refine),
     ) {
         Ok(question) => answer(rt, alloc, asked, question),
-        Err(refused) => Err(Told::of(refused)),
+        Err(refused) => Err(Refused::of(refused)),
     }
 }
 
@@ -92,7 +93,7 @@ fn answer<R: Threads + Sync>(
     alloc: Global,
     asked: &Ramping<'_>,
     question: BookQuestion,
-) -> Result<Outcome, Told>
+) -> Result<Outcome, Refused<RampRefusal>>
     ensures { GivesOne outcome_view result (IsRampOf asked.now.strict (option_map (λ m. m.number) asked.now.refine) (Ok (book_question_view question))) }
 {
     let steps = match read_steps(alloc, question.request.as_slice()) {
@@ -119,7 +120,7 @@ fn told<R: Threads>(
     question: &BookQuestion,
     steps: &[Vec<u8>],
     answers: &[Planned],
-) -> Result<Outcome, Told>
+) -> Result<Outcome, Refused<RampRefusal>>
     requires { All (λ p. IsWhole (planned_view p)) answers.now }
     ensures { GivesUnlessWant outcome_view result (beside (settle StepCall.Ramp asked.now.strict (doubt_of_steps (book_question_view question.now) (requests_view steps.now))) (report_ramp (map planned_view answers.now))) }
 {
@@ -130,10 +131,15 @@ fn told<R: Threads>(
 }
 
 /// A step that is refused, which a person is told of.
-fn refused(alloc: Global, path: &str, question: &BookQuestion, fault: StepFault) -> Told
+fn refused(
+    alloc: Global,
+    path: &str,
+    question: &BookQuestion,
+    fault: StepFault,
+) -> Refused<RampRefusal>
     ensures { result.refusal ≡ RampRefusal.Ramp fault.fault }
 {
-    Told {
+    Refused {
         refusal: RampRefusal::Ramp(fault.fault),
         remark: Remark::of(of_steps_in(alloc, path, question, fault)),
     }
@@ -171,7 +177,11 @@ pub(crate) fn count<R: Threads>(
 }
 
 /// The lines of the answers, with what a person is told beside them.
-fn printed(alloc: Global, answers: &[Planned], remark: Option<Remark>) -> Result<Outcome, Told>
+fn printed(
+    alloc: Global,
+    answers: &[Planned],
+    remark: Option<Remark>,
+) -> Result<Outcome, Refused<RampRefusal>>
     requires { All (λ p. IsWhole (planned_view p)) answers.now }
     ensures { GivesUnlessWant outcome_view result (beside (Ok (is_some remark)) (report_ramp (map planned_view answers.now))) }
 {
@@ -181,7 +191,7 @@ fn printed(alloc: Global, answers: &[Planned], remark: Option<Remark>) -> Result
             status: status_of(answers),
             remark,
         }),
-        Err(fault) => Err(Told {
+        Err(fault) => Err(Refused {
             refusal: RampRefusal::Print(fault),
             remark: Remark::of(of_large_plan(alloc)),
         }),

@@ -1,11 +1,10 @@
 //! Why the commands on steps refuse.
-ghost use Rattle.std.specs.Prelude.{◌≡◌, ◌≤◌, ◌++◌, IfOk, codes, drop, length, string_bytes};
-ghost use Rattle.flagops_files.specs.Payload.{fault_items};
+ghost use Rattle.std.specs.Prelude.{◌≡◌, IfOk, string_bytes};
 ghost use Rattle.flagops_ramps.specs.Refusal.{call_name, is_want, line_of, number_of};
-ghost use Rattle.flagops_ramps.specs.declared.refusal.RampRefusal.TheVariants.{Ramp, Read, Verify};
+ghost use Rattle.flagops_ramps.specs.declared.refusal.RampRefusal.TheVariants.{Load, Ramp, Read, Verify};
 
 use flagops_commands::fault_line;
-use flagops_files::{Doubt, Refusal};
+use flagops_files::{CommandRefusal, Doubt, Refusal, number_item, rollout_items, verify_items};
 use plan_text::PlanFileFault;
 use ramp_steps::RampFileFault;
 use rollout_checks::{RolloutFault, VerifyFault};
@@ -69,20 +68,28 @@ impl RampRefusal {
             RampRefusal::Doubted(_, doubt) => doubt.number(),
         }
     }
+}
 
-    /// Whether memory ran out.
-    pub fn is_want(&self) -> bool
-        ensures { result ≡ is_want self.now }
-    {
+impl From<Refusal> for RampRefusal {
+    ghost from_gives = { λ r e. e ≡ Load r };
+
+    fn from(refusal: Refusal) -> RampRefusal {
+        RampRefusal::Load(refusal)
+    }
+}
+
+impl CommandRefusal for RampRefusal {
+    ghost is_want = { is_want };
+
+    ghost line_of = { line_of };
+
+    fn is_want(&self) -> bool {
         self.number() == 0
     }
 
-    /// The line that the refusal is written as.
-    pub fn line(self, alloc: Global) -> Result<Vec<u8>, AllocError>
-        ensures { IfOk result (λ v. v.items ≡ line_of self) }
-    {
+    fn line(&self, alloc: Global) -> Result<String, AllocError> {
         match self {
-            RampRefusal::Load(refusal) => Ok(refusal.line(alloc)?.into_bytes()),
+            RampRefusal::Load(refusal) => refusal.line(alloc),
             RampRefusal::Ramp(fault) => ramp_line(alloc, fault),
             RampRefusal::Print(fault) => {
                 fault_line(alloc, "print_ramp", fault.number(), fault.name(), "")
@@ -99,58 +106,36 @@ impl RampRefusal {
 }
 
 /// The line of steps that are refused.
-fn ramp_line(alloc: Global, fault: RolloutFault) -> Result<Vec<u8>, AllocError>
-    ensures { IfOk result (λ v. v.items ≡ line_of (Ramp fault)) }
+fn ramp_line(alloc: Global, fault: &RolloutFault) -> Result<String, AllocError>
+    ensures { IfOk result (λ s. string_bytes s ≡ line_of (Ramp fault.now)) }
 {
-    match fault {
-        RolloutFault::Request(inner) => {
-            let items = items(alloc, inner.number(), inner.name())?;
-            fault_line(alloc, "ramp", fault.number(), fault.name(), items.as_str())
-        }
-        _ => fault_line(alloc, "ramp", fault.number(), fault.name(), ""),
-    }
+    let items = rollout_items(alloc, fault)?;
+    fault_line(alloc, "ramp", fault.number(), fault.name(), items.as_str())
 }
 
-fn read_line(alloc: Global, fault: RampFileFault) -> Result<Vec<u8>, AllocError>
-    ensures { IfOk result (λ v. v.items ≡ line_of (Read fault)) }
+fn read_line(alloc: Global, fault: &RampFileFault) -> Result<String, AllocError>
+    ensures { IfOk result (λ s. string_bytes s ≡ line_of (Read fault.now)) }
 {
+    let (number, name) = (fault.number(), fault.name());
     match fault {
         RampFileFault::Line(n) => {
-            let item = format!(in alloc; " {n}")?;
-            fault_line(
-                alloc,
-                "read_ramp",
-                fault.number(),
-                fault.name(),
-                item.as_str(),
-            )
+            let item = number_item(alloc, *n)?;
+            fault_line(alloc, "read_ramp", number, name, item.as_str())
         }
-        _ => fault_line(alloc, "read_ramp", fault.number(), fault.name(), ""),
+        _ => fault_line(alloc, "read_ramp", number, name, ""),
     }
 }
 
 /// The line of an answer that is not right: what `verify` says of it, under the name of this command.
-#[tactic(auto, unfolding(flagops_files::specs::Refusal::line_of))]
-fn verify_line(alloc: Global, fault: VerifyFault) -> Result<Vec<u8>, AllocError>
-    ensures { IfOk result (λ v. v.items ≡ line_of (Verify fault)) }
+fn verify_line(alloc: Global, fault: &VerifyFault) -> Result<String, AllocError>
+    ensures { IfOk result (λ s. string_bytes s ≡ line_of (Verify fault.now)) }
 {
-    let line = Refusal::Verify(fault).line(alloc)?;
-    renamed(alloc, line.as_bytes())
-}
-
-/// A line of `verify` with this command in the place of that.
-fn renamed(alloc: Global, line: &[u8]) -> Result<Vec<u8>, AllocError>
-    requires { 14 ≤ length line.now }
-    ensures { IfOk result (λ v. v.items ≡ codes "refused verify-ramp" ++ drop 14 line.now) }
-{
-    let mut bytes = Vec::new(alloc);
-    bytes.extend_from_slice(b"refused verify-ramp")?;
-    bytes.extend_from_slice(&line[14..])?;
-    Ok(bytes)
-}
-
-fn items(alloc: Global, number: u32, name: &str) -> Result<String, AllocError>
-    ensures { IfOk result (λ s. string_bytes s ≡ fault_items number name.now) }
-{
-    format!(in alloc; " {number} {name}")
+    let items = verify_items(alloc, fault)?;
+    fault_line(
+        alloc,
+        "verify-ramp",
+        fault.number(),
+        fault.name(),
+        items.as_str(),
+    )
 }

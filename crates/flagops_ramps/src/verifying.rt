@@ -12,12 +12,11 @@ ghost use Rattle.plan_text.specs.Answer.{planned_view};
 use crate::asked::Verifying;
 use crate::doubts::settled;
 use crate::judging::{RightAnswers, load_answers, out_of_memory};
-use crate::refusal::StepCall;
-use crate::reports::{Told, finish};
+use crate::refusal::{RampRefusal, StepCall};
 use crate::words::read_verify;
 use flag_text::Outlet;
 use flagops_commands::explain;
-use flagops_files::{FileSet, Outcome, Remark, Status};
+use flagops_files::{FileSet, Outcome, Refused, Remark, Status, finish};
 use plan_text::Planned;
 use std::alloc::{AllocError, Global};
 use std::convert::AsStr;
@@ -49,8 +48,7 @@ where
     match read_verify(alloc, words) {
         Ok(asked) => {
             let came = verdict(rt, alloc, files, &asked);
-            let line = b"refused verify-ramp 0 WantOfMemory\n";
-            finish(alloc, came, line, out, err)
+            finish(alloc, came, "verify-ramp", out, err)
         }
         Err(error) => explain(alloc, &error, out, err),
     }
@@ -62,7 +60,7 @@ fn verdict<R: Threads + Sync, F: FileSet>(
     alloc: Global,
     files: &mut F,
     asked: &Verifying<'_>,
-) -> Result<Outcome, Told>
+) -> Result<Outcome, Refused<RampRefusal>>
     ensures exact { IfSome (F.holding files.old) (λ at. GivesOne outcome_view result (IsVerdictReport at (verifying_view asked.now))) }
     ensures kept { F.holding files.new ≡ F.holding files.old }
 {
@@ -78,7 +76,7 @@ fn reported<R: Threads>(
     alloc: Global,
     asked: &Verifying<'_>,
     right: &RightAnswers,
-) -> Result<Outcome, Told>
+) -> Result<Outcome, Refused<RampRefusal>>
     ensures { GivesUnlessWant outcome_view result (report_found asked.now.rollout.strict (Ok (answered_view right.now))) }
 {
     let steps = right.steps.as_slice();
@@ -90,7 +88,11 @@ fn reported<R: Threads>(
 }
 
 /// What each step costs, with what a person is told beside it.
-fn valid(alloc: Global, answers: &[Planned], remark: Option<Remark>) -> Result<Outcome, Told>
+fn valid(
+    alloc: Global,
+    answers: &[Planned],
+    remark: Option<Remark>,
+) -> Result<Outcome, Refused<RampRefusal>>
     ensures { GivesUnlessWant outcome_view result (beside (Ok (is_some remark)) (report_valid (map planned_view answers.now))) }
 {
     match valid_line(alloc, answers) {

@@ -1,8 +1,9 @@
 -- What is told, one text after the other.
-use Rattle.std.proofs.Common.{◌≡◌, ◌+◌, ℕ, List, [], ◌∷◌, ◌++◌, Bool, true, false, is_ok, nat_eq, Option, Result, Ok, Err, IfOk, IfErr, inl, inr, refl, sym, subst, length, arith}
+use Rattle.std.proofs.Common.{◌≡◌, ◌+◌, ℕ, List, [], ◌∷◌, ◌++◌, Bool, true, false, not, ◌||◌, is_ok, nat_eq, Option, Result, Ok, Err, IfOk, IfErr, inl, inr, refl, sym, subst, length, arith}
 use Rattle.std.proofs.lemmas.Bool.{true≢false}
 use Rattle.std.proofs.lemmas.Bool.Decides.{nat_tests}
 use Rattle.std.proofs.lemmas.List.{take_all}
+use Rattle.std.specs.Bool.{OnTrue}
 use Rattle.std.specs.Io.KnownBytes.{Appends}
 use Rattle.flag_text.specs.Outlet.{AppendsPart}
 use Rattle.flagops_streams.specs.Report.{RefusesBeside, Reports}
@@ -11,14 +12,20 @@ use Rattle.flagops_streams.specs.declared.refusal.Refusal.{Refusal}
 use Rattle.flagops_streams.specs.declared.refusal.Refusal.TheVariants.{WantOfMemory}
 
 -- a text that was written whole, whatever becomes of the outlet
-pub whole_said : (old new : Option (List ℕ)) (is_mute : Bool) (text : List ℕ) → Appends old new text → Says old new is_mute text
+whole_said : (old new : Option (List ℕ)) (is_mute : Bool) (text : List ℕ) → Appends old new text → Says old new is_mute text
 whole_said old new false text all = all
 whole_said old new true text all = (length text, omega arith, subst (Appends old new) (sym (take_all (length text) text (omega arith))) all)
 
 -- a front of it, where the outlet has failed
-pub front_said : (old new : Option (List ℕ)) (is_mute : Bool) (text : List ℕ) → is_mute ≡ true → AppendsPart old new text → Says old new is_mute text
+front_said : (old new : Option (List ℕ)) (is_mute : Bool) (text : List ℕ) → is_mute ≡ true → AppendsPart old new text → Says old new is_mute text
 front_said old new false text is part = absurd (true≢false (sym is))
 front_said old new true text is part = part
+
+-- a text, whether it was written whole or not, where the outlet has failed exactly if it had before or this was not whole
+pub said : (old new : Option (List ℕ)) (was_mute is_mute whole : Bool) (text : List ℕ) → OnTrue whole (Appends old new text) → AppendsPart old new text → is_mute ≡ (was_mute || not whole) → Says old new is_mute text
+said old new was_mute is_mute true text all part is = whole_said old new is_mute text all
+said old new true is_mute false text all part is = front_said old new is_mute text is part
+said old new false is_mute false text all part is = front_said old new is_mute text is part
 
 -- what was told stays told when the outlet fails later
 pub still_said : (old new : Option (List ℕ)) (before after : Bool) (text : List ℕ) → (after ≡ false → before ≡ false) → Says old new before text → Says old new after text

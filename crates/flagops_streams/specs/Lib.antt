@@ -2,7 +2,6 @@ pub mod Documents
 pub mod Ended
 pub mod Ending
 pub mod Loading
-pub mod Mistakes
 pub mod Printed
 pub mod Refusal
 pub mod Report

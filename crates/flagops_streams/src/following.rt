@@ -11,10 +11,11 @@ ghost use Rattle.flagops_streams.specs.Told.{TellsLate};
 
 use crate::refusal::Refusal;
 use crate::remark::{say_late, say_unreachable};
-use crate::report::{refuse, write_three};
+use crate::report::refuse;
 use crate::timely::Timely;
 use core::mem::replace_with;
 use flag_text::{Outlet, write_whole};
+use flagops_files::write_three;
 use persistent_io::PersistentInput;
 use snap_core::Snapshot;
 use std::alloc::{AllocError, Global};

@@ -265,7 +265,6 @@ fn say_lines<E: Outlet>(err: &mut E, lines: Result<String, AllocError>)
 }
 
 /// Writes a text, or a front of it where the outlet fails.
-#[tactic(auto, using(crate::proofs::Told::whole_said, crate::proofs::Told::front_said))]
 pub fn say<E: Outlet>(err: &mut E, text: &str)
     ensures says { Says (E.bytes err.old) (E.bytes err.new) (E.is_broken err.new) text.now }
     ensures stays { E.is_broken err.new ≡ false → E.is_broken err.old ≡ false }

@@ -1,14 +1,12 @@
 //! Writing what a command of streams reports.
-ghost use Rattle.std.specs.Prelude.{◌≡◌, ◌++◌, false, not, IfOk, string_bytes};
-ghost use Rattle.std.specs.Bool.{OnTrue};
-ghost use Rattle.std.specs.Io.KnownBytes.{Appends};
-ghost use Rattle.flag_text.specs.Outlet.{AppendsPart};
+ghost use Rattle.std.specs.Prelude.{◌≡◌, false, IfOk, string_bytes};
 ghost use Rattle.flagops_streams.specs.Refusal.{want_line};
 ghost use Rattle.flagops_streams.specs.Report.{Reports, RefusesBy, Writes, published_line};
 
 use crate::refusal::Refusal;
 use crate::remark::{Remarks, say_refused, say_why};
 use flag_text::{Outlet, write_whole};
+use flagops_files::write_three;
 use std::alloc::{AllocError, Global};
 
 /// Writes the line of a refusal, or without taking memory that of its call which ran out of it, and gives the status 1. The
@@ -23,8 +21,8 @@ pub fn refuse<O: Outlet>(alloc: Global, out: &mut O, refusal: Refusal) -> u8
     }
 }
 
-#[tactic(auto, using(crate::proofs::Writes::good, crate::proofs::Writes::bad))]
 /// Writes a line, and gives the status, or 1 where the output failed.
+#[tactic(auto, using(crate::proofs::Writes::good, crate::proofs::Writes::bad))]
 pub fn write_line<O: Outlet>(out: &mut O, line: &str, status: u8) -> u8
     requires { O.is_broken out.old ≡ false }
     ensures { Writes (O.bytes out.old) (O.bytes out.new) (O.is_broken out.new) result line.now status }
@@ -37,16 +35,12 @@ pub fn write_line<O: Outlet>(out: &mut O, line: &str, status: u8) -> u8
 }
 
 /// Writes the line of a call that ran out of memory, takes none for it, and gives the status 1.
-#[tactic(auto, using(crate::proofs::Writes::good, crate::proofs::Writes::bad), unfolding(crate::specs::Refusal::want_line))]
 fn want<O: Outlet>(out: &mut O, call: &str) -> u8
     requires { O.is_broken out.old ≡ false }
     ensures { Writes (O.bytes out.old) (O.bytes out.new) (O.is_broken out.new) result (want_line call.now) 1 }
 {
-    if write_three(out, b"refused ", call.as_bytes(), b" 0 WantOfMemory\n") {
-        1
-    } else {
-        1
-    }
+    write_three(out, b"refused ", call.as_bytes(), b" 0 WantOfMemory\n");
+    1
 }
 
 /// Writes what `serve` answered: how many documents were published, with status 0, or the line of a refusal with status 1,
@@ -84,20 +78,4 @@ fn line_of(alloc: Global, count: u64) -> Result<String, AllocError>
     ensures { IfOk result (λ s. string_bytes s ≡ published_line count) }
 {
     format!(in alloc; "published {count}\n")
-}
-
-/// Writes all three, and says whether that went well.
-pub(crate) fn write_three<O: Outlet>(out: &mut O, first: &[u8], second: &[u8], third: &[u8]) -> bool
-    requires { O.is_broken out.old ≡ false }
-    ensures whole { OnTrue result (Appends (O.bytes out.old) (O.bytes out.new) (first.now ++ (second.now ++ third.now))) }
-    ensures part { AppendsPart (O.bytes out.old) (O.bytes out.new) (first.now ++ (second.now ++ third.now)) }
-    ensures broken { result ≡ not (O.is_broken out.new) }
-{
-    if !write_whole(out, first) {
-        return false;
-    }
-    if !write_whole(out, second) {
-        return false;
-    }
-    write_whole(out, third)
 }

@@ -3,7 +3,7 @@ use Rattle.std.proofs.lemmas.Result.{err_from_is_err_and}
 use Rattle.tally_core.specs.Tally.{PageTally}
 use Rattle.flagops_filters.specs.Join.{JoinsAllFiles}
 use Rattle.flagops_filters.specs.Joined.{JoinsUnless}
-use Rattle.flagops_filters.specs.declared.reports.Told.{Told}
+use Rattle.flagops_filters.specs.Report.{Told}
 use Rattle.flagops_filters.proofs.Joins.{from_first, no_first}
 use Rattle.flagops_filters.proofs.joining.all_of.Goals as goal
 

@@ -4,7 +4,7 @@ use Rattle.std.proofs.lemmas.Result.{err_from_is_err_and}
 use Rattle.tally_core.specs.Tally.{PageTally}
 use Rattle.flagops_filters.specs.Join.{JoinsFiles}
 use Rattle.flagops_filters.specs.Joined.{JoinsUnless}
-use Rattle.flagops_filters.specs.declared.reports.Told.{Told}
+use Rattle.flagops_filters.specs.Report.{Told}
 use Rattle.flagops_filters.proofs.Joins.{all_files, first_left, leads_all, next_file, no_next}
 use Rattle.flagops_filters.proofs.joining.all_with.Goals as goal
 

@@ -5,9 +5,8 @@ use Rattle.flagops_files.specs.declared.outcome.Outcome.{Outcome}
 use Rattle.plan_text.specs.Answer.{planned_view}
 use Rattle.ramp_steps.specs.Steps.{requests_view, steps_of}
 use Rattle.flagops_ramps.specs.Ramp.{IsRampOver}
-use Rattle.flagops_ramps.specs.Report.{GivesOne}
+use Rattle.flagops_ramps.specs.Report.{GivesOne, Told}
 use Rattle.flagops_ramps.specs.declared.refusal.RampRefusal.TheVariants.{Ramp}
-use Rattle.flagops_ramps.specs.declared.reports.Told.{Told}
 use Rattle.flagops_ramps.proofs.Stepped.{planned_report, refused_report, steps_refused, steps_report}
 use Rattle.flagops_ramps.proofs.ramping.answer.Goals as goal
 
