@@ -17,7 +17,7 @@ use crate::storing::stored;
 use crate::uniting::{Step, united};
 use crate::words::read_uniting;
 use flag_text::Outlet;
-use flagops_commands::{explain, refused};
+use flagops_commands::{refused, report_usage};
 use flagops_files::{Call, FileSet, Outcome, Refused, check_replaceable, report, want};
 use std::alloc::Global;
 use std::convert::AsStr;
@@ -52,7 +52,7 @@ pub fn book<R: AllocGlobal, S: AsStr, F: FileSet, O: Outlet, E: Outlet>(
             Ok(outcome) => report(out, err, &outcome),
             Err(call) => want(out, err, call),
         },
-        Err(error) => explain(alloc, &error, out, err),
+        Err(error) => report_usage(alloc, &error, out, err),
     }
 }
 

@@ -7,7 +7,7 @@ use clap::Command;
 use flagops_words::arguments::{flag, required, some_words};
 use std::alloc::{AllocError, Global};
 
-/// The command `book`. Its name is the first of the words, as a program's.
+/// The command `book`. The first of its words is its own name.
 #[tactic(auto, unfolding(crate::specs::Words::book_app))]
 pub fn usage<'a>(alloc: Global) -> Result<Command<'a>, AllocError>
     ensures { IfOk result (λ c. app_of c ≡ book_app) }

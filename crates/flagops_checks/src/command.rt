@@ -17,7 +17,7 @@ use crate::gathering::{Gathered, gather};
 use crate::remark_lines::RemarkLines;
 use crate::words::read_checking;
 use flag_text::Outlet;
-use flagops_commands::{explain, refused};
+use flagops_commands::{refused, report_usage};
 use flagops_files::{Call, FileSet, Outcome, Refused, Remark, Status, report, want};
 use std::alloc::Global;
 use std::convert::AsStr;
@@ -50,7 +50,7 @@ pub fn check<R: AllocGlobal + Threads, S: AsStr, F: FileSet, O: Outlet, E: Outle
             Ok(outcome) => report(out, err, &outcome),
             Err(call) => want(out, err, call),
         },
-        Err(error) => explain(alloc, &error, out, err),
+        Err(error) => report_usage(alloc, &error, out, err),
     }
 }
 

@@ -7,7 +7,7 @@ use clap::Command;
 use flagops_words::arguments::{flag, some_words};
 use std::alloc::{AllocError, Global};
 
-/// The command `check`. Its name is the first of the words, as a program's.
+/// The command `check`. The first of its words is its own name.
 #[tactic(auto, unfolding(crate::specs::Words::check_app))]
 pub fn usage<'a>(alloc: Global) -> Result<Command<'a>, AllocError>
     ensures { IfOk result (λ c. app_of c ≡ check_app) }

@@ -75,16 +75,16 @@ module _ (path asks : List ℕ) (workers : ℕ) (book : List ℕ) (add strict js
         pub not_driven : (old after : Option Holding) (e : Refused) → after ≡ old → IfSome old (λ at. IsDocumentAt at path (Ok flags)) → IfSome old (λ at. tree_at at asks max_text ≡ Ok t)
             → IfSome old (λ at. before_at at book add ≡ Ok before) → (is_want e.refusal ≡ false → IsDriveOutputOf (Ok flags) (Ok t) (Ok before) workers strict json (Err e.refusal)) → Is old after (Err e)
         unfolding IsDriveReport
-        not_driven None after e same document tree had drove = tt
-        not_driven (Some at) after e same document tree had drove = λ wanted. (Ok flags, document, Err e.refusal, rw (tree, had) (drove wanted), (refl, same))
+        not_driven None after e same document tree had drive_output = tt
+        not_driven (Some at) after e same document tree had drive_output = λ wanted. (Ok flags, document, Err e.refusal, rw (tree, had) (drive_output wanted), (refl, same))
 
         pub driven : (old after : Option Holding) (d : DriveOutput) (r : Result Outcome Refused) → IfSome old (λ at. IsDocumentAt at path (Ok flags)) → IfSome old (λ at. tree_at at asks max_text ≡ Ok t)
             → IfSome old (λ at. before_at at book add ≡ Ok before) → IsDriveOutputOf (Ok flags) (Ok t) (Ok before) workers strict json (Ok d)
             → IfSome old (λ at. GivesOne outcome_view r (IsWritten at after book (Ok d))) → Is old after r
         unfolding IsDriveReport
-        driven None after d r document tree had drove written = tt
-        driven (Some at) after d (Ok o) document tree had drove written = (Ok flags, document, Ok d, rw (tree, had) drove, written)
-        driven (Some at) after d (Err e) document tree had drove written = λ wanted. (Ok flags, document, Ok d, rw (tree, had) drove, written wanted)
+        driven None after d r document tree had drive_output written = tt
+        driven (Some at) after d (Ok o) document tree had drive_output written = (Ok flags, document, Ok d, rw (tree, had) drive_output, written)
+        driven (Some at) after d (Err e) document tree had drive_output written = λ wanted. (Ok flags, document, Ok d, rw (tree, had) drive_output, written wanted)
 
 -- ---- what the asks come to
 
@@ -162,11 +162,11 @@ drove_by flags t workers before strict json d came = go (admitted strict (refusa
   where
     made : (noted : Bool) → admitted strict (refusal_of (asks_of t) workers) t ≡ Ok noted → (r : Result DriveOutput DriveRefusal) → IsDriveOf flags (asks_of t) workers before json r → Ok d ≡ (refused_by Drive r >>= recorded strict)
         → (workers_refusal workers ≡ None) × (is_some (asks_of t) ≡ true) × IsOk (settle call.Drive strict (doubt_of_asks t))
-    made noted is (Ok x) drove same =
-        let fit : (workers_refusal workers ≡ None) × (is_some (asks_of t) ≡ true) = answered flags (asks_of t) workers before json x drove in
+    made noted is (Ok x) drive_output same =
+        let fit : (workers_refusal workers ≡ None) × (is_some (asks_of t) ≡ true) = answered flags (asks_of t) workers before json x drive_output in
         let settled : settle call.Drive strict (doubt_of_asks t) ≡ Ok noted = admits strict (refusal_of (asks_of t) workers) t noted is in
         (fit.0, fit.1, subst (λ (s : Result Bool Refusal). IsOk s) (sym settled) refl)
-    made noted is (Err e) drove same = cc
+    made noted is (Err e) drive_output same = cc
 
     go : (a : Result Bool Refusal) → admitted strict (refusal_of (asks_of t) workers) t ≡ a → IsAnswered a flags t before workers strict json (Ok d)
         → (workers_refusal workers ≡ None) × (is_some (asks_of t) ≡ true) × IsOk (settle call.Drive strict (doubt_of_asks t))
@@ -176,8 +176,8 @@ drove_by flags t workers before strict json d came = go (admitted strict (refusa
 pub left_by_storing : (path asks : List ℕ) (workers : ℕ) (book : List ℕ) (add strict json : Bool) (flags : Definitions) (t : Shape) (before : Option Contents) (old after : Option Holding) (d : DriveOutput)
     → IfSome old (λ at. IsDocumentAt at path (Ok flags)) → IfSome old (λ at. tree_at at asks max_text ≡ Ok t) → IfSome old (λ at. before_at at book add ≡ Ok before)
     → IsDriveOutputOf (Ok flags) (Ok t) (Ok before) workers strict json (Ok d) → KeepsOthers old after book → LeavesBook old after path asks workers book add strict
-left_by_storing path asks workers book add strict json flags t before old after d document tree had drove kept =
-    let fit : (workers_refusal workers ≡ None) × (is_some (asks_of t) ≡ true) × IsOk (settle call.Drive strict (doubt_of_asks t)) = drove_by flags t workers before strict json d drove in
+left_by_storing path asks workers book add strict json flags t before old after d document tree had drive_output kept =
+    let fit : (workers_refusal workers ≡ None) × (is_some (asks_of t) ≡ true) × IsOk (settle call.Drive strict (doubt_of_asks t)) = drove_by flags t workers before strict json d drive_output in
     inr (fit.0, read old document tree had fit.1 fit.2, kept)
   where
     read : (h : Option Holding) → IfSome h (λ at. IsDocumentAt at path (Ok flags)) → IfSome h (λ at. tree_at at asks max_text ≡ Ok t) → IfSome h (λ at. before_at at book add ≡ Ok before)

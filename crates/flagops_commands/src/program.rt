@@ -56,7 +56,7 @@ pub fn run<R: AllocGlobal + Threads + Wait + Sync, S: AsStr, F: FileSet, O: Outl
             Ok(outcome) => report(out, err, &outcome),
             Err(call) => want(out, err, call),
         },
-        Err(error) => explain(alloc, &error, out, err),
+        Err(error) => report_usage(alloc, &error, out, err),
     }
 }
 
@@ -94,7 +94,7 @@ pub fn refused(alloc: Global, refused: Refused) -> Result<Outcome, Call>
 
 /// Writes the text of `clap` where it belongs: help and the version to the output with status 0, a mistake beside it with
 /// status 2.
-pub fn explain<O: Outlet, E: Outlet>(
+pub fn report_usage<O: Outlet, E: Outlet>(
     alloc: Global,
     error: &clap::Error,
     out: &mut O,

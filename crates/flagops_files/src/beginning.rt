@@ -3,8 +3,8 @@ ghost use Rattle.std.specs.Prelude.{◌≡◌};
 ghost use Rattle.std.specs.List.{position};
 ghost use Rattle.flagops_files.specs.Beginning.{after_blanks, begins_member, begins_name, begins_object, ends_line, first_line, goes_on_as_tally, is_feed, is_ink, is_mark, may_begin_notes, may_begin_record, may_note};
 
-/// Whether a book or a tally may begin so: with an object whose first name may be "book" or "tally". What the bytes do not show
-/// speaks not against it, so each of them begins so, and hardly any other file.
+/// True unless these first bytes rule out a book and a tally: the file does not begin with an object whose first name is "book" or
+/// "tally", as far as the bytes show it. Hardly any other file passes.
 #[tactic(auto, unfolding(crate::specs::Beginning::may_begin_record))]
 pub fn may_begin_record(bytes: &[u8]) -> bool
     ensures { result ≡ may_begin_record bytes.now }

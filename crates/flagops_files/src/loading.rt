@@ -28,7 +28,7 @@ const LOOKED_INTO: usize = 1 << 20;
 /// The largest request, key file, document or context, in bytes.
 pub const TEXT_LIMIT: u32 = limits::TEXT_BYTES as u32;
 
-/// The bytes of the file at a path, cut after one more than so many.
+/// The bytes of the file at a path, of which at most `max + 1` are read, so that the caller sees a file that is too large.
 #[tactic(auto, using(crate::proofs::Told::says))]
 pub fn load<F: FileSet>(
     alloc: Global,

@@ -11,7 +11,7 @@ ghost use Rattle.flagops_files.specs.declared.refusal.Refusal.TheVariants.{ReadT
 use crate::refusal::FilterRefusal;
 use crate::words::read_join;
 use flag_text::Outlet;
-use flagops_commands::{explain, file_line, whole_line};
+use flagops_commands::{file_line, report_usage, whole_line};
 use flagops_files::{FileSet, Outcome, Refusal, Refused, Remark, Status, finish, load};
 use flagops_remarks::{Ends, of_tally};
 use std::alloc::{AllocError, Global};
@@ -44,7 +44,7 @@ where
             let came = reported(alloc, files, asked.first, asked.others.as_slice());
             finish(alloc, came, "join", out, err)
         }
-        Err(error) => explain(alloc, &error, out, err),
+        Err(error) => report_usage(alloc, &error, out, err),
     }
 }
 

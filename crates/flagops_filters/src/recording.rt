@@ -19,7 +19,7 @@ use crate::remarks::{counted_lines, flag_line, input_line, marked_line};
 use crate::words::read_record;
 use flag_defs::Flags;
 use flag_text::Outlet;
-use flagops_commands::explain;
+use flagops_commands::report_usage;
 use flagops_files::{FileSet, Refusal, Refused, Remark, finish, load_flags, tell};
 use flagops_remarks::Ends as FileEnds;
 use flagops_words::Moment;
@@ -60,7 +60,7 @@ where
     let alloc = rt.alloc();
     match read_record(alloc, words) {
         Ok(asked) => recorded(rt, alloc, &asked, input, files, out, err),
-        Err(error) => explain(alloc, &error, out, err),
+        Err(error) => report_usage(alloc, &error, out, err),
     }
 }
 

@@ -21,7 +21,7 @@ use book_core::Page;
 use bucket_core::total_weight;
 use flag_defs::Flags;
 use flag_text::Outlet;
-use flagops_commands::explain;
+use flagops_commands::report_usage;
 use flagops_files::{FileSet, Outcome, Refusal, Refused, Remark, Status, finish, load_flags};
 use flagops_remarks::Ends as FileEnds;
 use flagops_words::factor_of;
@@ -69,7 +69,7 @@ where
             let came = tallied(alloc, &asked, input, files);
             finish(alloc, came, "tally", out, err)
         }
-        Err(error) => explain(alloc, &error, out, err),
+        Err(error) => report_usage(alloc, &error, out, err),
     }
 }
 

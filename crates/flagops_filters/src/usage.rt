@@ -14,7 +14,7 @@ use std::alloc::{AllocError, Global};
 /// The most workers.
 pub const MOST_WORKERS: u64 = limits::SEATS as u64;
 
-/// The command `record`. Its name is the first of the words, as a program's.
+/// The command `record`. The first of its words is its own name.
 #[tactic(auto, unfolding(crate::specs::Words::record_app))]
 pub fn record<'a>(alloc: Global) -> Result<Command<'a>, AllocError>
     ensures { IfOk result (λ c. app_of c ≡ record_app) }
@@ -39,7 +39,7 @@ fn record_begun<'a>(alloc: Global) -> Result<Command<'a>, AllocError>
         .arg(key)
 }
 
-/// The command `tally`. Its name is the first of the words, as a program's.
+/// The command `tally`. The first of its words is its own name.
 #[tactic(auto, unfolding(crate::specs::Words::tally_app))]
 pub fn tally<'a>(alloc: Global) -> Result<Command<'a>, AllocError>
     ensures { IfOk result (λ c. app_of c ≡ tally_app) }
@@ -67,7 +67,7 @@ fn tally_begun<'a>(alloc: Global) -> Result<Command<'a>, AllocError>
         .arg(key)
 }
 
-/// The command `join`. Its name is the first of the words, as a program's.
+/// The command `join`. The first of its words is its own name.
 #[tactic(auto, unfolding(crate::specs::Words::join_app))]
 pub fn join<'a>(alloc: Global) -> Result<Command<'a>, AllocError>
     ensures { IfOk result (λ c. app_of c ≡ join_app) }

@@ -14,7 +14,7 @@ use crate::checking::checked_picture;
 use crate::doubts::noted;
 use crate::words::read_picture;
 use flag_text::Outlet;
-use flagops_commands::{explain, refused};
+use flagops_commands::{refused, report_usage};
 use flagops_files::{
     BookQuestion, Call, FileSet, Outcome, Refusal, Refused, Remark, Status, load_book_question,
     load_planned, report, want,
@@ -49,7 +49,7 @@ pub fn picture<R: AllocGlobal + Threads + Sync, S: AsStr, F: FileSet, O: Outlet,
             Ok(outcome) => report(out, err, &outcome),
             Err(call) => want(out, err, call),
         },
-        Err(error) => explain(alloc, &error, out, err),
+        Err(error) => report_usage(alloc, &error, out, err),
     }
 }
 

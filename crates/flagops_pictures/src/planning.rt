@@ -14,7 +14,7 @@ use crate::asked::Planning;
 use crate::drawing::{Asked, drawn};
 use crate::words::read_plan;
 use flag_text::Outlet;
-use flagops_commands::{explain, plan_answer, refused};
+use flagops_commands::{plan_answer, refused, report_usage};
 use flagops_files::{
     BookQuestion, Call, Evidence, FileSet, Outcome, Question, Refusal, Refused, load_book_question,
     report, store, want,
@@ -48,7 +48,7 @@ pub fn plan_picture<R: AllocGlobal + Threads + Sync, S: AsStr, F: FileSet, O: Ou
             Ok(outcome) => report(out, err, &outcome),
             Err(call) => want(out, err, call),
         },
-        Err(error) => explain(alloc, &error, out, err),
+        Err(error) => report_usage(alloc, &error, out, err),
     }
 }
 

@@ -16,7 +16,7 @@ use crate::drawing::{Asked, add_picture};
 use crate::words::read_ramp;
 use flag_defs::Flags;
 use flag_text::Outlet;
-use flagops_commands::{explain, remark_in};
+use flagops_commands::{remark_in, report_usage};
 use flagops_files::{FileSet, Outcome, Refused, Status, finish};
 use flagops_ramps::{RampRefusal, RightAnswers, Verifying, doubted, load_answers, out_of_memory};
 use flagops_words::factor_number;
@@ -57,7 +57,7 @@ where
             let came = pictured(rt, alloc, files, &asked);
             finish(alloc, came, "verify-ramp", out, err)
         }
-        Err(error) => explain(alloc, &error, out, err),
+        Err(error) => report_usage(alloc, &error, out, err),
     }
 }
 

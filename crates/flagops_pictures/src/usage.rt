@@ -17,7 +17,7 @@ const BOOK: &str = "The book of recorded inputs";
 /// What `--refine` says of a plan that is drawn.
 const REFINED: &str = "The factor that the plan was made with";
 
-/// The command `picture`. Its name is the first of the words, as a program's.
+/// The command `picture`. The first of its words is its own name.
 #[tactic(auto, unfolding(crate::specs::Words::picture_app))]
 pub(crate) fn usage<'a>(alloc: Global) -> Result<Command<'a>, AllocError>
     ensures { IfOk result (λ c. app_of c ≡ picture_app) }
@@ -33,7 +33,7 @@ pub(crate) fn usage<'a>(alloc: Global) -> Result<Command<'a>, AllocError>
         .arg(refine(alloc, REFINED))
 }
 
-/// The command `picture --ramp`. Its name is the first of the words, as a program's.
+/// The command `picture --ramp`. The first of its words is its own name.
 #[tactic(auto, unfolding(crate::specs::Words::ramp_app))]
 pub(crate) fn ramp<'a>(alloc: Global) -> Result<Command<'a>, AllocError>
     ensures { IfOk result (λ c. app_of c ≡ ramp_app) }
@@ -50,7 +50,7 @@ pub(crate) fn ramp<'a>(alloc: Global) -> Result<Command<'a>, AllocError>
         .arg(refine(alloc, REFINED))
 }
 
-/// `plan --picture`. Its name is the first of the words, as a program's.
+/// `plan --picture`. The first of its words is its own name.
 #[tactic(auto, unfolding(crate::specs::Words::plan_app))]
 pub(crate) fn plan<'a>(alloc: Global) -> Result<Command<'a>, AllocError>
     ensures { IfOk result (λ c. app_of c ≡ plan_app) }

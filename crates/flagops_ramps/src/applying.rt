@@ -17,7 +17,7 @@ use crate::remarks::step_line;
 use crate::words::read_step;
 use flag_defs::{Flags, print_flags};
 use flag_text::Outlet;
-use flagops_commands::explain;
+use flagops_commands::report_usage;
 use flagops_files::{FileSet, Outcome, Refusal, Refused, Remark, Status, finish, load_flags};
 use flagops_remarks::of_applied;
 use plan_text::Planned;
@@ -47,7 +47,7 @@ where
             let came = applied(alloc, files, &asked);
             finish(alloc, came, "apply", out, err)
         }
-        Err(error) => explain(alloc, &error, out, err),
+        Err(error) => report_usage(alloc, &error, out, err),
     }
 }
 

@@ -21,7 +21,7 @@ use crate::remarks::of_steps_in;
 use crate::words::read_ramp;
 use book_core::BookFileFault;
 use flag_text::Outlet;
-use flagops_commands::explain;
+use flagops_commands::report_usage;
 use flagops_files::{
     BookQuestion, FileSet, Outcome, Refused, Remark, Status, finish, load_book_question,
 };
@@ -59,7 +59,7 @@ where
             let came = planned(rt, alloc, files, &asked);
             finish(alloc, came, "ramp", out, err)
         }
-        Err(error) => explain(alloc, &error, out, err),
+        Err(error) => report_usage(alloc, &error, out, err),
     }
 }
 

@@ -18,7 +18,7 @@ const BOOK: &str = "The book of the hash inputs that were recorded";
 const REFINED: &str =
     "Plan in finer points: multiply each weight of the rule by M before the first step";
 
-/// The command `ramp`. Its name is the first of the words, as a program's.
+/// The command `ramp`. The first of its words is its own name.
 #[tactic(auto, unfolding(crate::specs::Words::ramp_app))]
 pub fn ramp<'a>(alloc: Global) -> Result<Command<'a>, AllocError>
     ensures { IfOk result (λ c. app_of c ≡ ramp_app) }
@@ -31,7 +31,7 @@ pub fn ramp<'a>(alloc: Global) -> Result<Command<'a>, AllocError>
     with_steps(alloc, command, BOOK)?.arg(factor)?.arg(strict)
 }
 
-/// The command `verify-ramp`. Its name is the first of the words, as a program's.
+/// The command `verify-ramp`. The first of its words is its own name.
 #[tactic(auto, unfolding(crate::specs::Words::verify_app))]
 pub fn verify<'a>(alloc: Global) -> Result<Command<'a>, AllocError>
     ensures { IfOk result (λ c. app_of c ≡ verify_app) }
@@ -52,7 +52,7 @@ fn verified<'a>(alloc: Global) -> Result<Command<'a>, AllocError>
     with_steps(alloc, command, BOOK)?.arg(answers)
 }
 
-/// `apply --step`. Its name is the first of the words, as a program's.
+/// `apply --step`. The first of its words is its own name.
 #[tactic(auto, unfolding(crate::specs::Words::step_app))]
 pub fn step<'a>(alloc: Global) -> Result<Command<'a>, AllocError>
     ensures { IfOk result (λ c. app_of c ≡ step_app) }

@@ -15,7 +15,7 @@ use crate::judging::{RightAnswers, load_answers, out_of_memory};
 use crate::refusal::{RampRefusal, StepCall};
 use crate::words::read_verify;
 use flag_text::Outlet;
-use flagops_commands::explain;
+use flagops_commands::report_usage;
 use flagops_files::{FileSet, Outcome, Refused, Remark, Status, finish};
 use plan_text::Planned;
 use std::alloc::{AllocError, Global};
@@ -50,7 +50,7 @@ where
             let came = verdict(rt, alloc, files, &asked);
             finish(alloc, came, "verify-ramp", out, err)
         }
-        Err(error) => explain(alloc, &error, out, err),
+        Err(error) => report_usage(alloc, &error, out, err),
     }
 }
 

@@ -20,7 +20,7 @@ use crate::watching::{Watched, watch};
 use crate::words::read_ofrep;
 use flag_defs::Flags;
 use flag_text::Outlet;
-use flagops_commands::explain;
+use flagops_commands::report_usage;
 use flagops_files::FileSet;
 use flagops_streams::{Documents, Refusal, loaded, write_line};
 use ofrep_service::{Board, work_beside};
@@ -48,7 +48,7 @@ pub fn ofrep<R: Host, S: AsStr, F: FileSet, O: Outlet, E: Outlet>(
     let alloc = rt.alloc();
     let answering = match read_ofrep(alloc, words) {
         Ok(answering) => answering,
-        Err(error) => return explain(alloc, &error, out, err),
+        Err(error) => return report_usage(alloc, &error, out, err),
     };
     let paths = answering.documents.as_slice();
     match loaded(alloc, files, paths) {

@@ -14,7 +14,7 @@ pub const MOST_WORKERS: u64 = 32;
 /// The most seconds between two readings of the documents.
 pub const LONGEST_POLL: u64 = 3_600;
 
-/// The command `ofrep`. Its name is the first of the words, as a program's.
+/// The command `ofrep`. The first of its words is its own name.
 #[tactic(auto, unfolding(crate::specs::Words::ofrep_app))]
 pub fn command<'a>(alloc: Global) -> Result<Command<'a>, AllocError>
     ensures { IfOk result (λ c. app_of c ≡ ofrep_app) }

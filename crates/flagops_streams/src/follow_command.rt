@@ -6,7 +6,7 @@ use crate::asked::Following;
 use crate::following::follow_port;
 use crate::words::read_follow;
 use flag_text::Outlet;
-use flagops_commands::explain;
+use flagops_commands::report_usage;
 use std::convert::AsStr;
 use std::net::Net;
 use std::time::Clock;
@@ -31,6 +31,6 @@ pub fn follow<R: AllocGlobal + Net + Clock, S: AsStr, O: Outlet, E: Outlet>(
             let Following { port, turns, wait } = following;
             follow_port(rt, port, turns, wait, out, err)
         }
-        Err(error) => explain(alloc, &error, out, err),
+        Err(error) => report_usage(alloc, &error, out, err),
     }
 }

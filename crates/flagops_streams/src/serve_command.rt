@@ -11,7 +11,7 @@ use crate::serving::serve_documents;
 use crate::words::read_serve;
 use flag_defs::DefFault;
 use flag_text::Outlet;
-use flagops_commands::explain;
+use flagops_commands::report_usage;
 use flagops_files::{FileSet, tell};
 use flagops_remarks::{of_document, of_unreadable};
 use std::alloc::{AllocError, Global};
@@ -51,7 +51,7 @@ where
     let alloc = rt.alloc();
     let serving = match read_serve(alloc, words) {
         Ok(serving) => serving,
-        Err(error) => return explain(alloc, &error, out, err),
+        Err(error) => return report_usage(alloc, &error, out, err),
     };
     let paths = serving.documents.as_slice();
     match loaded(alloc, files, paths) {

@@ -17,7 +17,7 @@ pub const MOST_TURNS: u64 = 1_000_000;
 /// The most seconds that are waited, a day.
 pub const LONGEST_WAIT: u64 = 86_400;
 
-/// The command `serve`. Its name is the first of the words, as a program's.
+/// The command `serve`. The first of its words is its own name.
 #[tactic(auto, unfolding(crate::specs::Words::serve_app))]
 pub fn serve<'a>(alloc: Global) -> Result<Command<'a>, AllocError>
     ensures { IfOk result (λ c. app_of c ≡ serve_app) }
@@ -60,7 +60,7 @@ fn serve_begun<'a>(alloc: Global) -> Result<Command<'a>, AllocError>
         .arg(documents)
 }
 
-/// The command `follow`. Its name is the first of the words, as a program's.
+/// The command `follow`. The first of its words is its own name.
 #[tactic(auto, unfolding(crate::specs::Words::follow_app))]
 pub fn follow<'a>(alloc: Global) -> Result<Command<'a>, AllocError>
     ensures { IfOk result (λ c. app_of c ≡ follow_app) }

@@ -12,7 +12,7 @@ ghost use Rattle.flagops_remarks.specs.Named.{Names};
 ghost use Rattle.flagops_commands.specs.Subjects.{drive_subjects};
 
 use crate::books::asks::load_asks;
-use crate::books::driving::{drove, remark_on};
+use crate::books::driving::{drive_output, remark_on};
 use book_core::Book;
 use flagops_drive::DriveOutput;
 use flagops_files::{
@@ -57,7 +57,7 @@ pub fn drive<R: Threads + Wait + Sync, F: FileSet>(
     let mut scratch = Scratch::new(alloc);
     let loaded = load_asks(alloc, files, asks, &mut bytes, &mut scratch)?;
     let before = book_before(alloc, files, book, add)?;
-    let drove = drove(
+    let drive_output = drive_output(
         rt,
         alloc,
         &flags,
@@ -70,10 +70,10 @@ pub fn drive<R: Threads + Wait + Sync, F: FileSet>(
         json,
         files.meter(),
     )?;
-    let remark = remark_on(alloc, asks, &loaded, drove.tally);
+    let remark = remark_on(alloc, asks, &loaded, drive_output.tally);
     // The program ends soon, and its memory with it.
     mem::forget((flags, loaded));
-    written(alloc, files, book, drove, remark)
+    written(alloc, files, book, drive_output, remark)
 }
 
 /// The book that was there before: that of the file at a path where it is added to, and else none; then a file that is no
@@ -104,10 +104,10 @@ fn written<F: FileSet>(
     alloc: Global,
     files: &mut F,
     book: &str,
-    drove: DriveOutput,
+    drive_output: DriveOutput,
     remark: Remark,
 ) -> Result<Outcome, Refused>
-    ensures exact { IfSome (F.holding files.old) (λ at. GivesOne outcome_view result (IsWritten at (F.holding files.new) book.now (Ok (drive_output_view drove)))) }
+    ensures exact { IfSome (F.holding files.old) (λ at. GivesOne outcome_view result (IsWritten at (F.holding files.new) book.now (Ok (drive_output_view drive_output)))) }
     ensures calls { ComesFrom stores_file result }
     ensures failed { F.has_failed files.new ≡ (F.has_failed files.old || is_file_fault result) }
     ensures others { KeepsOthers (F.holding files.old) (F.holding files.new) book.now }
@@ -115,8 +115,8 @@ fn written<F: FileSet>(
     ensures names { TellsOfOne ((file book.now, by stores_file) ∷ []) result }
     ensures remark { IfOk result (λ o. o.remark ≡ Some remark) }
 {
-    store(alloc, files, book, drove.book.as_slice())?;
-    let DriveOutput { text, rest, .. } = drove;
+    store(alloc, files, book, drive_output.book.as_slice())?;
+    let DriveOutput { text, rest, .. } = drive_output;
     // The program ends soon, and its memory with it.
     mem::forget(rest);
     Ok(Outcome {

@@ -30,9 +30,9 @@ use std::alloc::{AllocError, Global};
 use std::sync::Wait;
 use std::thread::Threads;
 
-/// The asks of a file, driven; it was loaded from a path, and so was the book that was there before. Each ask that is
-/// answered moves the meter on, where there is one.
-pub fn drove<R: Threads + Wait + Sync>(
+/// What `drive` gives for the asks of a file, which was loaded from a path as the book that was there before was. Each ask that
+/// is answered moves the meter on, where there is one.
+pub fn drive_output<R: Threads + Wait + Sync>(
     rt: &R,
     alloc: Global,
     flags: &Flags,
@@ -55,7 +55,7 @@ pub fn drove<R: Threads + Wait + Sync>(
     let workers = usize::from(workers);
     check_members(alloc, path, asks, workers, book, strict)?;
     match drive_asks(rt, alloc, flags, asks, workers, before, json, meter) {
-        Ok(drove) => recorded(alloc, path, drove, strict),
+        Ok(drive_output) => recorded(alloc, path, drive_output, strict),
         Err(refusal) => Err(undriven(alloc, path, asks, workers, book, refusal)),
     }
 }
@@ -95,22 +95,22 @@ fn check_members(
 fn recorded(
     alloc: Global,
     path: &str,
-    drove: DriveOutput,
+    drive_output: DriveOutput,
     strict: bool,
 ) -> Result<DriveOutput, Refused>
-    ensures exact { GivesUnlessWant drive_output_view result (recorded strict (drive_output_view drove)) }
+    ensures exact { GivesUnlessWant drive_output_view result (recorded strict (drive_output_view drive_output)) }
     ensures calls { ComesFrom drive_itself result }
     ensures read { is_file_fault result ≡ false }
     ensures names { TellsOfOne ((file path.now, is_of_asks) ∷ []) result }
 {
-    if strict && drove.tally.reached == 0 {
-        let endings = words_of(&drove.tally.endings);
+    if strict && drive_output.tally.reached == 0 {
+        let endings = words_of(&drive_output.tally.endings);
         return Err(Refused {
             refusal: Refusal::Doubted(Call::Drive, Doubt::Unrecorded),
             remark: Remark::of(of_unrecorded_asks(alloc, path, &endings)),
         });
     }
-    Ok(drove)
+    Ok(drive_output)
 }
 
 /// Why asks were not driven, with what is told of it.

@@ -17,8 +17,8 @@ returns-in-Ok-clause-answers g c =
 
 pub returns-in-Err-clause-answers : goal.returns-in-Err-clause-answers
 returns-in-Err-clause-answers g c =
-    unasked (g.O.Outlet.bytes c.args.out.now) (g.O.Outlet.bytes c.explain.new.out) (g.O.Outlet.is_broken c.explain.new.out) (g.E.Outlet.bytes c.args.err.now) (g.E.Outlet.bytes c.explain.new.err) (g.E.Outlet.is_broken c.explain.new.err) c.explain.result record_want
+    unasked (g.O.Outlet.bytes c.args.out.now) (g.O.Outlet.bytes c.report_usage.new.out) (g.O.Outlet.is_broken c.report_usage.new.out) (g.E.Outlet.bytes c.args.err.now) (g.E.Outlet.bytes c.report_usage.new.err) (g.E.Outlet.is_broken c.report_usage.new.err) c.report_usage.result record_want
     (record_by (map g.S.AsStr.text c.args.words.now)) (g.F.FileSet.holding c.args.files.now) (g.I.Inlet.bytes c.args.input.now)
-    (λ a at bytes. RecordAnswers (g.O.Outlet.bytes c.args.out.now) (g.O.Outlet.bytes c.explain.new.out) (g.O.Outlet.is_broken c.explain.new.out) (g.E.Outlet.bytes c.args.err.now) (g.E.Outlet.bytes c.explain.new.err) (g.E.Outlet.is_broken c.explain.new.err)
-    c.explain.result at a bytes (g.I.Inlet.is_broken c.args.input.now))
-    (record_faults (map g.S.AsStr.text c.args.words.now)) (kind_of c.in-Err.error) c.in-Err.ensures.err c.explain.ensures
+    (λ a at bytes. RecordAnswers (g.O.Outlet.bytes c.args.out.now) (g.O.Outlet.bytes c.report_usage.new.out) (g.O.Outlet.is_broken c.report_usage.new.out) (g.E.Outlet.bytes c.args.err.now) (g.E.Outlet.bytes c.report_usage.new.err) (g.E.Outlet.is_broken c.report_usage.new.err)
+    c.report_usage.result at a bytes (g.I.Inlet.is_broken c.args.input.now))
+    (record_faults (map g.S.AsStr.text c.args.words.now)) (kind_of c.in-Err.error) c.in-Err.ensures.err c.report_usage.ensures

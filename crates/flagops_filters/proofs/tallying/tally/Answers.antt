@@ -16,8 +16,8 @@ returns-in-Ok-clause-answers g c =
 
 pub returns-in-Err-clause-answers : goal.returns-in-Err-clause-answers
 returns-in-Err-clause-answers g c =
-    unasked (g.O.Outlet.bytes c.args.out.now) (g.O.Outlet.bytes c.explain.new.out) (g.O.Outlet.is_broken c.explain.new.out) (g.E.Outlet.bytes c.args.err.now) (g.E.Outlet.bytes c.explain.new.err) (g.E.Outlet.is_broken c.explain.new.err) c.explain.result tally_want
+    unasked (g.O.Outlet.bytes c.args.out.now) (g.O.Outlet.bytes c.report_usage.new.out) (g.O.Outlet.is_broken c.report_usage.new.out) (g.E.Outlet.bytes c.args.err.now) (g.E.Outlet.bytes c.report_usage.new.err) (g.E.Outlet.is_broken c.report_usage.new.err) c.report_usage.result tally_want
     (tally_by (map g.S.AsStr.text c.args.words.now)) (g.F.FileSet.holding c.args.files.now) (g.I.Inlet.bytes c.args.input.now)
-    (λ a at bytes. Reports (g.O.Outlet.bytes c.args.out.now) (g.O.Outlet.bytes c.explain.new.out) (g.O.Outlet.is_broken c.explain.new.out) (g.E.Outlet.bytes c.args.err.now) (g.E.Outlet.bytes c.explain.new.err) (g.E.Outlet.is_broken c.explain.new.err)
-    c.explain.result tally_want (IsTallyReport at a bytes (g.I.Inlet.is_broken c.args.input.now)))
-    (tally_faults (map g.S.AsStr.text c.args.words.now)) (kind_of c.in-Err.error) c.in-Err.ensures.err c.explain.ensures
+    (λ a at bytes. Reports (g.O.Outlet.bytes c.args.out.now) (g.O.Outlet.bytes c.report_usage.new.out) (g.O.Outlet.is_broken c.report_usage.new.out) (g.E.Outlet.bytes c.args.err.now) (g.E.Outlet.bytes c.report_usage.new.err) (g.E.Outlet.is_broken c.report_usage.new.err)
+    c.report_usage.result tally_want (IsTallyReport at a bytes (g.I.Inlet.is_broken c.args.input.now)))
+    (tally_faults (map g.S.AsStr.text c.args.words.now)) (kind_of c.in-Err.error) c.in-Err.ensures.err c.report_usage.ensures

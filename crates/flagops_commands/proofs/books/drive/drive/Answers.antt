@@ -80,59 +80,59 @@ pub returns-in_err-before-clause-unread : goal.returns-in_err-before-clause-unre
 returns-in_err-before-clause-unread g c =
     in_any_mode (λ at. HasUnreadAsk at c.args.asks.now) _ c.args.strict _ (let told = by_another loads_book c.in_err-before.field-0.0.refusal refl c.in_err-before.ensures.calls in search rules)
 
-pub returns-in_err-drove-clause-exact : goal.returns-in_err-drove-clause-exact
-returns-in_err-drove-clause-exact g c =
+pub returns-in_err-drive_output-clause-exact : goal.returns-in_err-drive_output-clause-exact
+returns-in_err-drive_output-clause-exact g c =
     let told =
-    not_driven c.args.document.now c.args.asks.now c.args.workers c.args.book.now c.args.add c.args.strict c.args.json (flags_view c.in_ok-flags.flags) (file_view c.in_ok-loaded.loaded) c.in_ok-before.before _ _ c.in_err-drove.field-0.0 (c.book_before.ensures.kept ∙ (c.load_asks.ensures.kept ∙ c.load_flags.ensures.kept))
-    c.in_ok-flags.ensures.exact (at_first _ _ _ c.load_flags.ensures.kept c.in_ok-loaded.ensures.exact) (at_first _ _ _ (c.load_asks.ensures.kept ∙ c.load_flags.ensures.kept) c.in_ok-before.ensures.exact) c.in_err-drove.ensures.exact in
+    not_driven c.args.document.now c.args.asks.now c.args.workers c.args.book.now c.args.add c.args.strict c.args.json (flags_view c.in_ok-flags.flags) (file_view c.in_ok-loaded.loaded) c.in_ok-before.before _ _ c.in_err-drive_output.field-0.0 (c.book_before.ensures.kept ∙ (c.load_asks.ensures.kept ∙ c.load_flags.ensures.kept))
+    c.in_ok-flags.ensures.exact (at_first _ _ _ c.load_flags.ensures.kept c.in_ok-loaded.ensures.exact) (at_first _ _ _ (c.load_asks.ensures.kept ∙ c.load_flags.ensures.kept) c.in_ok-before.ensures.exact) c.in_err-drive_output.ensures.exact in
     search rules
 
-pub returns-in_err-drove-clause-left : goal.returns-in_err-drove-clause-left
-returns-in_err-drove-clause-left g c = inl (c.book_before.ensures.kept ∙ (c.load_asks.ensures.kept ∙ c.load_flags.ensures.kept))
+pub returns-in_err-drive_output-clause-left : goal.returns-in_err-drive_output-clause-left
+returns-in_err-drive_output-clause-left g c = inl (c.book_before.ensures.kept ∙ (c.load_asks.ensures.kept ∙ c.load_flags.ensures.kept))
 
-pub returns-in_err-drove-clause-kept : goal.returns-in_err-drove-clause-kept
-returns-in_err-drove-clause-kept g c = inl (c.book_before.ensures.kept ∙ (c.load_asks.ensures.kept ∙ c.load_flags.ensures.kept))
+pub returns-in_err-drive_output-clause-kept : goal.returns-in_err-drive_output-clause-kept
+returns-in_err-drive_output-clause-kept g c = inl (c.book_before.ensures.kept ∙ (c.load_asks.ensures.kept ∙ c.load_flags.ensures.kept))
 
-pub returns-in_err-drove-clause-bad_workers : goal.returns-in_err-drove-clause-bad_workers
-returns-in_err-drove-clause-bad_workers g c = λ e wrong.
-    let told = by_name c.args.strict (file_view c.in_ok-loaded.loaded) c.args.workers c.in_err-drove.field-0.0.refusal (wrong_workers c.args.strict (file_view c.in_ok-loaded.loaded) c.args.workers e wrong) c.in_err-drove.ensures.refused in search rules
+pub returns-in_err-drive_output-clause-bad_workers : goal.returns-in_err-drive_output-clause-bad_workers
+returns-in_err-drive_output-clause-bad_workers g c = λ e wrong.
+    let told = by_name c.args.strict (file_view c.in_ok-loaded.loaded) c.args.workers c.in_err-drive_output.field-0.0.refusal (wrong_workers c.args.strict (file_view c.in_ok-loaded.loaded) c.args.workers e wrong) c.in_err-drive_output.ensures.refused in search rules
 
-pub returns-in_err-drove-clause-bad_asks : goal.returns-in_err-drove-clause-bad_asks
-returns-in_err-drove-clause-bad_asks g c =
+pub returns-in_err-drive_output-clause-bad_asks : goal.returns-in_err-drive_output-clause-bad_asks
+returns-in_err-drive_output-clause-bad_asks g c =
     for_no_asks c.args.asks.now (file_view c.in_ok-loaded.loaded) c.args.strict c.args.workers _ _ _ c.load_flags.ensures.kept c.in_ok-loaded.ensures.exact
-    (λ are. let told = by_name c.args.strict (file_view c.in_ok-loaded.loaded) c.args.workers c.in_err-drove.field-0.0.refusal are c.in_err-drove.ensures.refused in search rules)
+    (λ are. let told = by_name c.args.strict (file_view c.in_ok-loaded.loaded) c.args.workers c.in_err-drive_output.field-0.0.refusal are c.in_err-drive_output.ensures.refused in search rules)
 
-pub returns-in_err-drove-clause-unread : goal.returns-in_err-drove-clause-unread
-returns-in_err-drove-clause-unread g c =
+pub returns-in_err-drive_output-clause-unread : goal.returns-in_err-drive_output-clause-unread
+returns-in_err-drive_output-clause-unread g c =
     for_unread c.args.asks.now (file_view c.in_ok-loaded.loaded) c.args.strict c.args.workers _ _ _ c.load_flags.ensures.kept c.in_ok-loaded.ensures.exact
-    (λ are. let told = by_name c.args.strict (file_view c.in_ok-loaded.loaded) c.args.workers c.in_err-drove.field-0.0.refusal are c.in_err-drove.ensures.refused in search rules)
+    (λ are. let told = by_name c.args.strict (file_view c.in_ok-loaded.loaded) c.args.workers c.in_err-drive_output.field-0.0.refusal are c.in_err-drive_output.ensures.refused in search rules)
 
 pub returns-clause-exact : goal.returns-clause-exact
 returns-clause-exact g c =
-    driven c.args.document.now c.args.asks.now c.args.workers c.args.book.now c.args.add c.args.strict c.args.json (flags_view c.in_ok-flags.flags) (file_view c.in_ok-loaded.loaded) c.in_ok-before.before _ _ (drive_output_view c.in_ok-drove.drove) _
-    c.in_ok-flags.ensures.exact (at_first _ _ _ c.load_flags.ensures.kept c.in_ok-loaded.ensures.exact) (at_first _ _ _ (c.load_asks.ensures.kept ∙ c.load_flags.ensures.kept) c.in_ok-before.ensures.exact) c.in_ok-drove.ensures.exact (at_first _ _ _ (c.book_before.ensures.kept ∙ (c.load_asks.ensures.kept ∙ c.load_flags.ensures.kept)) c.written.ensures.exact)
+    driven c.args.document.now c.args.asks.now c.args.workers c.args.book.now c.args.add c.args.strict c.args.json (flags_view c.in_ok-flags.flags) (file_view c.in_ok-loaded.loaded) c.in_ok-before.before _ _ (drive_output_view c.in_ok-drive_output.drive_output) _
+    c.in_ok-flags.ensures.exact (at_first _ _ _ c.load_flags.ensures.kept c.in_ok-loaded.ensures.exact) (at_first _ _ _ (c.load_asks.ensures.kept ∙ c.load_flags.ensures.kept) c.in_ok-before.ensures.exact) c.in_ok-drive_output.ensures.exact (at_first _ _ _ (c.book_before.ensures.kept ∙ (c.load_asks.ensures.kept ∙ c.load_flags.ensures.kept)) c.written.ensures.exact)
 
 pub returns-clause-left : goal.returns-clause-left
 returns-clause-left g c =
-    left_by_storing c.args.document.now c.args.asks.now c.args.workers c.args.book.now c.args.add c.args.strict c.args.json (flags_view c.in_ok-flags.flags) (file_view c.in_ok-loaded.loaded) c.in_ok-before.before _ _ (drive_output_view c.in_ok-drove.drove)
-    c.in_ok-flags.ensures.exact (at_first _ _ _ c.load_flags.ensures.kept c.in_ok-loaded.ensures.exact) (at_first _ _ _ (c.load_asks.ensures.kept ∙ c.load_flags.ensures.kept) c.in_ok-before.ensures.exact) c.in_ok-drove.ensures.exact (others_after _ _ _ _ (c.book_before.ensures.kept ∙ (c.load_asks.ensures.kept ∙ c.load_flags.ensures.kept)) c.written.ensures.others)
+    left_by_storing c.args.document.now c.args.asks.now c.args.workers c.args.book.now c.args.add c.args.strict c.args.json (flags_view c.in_ok-flags.flags) (file_view c.in_ok-loaded.loaded) c.in_ok-before.before _ _ (drive_output_view c.in_ok-drive_output.drive_output)
+    c.in_ok-flags.ensures.exact (at_first _ _ _ c.load_flags.ensures.kept c.in_ok-loaded.ensures.exact) (at_first _ _ _ (c.load_asks.ensures.kept ∙ c.load_flags.ensures.kept) c.in_ok-before.ensures.exact) c.in_ok-drive_output.ensures.exact (others_after _ _ _ _ (c.book_before.ensures.kept ∙ (c.load_asks.ensures.kept ∙ c.load_flags.ensures.kept)) c.written.ensures.others)
 
 pub returns-clause-kept : goal.returns-clause-kept
 returns-clause-kept g c = kept_after _ _ _ _ _ (c.load_asks.ensures.kept ∙ c.load_flags.ensures.kept) c.book_before.ensures.kept c.written.ensures.kept
 
 pub returns-clause-bad_workers : goal.returns-clause-bad_workers
 returns-clause-bad_workers g c = λ e wrong.
-    absurd (none_driven c.args.strict (file_view c.in_ok-loaded.loaded) c.args.workers (wrong_workers c.args.strict (file_view c.in_ok-loaded.loaded) c.args.workers e wrong) c.in_ok-drove.ensures.refused)
+    absurd (none_driven c.args.strict (file_view c.in_ok-loaded.loaded) c.args.workers (wrong_workers c.args.strict (file_view c.in_ok-loaded.loaded) c.args.workers e wrong) c.in_ok-drive_output.ensures.refused)
 
 pub returns-clause-bad_asks : goal.returns-clause-bad_asks
 returns-clause-bad_asks g c =
     for_no_asks c.args.asks.now (file_view c.in_ok-loaded.loaded) c.args.strict c.args.workers _ _ _ c.load_flags.ensures.kept c.in_ok-loaded.ensures.exact
-    (λ are. absurd (none_driven c.args.strict (file_view c.in_ok-loaded.loaded) c.args.workers are c.in_ok-drove.ensures.refused))
+    (λ are. absurd (none_driven c.args.strict (file_view c.in_ok-loaded.loaded) c.args.workers are c.in_ok-drive_output.ensures.refused))
 
 pub returns-clause-unread : goal.returns-clause-unread
 returns-clause-unread g c =
     for_unread c.args.asks.now (file_view c.in_ok-loaded.loaded) c.args.strict c.args.workers _ _ _ c.load_flags.ensures.kept c.in_ok-loaded.ensures.exact
-    (λ are. absurd (none_driven c.args.strict (file_view c.in_ok-loaded.loaded) c.args.workers are c.in_ok-drove.ensures.refused))
+    (λ are. absurd (none_driven c.args.strict (file_view c.in_ok-loaded.loaded) c.args.workers are c.in_ok-drive_output.ensures.refused))
 
 pub returns-clause-failed : goal.returns-clause-failed
 returns-clause-failed g c = failed_last _ _ _ _ _ _ c.in_ok-flags.ensures.failed c.in_ok-loaded.ensures.failed c.in_ok-before.ensures.failed c.written.ensures.failed

@@ -8,7 +8,7 @@ use Rattle.flagops_files.specs.declared.refusal.Refusal.{Refusal}
 use Rattle.flagops_files.specs.declared.refusal.Refusal.TheVariants.{Drive}
 use Rattle.flagops_commands.proofs.Driving.{driven_admitted, driven_so, gives_one, undriven_first, undriven_so}
 use Rattle.flag_defs.specs.Flags.{flags_view}
-use Rattle.flagops_commands.proofs.books.driving.drove.Goals as goal
+use Rattle.flagops_commands.proofs.books.driving.drive_output.Goals as goal
 
 pub returns-in-Err-clause-refused : goal.returns-in-Err-clause-refused
 returns-in-Err-clause-refused g c = λ e is.
@@ -28,7 +28,7 @@ pub returns-in-Ok-clause-exact : goal.returns-in-Ok-clause-exact
 returns-in-Ok-clause-exact g c =
     let asks = file_view c.args.asks.now in
     let flags = flags_view c.args.flags.now in
-    let d = drive_output_view c.in-Ok.drove in
+    let d = drive_output_view c.in-Ok.drive_output in
     gives_one drive_output_view c.recorded.result (recorded c.args.strict d) (IsDriveOutputOf (Ok flags) (Ok asks) (Ok c.args.before) c.args.workers c.args.strict c.args.json) c.recorded.ensures.exact
     (subst (λ (n : ℕ). IsAnswered (admitted c.args.strict (refusal_of (asks_of asks) n) asks) flags asks c.args.before n c.args.strict c.args.json (recorded c.args.strict d)) c.from-workers.ensures
     (driven_so c.args.strict asks flags c.from-workers.result c.args.before c.args.json d c.in_ok-check_members.ensures.ok c.in-Ok.ensures.driven))
@@ -36,5 +36,5 @@ returns-in-Ok-clause-exact g c =
 pub returns-in-Ok-clause-refused : goal.returns-in-Ok-clause-refused
 returns-in-Ok-clause-refused g c = λ e is.
     let asks = file_view c.args.asks.now in
-    driven_admitted c.args.strict asks (flags_view c.args.flags.now) c.from-workers.result c.args.before c.args.json (drive_output_view c.in-Ok.drove) c.in_ok-check_members.ensures.ok c.in-Ok.ensures.driven e
+    driven_admitted c.args.strict asks (flags_view c.args.flags.now) c.from-workers.result c.args.before c.args.json (drive_output_view c.in-Ok.drive_output) c.in_ok-check_members.ensures.ok c.in-Ok.ensures.driven e
     (ap (λ (n : ℕ). admitted c.args.strict (refusal_of (asks_of asks) n) asks) c.from-workers.ensures ∙ is)
