@@ -7,6 +7,7 @@ proved. That none does is read here, off the sources of all crates but those of 
 - a call of `want`, which writes the line of one, or of `out_of_memory`, which makes the refusal of one, and a field `wants` that is set, which has one written later,
 - a text with the words of one,
 - a request for memory that none can meet, as `Vec::with_capacity(alloc, usize::MAX)`,
+- a `None` of `Outcome::refused`, for which the line of one is written,
 - another name for one of these, by `use .. as ..`.
 
 It may be made
@@ -65,6 +66,8 @@ MADE = re.compile(
     r"|(?<![\w.])(?<!fn )(?:want|want_of|out_of_memory)(?=\s*\()|\bwants\b(?=\s*(?:\|?=(?!=)|:)(?!\s*(?:false|bool)\b))"
 )
 NAMED = re.compile(r"\b(?:AllocError|AllocFailed|WantOfMemory|OutOfMemory)\b|\b(?:Refusal::Unloaded|Remark::Short)\b|\.is_memory\(\)|\.is_want\(\)")
+# The function of which `None` is a want, by its head.
+NONE_IS_WANT = re.compile(r"\bfn refused\b[^{};]*\bOption<Outcome>[^{};]*\{")
 RENAMED = re.compile(r"\b(?:" + NAMES + r"|want)\s+as\s+\w")
 ASKS = re.compile(r"\b(?:with_capacity|\w*reserve\w*|repeat)\s*\(|\bvec!\s*\[")
 TOO_MUCH = re.compile(r"\bMAX\b|<<|\d(?:_?\d){9}")
@@ -236,7 +239,8 @@ def wants_made(source):
     text = without_types(types)
     imports = blank(plain, r"\bghost use [^;]*;", re.S)
     found = [renamed.start() for renamed in RENAMED.finditer(imports)] + asked_too_much(plain)
-    for made in MADE.finditer(text):
+    nones = [none for head in NONE_IS_WANT.finditer(types) for none in re.compile(r"\bNone\b").finditer(text, head.end(), closing(text, head.end() - 1))]
+    for made in [*MADE.finditer(text), *nones]:
         levels = around(text, made.start())
         is_made = made.group() == WORDS or not is_pattern(text, made.start(), levels)
         if is_made and not is_passed_on(text, types, made.start(), levels):
@@ -293,6 +297,7 @@ PLANTED = [
     ("a mark that has one written later", "fn take(&mut self, n: u64) -> bool {\n    if n > 5 {\n        self.wants = true;\n        return false;\n    }\n    self.wants |= n == 4;\n    true\n}\n", [3, 6]),
     ("a mark from the beginning", "fn f() -> Printer {\n    Printer { line: 0, wants: is_late() }\n}\n", [2]),
     ("a request that none can meet", "fn f(alloc: Global) -> Result<u8, AllocError> {\n    let _ = Vec::<u8>::with_capacity(alloc, usize::MAX)?;\n    let _ = vec![in alloc; 0u8; 1 << 60]?;\n    text.try_reserve(9_000_000_000_000_000_000)?;\n    Ok(1)\n}\n", [2, 3, 4]),
+    ("nothing where there is a line", "pub fn refused<R: CommandRefusal>(alloc: Global, it: Refused<R>) -> Option<Outcome>\n    ensures { IfSome result (\u03bb o. o) }\n{\n    if it.is_want() {\n        return None;\n    }\n    if it.is_late() {\n        return None;\n    }\n    match it.line(alloc) {\n        Ok(text) => Some(Outcome::of(text)),\n        Err(AllocError) => None,\n    }\n}\n", [8]),
     ("another name", "use std::alloc::AllocError as Full;\nfn f() -> Result<u8, Full> {\n    Err(Full)\n}\n", [1]),
     ("the value of a failed request", "fn f(n: u8) -> Result<u8, AllocFailed<u8>> {\n    Err(AllocFailed { value: n })\n}\n", [2]),
     ("its words", "fn f(out: &mut O) -> u8 {\n    if write_three(out, b\"refused \", b\"publish\", b\" 0 WantOfMemory\\n\") {\n        tell(out, \"error: out of memory\\n\");\n    }\n    1\n}\n", [2, 3]),
