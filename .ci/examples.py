@@ -13,6 +13,7 @@ pages are also to show each status of the program.
 """
 import os
 import shutil
+import signal
 import subprocess
 import sys
 import tempfile
@@ -81,6 +82,7 @@ def missing_of(command):
 
 def main(words):
     is_each = words == ["--each"]
+    signal.signal(signal.SIGINT, signal.default_int_handler)
     pages = PAGES if is_each or not words else words
     # The first run may build the program and says so on standard error: that is no part of an example.
     subprocess.run(["./flagops", "--version"], cwd=TOP, stdout=subprocess.DEVNULL, check=False)

@@ -2,6 +2,7 @@
 output as each test ends, and at last on standard error what failed. A test that hangs is ended, with the places at which it waits."""
 import faulthandler
 import os
+import signal
 import sys
 import unittest
 
@@ -43,6 +44,8 @@ class Result(unittest.TextTestResult):
 
 
 if __name__ == "__main__":
+    # ./test ends it so, also where it was told to pass such a signal over itself: the files of the tests are then removed.
+    signal.signal(signal.SIGINT, signal.default_int_handler)
     tests = unittest.defaultTestLoader.loadTestsFromName(sys.argv[1])
     ended = unittest.TextTestRunner(sys.stderr, verbosity=0, resultclass=Result).run(tests)
     sys.exit(0 if ended.wasSuccessful() else 1)
