@@ -129,10 +129,7 @@ class Replacing(unittest.TestCase):
 
     def test_a_process_that_is_ended(self):
         """Ended at 200 moments, it leaves the old book or the new one."""
-        began = time.monotonic()
-        self.start("b").communicate()
-        whole = time.monotonic() - began
-        chosen = random.Random(35)
+        whole, chosen = min(self.seconds() for _ in range(5)), random.Random(35)
         for _ in range(200):
             self.write("b", OLD)
             ended = self.start("b")
@@ -140,6 +137,12 @@ class Replacing(unittest.TestCase):
             ended.kill()
             ended.communicate()
             self.assertIn(text_of(self.path("b")), [OLD, BOOK])
+
+    def seconds(self):
+        """How long a run takes that is not ended."""
+        began = time.monotonic()
+        self.start("b").communicate()
+        return time.monotonic() - began
 
 
 if __name__ == "__main__":
