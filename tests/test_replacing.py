@@ -123,7 +123,7 @@ class Replacing(unittest.TestCase):
         os.mkdir(folder)
         with open(os.path.join(folder, "b"), "w", encoding="utf-8") as file:
             file.write(OLD)
-        # Nobody may not enter each folder above the program.
+        # The user `nobody` may perhaps not enter the folders above the program.
         program = shutil.copy(PROGRAM, self.path("program"))
         for path, mode in [(self.folder, 0o755), (program, 0o755), (self.path("d"), 0o644), (self.path("a"), 0o644)]:
             os.chmod(path, mode)
