@@ -14,9 +14,9 @@ LAST = r"\n[1-9]\d* cases, \d+ bad\n$"
 class Script(unittest.TestCase):
     def last(self, script, *given):
         """What a script tells in all of these words, once it went to its end."""
-        words = [sys.executable, os.path.join(FOLDER, script), *map(str, given)]
-        how = {"capture_output": True, "encoding": "utf-8", "timeout": SECONDS, "env": {**os.environ, "FLAGOPS": PROGRAM}}
-        ended = subprocess.run(words, check=False, **how)
+        words = [sys.executable, "-B", os.path.join(FOLDER, script), *map(str, given)]
+        how = {"capture_output": True, "encoding": "utf-8", "timeout": SECONDS}
+        ended = subprocess.run(words, env={**os.environ, "FLAGOPS": PROGRAM}, check=False, **how)
         self.assertRegex(ended.stdout, LAST, ended.stderr)
         self.assertEqual(ended.stderr, "")
         return ended.stdout.splitlines()[-1]
