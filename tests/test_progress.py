@@ -140,6 +140,7 @@ class Progress(unittest.TestCase):
         counts = re.findall(f"reading {re.escape(what)}: ([\\d,]+) (\\w+)", "\n".join(lines_of(ran.err)))
         amounts = [int(count.replace(",", "")) * UNITS[unit] for count, unit in counts]
         self.assertEqual(amounts, sorted(amounts))
+        self.assertLessEqual(amounts[-1], len(text))
         return ran
 
     def test_a_slow_file(self):

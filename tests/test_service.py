@@ -400,9 +400,9 @@ class Turns(ServiceTest):
             return file.read().splitlines()
 
     def test_workers_share_the_connections(self):
-        """A worker that is woken late, as on a busy machine, finds fewer: one burst of 500 is enough."""
+        """A worker that is woken late, as on a busy machine, finds fewer: one burst of 20 is enough."""
         child = self.start("--log", "log", "--workers", "4", "--poll", "0")
-        shares = (self.takers(child, burst) for burst in range(500))
+        shares = (self.takers(child, burst) for burst in range(20))
         self.assertTrue(any(min(each) >= 4 and sum(each) == 32 for each in shares))
 
 
