@@ -8,7 +8,7 @@ use Rattle.flagops_books.specs.Words.{book_by}
 use Rattle.flagops_checks.specs.Ended.{AnswersCheck, TellsCheck}
 use Rattle.flagops_commands.specs.Commands.{LeavesAsked}
 use Rattle.flagops_commands.specs.Ended.{AnswersAsked, AnswersStored, AnswersUnread, TellsUnasked}
-use Rattle.flagops_files.specs.Files.{Holding}
+use Rattle.flagops_shell.specs.Files.{Holding}
 use Rattle.flagops_filters.specs.Ended.{AnswersJoin, AnswersRecord, AnswersTally, TellsJoin, TellsRecord, TellsTally}
 use Rattle.flagops_streams.specs.Ended.{AnswersServe, FollowsAsked, RefusesUnread, ServesAsked, TellsFollow, TellsServe}
 use Rattle.flagops_pictures.specs.Ended as pictures

@@ -16,7 +16,8 @@ mod watching;
 mod words;
 
 use flag_text::WriteOutlet;
-use flagops_files::{Call, SystemFiles, want};
+use flagops_files::{Call, SystemFiles};
+use flagops_shell::want;
 use flagops_filters::OpenedInlet;
 use flagops_streams::open_standard;
 use line_batches::ReadInlet;

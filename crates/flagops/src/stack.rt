@@ -4,7 +4,7 @@ ghost use Rattle.std.specs.Prelude.{◌≡◌, false};
 use crate::dispatch::flagops;
 use crate::watching::Watcher;
 use flag_text::Outlet;
-use flagops_files::FileSet;
+use flagops_shell::FileSet;
 use flagops_filters::Opening;
 use limits::STACK_BYTES;
 use line_batches::Inlet;

@@ -12,18 +12,20 @@ use Rattle.flagops_books.specs.Words.{Uniting}
 use Rattle.flagops_books.specs.declared.uniting.Gathered.{Gathered}
 use Rattle.flagops_books.specs.declared.uniting.Step.{Step}
 use Rattle.flagops_books.specs.declared.uniting.Step.TheVariants.{Noted, Stopped}
-use Rattle.flagops_files.specs.Files.{Holding, KeepsOthers}
+use Rattle.flagops_shell.specs.Files.{Holding, KeepsOthers}
 use Rattle.flagops_files.specs.Question.{replaceable_at}
 use Rattle.flagops_files.specs.Refusal.{GivesOne, call_of, is_unread, is_want, unreadable, unwritable}
-use Rattle.flagops_files.specs.Report.{IsFileRefusal, Report, ReportsAll, outcome_view, report_of, want_report}
-use Rattle.flagops_files.specs.Told.{AnswersTold, NamesOne, PutsRemark, Remarks, RemarksOrWants, Says, TellsRemark}
-use Rattle.flagops_files.specs.declared.outcome.Outcome.{Outcome}
+use Rattle.flagops_files.specs.Report.{IsFileRefusal, report_of, want_report}
+use Rattle.flagops_shell.specs.Report.{Report, ReportsAll, outcome_view}
+use Rattle.flagops_files.specs.Told.{AnswersTold, NamesOne, Remarks, RemarksOrWants, TellsRemark}
+use Rattle.flagops_shell.specs.Diagnostic.{PutsRemark, Says}
+use Rattle.flagops_shell.specs.declared.outcome.Outcome.{Outcome}
 use Rattle.flagops_files.specs.declared.refusal.Call.{Call}
 use Rattle.flagops_files.specs.declared.refusal.Call.TheVariants as call
 use Rattle.flagops_files.specs.declared.refusal.Refusal.{Refusal}
 use Rattle.flagops_files.specs.Refusal.{Refused}
-use Rattle.flagops_files.specs.declared.refused.Remark.{Remark}
-use Rattle.flagops_files.specs.declared.refused.Remark.TheVariants.{Lines}
+use Rattle.flagops_shell.specs.declared.refused.Remark.{Remark}
+use Rattle.flagops_shell.specs.declared.refused.Remark.TheVariants.{Lines}
 use Rattle.note_books.specs.Notes.{Notes, no_notes}
 use Rattle.flagops_books.proofs.Following.{both_known, where_known}
 

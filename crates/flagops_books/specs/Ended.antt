@@ -4,8 +4,8 @@ use Rattle.clap.specs.Walk.{Text}
 use Rattle.flagops_books.specs.Calls.{can_want}
 use Rattle.flagops_books.specs.Report.{IsRunOutcome, remark_of}
 use Rattle.flagops_books.specs.Words.{book_by, book_faults}
-use Rattle.flagops_commands.specs.Telling.{TellsOne}
-use Rattle.flagops_files.specs.Files.{Holding}
+use Rattle.flagops_shell.specs.Usage.{TellsOne}
+use Rattle.flagops_shell.specs.Files.{Holding}
 use Rattle.flagops_files.specs.Told.{AnswersTold}
 
 -- the output and what is told beside it, each by the bytes that are known of it and by whether it is broken

@@ -6,11 +6,12 @@ use Rattle.flagops_books.specs.Stray.{stray_report}
 use Rattle.flagops_books.specs.Told.{NamesOneFile, book_subjects}
 use Rattle.flagops_books.specs.Union.{IsUnited, United, noted, stray}
 use Rattle.flagops_books.specs.Words.{Uniting}
-use Rattle.flagops_files.specs.Files.{Holding, KeepsOthers, Stores}
+use Rattle.flagops_shell.specs.Files.{Holding, KeepsOthers, Stores}
 use Rattle.flagops_files.specs.Question.{replaceable_at}
 use Rattle.flagops_files.specs.Refusal.{unwritable}
 use Rattle.flagops_files.specs.Report.{IsFileRefusal, Outcomes}
-use Rattle.flagops_files.specs.Told.{NamesOne, Remarks, Says}
+use Rattle.flagops_files.specs.Told.{NamesOne, Remarks}
+use Rattle.flagops_shell.specs.Diagnostic.{Says}
 use Rattle.flagops_files.specs.declared.refusal.Refusal.{Refusal}
 use Rattle.note_books.specs.Notes.{Notes, IsBookOf, no_notes}
 

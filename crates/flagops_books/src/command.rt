@@ -6,11 +6,13 @@ ghost use Rattle.flagops_books.specs.Report.{IsBookReport, IsRunOutcome, IsUnite
 ghost use Rattle.flagops_books.specs.Step.{GivesUnited, SaysUnited};
 ghost use Rattle.flagops_books.specs.Told.{NamesOneFile, book_subjects};
 ghost use Rattle.flagops_books.specs.Words.{book_by, uniting_view};
-ghost use Rattle.flagops_commands.specs.Drive.{KeepsUnlessDone};
+ghost use Rattle.flagops_shell.specs.Ending.{KeepsUnlessDone};
 ghost use Rattle.flagops_commands.specs.Ended.{AnswersStored, AnswersUnread};
 ghost use Rattle.flagops_files.specs.Refusal.{ComesFrom, GivesOne, is_file_fault};
-ghost use Rattle.flagops_files.specs.Report.{AnswersOrWants, IsFileRefusal, is_of_file, outcome_view};
-ghost use Rattle.flagops_files.specs.Told.{RemarksOrWants, Says, TellsOfOne};
+ghost use Rattle.flagops_files.specs.Report.{AnswersOrWants, IsFileRefusal, is_of_file};
+ghost use Rattle.flagops_shell.specs.Report.{outcome_view};
+ghost use Rattle.flagops_files.specs.Told.{RemarksOrWants, TellsOfOne};
+ghost use Rattle.flagops_shell.specs.Diagnostic.{Says};
 
 use crate::asked::Uniting;
 use crate::storing::stored;
@@ -18,7 +20,8 @@ use crate::uniting::{Step, united};
 use crate::words::read_uniting;
 use flag_text::Outlet;
 use flagops_commands::{refused, report_usage};
-use flagops_files::{Call, FileSet, Outcome, Refused, check_replaceable, report, want};
+use flagops_files::{Call, Refused, check_replaceable};
+use flagops_shell::{FileSet, Outcome, report, want};
 use std::alloc::Global;
 use std::convert::AsStr;
 

@@ -11,17 +11,19 @@ use Rattle.flagops_checks.specs.Words.{Checking, checking_view}
 use Rattle.flagops_checks.specs.declared.asked.Checking as code
 use Rattle.flagops_checks.specs.declared.form.Form.{Form}
 use Rattle.flagops_checks.specs.declared.gathering.Gathered.{Gathered}
-use Rattle.flagops_files.specs.Files.{Holding}
+use Rattle.flagops_shell.specs.Files.{Holding}
 use Rattle.flagops_files.specs.Refusal.{call_of, is_unread, is_want, unreadable, unwritable}
-use Rattle.flagops_files.specs.Report.{IsFileRefusal, Report, ReportsAll, outcome_view, report_of, want_report}
-use Rattle.flagops_files.specs.Told.{AnswersTold, NamesOne, PutsRemark, Remarks, RemarksOrWants, Says, TellsRemark}
-use Rattle.flagops_files.specs.declared.outcome.Outcome.{Outcome}
+use Rattle.flagops_files.specs.Report.{IsFileRefusal, report_of, want_report}
+use Rattle.flagops_shell.specs.Report.{Report, ReportsAll, outcome_view}
+use Rattle.flagops_files.specs.Told.{AnswersTold, NamesOne, Remarks, RemarksOrWants, TellsRemark}
+use Rattle.flagops_shell.specs.Diagnostic.{PutsRemark, Says}
+use Rattle.flagops_shell.specs.declared.outcome.Outcome.{Outcome}
 use Rattle.flagops_files.specs.declared.refusal.Call.{Call}
 use Rattle.flagops_files.specs.declared.refusal.Call.TheVariants as call
 use Rattle.flagops_files.specs.declared.refusal.Refusal.{Refusal}
 use Rattle.flagops_files.specs.Refusal.{Refused}
-use Rattle.flagops_files.specs.declared.refused.Remark.{Remark}
-use Rattle.flagops_files.specs.declared.refused.Remark.TheVariants.{Lines, Short}
+use Rattle.flagops_shell.specs.declared.refused.Remark.{Remark}
+use Rattle.flagops_shell.specs.declared.refused.Remark.TheVariants.{Lines, Short}
 
 -- ---- what the documents come to
 

@@ -6,10 +6,12 @@ use Rattle.flagops_checks.specs.Printed.{form_of, report_text}
 use Rattle.flagops_checks.specs.Told.{TellsAll, check_subjects}
 use Rattle.flagops_checks.specs.Words.{Checking}
 use Rattle.flagops_checks.specs.declared.form.Form.{Form}
-use Rattle.flagops_files.specs.Files.{Holding}
+use Rattle.flagops_shell.specs.Files.{Holding}
 use Rattle.flagops_files.specs.Loading.{◌>>=◌}
-use Rattle.flagops_files.specs.Report.{IsFileRefusal, Outcomes, Report}
-use Rattle.flagops_files.specs.Told.{NamesOne, Remarks, Says}
+use Rattle.flagops_files.specs.Report.{IsFileRefusal, Outcomes}
+use Rattle.flagops_shell.specs.Report.{Report}
+use Rattle.flagops_files.specs.Told.{NamesOne, Remarks}
+use Rattle.flagops_shell.specs.Diagnostic.{Says}
 use Rattle.flagops_files.specs.declared.refusal.Refusal.{Refusal}
 
 -- with `--strict` this is no success

@@ -12,9 +12,11 @@ use Rattle.flagops_commands.proofs.Telling.{told_among}
 use Rattle.flagops_files.proofs.Told.{told_left}
 use Rattle.flagops_files.specs.Question.{Question}
 use Rattle.flagops_files.specs.Refusal.{GivesOne, GivesUnlessWant, is_want}
-use Rattle.flagops_files.specs.Report.{beside, done, outcome_view}
-use Rattle.flagops_files.specs.Told.{NamesOne, Says, Subject, Subjects, TellsOfOne}
-use Rattle.flagops_files.specs.declared.outcome.Outcome.{Outcome}
+use Rattle.flagops_files.specs.Report.{beside, done}
+use Rattle.flagops_shell.specs.Report.{outcome_view}
+use Rattle.flagops_files.specs.Told.{NamesOne, Subject, Subjects, TellsOfOne}
+use Rattle.flagops_shell.specs.Diagnostic.{Says}
+use Rattle.flagops_shell.specs.declared.outcome.Outcome.{Outcome}
 use Rattle.flagops_files.specs.declared.refusal.Call.{Call}
 use Rattle.flagops_files.specs.declared.refusal.Call.TheVariants as call
 use Rattle.flagops_files.specs.declared.refusal.Doubt.{Doubt}
@@ -22,8 +24,8 @@ use Rattle.flagops_files.specs.declared.refusal.Doubt.TheVariants as doubt
 use Rattle.flagops_files.specs.declared.refusal.Refusal.{Refusal}
 use Rattle.flagops_files.specs.declared.refusal.Refusal.TheVariants.{Doubted}
 use Rattle.flagops_files.specs.Refusal.{Refused}
-use Rattle.flagops_files.specs.declared.refused.Remark.{Remark}
-use Rattle.flagops_files.specs.declared.refused.Remark.TheVariants.{Short, Lines}
+use Rattle.flagops_shell.specs.declared.refused.Remark.{Remark}
+use Rattle.flagops_shell.specs.declared.refused.Remark.TheVariants.{Short, Lines}
 use Rattle.flagops_remarks.specs.Named.{Names, opening_words, quoted}
 
 -- a remark on a doubt is one of the two

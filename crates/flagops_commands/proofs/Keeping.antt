@@ -28,15 +28,15 @@ use Rattle.site_places.specs.Place.{SitePlace}
 use Rattle.tally_core.specs.Tally.{PageTally}
 use Rattle.transport_instance.specs.Certificate.{DualPrices}
 use Rattle.transport_instance.specs.declared.certificate.CutKind.{CutKind}
-use Rattle.flagops_files.specs.Files.{Holding, load_of}
+use Rattle.flagops_shell.specs.Files.{Holding, load_of}
 use Rattle.flagops_files.specs.Loading.{max_text}
 use Rattle.flagops_files.specs.PlanFile.{plan_at}
 use Rattle.flagops_files.specs.Question.{Question, IsQuestionAt}
 use Rattle.flagops_files.specs.Refusal.{GivesOne, is_want}
-use Rattle.flagops_files.specs.Report.{outcome_view}
+use Rattle.flagops_shell.specs.Report.{outcome_view}
 use Rattle.flagops_files.specs.declared.evidence.Evidence.{Evidence}
 use Rattle.flagops_files.specs.declared.evidence.Evidence.TheVariants.{Book, Tally}
-use Rattle.flagops_files.specs.declared.outcome.Outcome.{Outcome}
+use Rattle.flagops_shell.specs.declared.outcome.Outcome.{Outcome}
 use Rattle.flagops_files.specs.Refusal.{Refused}
 use Rattle.flagops_files.specs.declared.refusal.Refusal.{Refusal}
 use Rattle.flagops_commands.specs.Keep.{IsEdited, IsEditedTo, IsKeepReport, IsKeepWith, IsKeptAt, IsKeptFor, IsKeptPut, IsKeptWith, IsPut, Kept, LeavesDocument, MayBeKept, some_view}

@@ -7,7 +7,6 @@ mod Gathered
 pub mod Hexadecimal
 mod Keys
 mod Keeping
-pub mod Leaving
 mod Members
 mod Noted
 mod Passed
@@ -16,4 +15,4 @@ mod Tallies
 mod Telling
 pub mod Valid
 pub mod Verdicts
-pub mod Wants
+mod Listed

@@ -43,7 +43,8 @@ use Rattle.flagops_commands.specs.Plan.{IsPlanOf, ReadsBack, plan_report, report
 use Rattle.flagops_commands.specs.Tallies.{TalliesPlanAsAnyBooks, TalliesPlanAsBooks, TalliesTellAsAnyBooks, TalliesTellAsBooks, over}
 use Rattle.flagops_commands.specs.Unrecorded.{is_bare, is_unrecorded, page_asked, page_in}
 use Rattle.flagops_commands.specs.Verify.{told}
-use Rattle.flagops_files.specs.Report.{Report, beside}
+use Rattle.flagops_files.specs.Report.{beside}
+use Rattle.flagops_shell.specs.Report.{Report}
 use Rattle.flagops_files.specs.declared.refusal.Call.TheVariants as call
 use Rattle.flagops_files.specs.declared.refusal.Doubt.{Doubt}
 use Rattle.flagops_files.specs.declared.refusal.Refusal.{Refusal}

@@ -2,7 +2,7 @@
 use Rattle.std.specs.Prelude.{Bool, [], ◌∷◌, ◌++◌}
 use Rattle.flagops_files.specs.Told.{NamesOne, Subject, Subjects}
 use Rattle.flagops_files.specs.declared.refusal.Refusal.{Refusal}
-use Rattle.flagops_files.specs.declared.refused.Remark.{Remark}
+use Rattle.flagops_shell.specs.declared.refused.Remark.{Remark}
 use Rattle.flagops_files.proofs.Told.{told_left, told_right}
 
 pub told_among : (before : Subjects) (s : Subject × (Refusal → Bool)) (after : Subjects) (e : Refusal) (remark : Remark) → NamesOne (s ∷ []) e remark → NamesOne (before ++ (s ∷ after)) e remark

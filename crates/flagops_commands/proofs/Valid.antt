@@ -8,7 +8,7 @@ use Rattle.flag_text.specs.Shape.{Shape}
 use Rattle.flag_text.specs.declared.fault.TextFault.{TextFault}
 use Rattle.flag_text.specs.declared.fault.TextFault.TheVariants.{TooLarge}
 use Rattle.plan_text.specs.PlanFile.{answer_of, if_tree}
-use Rattle.flagops_files.specs.declared.files.LoadFault.{LoadFault}
+use Rattle.flagops_shell.specs.declared.files.LoadFault.{LoadFault}
 use Rattle.std.proofs.Math.Nat.{mul-div_cancel_left, mul-mod_right}
 use Rattle.bucket_core.proofs.Refined.{total_weight-refinement}
 use Rattle.bucket_core.specs.Rule.{Entries, refinement, total_weight}
@@ -37,7 +37,7 @@ use Rattle.transport_instance.specs.declared.fault.CheckFault.TheVariants as che
 use Rattle.flagops_commands.specs.Plan.{Holds, IsPlanOf, IsPlannedOn, MayBePlanned, ReadsBack, report_planned}
 use Rattle.flagops_commands.specs.Valid.{IsOfInputs, IsValid, IsValidPlan}
 use Rattle.flagops_commands.specs.Verify.{IsToldOn, IsVerdict, tally_problem_checked, told}
-use Rattle.flagops_files.specs.Files.{Holding, front_of}
+use Rattle.flagops_shell.specs.Files.{Holding, front_of}
 use Rattle.flagops_files.specs.Loading.{◌>>=◌, max_rule, refused_by}
 use Rattle.flagops_files.specs.PlanFile.{plan_at}
 use Rattle.flagops_files.specs.declared.evidence.Evidence.{Evidence}
@@ -45,7 +45,7 @@ use Rattle.flagops_files.specs.declared.evidence.Evidence.TheVariants.{Book, Tal
 use Rattle.flagops_files.specs.declared.refusal.Refusal.{Refusal}
 use Rattle.flagops_files.specs.declared.refusal.Refusal.TheVariants.{Load, ReadPlanned}
 use Rattle.flagops_files.specs.Question.{Question}
-use Rattle.flagops_files.specs.Report.{Report}
+use Rattle.flagops_shell.specs.Report.{Report}
 use Rattle.flagops_commands.specs.Doubts.{doubt_of, settle}
 use Rattle.flagops_files.specs.declared.refusal.Call.TheVariants as call
 

@@ -5,14 +5,14 @@ use Rattle.flag_defs.specs.Document.{Definitions}
 use Rattle.plan_text.specs.Answer.{Answer}
 use Rattle.flagops_commands.specs.Apply.{IsApplyReport, IsLocalReport, applied_report}
 use Rattle.flagops_files.specs.Documents.{IsDocumentAt}
-use Rattle.flagops_files.specs.Files.{Holding}
+use Rattle.flagops_shell.specs.Files.{Holding}
 use Rattle.flagops_commands.specs.Plan.{IsPlanOf, IsPlanReport}
 use Rattle.flagops_files.specs.PlanFile.{plan_at}
 use Rattle.flagops_files.specs.Question.{Question, IsQuestionAt}
 use Rattle.flagops_files.specs.Refusal.{GivesOne, GivesUnlessWant}
-use Rattle.flagops_files.specs.Report.{outcome_view}
+use Rattle.flagops_shell.specs.Report.{outcome_view}
 use Rattle.flagops_commands.specs.Verify.{IsVerdict, IsVerifyReport}
-use Rattle.flagops_files.specs.declared.outcome.Outcome.{Outcome}
+use Rattle.flagops_shell.specs.declared.outcome.Outcome.{Outcome}
 use Rattle.flagops_files.specs.Refusal.{Refused}
 
 -- two loads in turn, of which the first leaves the files as they are

@@ -14,7 +14,7 @@ use Rattle.site_places.specs.Place.{SitePlace}
 use Rattle.flagops_commands.specs.Apply.{none_report}
 use Rattle.flagops_commands.specs.Doubts.{doubt_of, settle}
 use Rattle.flagops_commands.specs.Verify.{MayBeTold}
-use Rattle.flagops_files.specs.Files.{Holding, KeepsOthers, Stores, load_of}
+use Rattle.flagops_shell.specs.Files.{Holding, KeepsOthers, Stores, load_of}
 use Rattle.flagops_files.specs.Loading.{max_text}
 use Rattle.flagops_files.specs.PlanFile.{plan_at}
 use Rattle.flagops_files.specs.Question.{Question, IsQuestionAt}

@@ -5,7 +5,8 @@ use Rattle.flagops_drive.specs.declared.fault.DriveRefusal.{DriveRefusal}
 use Rattle.flagops_drive.specs.declared.fault.DriveRefusal.TheVariants as driving
 use Rattle.flagops_files.specs.Question.{question_subjects}
 use Rattle.flagops_files.specs.Refusal.{loads_book, loads_flags, loads_plan, loads_rule, loads_tree, stores_file}
-use Rattle.flagops_files.specs.Told.{NamesOne, Remarks, Says, Subjects, by, file, word}
+use Rattle.flagops_files.specs.Told.{NamesOne, Remarks, Subjects, by, file, word}
+use Rattle.flagops_shell.specs.Diagnostic.{Says}
 use Rattle.flagops_files.specs.declared.keeping.KeepRefusal.TheVariants as keeping
 use Rattle.flagops_files.specs.declared.refusal.Call.{Call}
 use Rattle.flagops_files.specs.declared.refusal.Call.TheVariants as call

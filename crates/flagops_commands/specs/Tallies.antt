@@ -12,7 +12,8 @@ use Rattle.tally_core.specs.Tally.{PageTally}
 use Rattle.flagops_commands.specs.Plan.{IsPlanOf}
 use Rattle.flagops_commands.specs.Verify.{IsVerdict, tally_problem_checked}
 use Rattle.flagops_files.specs.Question.{Question}
-use Rattle.flagops_files.specs.Report.{Report, beside}
+use Rattle.flagops_files.specs.Report.{beside}
+use Rattle.flagops_shell.specs.Report.{Report}
 use Rattle.flagops_files.specs.declared.evidence.Evidence.{Evidence}
 use Rattle.flagops_files.specs.declared.evidence.Evidence.TheVariants.{Book, Tally}
 use Rattle.flagops_files.specs.declared.refusal.Refusal.{Refusal}

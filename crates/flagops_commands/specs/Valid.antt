@@ -5,13 +5,14 @@ use Rattle.book_core.specs.Counts.{counts_of}
 use Rattle.plan_text.specs.Answer.{Answer}
 use Rattle.flagops_commands.specs.Plan.{Holds, IsPlanOf}
 use Rattle.flagops_commands.specs.Verify.{IsVerdict, valid_as}
-use Rattle.flagops_files.specs.Files.{Holding}
+use Rattle.flagops_shell.specs.Files.{Holding}
 use Rattle.flagops_files.specs.PlanFile.{plan_at}
 use Rattle.flagops_files.specs.Question.{Question}
 use Rattle.flagops_files.specs.declared.evidence.Evidence.{Evidence}
 use Rattle.flagops_files.specs.declared.evidence.Evidence.TheVariants.{Book, Tally}
 use Rattle.flagops_files.specs.Refusal.{is_want}
-use Rattle.flagops_files.specs.Report.{Outcomes, Report}
+use Rattle.flagops_files.specs.Report.{Outcomes}
+use Rattle.flagops_shell.specs.Report.{Report}
 use Rattle.flagops_files.specs.declared.refusal.Refusal.{Refusal}
 
 -- what is printed of a valid answer, unless memory ran out

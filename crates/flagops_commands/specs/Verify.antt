@@ -9,11 +9,12 @@ use Rattle.rollout_checks.specs.declared.fault.RolloutFault.{RolloutFault}
 use Rattle.rollout_checks.specs.declared.refining.Refining.TheVariants.{Times}
 use Rattle.rollout_checks.specs.declared.verify_fault.VerifyFault.{VerifyFault}
 use Rattle.tally_core.specs.Tally.{PageTally}
-use Rattle.flagops_files.specs.Files.{Holding}
+use Rattle.flagops_shell.specs.Files.{Holding}
 use Rattle.flagops_files.specs.Loading.{◌>>=◌, refused_by}
 use Rattle.flagops_files.specs.PlanFile.{plan_at}
 use Rattle.flagops_files.specs.Question.{Question, IsQuestionAt}
-use Rattle.flagops_files.specs.Report.{Outcomes, Report, beside, done}
+use Rattle.flagops_files.specs.Report.{Outcomes, beside, done}
+use Rattle.flagops_shell.specs.Report.{Report}
 use Rattle.flagops_commands.specs.Doubts.{doubt_of, settle}
 use Rattle.flagops_files.specs.declared.refusal.Call.TheVariants as call
 use Rattle.flagops_files.specs.declared.evidence.Evidence.{Evidence}

@@ -1,4 +1,3 @@
-pub mod Ending
-pub mod Writes
+mod FileLines
 pub mod Told
 mod Recorded

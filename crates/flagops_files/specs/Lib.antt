@@ -1,9 +1,6 @@
-pub mod Beginning
+pub mod Described
 pub mod Documents
-pub mod Ending
 pub mod Evidence
-pub mod Files
-pub mod Given
 pub mod Keeping
 pub mod Loading
 pub mod Payload

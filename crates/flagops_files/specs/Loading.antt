@@ -7,7 +7,7 @@ use Rattle.rule_text.specs.Choosing.{choice_of}
 use Rattle.rule_text.specs.Reading.{rule_of_text}
 use Rattle.rule_text.specs.declared.fault.RuleTextFault.{RuleTextFault}
 use Rattle.rule_text.specs.declared.fault.RuleTextFault.TheVariants.{Text, Rule}
-use Rattle.flagops_files.specs.Files.{Holding, load_of}
+use Rattle.flagops_shell.specs.Files.{Holding, load_of}
 use Rattle.flagops_files.specs.declared.refusal.Refusal.{Refusal}
 use Rattle.flagops_files.specs.declared.refusal.Refusal.TheVariants.{Load, ReadTree, ReadRule}
 

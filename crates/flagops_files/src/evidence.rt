@@ -6,9 +6,10 @@ ghost use Rattle.flagops_files.specs.Refusal.{ComesFrom, GivesOne, is_file_fault
 ghost use Rattle.flagops_files.specs.Told.{TellsOf, file};
 
 use crate::books::load_book_bytes;
-use crate::files::FileSet;
+use flagops_shell::FileSet;
 use crate::refusal::Refusal;
-use crate::refused::{Refused, Remark};
+use crate::refusal::Refused;
+use flagops_shell::Remark;
 use flag_defs::Flags;
 use flagops_remarks::{Ends, of_book, of_tally};
 use page_tally::BookFile;

@@ -1,12 +1,13 @@
 //! From bytes to a file at a path.
 ghost use Rattle.std.specs.Prelude.{◌≡◌, ◌||◌, false, IfErr, OnErr, OnOk};
-ghost use Rattle.flagops_files.specs.Files.{KeepsOthers, Stores};
+ghost use Rattle.flagops_shell.specs.Files.{KeepsOthers, Stores};
 ghost use Rattle.flagops_files.specs.Refusal.{ComesFrom, is_file_fault, is_want, stores_file, unwritable};
 ghost use Rattle.flagops_files.specs.Told.{TellsOf, file};
 
-use crate::files::FileSet;
+use flagops_shell::FileSet;
 use crate::refusal::Refusal;
-use crate::refused::{Refused, Remark};
+use crate::refusal::Refused;
+use flagops_shell::Remark;
 use flagops_remarks::of_unwritable;
 use std::alloc::Global;
 

@@ -1,12 +1,12 @@
 -- What a filter came to, as its outlets show it.
 use Rattle.std.proofs.Common.{◌≡◌, ◌⊎◌, true, false, ℕ, List, Bool, Option, None, Some, Result, Ok, Err, inl, inr, subst}
 use Rattle.std.specs.Prelude.{IfSome}
-use Rattle.flagops_files.specs.Ending.{told_view}
-use Rattle.flagops_files.specs.Files.{Holding}
-use Rattle.flagops_files.specs.declared.outcome.Outcome.{Outcome}
+use Rattle.flagops_shell.specs.Ending.{told_view}
+use Rattle.flagops_shell.specs.Files.{Holding}
+use Rattle.flagops_shell.specs.declared.outcome.Outcome.{Outcome}
 use Rattle.clap.specs.Kinds.{Kinds}
 use Rattle.clap.specs.declared.error.kind.ErrorKind.{ErrorKind}
-use Rattle.flagops_commands.specs.Telling.{Tells, Wants}
+use Rattle.flagops_shell.specs.Usage.{Tells, Wants}
 use Rattle.flagops_words.specs.Alone.{IsToldBy}
 use Rattle.flagops_files.proofs.Ending.{ended}
 use Rattle.flagops_filters.specs.Refusal.{is_want, line_of}

@@ -8,9 +8,9 @@ use Rattle.std.specs.Str.{bytes_eq}
 use Rattle.flag_text.specs.Outlet.{AppendsPart}
 use Rattle.flag_defs.specs.Document.{Definitions}
 use Rattle.flagops_files.specs.Documents.{IsDocumentAt}
-use Rattle.flagops_files.specs.Files.{Holding}
+use Rattle.flagops_shell.specs.Files.{Holding}
 use Rattle.flagops_files.specs.Refusal as files
-use Rattle.flagops_files.specs.Report.{ReportsAll, TellsIf}
+use Rattle.flagops_shell.specs.Report.{ReportsAll, TellsIf}
 use Rattle.flagops_files.specs.declared.refusal.Refusal.TheVariants.{Plan}
 use Rattle.flag_defs.specs.Flags.{flags_view}
 use Rattle.flagops_files.specs.Refusal.{Refused}

@@ -2,8 +2,8 @@
 -- the status.
 use Rattle.std.specs.Prelude.{◌≡◌, ◌⊎◌, ℕ, Bool, List, Option, None, IfSome}
 use Rattle.clap.specs.Walk.{Text}
-use Rattle.flagops_commands.specs.Telling.{TellsOne, Wants}
-use Rattle.flagops_files.specs.Files.{Holding}
+use Rattle.flagops_shell.specs.Usage.{TellsOne, Wants}
+use Rattle.flagops_shell.specs.Files.{Holding}
 use Rattle.flagops_filters.specs.Join.{IsJoinReport, join_want}
 use Rattle.flagops_filters.specs.Record.{RecordAnswers}
 use Rattle.flagops_filters.specs.Report.{Reports}

@@ -6,9 +6,9 @@ use Rattle.std.specs.Str.{bytes_eq}
 use Rattle.flag_text.specs.Outlet.{AppendsPart}
 use Rattle.flag_defs.specs.Document.{Definitions}
 use Rattle.flagops_files.specs.Documents.{IsDocumentAt}
-use Rattle.flagops_files.specs.Files.{Holding}
-use Rattle.flagops_files.specs.Refusal.{want_line_of}
-use Rattle.flagops_files.specs.Report.{ReportsAll, TellsIf, refusal_report}
+use Rattle.flagops_shell.specs.Files.{Holding}
+use Rattle.flagops_shell.specs.Report.{want_line_of}
+use Rattle.flagops_shell.specs.Report.{ReportsAll, TellsIf, refusal_report}
 use Rattle.flagops_files.specs.declared.refusal.Refusal.{Refusal}
 use Rattle.flagops_files.specs.declared.refusal.Refusal.TheVariants.{Plan}
 use Rattle.note_streams.specs.Recorded.{most_bytes, recorded_of}

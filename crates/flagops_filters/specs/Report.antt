@@ -2,11 +2,11 @@
 use Rattle.std.specs.Prelude.{ℕ, Bool, List, Option, Result}
 use Rattle.std.specs.Io.KnownBytes.{Appends}
 use Rattle.flag_text.specs.Outlet.{AppendsPart}
-use Rattle.flagops_files.specs.Ending as ending
-use Rattle.flagops_files.specs.Given as given
-use Rattle.flagops_files.specs.Report.{Report, ReportsAll, outcome_view, report_by}
-use Rattle.flagops_files.specs.declared.outcome.Outcome.{Outcome}
-use Rattle.flagops_files.specs.declared.refused.Refused.{Refused}
+use Rattle.flagops_shell.specs.Ending as ending
+use Rattle.flagops_shell.specs.Given as given
+use Rattle.flagops_shell.specs.Report.{Report, ReportsAll, outcome_view, report_by}
+use Rattle.flagops_shell.specs.declared.outcome.Outcome.{Outcome}
+use Rattle.flagops_shell.specs.declared.refused.Refused.{Refused}
 use Rattle.flagops_filters.specs.Refusal.{is_want, line_of}
 use Rattle.flagops_filters.specs.declared.refusal.FilterRefusal.{FilterRefusal}
 

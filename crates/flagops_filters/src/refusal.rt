@@ -6,7 +6,8 @@ ghost use Rattle.flagops_filters.specs.Refusal.{filter_items, filter_name, is_wa
 ghost use Rattle.flagops_filters.specs.declared.refusal.FilterRefusal.TheVariants.{Load, Record, Tally};
 
 use flagops_commands::fault_line;
-use flagops_files::{CommandRefusal, Refusal, number_item};
+use flagops_files::{Refusal, number_item};
+use flagops_shell::CommandRefusal;
 use note_streams::{RecordStop, TallyStop};
 use std::alloc::{AllocError, Global};
 use tally_core::JoinFault;

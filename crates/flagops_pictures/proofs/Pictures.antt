@@ -2,12 +2,13 @@
 use Rattle.std.proofs.Common.{◌≡◌, ◌⊎◌, ℕ, List, Bool, is_some, true, false, Option, Some, None, IfErr, IfOk, IfSome, inl, inr, refl, sym, ap, ◌∙◌, subst}
 use Rattle.std.specs.Prelude.{Result, Ok, Err}
 use Rattle.flagops_commands.specs.Doubts.{doubt_of}
-use Rattle.flagops_files.specs.Files.{Holding}
+use Rattle.flagops_shell.specs.Files.{Holding}
 use Rattle.flagops_files.specs.PlanFile.{plan_at}
 use Rattle.flagops_files.specs.Question.{BookQuestion, IsBookQuestionAt}
 use Rattle.flagops_files.specs.Refusal.{GivesOne, GivesUnlessWant, call_of, is_want}
-use Rattle.flagops_files.specs.Report.{AnswersOrWants, Outcomes, Report, beside, outcome_view, report_of, want_report}
-use Rattle.flagops_files.specs.declared.outcome.Outcome.{Outcome}
+use Rattle.flagops_files.specs.Report.{AnswersOrWants, Outcomes, beside, report_of, want_report}
+use Rattle.flagops_shell.specs.Report.{Report, outcome_view}
+use Rattle.flagops_shell.specs.declared.outcome.Outcome.{Outcome}
 use Rattle.flagops_files.specs.declared.refusal.Call.{Call}
 use Rattle.flagops_files.specs.declared.refusal.Refusal.{Refusal}
 use Rattle.flagops_files.specs.Refusal.{Refused}

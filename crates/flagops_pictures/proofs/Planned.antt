@@ -3,13 +3,13 @@ use Rattle.std.proofs.Common.{◌≡◌, ◌⊎◌, Bool, false, true, ℕ, List
 use Rattle.std.specs.Prelude.{IfErr, IfOk, IfSome, OnErr}
 use Rattle.book_core.specs.Book.{Contents}
 use Rattle.flagops_commands.specs.Plan.{IsPlanOf, IsPlannedOn}
-use Rattle.flagops_files.specs.Files.{Holding, KeepsOthers, Stores}
+use Rattle.flagops_shell.specs.Files.{Holding, KeepsOthers, Stores}
 use Rattle.flagops_files.specs.Question.{BookQuestion, Question, IsBookQuestionAt, book_question_view}
 use Rattle.flagops_files.specs.Refusal.{GivesOne, is_want, unwritable}
-use Rattle.flagops_files.specs.Report.{Report, outcome_view}
+use Rattle.flagops_shell.specs.Report.{Report, outcome_view}
 use Rattle.flagops_files.specs.declared.evidence.Evidence.{Evidence}
 use Rattle.flagops_files.specs.declared.evidence.Evidence.TheVariants.{Book}
-use Rattle.flagops_files.specs.declared.outcome.Outcome.{Outcome}
+use Rattle.flagops_shell.specs.declared.outcome.Outcome.{Outcome}
 use Rattle.flagops_files.specs.declared.refusal.Call.{Call}
 use Rattle.flagops_files.specs.declared.refusal.Refusal.{Refusal}
 use Rattle.flagops_files.specs.declared.refusal.Refusal.TheVariants.{WantOfMemory}

@@ -2,8 +2,8 @@
 use Rattle.std.specs.Prelude.{◌≡◌, ◌⊎◌, ℕ, Bool, List, Option, None, IfSome}
 use Rattle.clap.specs.Walk.{Text}
 use Rattle.flagops_commands.specs.Ended.{AnswersAt, WantsAt}
-use Rattle.flagops_commands.specs.Telling.{TellsOne}
-use Rattle.flagops_files.specs.Files.{Holding}
+use Rattle.flagops_shell.specs.Usage.{TellsOne}
+use Rattle.flagops_shell.specs.Files.{Holding}
 use Rattle.flagops_pictures.specs.Pictured.{IsPictureReport, picture_calls}
 use Rattle.flagops_pictures.specs.Planning.{IsPlanPicture, plan_calls}
 use Rattle.flagops_pictures.specs.Ramps.{IsRampPicture}

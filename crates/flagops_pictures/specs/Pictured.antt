@@ -5,11 +5,12 @@ use Rattle.std.specs.declared.alloc.Global.{Global}
 use Rattle.book_core.specs.Counts.{counts_of}
 use Rattle.bucket_core.specs.Rule.{Entries, total_weight}
 use Rattle.flagops_commands.specs.Doubts.{doubt_of}
-use Rattle.flagops_files.specs.Files.{Holding}
+use Rattle.flagops_shell.specs.Files.{Holding}
 use Rattle.flagops_files.specs.PlanFile.{plan_at}
 use Rattle.flagops_files.specs.Question.{BookQuestion, Question, IsBookQuestionAt}
 use Rattle.flagops_files.specs.Refusal.{loads_book_question}
-use Rattle.flagops_files.specs.Report.{Outcomes, Report, beside, done}
+use Rattle.flagops_files.specs.Report.{Outcomes, beside, done}
+use Rattle.flagops_shell.specs.Report.{Report}
 use Rattle.flagops_files.specs.declared.evidence.Evidence.TheVariants.{Book}
 use Rattle.flagops_files.specs.declared.refusal.Call.{Call}
 use Rattle.flagops_files.specs.declared.refusal.Call.TheVariants as call

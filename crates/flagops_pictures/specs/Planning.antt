@@ -5,10 +5,11 @@ use Rattle.plan_text.specs.Answer.{Answer}
 use Rattle.plan_text.specs.PlanFile.{answer_of}
 use Rattle.rollout_checks.specs.Refined.{problem_refined}
 use Rattle.flagops_commands.specs.Plan.{IsPlanOf}
-use Rattle.flagops_files.specs.Files.{Holding, KeepsOthers, Stores}
+use Rattle.flagops_shell.specs.Files.{Holding, KeepsOthers, Stores}
 use Rattle.flagops_files.specs.Question.{BookQuestion, Question, IsBookQuestionAt}
 use Rattle.flagops_files.specs.Refusal.{loads_book_question, unwritable}
-use Rattle.flagops_files.specs.Report.{Outcomes, Report}
+use Rattle.flagops_files.specs.Report.{Outcomes}
+use Rattle.flagops_shell.specs.Report.{Report}
 use Rattle.flagops_files.specs.declared.evidence.Evidence.{Evidence}
 use Rattle.flagops_files.specs.declared.evidence.Evidence.TheVariants.{Book, Tally}
 use Rattle.flagops_files.specs.declared.refusal.Call.{Call}

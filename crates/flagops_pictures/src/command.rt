@@ -3,7 +3,8 @@ ghost use Rattle.std.specs.Prelude.{◌≡◌, false, is_some, map, IfSome, Ok, 
 ghost use Rattle.flagops_commands.specs.Doubts.{doubt_of};
 ghost use Rattle.flagops_files.specs.Refusal.{ComesFrom, GivesOne, GivesUnlessWant};
 ghost use Rattle.flagops_files.specs.Question.{book_question_view};
-ghost use Rattle.flagops_files.specs.Report.{AnswersOrWants, beside, outcome_view};
+ghost use Rattle.flagops_files.specs.Report.{AnswersOrWants, beside};
+ghost use Rattle.flagops_shell.specs.Report.{outcome_view};
 ghost use Rattle.flagops_pictures.specs.Ended.{AnswersPicture, TellsPicture};
 ghost use Rattle.flagops_pictures.specs.Pictured.{IsPictureReport, IsPictured, as_question, drawn_report, picture_calls};
 ghost use Rattle.flagops_pictures.specs.Words.{asked_view};
@@ -15,10 +16,8 @@ use crate::doubts::noted;
 use crate::words::read_picture;
 use flag_text::Outlet;
 use flagops_commands::{refused, report_usage};
-use flagops_files::{
-    BookQuestion, Call, FileSet, Outcome, Refusal, Refused, Remark, Status, load_book_question,
-    load_planned, report, want,
-};
+use flagops_files::{BookQuestion, Call, Refusal, Refused, load_book_question, load_planned};
+use flagops_shell::{FileSet, Outcome, Remark, Status, report, want};
 use flagops_remarks::{of_check, of_rollout};
 use flagops_words::factor_of;
 use plan_text::Planned;
@@ -135,7 +134,7 @@ fn told(
             status: Status::Done,
             remark,
         }),
-        Err(AllocError) => Err(Refused::out_of_memory(Call::Verify)),
+        Err(AllocError) => Err(out_of_memory(Call::Verify)),
     }
 }
 

@@ -6,7 +6,8 @@ ghost use Rattle.flagops_pictures.specs.Pictured.{as_question};
 
 use crate::asked::Asked;
 use flagops_commands::{doubt_in_book, remark_in, unread};
-use flagops_files::{BookQuestion, Remark};
+use flagops_files::BookQuestion;
+use flagops_shell::Remark;
 use flagops_ramps::first_of;
 use std::alloc::{AllocError, Global};
 use std::thread::Threads;

@@ -1,10 +1,11 @@
 //! The command `plan --picture`.
 ghost use Rattle.std.specs.Prelude.{◌≡◌, ◌⊎◌, ◌<◌, Ok, false, map, option_map, unwrap_or, IfErr, IfOk, IfSome, OnErr, string_bytes};
 ghost use Rattle.flagops_commands.specs.Plan.{IsPlanOf};
-ghost use Rattle.flagops_files.specs.Files.{KeepsOthers};
+ghost use Rattle.flagops_shell.specs.Files.{KeepsOthers};
 ghost use Rattle.flagops_files.specs.Question.{book_question_view, question_view};
 ghost use Rattle.flagops_files.specs.Refusal.{ComesFrom, GivesOne};
-ghost use Rattle.flagops_files.specs.Report.{AnswersOrWants, outcome_view};
+ghost use Rattle.flagops_files.specs.Report.{AnswersOrWants};
+ghost use Rattle.flagops_shell.specs.Report.{outcome_view};
 ghost use Rattle.flagops_pictures.specs.Ended.{AnswersPlan, TellsPlan};
 ghost use Rattle.flagops_pictures.specs.Pictured.{as_question};
 ghost use Rattle.flagops_pictures.specs.Planning.{IsOfBook, IsPictureOf, IsPlanPicture, IsPlanWith, LeavesPicture, plan_calls};
@@ -15,10 +16,8 @@ use crate::drawing::{Asked, drawn};
 use crate::words::read_plan;
 use flag_text::Outlet;
 use flagops_commands::{plan_answer, refused, report_usage};
-use flagops_files::{
-    BookQuestion, Call, Evidence, FileSet, Outcome, Question, Refusal, Refused, load_book_question,
-    report, store, want,
-};
+use flagops_files::{BookQuestion, Call, Evidence, Question, Refusal, Refused, load_book_question, store};
+use flagops_shell::{FileSet, Outcome, report, want};
 use flagops_words::factor_of;
 use page_tally::BookFile;
 use plan_text::{PlanFileFault, read_planned};
@@ -158,7 +157,7 @@ fn picture_of<R: Threads + Sync>(
 {
     match picture_drawn(rt, alloc, asked, question, outcome) {
         Ok(text) => Ok(text),
-        Err(AllocError) => Err(Refused::out_of_memory(Call::Plan)),
+        Err(AllocError) => Err(out_of_memory(Call::Plan)),
     }
 }
 

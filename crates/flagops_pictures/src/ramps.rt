@@ -1,7 +1,7 @@
 //! The command `picture --ramp`.
 ghost use Rattle.std.specs.Prelude.{◌≡◌, ◌≤◌, ◌<◌, ◌+◌, false, length, List, map, option_map, Ok, IfOk, IfSome, string_bytes};
 ghost use Rattle.flag_defs.specs.Flags.{flags_view};
-ghost use Rattle.flagops_files.specs.Report.{outcome_view};
+ghost use Rattle.flagops_shell.specs.Report.{outcome_view};
 ghost use Rattle.flagops_pictures.specs.Ended.{AnswersRamp, TellsRamp};
 ghost use Rattle.flagops_pictures.specs.Ramps.{AreTold, Continues, IsRampDrawn, IsRampPicture, IsRampPictureOf};
 ghost use Rattle.flagops_ramps.specs.Judging.{AreRightAnswers, answered_view};
@@ -17,7 +17,8 @@ use crate::words::read_ramp;
 use flag_defs::Flags;
 use flag_text::Outlet;
 use flagops_commands::{remark_in, report_usage};
-use flagops_files::{FileSet, Outcome, Refused, Status, finish};
+use flagops_files::{Refused, finish};
+use flagops_shell::{FileSet, Outcome, Status};
 use flagops_ramps::{RampRefusal, RightAnswers, Verifying, doubted, load_answers, out_of_memory};
 use flagops_words::factor_number;
 use page_tally::BookFile;

@@ -1,9 +1,9 @@
 -- What `ramp`, `verify-ramp` and `apply --step` come to, by what the two outlets show before and after, what the files show, and the status.
 use Rattle.std.specs.Prelude.{◌≡◌, ◌⊎◌, ℕ, Bool, List, Option, None, IfSome, codes}
 use Rattle.clap.specs.Walk.{Text}
-use Rattle.flagops_commands.specs.Telling.{TellsOne, Wants}
-use Rattle.flagops_files.specs.Files.{Holding}
-use Rattle.flagops_files.specs.Refusal.{want_line_of}
+use Rattle.flagops_shell.specs.Usage.{TellsOne, Wants}
+use Rattle.flagops_shell.specs.Files.{Holding}
+use Rattle.flagops_shell.specs.Report.{want_line_of}
 use Rattle.flagops_ramps.specs.Apply.{IsStepReport}
 use Rattle.flagops_ramps.specs.Ramp.{IsRampReport}
 use Rattle.flagops_ramps.specs.Report.{Reports}

@@ -1,9 +1,9 @@
 -- What a command on steps writes and ends with.
 use Rattle.std.specs.Prelude.{ℕ, Bool, List, Option, Result}
-use Rattle.flagops_files.specs.Ending as ending
-use Rattle.flagops_files.specs.Given as given
-use Rattle.flagops_files.specs.Report.{Report}
-use Rattle.flagops_files.specs.declared.refused.Refused.{Refused}
+use Rattle.flagops_shell.specs.Ending as ending
+use Rattle.flagops_shell.specs.Given as given
+use Rattle.flagops_shell.specs.Report.{Report}
+use Rattle.flagops_shell.specs.declared.refused.Refused.{Refused}
 use Rattle.flagops_ramps.specs.Refusal.{is_want, line_of}
 use Rattle.flagops_ramps.specs.declared.refusal.RampRefusal.{RampRefusal}
 

@@ -3,7 +3,7 @@ ghost use Rattle.std.specs.Prelude.{◌≡◌, ◌<◌, false, is_some, map, opt
 ghost use Rattle.std.specs.List.{All};
 ghost use Rattle.flag_text.specs.Outcome.{GivesUnless};
 ghost use Rattle.flagops_files.specs.Question.{book_question_view};
-ghost use Rattle.flagops_files.specs.Report.{outcome_view, status_number};
+ghost use Rattle.flagops_shell.specs.Report.{outcome_view, status_number};
 ghost use Rattle.flagops_ramps.specs.Doubts.{beside, doubt_of_steps, settle};
 ghost use Rattle.flagops_ramps.specs.Ended.{AnswersRamp, TellsRamp};
 ghost use Rattle.flagops_ramps.specs.Ramp.{IsRampOf, IsRampReport, of_steps, ramp_status, report_ramp};
@@ -22,9 +22,8 @@ use crate::words::read_ramp;
 use book_core::BookFileFault;
 use flag_text::Outlet;
 use flagops_commands::report_usage;
-use flagops_files::{
-    BookQuestion, FileSet, Outcome, Refused, Remark, Status, finish, load_book_question,
-};
+use flagops_files::{BookQuestion, Refused, finish, load_book_question};
+use flagops_shell::{FileSet, Outcome, Remark, Status};
 use flagops_remarks::of_large_plan;
 use flagops_words::factor_of;
 use plan_text::Planned;

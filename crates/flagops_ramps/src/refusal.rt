@@ -4,7 +4,8 @@ ghost use Rattle.flagops_ramps.specs.Refusal.{call_name, is_want, line_of, numbe
 ghost use Rattle.flagops_ramps.specs.declared.refusal.RampRefusal.TheVariants.{Load, Ramp, Read, Verify};
 
 use flagops_commands::fault_line;
-use flagops_files::{CommandRefusal, Doubt, Refusal, number_item, rollout_items, verify_items};
+use flagops_files::{Doubt, Refusal, number_item, rollout_items, verify_items};
+use flagops_shell::CommandRefusal;
 use plan_text::PlanFileFault;
 use ramp_steps::RampFileFault;
 use rollout_checks::{RolloutFault, VerifyFault};

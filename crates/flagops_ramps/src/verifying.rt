@@ -1,6 +1,6 @@
 //! The command `verify-ramp`.
 ghost use Rattle.std.specs.Prelude.{◌≡◌, false, is_some, map, string_bytes, IfOk, IfSome, Ok};
-ghost use Rattle.flagops_files.specs.Report.{outcome_view};
+ghost use Rattle.flagops_shell.specs.Report.{outcome_view};
 ghost use Rattle.flagops_ramps.specs.Doubts.{beside};
 ghost use Rattle.flagops_ramps.specs.Ended.{AnswersVerify, TellsVerify};
 ghost use Rattle.flagops_ramps.specs.Judging.{answered_view};
@@ -16,7 +16,8 @@ use crate::refusal::{RampRefusal, StepCall};
 use crate::words::read_verify;
 use flag_text::Outlet;
 use flagops_commands::report_usage;
-use flagops_files::{FileSet, Outcome, Refused, Remark, Status, finish};
+use flagops_files::{Refused, finish};
+use flagops_shell::{FileSet, Outcome, Remark, Status};
 use plan_text::Planned;
 use std::alloc::{AllocError, Global};
 use std::convert::AsStr;

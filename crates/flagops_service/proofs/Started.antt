@@ -3,7 +3,7 @@ use Rattle.std.proofs.Common.{◌≡◌, ◌⊎◌, ◌∙◌, ℕ, false, List,
 use Rattle.flag_defs.specs.Document.{Definitions}
 use Rattle.flag_defs.specs.declared.flags.Flags.{Flags}
 use Rattle.source_merge.specs.Sources.{SourceList}
-use Rattle.flagops_files.specs.Files.{Holding}
+use Rattle.flagops_shell.specs.Files.{Holding}
 use Rattle.flagops_streams.specs.Loading.{Loaded, loaded_at}
 use Rattle.flagops_streams.proofs.DocumentsLoaded.{where_known}
 use Rattle.flagops_streams.specs.Documents.{Answer, Gives, MayFail, Merges, count_of}

@@ -2,8 +2,8 @@
 use Rattle.std.specs.Prelude.{◌≡◌, ◌⊎◌, ℕ, Bool, List, ◌++◌, codes, decimal, length, Option, None, IfSome, Result, Ok, Err}
 use Rattle.clap.specs.Walk.{Text}
 use Rattle.flagops_commands.specs.Ended.{WantsAt}
-use Rattle.flagops_files.specs.Files.{Holding}
-use Rattle.flagops_commands.specs.Telling.{TellsOne}
+use Rattle.flagops_shell.specs.Files.{Holding}
+use Rattle.flagops_shell.specs.Usage.{TellsOne}
 use Rattle.flagops_service.specs.Starting.{StartsTo}
 use Rattle.flagops_service.specs.Words.{ofrep_by, ofrep_faults}
 use Rattle.flagops_streams.specs.Documents.{Answer, MayFail, count_of}

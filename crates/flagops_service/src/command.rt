@@ -21,7 +21,7 @@ use crate::words::read_ofrep;
 use flag_defs::Flags;
 use flag_text::Outlet;
 use flagops_commands::report_usage;
-use flagops_files::FileSet;
+use flagops_shell::FileSet;
 use flagops_streams::{Documents, Refusal, loaded, write_line};
 use ofrep_service::{Board, work_beside};
 use snap_share::{History, Publisher, ReadSeat, ShareName, share};

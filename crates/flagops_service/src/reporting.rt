@@ -4,7 +4,7 @@ ghost use Rattle.flagops_service.specs.Ended.{Reports, ServesOn, serving_line};
 ghost use Rattle.flagops_streams.specs.Told.{TellsText};
 
 use flag_text::Outlet;
-use flagops_files::tell;
+use flagops_shell::tell;
 use flagops_remarks::{of_document, of_unreadable};
 use flagops_streams::{Refusal, refuse, say_refused, write_line};
 use source_merge::SourceFault;

@@ -5,7 +5,8 @@ ghost use Rattle.flagops_service.specs.Merging.{Publishes, Takes};
 
 use crate::telling::{say_kept, say_made, say_published};
 use flag_text::Outlet;
-use flagops_files::{FileSet, LoadFault, TEXT_LIMIT};
+use flagops_files::TEXT_LIMIT;
+use flagops_shell::{FileSet, LoadFault};
 use flagops_remarks::{of_document, of_unreadable};
 use flagops_streams::say;
 use ofrep_service::Board;

@@ -11,7 +11,7 @@ use Rattle.sync_server.specs.declared.end.ReadEnd.{ReadEnd}
 use Rattle.sync_server.specs.declared.end.ReadEnd.TheVariants.{WantOfMemory}
 use Rattle.flagops_streams.specs.Printed.{Prints, snapshot_line, snapshot_lines, last_line, status_of}
 use Rattle.flagops_streams.specs.Report.{Writes}
-use Rattle.flagops_files.proofs.Writes.{part_after, whole_after}
+use Rattle.flagops_shell.proofs.Writes.{part_after, whole_after}
 use Rattle.flagops_streams.proofs.Writes.{none_written}
 
 -- the lines of two lists

@@ -2,9 +2,9 @@
 use Rattle.std.specs.Prelude.{◌≡◌, ◌⊎◌, ℕ, Bool, true, false, List, length, Option, None, IfSome}
 use Rattle.clap.specs.Walk.{Text}
 use Rattle.flagops_commands.specs.Ended.{WantsAt}
-use Rattle.flagops_files.specs.Files.{Holding}
+use Rattle.flagops_shell.specs.Files.{Holding}
 use Rattle.flagops_streams.specs.Loading.{AnswersTo}
-use Rattle.flagops_commands.specs.Telling.{TellsOne}
+use Rattle.flagops_shell.specs.Usage.{TellsOne}
 use Rattle.flagops_streams.specs.Words.{follow_by, follow_faults, serve_by, serve_faults}
 use Rattle.flagops_streams.specs.Documents.{Answer, count_of}
 use Rattle.flagops_streams.specs.Printed.{Follows}

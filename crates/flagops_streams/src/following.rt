@@ -15,7 +15,7 @@ use crate::report::refuse;
 use crate::timely::Timely;
 use core::mem::replace_with;
 use flag_text::{Outlet, write_whole};
-use flagops_files::write_three;
+use flagops_shell::write_three;
 use persistent_io::PersistentInput;
 use snap_core::Snapshot;
 use std::alloc::{AllocError, Global};

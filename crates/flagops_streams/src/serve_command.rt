@@ -12,7 +12,7 @@ use crate::words::read_serve;
 use flag_defs::DefFault;
 use flag_text::Outlet;
 use flagops_commands::report_usage;
-use flagops_files::{FileSet, tell};
+use flagops_shell::{FileSet, tell};
 use flagops_remarks::{of_document, of_unreadable};
 use std::alloc::{AllocError, Global};
 use std::convert::AsStr;

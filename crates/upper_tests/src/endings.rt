@@ -1,7 +1,8 @@
 //! Outputs that fail midway, and want of memory.
 use super::memory::{MemoryFiles, MemoryOutlet};
 use flagops_commands::run;
-use flagops_files::{Call, FileSet, want};
+use flagops_files::Call;
+use flagops_shell::{FileSet, want};
 use std::alloc::Global;
 use std::sync::Wait;
 use std::thread::Threads;

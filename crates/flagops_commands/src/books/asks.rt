@@ -9,7 +9,8 @@ ghost use Rattle.flagops_remarks.specs.Named.{Names};
 
 use flag_text::Tree;
 use flagops_drive::{AsksFile, read_asks};
-use flagops_files::{FileSet, Refusal, Refused, Remark, TEXT_LIMIT, load, make_room_for};
+use flagops_files::{Refusal, Refused, TEXT_LIMIT, load, make_room_for};
+use flagops_shell::{FileSet, Remark};
 use flagops_remarks::{of_asks, of_text, of_unread_asks};
 use json::Scratch;
 use std::alloc::{AllocError, Global};

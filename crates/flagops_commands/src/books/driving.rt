@@ -10,7 +10,8 @@ ghost use Rattle.flagops_commands.specs.Doubts.{settle};
 ghost use Rattle.flagops_commands.specs.Drive.{IsDriveOutputOf, admitted, doubt_of_asks, recorded};
 ghost use Rattle.flagops_commands.specs.Subjects.{NamesDriven, driven_subjects, is_of_asks};
 ghost use Rattle.flagops_files.specs.Refusal.{ComesFrom, GivesOne, GivesUnlessWant, is_file_fault};
-ghost use Rattle.flagops_files.specs.Told.{Says, TellsOfOne, file};
+ghost use Rattle.flagops_files.specs.Told.{TellsOfOne, file};
+ghost use Rattle.flagops_shell.specs.Diagnostic.{Says};
 ghost use Rattle.flagops_files.specs.declared.refusal.Call.TheVariants as call;
 ghost use Rattle.flagops_files.specs.declared.refusal.Refusal.{Refusal as Reason};
 ghost use Rattle.flagops_files.specs.declared.refusal.Refusal.TheVariants.{Doubted, Drive};
@@ -23,7 +24,8 @@ use flag_defs::Flags;
 use flagops_drive::{
     AsksFile, DriveOutput, DriveRefusal, Endings, Tally, drive_asks, has_unread_ask, refusal_of,
 };
-use flagops_files::{Call, Doubt, Refusal, Refused, Remark};
+use flagops_files::{Call, Doubt, Refusal, Refused};
+use flagops_shell::Remark;
 use flagops_remarks::{of_driven, of_full_book, of_unrecorded_asks, of_workers};
 use progress::Meter;
 use std::alloc::{AllocError, Global};

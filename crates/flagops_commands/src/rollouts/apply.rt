@@ -5,14 +5,14 @@ ghost use Rattle.plan_text.specs.Answer.{planned_view};
 ghost use Rattle.flagops_commands.specs.Apply.{IsApplyReport, IsLocalReport, applied_report, document_line, none_report};
 ghost use Rattle.flagops_commands.specs.Calls.{apply_calls, apply_itself};
 ghost use Rattle.flagops_files.specs.Refusal.{ComesFrom, GivesOne, GivesUnlessWant, is_file_fault};
-ghost use Rattle.flagops_files.specs.Report.{done, outcome_view};
+ghost use Rattle.flagops_files.specs.Report.{done};
+ghost use Rattle.flagops_shell.specs.Report.{outcome_view};
 ghost use Rattle.flagops_files.specs.Told.{TellsOfOne, file};
 ghost use Rattle.flagops_commands.specs.Subjects.{apply_subjects, is_of_plan};
 
 use flag_defs::{Flags, print_flags};
-use flagops_files::{
-    Call, FileSet, Outcome, Refusal, Refused, Remark, Status, load_flags, load_planned,
-};
+use flagops_files::{Call, Refusal, Refused, load_flags, load_planned};
+use flagops_shell::{FileSet, Outcome, Remark, Status};
 use flagops_remarks::of_applied;
 use plan_text::Planned;
 use std::alloc::{AllocError, Global};
@@ -76,7 +76,7 @@ fn document(alloc: Global, flags: &Flags) -> Result<Outcome, Refused>
 {
     match document_line(alloc, flags) {
         Ok(text) => Ok(Outcome::plain(text, Status::Done)),
-        Err(AllocError) => Err(Refused::out_of_memory(Call::Apply)),
+        Err(AllocError) => Err(out_of_memory(Call::Apply)),
     }
 }
 
@@ -88,7 +88,7 @@ fn none(alloc: Global) -> Result<Outcome, Refused>
 {
     match Vec::from_slice(alloc, b"none\n") {
         Ok(text) => Ok(Outcome::plain(text, Status::NoneExists)),
-        Err(AllocError) => Err(Refused::out_of_memory(Call::Apply)),
+        Err(AllocError) => Err(out_of_memory(Call::Apply)),
     }
 }
 

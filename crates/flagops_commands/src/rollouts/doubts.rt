@@ -3,12 +3,14 @@ ghost use Rattle.std.specs.Prelude.{◌≡◌, false, is_some, IfErr, IfOk, IfSo
 ghost use Rattle.flagops_commands.specs.Doubts.{NamesDoubt, NamesDoubted, doubt_of, doubt_subjects, first_doubt, is_unread, settle};
 ghost use Rattle.flagops_files.specs.Question.{question_view};
 ghost use Rattle.flagops_files.specs.Refusal.{GivesUnlessWant, call_of, is_file_fault};
-ghost use Rattle.flagops_files.specs.Told.{Says, TellsOfOne};
+ghost use Rattle.flagops_files.specs.Told.{TellsOfOne};
+ghost use Rattle.flagops_shell.specs.Diagnostic.{Says};
 ghost use Rattle.flagops_remarks.specs.Named.{Names};
 
 use crate::rollouts::recorded::doubt_of_recorded;
 use flag_text::{TextFault, read_tree};
-use flagops_files::{Call, Doubt, Question, Refusal, Refused, Remark, TEXT_LIMIT};
+use flagops_files::{Call, Doubt, Question, Refusal, Refused, TEXT_LIMIT};
+use flagops_shell::Remark;
 use flagops_remarks::of_unread;
 use std::alloc::{AllocError, Global};
 use std::thread::Threads;
@@ -40,7 +42,7 @@ pub fn settled<R: Threads>(
 {
     match doubted(rt, alloc, request, book, question) {
         Ok(doubted) => settle(call, request, book, doubted, strict),
-        Err(AllocError) => Err(Refused::out_of_memory(call)),
+        Err(AllocError) => Err(out_of_memory(call)),
     }
 }
 

@@ -2,12 +2,13 @@
 ghost use Rattle.std.specs.Prelude.{◌≡◌, ◌||◌, is_some, IfOk, IfSome, string_bytes};
 ghost use Rattle.bucket_core.specs.Rule.{IsRuleTotal};
 ghost use Rattle.flagops_commands.specs.Doubts.{NamesDoubted};
-ghost use Rattle.flagops_files.specs.Told.{Says};
+ghost use Rattle.flagops_shell.specs.Diagnostic.{Says};
 ghost use Rattle.flagops_remarks.specs.Named.{Names};
 
 use crate::rollouts::doubts::joined;
 use crate::rollouts::recorded::page_asked;
-use flagops_files::{Evidence, Question, Remark};
+use flagops_files::{Evidence, Question};
+use flagops_shell::Remark;
 use flagops_remarks::of_planned;
 use flagops_words::{Factor, factor_of};
 use page_tally::{BookFile, Recorded};

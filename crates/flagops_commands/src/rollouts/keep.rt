@@ -3,24 +3,25 @@ ghost use Rattle.std.specs.Prelude.{◌≡◌, ◌||◌, [], ◌∷◌, false, i
 ghost use Rattle.plan_text.specs.Answer.{planned_view};
 ghost use Rattle.flagops_commands.specs.Apply.{none_report};
 ghost use Rattle.flagops_commands.specs.Calls.{apply_itself, keep_calls, puts_document};
-ghost use Rattle.flagops_commands.specs.Drive.{KeepsUnlessDone};
+ghost use Rattle.flagops_shell.specs.Ending.{KeepsUnlessDone};
 ghost use Rattle.flagops_commands.specs.Keep.{IsKeepReport, IsKeepWith, IsKeptPut, IsWritten, LeavesDocument, kept_view, written_text};
 ghost use Rattle.flagops_commands.specs.Subjects.{is_of_kept_answer, is_of_kept_document, is_of_kept_request, keep_subjects};
 ghost use Rattle.flagops_commands.specs.Doubts.{NamesDoubted, doubt_subjects};
-ghost use Rattle.flagops_files.specs.Files.{KeepsOthers};
+ghost use Rattle.flagops_shell.specs.Files.{KeepsOthers};
 ghost use Rattle.flagops_files.specs.Question.{question_view};
 ghost use Rattle.flagops_files.specs.Refusal.{ComesFrom, GivesOne, GivesUnlessWant, is_file_fault};
-ghost use Rattle.flagops_files.specs.Report.{beside, outcome_view};
-ghost use Rattle.flagops_files.specs.Told.{Says, TellsOfOne, file};
+ghost use Rattle.flagops_files.specs.Report.{beside};
+ghost use Rattle.flagops_shell.specs.Report.{outcome_view};
+ghost use Rattle.flagops_files.specs.Told.{TellsOfOne, file};
+ghost use Rattle.flagops_shell.specs.Diagnostic.{Says};
 ghost use Rattle.flagops_files.specs.declared.refusal.Call.TheVariants.{Apply};
 ghost use Rattle.flagops_files.specs.declared.refusal.Refusal.TheVariants.{WantOfMemory};
 
 use crate::rollouts::doubts::settled;
 use crate::rollouts::kept::kept;
 use crate::rollouts::verify::Paths;
-use flagops_files::{
-    Call, FileSet, Outcome, Question, Refused, Remark, Status, load_planned, load_question, store,
-};
+use flagops_files::{Call, Question, Refused, load_planned, load_question, store};
+use flagops_shell::{FileSet, Outcome, Remark, Status};
 use flagops_words::{Factor, factor_of};
 use plan_text::Planned;
 use std::alloc::{AllocError, Global};
@@ -133,7 +134,7 @@ fn none(alloc: Global, remark: Option<Remark>) -> Result<Outcome, Refused>
             status: Status::NoneExists,
             remark,
         }),
-        Err(AllocError) => Err(Refused::out_of_memory(Call::Apply)),
+        Err(AllocError) => Err(out_of_memory(Call::Apply)),
     }
 }
 
@@ -169,7 +170,7 @@ fn written_line(alloc: Global, count: usize) -> Result<String, Refused>
 {
     match written_text(alloc, count) {
         Ok(line) => Ok(line),
-        Err(AllocError) => Err(Refused::out_of_memory(Call::Apply)),
+        Err(AllocError) => Err(out_of_memory(Call::Apply)),
     }
 }
 

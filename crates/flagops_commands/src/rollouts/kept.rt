@@ -15,7 +15,8 @@ ghost use Rattle.flagops_files.specs.Told.{TellsOf, TellsOfOne, file};
 use crate::rollouts::verify::{Paths, lines_on, verified};
 use bucket_core::Rule;
 use flag_defs::Flags;
-use flagops_files::{Call, KeepRefusal, Question, Refusal, Refused, Remark};
+use flagops_files::{Call, KeepRefusal, Question, Refusal, Refused};
+use flagops_shell::Remark;
 use flagops_remarks::{of_applied, of_kept};
 use flagops_words::Factor;
 use kept_document::{KeepFault, keep};
@@ -87,7 +88,7 @@ fn kept_for(
                 rule,
             )
         }
-        Err(PriceFault::WantOfMemory) => Err(Refused::out_of_memory(Call::Apply)),
+        Err(PriceFault::WantOfMemory) => Err(out_of_memory(Call::Apply)),
         // A request that was verified is read.
         Err(_) => unreachable!(),
     }

@@ -7,18 +7,19 @@ ghost use Rattle.flag_defs.specs.Flags.{flags_view};
 ghost use Rattle.flagops_files.specs.Question.{question_view};
 ghost use Rattle.flagops_commands.specs.Calls.{plan_calls, prints_plan};
 ghost use Rattle.flagops_files.specs.Refusal.{ComesFrom, GivesOne, GivesUnlessWant, is_file_fault};
-ghost use Rattle.flagops_files.specs.Report.{beside, outcome_view, status_number};
+ghost use Rattle.flagops_files.specs.Report.{beside};
+ghost use Rattle.flagops_shell.specs.Report.{outcome_view, status_number};
 ghost use Rattle.flagops_remarks.specs.Named.{Names};
-ghost use Rattle.flagops_files.specs.Told.{Says, TellsOfOne, file, word};
+ghost use Rattle.flagops_files.specs.Told.{TellsOfOne, file, word};
+ghost use Rattle.flagops_shell.specs.Diagnostic.{Says};
 ghost use Rattle.flagops_commands.specs.Subjects.{is_of_request, is_of_size, plan_subjects, the_plan};
 ghost use Rattle.flagops_commands.specs.Doubts.{NamesDoubted, doubt_subjects};
 
 use crate::rollouts::doubts::settled;
 use crate::rollouts::explained::told;
 use flag_defs::Flags;
-use flagops_files::{
-    Call, Evidence, FileSet, Outcome, Question, Refusal, Refused, Remark, Status, load_question,
-};
+use flagops_files::{Call, Evidence, Question, Refusal, Refused, load_question};
+use flagops_shell::{FileSet, Outcome, Remark, Status};
 use flagops_remarks::{of_large_plan, of_other_tally, of_rollout};
 use flagops_words::{Factor, factor_of};
 use plan_text::{Planned, print_planned_line};

@@ -12,13 +12,14 @@ ghost use Rattle.flagops_commands.specs.Doubts.{NamesDoubt, doubt_in, recorded_d
 ghost use Rattle.flagops_commands.specs.Foreign.{has_foreign_input, is_foreign};
 ghost use Rattle.flagops_commands.specs.Unrecorded.{has_no_input, is_unrecorded, page_asked, page_in};
 ghost use Rattle.flagops_files.specs.Question.{question_view};
-ghost use Rattle.flagops_files.specs.Told.{Says};
+ghost use Rattle.flagops_shell.specs.Diagnostic.{Says};
 ghost use Rattle.flagops_remarks.specs.Named.{Names};
 
 use crate::rollouts::doubts::NotedDoubt;
 use book_core::{Book, BookFileFault, Page, read_book};
 use flag_defs::{Flag, Flags};
-use flagops_files::{Doubt, Evidence, Question, Remark};
+use flagops_files::{Doubt, Evidence, Question};
+use flagops_shell::Remark;
 use flagops_remarks::{of_empty_tally, of_foreign, of_unrecorded};
 use logic_ast::LogicFault;
 use page_tally::BookFile;

@@ -5,21 +5,21 @@ ghost use Rattle.plan_text.specs.Answer.{planned_view};
 ghost use Rattle.flagops_files.specs.Question.{question_view};
 ghost use Rattle.flagops_commands.specs.Calls.{verify_calls, verify_itself};
 ghost use Rattle.flagops_files.specs.Refusal.{ComesFrom, GivesOne, GivesUnlessWant, is_file_fault};
-ghost use Rattle.flagops_files.specs.Report.{beside, done, outcome_view};
+ghost use Rattle.flagops_files.specs.Report.{beside, done};
+ghost use Rattle.flagops_shell.specs.Report.{outcome_view};
 ghost use Rattle.flagops_commands.specs.Verify.{IsShownOn, IsToldOn, IsVerdict, IsVerifyReport, MayBeTold, valid_as, valid_json, valid_text};
 ghost use Rattle.flagops_files.specs.declared.evidence.Evidence.TheVariants.{Book, Tally};
 ghost use Rattle.flagops_remarks.specs.Named.{Names};
-ghost use Rattle.flagops_files.specs.Told.{Says, TellsOfOne, file};
+ghost use Rattle.flagops_files.specs.Told.{TellsOfOne, file};
+ghost use Rattle.flagops_shell.specs.Diagnostic.{Says};
 ghost use Rattle.flagops_commands.specs.Subjects.{NamesVerified, is_of_answer, is_of_request, verify_subjects};
 ghost use Rattle.flagops_commands.specs.Doubts.{NamesDoubted, doubt_subjects};
 
 use crate::rollouts::doubts::settled;
 use crate::rollouts::plan::lines_on_request;
 use flag_defs::Flags;
-use flagops_files::{
-    Call, Evidence, FileSet, Outcome, Question, Refusal, Refused, Remark, Status, load_planned,
-    load_question,
-};
+use flagops_files::{Call, Evidence, Question, Refusal, Refused, load_planned, load_question};
+use flagops_shell::{FileSet, Outcome, Remark, Status};
 use flagops_remarks::of_check;
 use flagops_words::{Factor, factor_of};
 use page_tally::BookFile;
@@ -119,7 +119,7 @@ fn valid(
             status: Status::Done,
             remark,
         }),
-        Err(AllocError) => Err(Refused::out_of_memory(Call::Verify)),
+        Err(AllocError) => Err(out_of_memory(Call::Verify)),
     }
 }
 

@@ -1,6 +1,6 @@
 use denote.Ref.{Bor}
 use Rattle.std.proofs.Common.{◌∷◌, ℕ, List, IfSome, map, subst}
-use Rattle.flagops_commands.specs.Telling.{Wants}
+use Rattle.flagops_shell.specs.Usage.{Wants}
 use Rattle.flagops_files.proofs.Ending.{answered}
 use Rattle.flagops_filters.specs.Join.{IsJoinReport, join_want}
 use Rattle.flagops_filters.specs.Refusal.{is_want, line_of}

@@ -1,5 +1,5 @@
 use Rattle.std.proofs.Common.{map}
-use Rattle.flagops_commands.specs.Telling.{Wants}
+use Rattle.flagops_shell.specs.Usage.{Wants}
 use Rattle.clap.specs.Words.{kind_of}
 use Rattle.flagops_filters.specs.Record.{RecordAnswers, record_want}
 use Rattle.flagops_filters.specs.Words.{record_by, record_faults, recording_view}

@@ -1,5 +1,5 @@
 use Rattle.std.proofs.Common.{ℕ, List, is_some, Vec, Global, ap, ◌∙◌}
-use Rattle.flagops_files.specs.Report.{Report}
+use Rattle.flagops_shell.specs.Report.{Report}
 use Rattle.flagops_filters.proofs.tallying.printed.Goals as goal
 
 pub returns-in-Ok : goal.returns-in-Ok

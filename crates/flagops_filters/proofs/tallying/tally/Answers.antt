@@ -1,5 +1,5 @@
 use Rattle.std.proofs.Common.{map}
-use Rattle.flagops_commands.specs.Telling.{Wants}
+use Rattle.flagops_shell.specs.Usage.{Wants}
 use Rattle.flagops_filters.specs.Tally.{IsTallyReport, tally_want}
 use Rattle.clap.specs.Words.{kind_of}
 use Rattle.flagops_filters.specs.Report.{Reports}

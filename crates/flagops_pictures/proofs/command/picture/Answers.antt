@@ -1,6 +1,6 @@
 use Rattle.std.proofs.Common.{Ok, Err, map}
-use Rattle.flagops_commands.specs.Telling.{Wants}
-use Rattle.flagops_files.specs.Report.{ReportsAll}
+use Rattle.flagops_shell.specs.Usage.{Wants}
+use Rattle.flagops_shell.specs.Report.{ReportsAll}
 use Rattle.flagops_pictures.specs.Pictured.{IsPictureReport, picture_calls}
 use Rattle.flagops_pictures.specs.Words.{asked_view, picture_by}
 use Rattle.flagops_pictures.proofs.Pictures.{written_by}

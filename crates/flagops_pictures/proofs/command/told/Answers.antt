@@ -1,5 +1,5 @@
 use Rattle.std.proofs.Common.{◌≡◌, Bool, ℕ, List, Result, Ok, Vec, Global, ap, ap₂, string_bytes, sym}
-use Rattle.flagops_files.specs.Report.{Report}
+use Rattle.flagops_shell.specs.Report.{Report}
 use Rattle.flagops_files.specs.declared.refusal.Refusal.{Refusal}
 use Rattle.flagops_pictures.proofs.command.told.Goals as goal
 

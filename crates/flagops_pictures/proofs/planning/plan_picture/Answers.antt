@@ -1,6 +1,6 @@
 use Rattle.std.proofs.Common.{Ok, Err, map}
-use Rattle.flagops_commands.specs.Telling.{Wants}
-use Rattle.flagops_files.specs.Report.{ReportsAll}
+use Rattle.flagops_shell.specs.Usage.{Wants}
+use Rattle.flagops_shell.specs.Report.{ReportsAll}
 use Rattle.flagops_pictures.specs.Planning.{IsPlanPicture, plan_calls}
 use Rattle.flagops_pictures.specs.Words.{plan_by, planning_view}
 use Rattle.flagops_pictures.proofs.Pictures.{written_by}

@@ -1,5 +1,5 @@
 use Rattle.std.proofs.Common.{◌≡◌, Err, List, ℕ, refl, rules, string_bytes, subst}
-use Rattle.flagops_files.specs.Files.{Stores}
+use Rattle.flagops_shell.specs.Files.{Stores}
 use Rattle.flagops_files.specs.Question.{question_view}
 use Rattle.flagops_files.specs.declared.refusal.Call.TheVariants as call
 use Rattle.flagops_pictures.specs.Words.{planning_view}

@@ -1,6 +1,6 @@
 use Rattle.std.proofs.Common.{List, Ok, map, subst}
 use Rattle.flag_defs.specs.Flags.{flags_view}
-use Rattle.flagops_files.specs.Report.{outcome_view}
+use Rattle.flagops_shell.specs.Report.{outcome_view}
 use Rattle.plan_text.specs.Answer.{planned_view}
 use Rattle.plan_text.specs.declared.planned.Planned.{Planned}
 use Rattle.flagops_ramps.specs.Apply.{IsStepApplied}

@@ -1,7 +1,7 @@
 use Rattle.std.proofs.Common.{Result, Ok, Err, map, option_map, sym, ap, ◌∙◌, subst}
 use Rattle.flagops_files.specs.Question.{BookQuestion, book_question_view}
-use Rattle.flagops_files.specs.Report.{outcome_view}
-use Rattle.flagops_files.specs.declared.outcome.Outcome.{Outcome}
+use Rattle.flagops_shell.specs.Report.{outcome_view}
+use Rattle.flagops_shell.specs.declared.outcome.Outcome.{Outcome}
 use Rattle.plan_text.specs.Answer.{planned_view}
 use Rattle.ramp_steps.specs.Steps.{requests_view, steps_of}
 use Rattle.flagops_ramps.specs.Ramp.{IsRampOver}

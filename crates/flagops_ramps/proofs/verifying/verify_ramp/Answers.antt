@@ -1,5 +1,5 @@
 use Rattle.std.proofs.Common.{map}
-use Rattle.flagops_commands.specs.Telling.{Wants}
+use Rattle.flagops_shell.specs.Usage.{Wants}
 use Rattle.flagops_ramps.specs.Ended.{verify_want}
 use Rattle.flagops_ramps.specs.Verify.{IsVerdictReport}
 use Rattle.flagops_ramps.specs.Words.{verify_by, verifying_view}

@@ -1,6 +1,6 @@
 use Rattle.std.proofs.Common.{◌≡◌, Err, ap, arith, length, map, refl}
 use Rattle.std.proofs.lemmas.List.{length-map}
-use Rattle.flagops_commands.specs.Telling.{Wants}
+use Rattle.flagops_shell.specs.Usage.{Wants}
 use Rattle.flagops_streams.specs.Loading.{documents_view}
 use Rattle.flagops_streams.specs.Documents.{count_of}
 use Rattle.flagops_service.specs.Ended.{Reports}

@@ -1,5 +1,5 @@
 use Rattle.std.proofs.Common.{[], Err, map, refl}
-use Rattle.flagops_commands.specs.Telling.{Wants}
+use Rattle.flagops_shell.specs.Usage.{Wants}
 use Rattle.flagops_streams.specs.Documents.{count_of}
 use Rattle.flagops_streams.specs.Report.{Reports}
 use Rattle.flagops_streams.specs.Told.{IsServeLine}

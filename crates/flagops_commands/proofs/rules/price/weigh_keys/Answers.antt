@@ -4,7 +4,7 @@ use Rattle.std.specs.Str.{bytes_eq}
 use Rattle.std.proofs.lemmas.List.Filters.{dedup_is}
 use Rattle.flagops_files.specs.Loading.{◌>>=◌}
 use Rattle.flagops_files.specs.Refusal.{GivesUnlessWant, is_want}
-use Rattle.flagops_files.specs.Report.{outcome_view}
+use Rattle.flagops_shell.specs.Report.{outcome_view}
 use Rattle.rule_text.specs.Texts.{texts_view}
 use Rattle.flagops_commands.specs.Price.{are_taken, weighed}
 use Rattle.flagops_commands.proofs.Distinct.{exposed-apart}
