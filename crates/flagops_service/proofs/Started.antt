@@ -29,23 +29,11 @@ serves_as seats d (Ok all) Reported (inr gives) p =
     inl (subst (λ (k : ℕ). Reported (Ok k)) count p)
 serves_as seats d (Err refusal) Reported starts p = inr (refusal, p)
 
--- the same, for words that ask for as many documents
-pub served : (asked : Option Answering) (a : Answering) (d : Loaded) (answer : Answer) (Reported : Result ℕ Refusal → Type 0) (Wanted : Type 0)
-    → asked ≡ Some a → length d.texts ≡ length a.documents → StartsOn (seats_of a) d answer → Reported (count_of answer)
-    → IfSome asked (λ t. Reported (Ok (length t.documents)) ⊎ ((refusal : Refusal) × Reported (Err refusal)) ⊎ Wanted)
-served asked a d answer Reported Wanted is count starts report =
-    subst (λ (o : Option Answering). IfSome o (λ t. Reported (Ok (length t.documents)) ⊎ ((refusal : Refusal) × Reported (Err refusal)) ⊎ Wanted)) (sym is)
-    (by (serves_as (seats_of a) d answer Reported starts report))
-  where
-    by : Reported (Ok (length d.texts)) ⊎ ((refusal : Refusal) × Reported (Err refusal)) → Reported (Ok (length a.documents)) ⊎ ((refusal : Refusal) × Reported (Err refusal)) ⊎ Wanted
-    by (inl p) = inl (subst (λ (k : ℕ). Reported (Ok k)) count p)
-    by (inr refused) = inr (inl refused)
-
--- and where they were not loaded
-pub unserved : (asked : Option Answering) (a : Answering) (refusal : Refusal) (Reported : Result ℕ Refusal → Type 0) (Wanted : Type 0)
-    → asked ≡ Some a → Reported (Err refusal) → IfSome asked (λ t. Reported (Ok (length t.documents)) ⊎ ((r : Refusal) × Reported (Err r)) ⊎ Wanted)
-unserved asked a refusal Reported Wanted is report =
-    subst (λ (o : Option Answering). IfSome o (λ t. Reported (Ok (length t.documents)) ⊎ ((r : Refusal) × Reported (Err r)) ⊎ Wanted)) (sym is) (inr (inl (refusal, report)))
+-- the same, of as many documents as are asked for
+pub served : (a : Answering) (d : Loaded) (answer : Answer) (Reported : Result ℕ Refusal → Type 0) (n : ℕ)
+    → length d.texts ≡ n → StartsOn (seats_of a) d answer → Reported (count_of answer) → Reported (Ok n) ⊎ ((refusal : Refusal) × Reported (Err refusal))
+served a d answer Reported n count starts report =
+    subst (λ (k : ℕ). Reported (Ok k) ⊎ ((refusal : Refusal) × Reported (Err refusal))) count (serves_as (seats_of a) d answer Reported starts report)
 
 -- documents that were merged are answered from, or not
 pub begun : (seats n : ℕ) (d : Loaded) (all : List Definitions) (Reported : Result ℕ Refusal → Type 0) → n ≡ length d.texts → Gives d.sources d.texts [] (Ok all)
@@ -64,13 +52,11 @@ loaded_started at a d (Err refusal) loaded starts = λ _. subst (λ (r : Result 
 not_loaded : (at : Holding) (a : Answering) (refusal : Refusal) → (is_want refusal ≡ false → loaded_at at a.documents ≡ Err refusal) → StartsTo at a (Err refusal)
 not_loaded at a refusal loaded = λ other. subst (λ (r : Result Loaded Refusal). StartsLoaded (seats_of a) r (Err refusal)) (sym (loaded other)) refl
 
--- an answer to words that ask for this, and its report
-pub answered : (holding : Option Holding) (asked : Option Answering) (a : Answering) (answer : Answer) (Reported : Answer → Type 0) (Wanted : Type 0)
-    → asked ≡ Some a → IfSome holding (λ at. StartsTo at a answer) → Reported answer
-    → IfSome asked (λ t. IfSome holding (λ at. ((r : Answer) × StartsTo at t r × Reported r) ⊎ Wanted))
-answered holding asked a answer Reported Wanted is answers report =
-    subst (λ (o : Option Answering). IfSome o (λ t. IfSome holding (λ at. ((r : Answer) × StartsTo at t r × Reported r) ⊎ Wanted))) (sym is)
-    (where_known holding (λ at. StartsTo at a answer) (λ at. ((r : Answer) × StartsTo at a r × Reported r) ⊎ Wanted) (λ at h. inl (answer, h, report)) answers)
+-- an answer to what is asked, and its report
+pub answered : (holding : Option Holding) (a : Answering) (answer : Answer) (Reported : Answer → Type 0)
+    → IfSome holding (λ at. StartsTo at a answer) → Reported answer → IfSome holding (λ at. (r : Answer) × StartsTo at a r × Reported r)
+answered holding a answer Reported answers report =
+    where_known holding (λ at. StartsTo at a answer) (λ at. (r : Answer) × StartsTo at a r × Reported r) (λ at h. (answer, h, report)) answers
 
 -- the same over the words' own paths, of which the slice was taken
 module _ {X : Type 0} (now : X → List ℕ) (slice items : List X) (same : slice ≡ items) (holding : Option Holding) (a : Answering) (paths : a.documents ≡ map now items) where
