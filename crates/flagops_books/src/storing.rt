@@ -14,7 +14,7 @@ ghost use Rattle.flagops_shell.specs.declared.refused.Remark.TheVariants.{Lines}
 
 use crate::uniting::Gathered;
 use book_core::{Book, print_book};
-use flagops_files::{Call, Refusal, Refused, store};
+use flagops_files::{Call, Refusal, Refused, out_of_memory, store};
 use flagops_shell::{FileSet, Outcome, Remark, Status};
 use std::alloc::{AllocError, Global};
 

@@ -20,7 +20,7 @@ use crate::printing::push_document;
 use crate::remark_lines::RemarkLines;
 use flag_defs::Flags;
 use flag_doubts::Repeated;
-use flagops_files::{Call, Refused};
+use flagops_files::{Call, Refused, out_of_memory};
 use flagops_shell::FileSet;
 use std::alloc::{AllocError, Global};
 use std::mem;

@@ -20,17 +20,9 @@ use Rattle.flagops_files.specs.Refusal.{Refused}
 use Rattle.flagops_files.specs.declared.refusal.Call.TheVariants as call
 use Rattle.flagops_files.specs.declared.refusal.Refusal.{Refusal}
 use Rattle.flagops_files.specs.declared.refusal.Refusal.TheVariants.{Drive}
-use Rattle.flagops_commands.specs.Doubts.{settle}
+use Rattle.flagops_rollouts.specs.Doubts.{settle}
 use Rattle.flagops_commands.specs.Drive.{AreRead, IsAnswered, IsDriveReport, IsDriveOutputOf, IsWritten, LeavesBook, admitted, before_at, doubt_of_asks, recorded}
 use Rattle.flagops_shell.specs.Ending.{KeepsUnlessDone}
-
--- files that stayed until the storing
-pub kept_after : {E : Type 0} (old mid last new : Option Holding) (r : Result Outcome E) → mid ≡ old → last ≡ mid → KeepsUnlessDone last new r → KeepsUnlessDone old new r
-kept_after old mid last new r first second (inl same) = inl (same ∙ second ∙ first)
-kept_after old mid last new r first second (inr done) = inr done
-
-pub others_after : (old mid new : Option Holding) (path : List ℕ) → mid ≡ old → KeepsOthers mid new path → KeepsOthers old new path
-others_after old mid new path same kept = subst (λ (h : Option Holding). KeepsOthers h new path) same kept
 
 -- ---- the book is written
 

@@ -17,7 +17,7 @@ use Rattle.flagops_files.specs.declared.refusal.Refusal.{Refusal}
 use Rattle.flagops_files.specs.declared.refusal.Doubt.TheVariants as doubt
 use Rattle.flagops_files.specs.declared.refusal.Refusal.TheVariants.{Drive, Doubted}
 use Rattle.flagops_files.specs.Refusal.{Refused}
-use Rattle.flagops_commands.specs.Doubts.{settle}
+use Rattle.flagops_rollouts.specs.Doubts.{settle}
 use Rattle.flagops_commands.specs.Drive.{HasNoAsks, HasUnreadAsk, IsRefusedByName, admitted}
 use Rattle.flagops_shell.specs.Ending.{KeepsUnlessDone}
 use Rattle.flagops_shell.specs.declared.outcome.Outcome.{Outcome}

@@ -1,14 +1,15 @@
 -- The table of the commands.
 use Rattle.std.specs.Prelude.{◌≡◌, Bool, true, false, Option}
-use Rattle.flagops_commands.specs.Apply.{IsApplyReport}
+use Rattle.flagops_rollouts.specs.Apply.{IsApplyReport}
 use Rattle.flagops_commands.specs.Bucket.{bucket_report}
 use Rattle.flagops_commands.specs.Completions.{completions_report}
 use Rattle.flagops_commands.specs.Drive.{IsDriveReport, LeavesBook}
 use Rattle.flagops_shell.specs.Files.{Holding}
-use Rattle.flagops_commands.specs.Keep.{IsKeepReport, LeavesDocument}
-use Rattle.flagops_commands.specs.Plan.{IsPlanReport}
+use Rattle.flagops_rollouts.specs.Keep.{IsKeepReport, LeavesDocument}
+use Rattle.flagops_rollouts.specs.Plan.{IsPlanReport}
 use Rattle.flagops_commands.specs.Price.{price_report}
-use Rattle.flagops_commands.specs.Calls.{bucket_calls, completions_calls, price_calls, resolve_calls, verify_calls, apply_calls, keep_calls, plan_calls, drive_calls}
+use Rattle.flagops_commands.specs.Calls.{bucket_calls, completions_calls, price_calls, resolve_calls, drive_calls}
+use Rattle.flagops_rollouts.specs.Calls.{verify_calls, apply_calls, keep_calls, plan_calls}
 use Rattle.flagops_commands.specs.Subjects.{remark_of}
 use Rattle.flagops_files.specs.Described.{described}
 use Rattle.flagops_files.specs.Report.{Outcomes}
@@ -16,7 +17,7 @@ use Rattle.flagops_files.specs.declared.refusal.Refusal.{Refusal}
 use Rattle.flagops_shell.specs.Running.{Description}
 use Rattle.flagops_words.specs.Words.{asked_by, faults_of}
 use Rattle.flagops_commands.specs.Resolve.{IsResolveReport}
-use Rattle.flagops_commands.specs.Verify.{IsVerifyReport}
+use Rattle.flagops_rollouts.specs.Verify.{IsVerifyReport}
 use Rattle.flagops_files.specs.declared.refusal.Call.{Call}
 use Rattle.flagops_files.specs.declared.refusal.Call.TheVariants as call
 use Rattle.flagops_words.specs.Asked.{Asked, bucket, price, resolve, verify, apply, keep, plan, drive, completions}

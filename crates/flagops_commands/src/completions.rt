@@ -6,7 +6,7 @@ ghost use Rattle.flagops_files.specs.Refusal.{ComesFrom, GivesUnlessWant, is_fil
 ghost use Rattle.flagops_shell.specs.Report.{outcome_view};
 ghost use Rattle.flagops_files.specs.Told.{TellsOfOne};
 
-use flagops_files::{Call, Refused};
+use flagops_files::{Call, Refused, out_of_memory};
 use flagops_shell::{Outcome, Status};
 use flagops_words::Shell;
 use std::alloc::{AllocError, Global};

@@ -25,15 +25,7 @@ mod books;
 mod commands;
 mod completions;
 mod flags;
-mod laws;
-mod lines;
 mod listed;
-mod rollouts;
 mod rules;
 
-pub use laws::{printed_plans_are_valid, tallies_answer_as_books, unread_members_are_passed_over};
-pub use lines::{fault_line, file_line, whole_line};
 pub use listed::Listed;
-pub use rollouts::doubts::{NotedDoubt, remark_in, unread};
-pub use rollouts::plan::answer as plan_answer;
-pub use rollouts::recorded::doubt_in_book;

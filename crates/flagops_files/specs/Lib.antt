@@ -2,6 +2,7 @@ pub mod Described
 pub mod Documents
 pub mod Evidence
 pub mod Keeping
+pub mod Lines
 pub mod Loading
 pub mod Payload
 pub mod PlanFile

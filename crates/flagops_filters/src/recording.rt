@@ -19,7 +19,7 @@ use crate::remarks::{counted_lines, flag_line, input_line, marked_line};
 use crate::words::read_record;
 use flag_defs::Flags;
 use flag_text::Outlet;
-use flagops_commands::report_usage;
+use flagops_shell::report_usage;
 use flagops_files::{Refusal, Refused, finish, load_flags};
 use flagops_shell::{FileSet, Remark, tell};
 use flagops_remarks::Ends as FileEnds;

@@ -5,7 +5,7 @@ ghost use Rattle.tally_filters.specs.Fault as filters;
 ghost use Rattle.flagops_filters.specs.Refusal.{filter_items, filter_name, is_want, join_name, join_number, line_of, number_of, record_name};
 ghost use Rattle.flagops_filters.specs.declared.refusal.FilterRefusal.TheVariants.{Load, Record, Tally};
 
-use flagops_commands::fault_line;
+use flagops_files::fault_line;
 use flagops_files::{Refusal, number_item};
 use flagops_shell::CommandRefusal;
 use note_streams::{RecordStop, TallyStop};

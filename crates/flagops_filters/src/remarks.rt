@@ -1,6 +1,6 @@
 //! What a person is told of a filter.
 ghost use Rattle.std.specs.Prelude.{IfOk, string_bytes};
-ghost use Rattle.flagops_commands.specs.Lines.{NamesFile};
+ghost use Rattle.flagops_files.specs.Lines.{NamesFile};
 
 use flagops_files::quoted;
 use note_streams::Counted;

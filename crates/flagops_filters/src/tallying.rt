@@ -21,7 +21,7 @@ use book_core::Page;
 use bucket_core::total_weight;
 use flag_defs::Flags;
 use flag_text::Outlet;
-use flagops_commands::report_usage;
+use flagops_shell::report_usage;
 use flagops_files::{Refusal, Refused, finish, load_flags};
 use flagops_shell::{FileSet, Outcome, Remark, Status};
 use flagops_remarks::Ends as FileEnds;

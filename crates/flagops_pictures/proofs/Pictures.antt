@@ -1,7 +1,7 @@
 -- What was loaded in turn and then drawn, as one report.
 use Rattle.std.proofs.Common.{◌≡◌, ◌⊎◌, ℕ, List, Bool, is_some, true, false, Option, Some, None, IfErr, IfOk, IfSome, inl, inr, refl, sym, ap, ◌∙◌, subst}
 use Rattle.std.specs.Prelude.{Result, Ok, Err}
-use Rattle.flagops_commands.specs.Doubts.{doubt_of}
+use Rattle.flagops_rollouts.specs.Doubts.{doubt_of}
 use Rattle.flagops_shell.specs.Files.{Holding}
 use Rattle.flagops_files.specs.PlanFile.{plan_at}
 use Rattle.flagops_files.specs.Question.{BookQuestion, IsBookQuestionAt}

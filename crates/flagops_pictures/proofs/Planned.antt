@@ -2,7 +2,7 @@
 use Rattle.std.proofs.Common.{◌≡◌, ◌⊎◌, Bool, false, true, ℕ, List, Option, None, Some, Result, Ok, Err, unwrap_or, refl, ap, ◌∙◌, subst, sym, inl, inr}
 use Rattle.std.specs.Prelude.{IfErr, IfOk, IfSome, OnErr}
 use Rattle.book_core.specs.Book.{Contents}
-use Rattle.flagops_commands.specs.Plan.{IsPlanOf, IsPlannedOn}
+use Rattle.flagops_rollouts.specs.Plan.{IsPlanOf, IsPlannedOn}
 use Rattle.flagops_shell.specs.Files.{Holding, KeepsOthers, Stores}
 use Rattle.flagops_files.specs.Question.{BookQuestion, Question, IsBookQuestionAt, book_question_view}
 use Rattle.flagops_files.specs.Refusal.{GivesOne, is_want, unwritable}

@@ -4,7 +4,7 @@ use Rattle.flag_defs.specs.Document.{Definitions}
 use Rattle.plan_text.specs.Answer.{Answer}
 use Rattle.plan_text.specs.PlanFile.{answer_of}
 use Rattle.rollout_checks.specs.Refined.{problem_refined}
-use Rattle.flagops_commands.specs.Plan.{IsPlanOf}
+use Rattle.flagops_rollouts.specs.Plan.{IsPlanOf}
 use Rattle.flagops_shell.specs.Files.{Holding, KeepsOthers, Stores}
 use Rattle.flagops_files.specs.Question.{BookQuestion, Question, IsBookQuestionAt}
 use Rattle.flagops_files.specs.Refusal.{loads_book_question, unwritable}

@@ -1,6 +1,6 @@
 //! The command `picture`.
 ghost use Rattle.std.specs.Prelude.{◌≡◌, false, is_some, map, IfSome, Ok, option_map, string_bytes};
-ghost use Rattle.flagops_commands.specs.Doubts.{doubt_of};
+ghost use Rattle.flagops_rollouts.specs.Doubts.{doubt_of};
 ghost use Rattle.flagops_files.specs.Refusal.{ComesFrom, GivesOne, GivesUnlessWant};
 ghost use Rattle.flagops_files.specs.Question.{book_question_view};
 ghost use Rattle.flagops_files.specs.Report.{AnswersOrWants, beside};
@@ -15,8 +15,9 @@ use crate::checking::checked_picture;
 use crate::doubts::noted;
 use crate::words::read_picture;
 use flag_text::Outlet;
-use flagops_commands::{refused, report_usage};
-use flagops_files::{BookQuestion, Call, Refusal, Refused, load_book_question, load_planned};
+use flagops_commands::refused;
+use flagops_shell::report_usage;
+use flagops_files::{BookQuestion, Call, Refusal, Refused, load_book_question, load_planned, out_of_memory};
 use flagops_shell::{FileSet, Outcome, Remark, Status, report, want};
 use flagops_remarks::{of_check, of_rollout};
 use flagops_words::factor_of;

@@ -1,11 +1,11 @@
 //! What is doubted of an answer that is drawn, which a person is told.
 ghost use Rattle.std.specs.Prelude.{◌≡◌, is_some, IfOk};
-ghost use Rattle.flagops_commands.specs.Doubts.{doubt_of};
+ghost use Rattle.flagops_rollouts.specs.Doubts.{doubt_of};
 ghost use Rattle.flagops_files.specs.Question.{book_question_view};
 ghost use Rattle.flagops_pictures.specs.Pictured.{as_question};
 
 use crate::asked::Asked;
-use flagops_commands::{doubt_in_book, remark_in, unread};
+use flagops_rollouts::{doubt_in_book, remark_in, unread};
 use flagops_files::BookQuestion;
 use flagops_shell::Remark;
 use flagops_ramps::first_of;

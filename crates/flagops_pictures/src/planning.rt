@@ -1,6 +1,6 @@
 //! The command `plan --picture`.
 ghost use Rattle.std.specs.Prelude.{◌≡◌, ◌⊎◌, ◌<◌, Ok, false, map, option_map, unwrap_or, IfErr, IfOk, IfSome, OnErr, string_bytes};
-ghost use Rattle.flagops_commands.specs.Plan.{IsPlanOf};
+ghost use Rattle.flagops_rollouts.specs.Plan.{IsPlanOf};
 ghost use Rattle.flagops_shell.specs.Files.{KeepsOthers};
 ghost use Rattle.flagops_files.specs.Question.{book_question_view, question_view};
 ghost use Rattle.flagops_files.specs.Refusal.{ComesFrom, GivesOne};
@@ -15,8 +15,10 @@ use crate::asked::Planning;
 use crate::drawing::{Asked, drawn};
 use crate::words::read_plan;
 use flag_text::Outlet;
-use flagops_commands::{plan_answer, refused, report_usage};
-use flagops_files::{BookQuestion, Call, Evidence, Question, Refusal, Refused, load_book_question, store};
+use flagops_rollouts::plan_answer;
+use flagops_commands::refused;
+use flagops_shell::report_usage;
+use flagops_files::{BookQuestion, Call, Evidence, Question, Refusal, Refused, load_book_question, out_of_memory, store};
 use flagops_shell::{FileSet, Outcome, report, want};
 use flagops_words::factor_of;
 use page_tally::BookFile;

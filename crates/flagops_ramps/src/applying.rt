@@ -1,7 +1,7 @@
 //! The command `apply --step`.
 ghost use Rattle.std.specs.Prelude.{◌≡◌, false, map, option_map, string_bytes, IfOk, IfSome, Ok};
 ghost use Rattle.flag_defs.specs.Flags.{flags_view};
-ghost use Rattle.flagops_commands.specs.Apply.{IsLocalReport, applied_report, document_line, none_report};
+ghost use Rattle.flagops_rollouts.specs.Apply.{IsLocalReport, applied_report, document_line, none_report};
 ghost use Rattle.flagops_files.specs.Report.{done};
 ghost use Rattle.flagops_shell.specs.Report.{outcome_view};
 ghost use Rattle.flagops_ramps.specs.Apply.{IsStepApplied, IsStepReport, answer_to, as_came};
@@ -18,7 +18,7 @@ use crate::remarks::step_line;
 use crate::words::read_step;
 use flag_defs::{Flags, print_flags};
 use flag_text::Outlet;
-use flagops_commands::report_usage;
+use flagops_shell::report_usage;
 use flagops_files::{Refusal, Refused, finish, load_flags};
 use flagops_shell::{FileSet, Outcome, Remark, Status};
 use flagops_remarks::of_applied;

@@ -1,7 +1,7 @@
 //! What is doubted of answers to steps: a person is told, and `--strict` refuses it.
 ghost use Rattle.std.specs.Prelude.{◌≡◌, is_some, option_map, IfOk};
 ghost use Rattle.flag_text.specs.View.{members_view, view};
-ghost use Rattle.flagops_commands.specs.Doubts.{first_doubt};
+ghost use Rattle.flagops_rollouts.specs.Doubts.{first_doubt};
 ghost use Rattle.flagops_files.specs.Question.{book_question_view};
 ghost use Rattle.flagops_ramps.specs.Doubts.{doubt_of_steps, first_request, has_unread, has_unread_member, is_read, is_unread, settle};
 ghost use Rattle.flagops_ramps.specs.Report.{GivesUnlessWant};
@@ -11,7 +11,7 @@ use crate::asked::Ramping;
 use crate::judging::out_of_memory;
 use crate::refusal::{RampRefusal, StepCall};
 use flag_text::{TextFault, Tree, read_tree};
-use flagops_commands::{NotedDoubt, doubt_in_book, remark_in};
+use flagops_rollouts::{NotedDoubt, doubt_in_book, remark_in};
 use flagops_files::{BookQuestion, Doubt, Refused, TEXT_LIMIT};
 use flagops_shell::Remark;
 use flagops_remarks::of_unread;

@@ -1,6 +1,6 @@
 //! Answers to steps that stand in a file, which are loaded and judged for each command that takes them.
 ghost use Rattle.std.specs.Prelude.{◌≡◌, ◌≤◌, ◌⊎◌, true, length, map, option_map, string_bytes, IfOk, IfSome, Ok};
-ghost use Rattle.flagops_commands.specs.Lines.{NamesFile};
+ghost use Rattle.flagops_files.specs.Lines.{NamesFile};
 ghost use Rattle.flagops_files.specs.Question.{book_question_view};
 ghost use Rattle.flagops_ramps.specs.Judging.{AreRightAnswers, IsFoundAt, IsFoundOf, IsFoundOver, answered_view, answers_at, read_as, refused_as};
 ghost use Rattle.flagops_ramps.specs.Refusal.{is_want};
@@ -15,7 +15,7 @@ use crate::asked::Verifying;
 use crate::ramping::{count, of_steps};
 use crate::refusal::RampRefusal;
 use crate::remarks::{of_steps_in, step_line};
-use flagops_commands::{file_line, whole_line};
+use flagops_files::{file_line, whole_line};
 use flagops_files::{BookQuestion, Refused, load, load_book_question};
 use flagops_shell::{FileSet, Remark};
 use flagops_remarks::Ends;

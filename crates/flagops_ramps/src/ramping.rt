@@ -21,7 +21,7 @@ use crate::remarks::of_steps_in;
 use crate::words::read_ramp;
 use book_core::BookFileFault;
 use flag_text::Outlet;
-use flagops_commands::report_usage;
+use flagops_shell::report_usage;
 use flagops_files::{BookQuestion, Refused, finish, load_book_question};
 use flagops_shell::{FileSet, Outcome, Remark, Status};
 use flagops_remarks::of_large_plan;

@@ -3,7 +3,7 @@ ghost use Rattle.std.specs.Prelude.{◌≡◌, IfOk, string_bytes};
 ghost use Rattle.flagops_ramps.specs.Refusal.{call_name, is_want, line_of, number_of};
 ghost use Rattle.flagops_ramps.specs.declared.refusal.RampRefusal.TheVariants.{Load, Ramp, Read, Verify};
 
-use flagops_commands::fault_line;
+use flagops_files::fault_line;
 use flagops_files::{Doubt, Refusal, number_item, rollout_items, verify_items};
 use flagops_shell::CommandRefusal;
 use plan_text::PlanFileFault;

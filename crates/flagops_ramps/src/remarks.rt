@@ -1,11 +1,11 @@
 //! What a person is told of steps that are refused.
 ghost use Rattle.std.specs.Prelude.{◌⊎◌, IfOk, string_bytes};
-ghost use Rattle.flagops_commands.specs.Lines.{NamesFile};
+ghost use Rattle.flagops_files.specs.Lines.{NamesFile};
 ghost use Rattle.flagops_ramps.specs.Remarks.{NamesStep};
 ghost use Rattle.flagops_remarks.specs.Named.{Names};
 
 use flag_text::read_tree;
-use flagops_commands::file_line;
+use flagops_files::file_line;
 use flagops_files::{BookQuestion, TEXT_LIMIT, quoted};
 use flagops_remarks::of_text;
 use ramp::StepFault;

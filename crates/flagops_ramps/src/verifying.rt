@@ -15,7 +15,7 @@ use crate::judging::{RightAnswers, load_answers, out_of_memory};
 use crate::refusal::{RampRefusal, StepCall};
 use crate::words::read_verify;
 use flag_text::Outlet;
-use flagops_commands::report_usage;
+use flagops_shell::report_usage;
 use flagops_files::{Refused, finish};
 use flagops_shell::{FileSet, Outcome, Remark, Status};
 use plan_text::Planned;

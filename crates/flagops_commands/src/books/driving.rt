@@ -6,7 +6,7 @@ ghost use Rattle.flagops_drive.specs.Asks.{asks_of};
 ghost use Rattle.flagops_drive.specs.Driven.{drive_output_view, refusal_of};
 ghost use Rattle.flagops_drive.specs.File.{file_view};
 ghost use Rattle.flagops_commands.specs.Calls.{drive_itself};
-ghost use Rattle.flagops_commands.specs.Doubts.{settle};
+ghost use Rattle.flagops_rollouts.specs.Doubts.{settle};
 ghost use Rattle.flagops_commands.specs.Drive.{IsDriveOutputOf, admitted, doubt_of_asks, recorded};
 ghost use Rattle.flagops_commands.specs.Subjects.{NamesDriven, driven_subjects, is_of_asks};
 ghost use Rattle.flagops_files.specs.Refusal.{ComesFrom, GivesOne, GivesUnlessWant, is_file_fault};
@@ -18,7 +18,7 @@ ghost use Rattle.flagops_files.specs.declared.refusal.Refusal.TheVariants.{Doubt
 ghost use Rattle.flagops_remarks.specs.Named.{Names};
 
 use crate::books::asks::{of_no_asks, of_unread};
-use crate::rollouts::doubts::joined;
+use flagops_rollouts::joined;
 use book_core::Book;
 use flag_defs::Flags;
 use flagops_drive::{

@@ -8,7 +8,7 @@ ghost use Rattle.flagops_files.specs.Told.{TellsOfOne};
 ghost use Rattle.flagops_commands.specs.Subjects.{bucket_subjects};
 ghost use Rattle.rule_text.specs.Choosing.{choice_view};
 
-use flagops_files::{Call, Refused, load_choice, quoted};
+use flagops_files::{Call, Refused, load_choice, out_of_memory, quoted};
 use flagops_shell::{FileSet, Outcome, Status};
 use murmur_core::hash;
 use rule_text::Choice;

@@ -21,12 +21,12 @@ ghost use Rattle.price_core.specs.Pricing.{Pricing};
 ghost use Rattle.price_core.specs.Request.{asked_of};
 ghost use Rattle.rule_text.specs.Texts.{AreTexts, texts_view};
 
-use crate::rollouts::doubts::unread;
+use flagops_rollouts::unread;
 use crate::rules::totals::totals_by_name;
 use book_core::{Book, Exposure, Page};
 use bucket_core::Rule;
 use flag_text::{Tree, print_tree, read_tree};
-use flagops_files::{Call, PriceMismatch, Refusal, Refused, TEXT_LIMIT, load, load_rule, quoted};
+use flagops_files::{Call, PriceMismatch, Refusal, Refused, TEXT_LIMIT, load, load_rule, out_of_memory, quoted};
 use flagops_shell::{FileSet, Outcome, Remark, Status};
 use flagops_remarks::{of_keys, of_noted, of_request, of_text, of_weights};
 use json::Scratch;

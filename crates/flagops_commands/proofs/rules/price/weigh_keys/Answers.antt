@@ -11,7 +11,7 @@ use Rattle.flagops_commands.proofs.Distinct.{exposed-apart}
 use Rattle.flagops_files.specs.Told.{NamesOne, file, word}
 use Rattle.flagops_commands.specs.Subjects.{is_of_keys, is_of_rules, old_weights}
 use Rattle.flagops_commands.proofs.Gathered.{few_taken}
-use Rattle.flagops_commands.proofs.Telling.{told_among}
+use Rattle.flagops_rollouts.proofs.Telling.{told_among}
 use Rattle.flagops_commands.proofs.rules.price.weigh_keys.Goals as goal
 
 pub returns-then-are_taken-clause-exact : goal.returns-then-are_taken-clause-exact
