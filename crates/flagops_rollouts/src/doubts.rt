@@ -124,7 +124,7 @@ pub fn remark_in(noted: Option<NotedDoubt>) -> Option<Remark>
 
 /// A remark on a name with another behind it.
 #[tactic(auto, using(crate::proofs::Doubting::named_still))]
-pub(crate) fn joined(name: &str, remark: Remark, more: Option<Remark>) -> Remark
+pub fn joined(name: &str, remark: Remark, more: Option<Remark>) -> Remark
     requires { Says (Names name.now) remark }
     ensures { Says (Names name.now) result }
 {

@@ -54,3 +54,12 @@ module _ {A R : Type 0} (d : Description A R) (is_unread : R → Bool) where
 -- where a file has changed, the command is reported to have done what it was asked
 abbrev pub AnswersStored : Shown → Shown → ℕ → Option Holding → Option Holding → Type 0
 AnswersStored old new status files after = (after ≡ files) ⊎ ShowsDone old new status
+
+-- all that is known of what the words of a command come to
+abbrev pub Runs : {A R : Type 0} → Description A R → (R → Bool) → (R → List ℕ) → Shown → Shown → ℕ → Option Holding → Option Holding → Bool → Bool → List Text → Type 0
+Runs d is_unread line_of old new status files after had_failed has_failed words =
+    AnswersAsked d is_unread old new status line_of files after has_failed words
+    × AnswersUnread d is_unread old new status had_failed has_failed words
+    × TellsUnasked d is_unread old new status words
+    × LeavesAsked d is_unread words files after
+    × AnswersStored old new status files after
