@@ -10,15 +10,15 @@ ghost use Rattle.flagops_files.specs.Question.{notes_bytes_at};
 ghost use Rattle.flagops_files.specs.Refusal.{ComesFrom, GivesUnlessWant, call_of, is_file_fault, is_unread, is_want, loads_book};
 ghost use Rattle.flagops_files.specs.Told.{Says, TellsOf, TellsOfOne, file};
 ghost use Rattle.flagops_files.specs.declared.refusal.Refusal.TheVariants.{ReadBook};
-ghost use Rattle.flagops_remarks.specs.Named.{Names};
+ghost use Rattle.file_diagnostics.specs.Named.{Names};
 ghost use Rattle.note_books.specs.Notes.{IsBookOf, Notes, no_notes};
 
 use crate::lines::{stray_line, stray_remark, with_passed};
 use book_core::{Book, BookFault, read_book};
+use file_diagnostics::{Ends, of_book, of_full_book};
 use flagops_files::{
     Call, FileSet, NOTES_PIECE, Outcome, Refusal, Refused, Remark, Status, ends_line, load_notes,
 };
-use flagops_remarks::{Ends, of_book, of_full_book};
 use note_books::{NotesFault, NotesTaken, begins_book, take_notes};
 use std::alloc::{AllocError, Global};
 

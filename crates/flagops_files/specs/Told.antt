@@ -1,6 +1,6 @@
 -- What a person is told of a refusal.
 use Rattle.std.specs.Prelude.{◌≡◌, ◌⊎◌, ℕ, Bool, true, false, List, [], ◌∷◌, Option, Some, None, Result, Ok, Err, IfSome, codes, string_bytes}
-use Rattle.flagops_remarks.specs.Named.{Names, NamesWord}
+use Rattle.file_diagnostics.specs.Named.{Names, NamesWord}
 use Rattle.flagops_files.specs.Refusal.{call_of, is_want}
 use Rattle.flagops_files.specs.Report.{Outcomes, Puts, Report, ReportsAll, outcome_view, report_of, want_report}
 use Rattle.flagops_files.specs.declared.outcome.Outcome.{Outcome}

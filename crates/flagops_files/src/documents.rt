@@ -12,8 +12,8 @@ use crate::loading::{TEXT_LIMIT, load};
 use crate::refusal::Refusal;
 use crate::refused::{Refused, Remark};
 use crate::room::make_room_for;
+use file_diagnostics::of_document;
 use flag_defs::{Flags, read_flags};
-use flagops_remarks::of_document;
 use std::alloc::Global;
 
 /// A flag document: its bytes, and the flags that they mean.

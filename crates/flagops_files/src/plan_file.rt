@@ -9,7 +9,7 @@ use crate::files::FileSet;
 use crate::loading::{RULE_LIMIT, load};
 use crate::refusal::Refusal;
 use crate::refused::{Refused, Remark};
-use flagops_remarks::of_plan_file;
+use file_diagnostics::of_plan_file;
 use plan_text::{Planned, read_planned};
 use std::alloc::Global;
 

@@ -7,7 +7,7 @@ ghost use Rattle.flagops_files.specs.Told.{TellsOf, file};
 use crate::files::FileSet;
 use crate::refusal::Refusal;
 use crate::refused::{Refused, Remark};
-use flagops_remarks::of_unwritable;
+use file_diagnostics::of_unwritable;
 use std::alloc::Global;
 
 /// Writes `bytes` to the file at `path`. After a refusal the files are as they were.

@@ -10,10 +10,10 @@ ghost use Rattle.flagops_files.specs.declared.refusal.Refusal.TheVariants.{ReadT
 
 use crate::refusal::FilterRefusal;
 use crate::words::read_join;
+use file_diagnostics::{Ends, of_tally};
 use flag_text::Outlet;
 use flagops_commands::{file_line, report_usage, whole_line};
 use flagops_files::{FileSet, Outcome, Refusal, Refused, Remark, Status, finish, load};
-use flagops_remarks::{Ends, of_tally};
 use std::alloc::{AllocError, Global};
 use std::convert::AsStr;
 use tally_core::{JoinFault, PageTally, join as joined};

@@ -19,10 +19,10 @@ use flagops_files::{
     BookQuestion, Call, FileSet, Outcome, Refusal, Refused, Remark, Status, load_book_question,
     load_planned, report, want,
 };
-use flagops_remarks::{of_check, of_rollout};
 use flagops_words::factor_of;
 use plan_text::Planned;
 use rollout_checks::VerifyFault;
+use rollout_diagnostics::{of_check, of_rollout};
 use std::alloc::{AllocError, Global};
 use std::convert::AsStr;
 use std::thread::Threads;

@@ -25,13 +25,13 @@ use flagops_commands::report_usage;
 use flagops_files::{
     BookQuestion, FileSet, Outcome, Refused, Remark, Status, finish, load_book_question,
 };
-use flagops_remarks::of_large_plan;
 use flagops_words::factor_of;
 use plan_text::Planned;
 use price_core::PriceFault;
 use ramp::{StepFault, plan_steps};
 use ramp_steps::{StepsFault, print_ramp, read_steps};
 use rollout_checks::{Refining, RolloutFault, read_book_for};
+use rollout_diagnostics::of_large_plan;
 use std::alloc::Global;
 use std::convert::AsStr;
 use std::thread::Threads;

@@ -13,8 +13,8 @@ use flag_defs::{Flags, print_flags};
 use flagops_files::{
     Call, FileSet, Outcome, Refusal, Refused, Remark, Status, load_flags, load_planned,
 };
-use flagops_remarks::of_applied;
 use plan_text::Planned;
+use rollout_diagnostics::of_applied;
 use std::alloc::{AllocError, Global};
 
 /// The document with the rule of a plan file as the buckets of a flag's site, as a line; `none` where the plan has no

@@ -4,12 +4,12 @@ ghost use Rattle.flagops_commands.specs.Doubts.{NamesDoubt, NamesDoubted, doubt_
 ghost use Rattle.flagops_files.specs.Question.{question_view};
 ghost use Rattle.flagops_files.specs.Refusal.{GivesUnlessWant, call_of, is_file_fault};
 ghost use Rattle.flagops_files.specs.Told.{Says, TellsOfOne};
-ghost use Rattle.flagops_remarks.specs.Named.{Names};
+ghost use Rattle.file_diagnostics.specs.Named.{Names};
 
 use crate::rollouts::recorded::doubt_of_recorded;
+use file_diagnostics::of_unread;
 use flag_text::{TextFault, read_tree};
 use flagops_files::{Call, Doubt, Question, Refusal, Refused, Remark, TEXT_LIMIT};
-use flagops_remarks::of_unread;
 use std::alloc::{AllocError, Global};
 use std::thread::Threads;
 use unread_members::Reader;

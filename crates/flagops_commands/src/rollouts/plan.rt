@@ -8,7 +8,7 @@ ghost use Rattle.flagops_files.specs.Question.{question_view};
 ghost use Rattle.flagops_commands.specs.Calls.{plan_calls, prints_plan};
 ghost use Rattle.flagops_files.specs.Refusal.{ComesFrom, GivesOne, GivesUnlessWant, is_file_fault};
 ghost use Rattle.flagops_files.specs.Report.{beside, outcome_view, status_number};
-ghost use Rattle.flagops_remarks.specs.Named.{Names};
+ghost use Rattle.file_diagnostics.specs.Named.{Names};
 ghost use Rattle.flagops_files.specs.Told.{Says, TellsOfOne, file, word};
 ghost use Rattle.flagops_commands.specs.Subjects.{is_of_request, is_of_size, plan_subjects, the_plan};
 ghost use Rattle.flagops_commands.specs.Doubts.{NamesDoubted, doubt_subjects};
@@ -19,10 +19,10 @@ use flag_defs::Flags;
 use flagops_files::{
     Call, Evidence, FileSet, Outcome, Question, Refusal, Refused, Remark, Status, load_question,
 };
-use flagops_remarks::{of_large_plan, of_other_tally, of_rollout};
 use flagops_words::{Factor, factor_of};
 use plan_text::{Planned, print_planned_line};
 use rollout::{RolloutFault, plan_refined, plan_tally};
+use rollout_diagnostics::{of_large_plan, of_other_tally, of_rollout};
 use std::alloc::{AllocError, Global};
 use std::mem;
 use std::thread::Threads;

@@ -13,16 +13,16 @@ ghost use Rattle.flagops_commands.specs.Foreign.{has_foreign_input, is_foreign};
 ghost use Rattle.flagops_commands.specs.Unrecorded.{has_no_input, is_unrecorded, page_asked, page_in};
 ghost use Rattle.flagops_files.specs.Question.{question_view};
 ghost use Rattle.flagops_files.specs.Told.{Says};
-ghost use Rattle.flagops_remarks.specs.Named.{Names};
+ghost use Rattle.file_diagnostics.specs.Named.{Names};
 
 use crate::rollouts::doubts::NotedDoubt;
 use book_core::{Book, BookFileFault, Page, read_book};
 use flag_defs::{Flag, Flags};
 use flagops_files::{Doubt, Evidence, Question, Remark};
-use flagops_remarks::{of_empty_tally, of_foreign, of_unrecorded};
 use logic_ast::LogicFault;
 use page_tally::BookFile;
 use price_core::{PriceFault, Request};
+use rollout_diagnostics::{of_empty_tally, of_foreign, of_unrecorded};
 use std::alloc::{AllocError, Global};
 use std::thread::Threads;
 use tally_core::PageTally;

@@ -8,7 +8,7 @@ ghost use Rattle.flagops_files.specs.Refusal.{ComesFrom, GivesOne, GivesUnlessWa
 ghost use Rattle.flagops_files.specs.Report.{beside, done, outcome_view};
 ghost use Rattle.flagops_commands.specs.Verify.{IsShownOn, IsToldOn, IsVerdict, IsVerifyReport, MayBeTold, valid_as, valid_json, valid_text};
 ghost use Rattle.flagops_files.specs.declared.evidence.Evidence.TheVariants.{Book, Tally};
-ghost use Rattle.flagops_remarks.specs.Named.{Names};
+ghost use Rattle.file_diagnostics.specs.Named.{Names};
 ghost use Rattle.flagops_files.specs.Told.{Says, TellsOfOne, file};
 ghost use Rattle.flagops_commands.specs.Subjects.{NamesVerified, is_of_answer, is_of_request, verify_subjects};
 ghost use Rattle.flagops_commands.specs.Doubts.{NamesDoubted, doubt_subjects};
@@ -20,11 +20,11 @@ use flagops_files::{
     Call, Evidence, FileSet, Outcome, Question, Refusal, Refused, Remark, Status, load_planned,
     load_question,
 };
-use flagops_remarks::of_check;
 use flagops_words::{Factor, factor_of};
 use page_tally::BookFile;
 use plan_text::Planned;
 use rollout::{PageTally, VerifyFault, verify_refined, verify_tally, verify_tally_refined};
+use rollout_diagnostics::of_check;
 use std::alloc::{AllocError, Global};
 use std::mem;
 use std::thread::Threads;
