@@ -3,4 +3,4 @@ pub mod Ends
 pub mod Lines
 pub mod Meant
 pub mod Named
-pub mod Values
+pub mod Words

@@ -3,7 +3,8 @@ ghost use Rattle.std.specs.Prelude.{◌≡◌, ◌++◌, IfErr, IfOk, None, Some
 ghost use Rattle.file_diagnostics.specs.Lines.{Grows, IsHeaded, text_so_far};
 ghost use Rattle.file_diagnostics.specs.Named.{Names, NamesWord, opening_words, quoted};
 
-use crate::parts::{Listed, Name, Step, Value};
+use crate::listing::Listed;
+use crate::parts::{Name, Step, Value};
 use crate::quoting::quoted_name;
 use flag_text::Tree;
 use std::alloc::{AllocError, Global};
