@@ -39,7 +39,7 @@ TAKEN = {
     ("crates/flagops_files/src/refused.rt", "refusal: Refusal::WantOfMemory(call),"): (1, "`out_of_memory` makes it; its calls are looked for"),
     ("crates/flagops_files/src/refused.rt", "remark: Remark::Short,"): (1, "the same"),
     ("crates/flagops_files/src/loading.rt", "Err(_) => Remark::Short,"): (1, "the rule was refused, so its text is a tree, and is read again"),
-    ("crates/flagops_remarks/src/definition_errors.rt", 'return Err(AllocError);'): (1, "the document was read as flags, so it is a tree, and is read again"),
+    ("crates/file_diagnostics/src/definition_errors.rt", 'return Err(AllocError);'): (1, "the document was read as flags, so it is a tree, and is read again"),
     ("crates/flagops_commands/src/program.rt", "Err(call) => want(out, err, call),"): (1, "`answer` gives a call there only where that call ran out of memory"),
     ("crates/flagops_books/src/command.rt", "Err(call) => want(out, err, call),"): (1, "`answer` gives a call there only where that call ran out of memory"),
     ("crates/flagops_checks/src/command.rt", "Err(call) => want(out, err, call),"): (1, "`answer` gives a call there only where that call ran out of memory"),

@@ -15,7 +15,7 @@ use Rattle.flagops_files.specs.declared.refusal.Refusal.{Refusal}
 use Rattle.flagops_files.specs.declared.refusal.Refusal.TheVariants.{Note, Price, Plan, PrintPlanned, Verify, Apply, Keep, Drive, Doubted}
 use Rattle.flagops_commands.specs.Calls.{loads_request}
 use Rattle.flagops_rollouts.specs.Doubts.{NamesDoubted, doubt_subjects}
-use Rattle.flagops_remarks.specs.Named.{Names, NamesWord}
+use Rattle.file_diagnostics.specs.Named.{Names, NamesWord}
 use Rattle.flagops_words.specs.Asked.{Asked, bucket, price, resolve, verify, apply, keep, plan, drive, completions}
 use Rattle.rollout_checks.specs.declared.verify_fault.VerifyFault.{VerifyFault}
 use Rattle.rollout_checks.specs.declared.verify_fault.VerifyFault.TheVariants as verdict

@@ -1,7 +1,7 @@
 -- What a person is told of a refusal.
 use Rattle.std.specs.Prelude.{◌≡◌, ◌⊎◌, ℕ, Bool, true, false, List, [], ◌∷◌, Result, Ok, Err}
-use Rattle.flagops_remarks.specs.Named.{Names, NamesWord}
 use Rattle.flagops_files.specs.Refusal.{Refused, call_of, is_want}
+use Rattle.file_diagnostics.specs.Named.{Names, NamesWord}
 use Rattle.flagops_files.specs.declared.refusal.Call.{Call}
 use Rattle.flagops_files.specs.declared.refusal.Refusal.{Refusal}
 use Rattle.flagops_shell.specs.Diagnostic.{Says}

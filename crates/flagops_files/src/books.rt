@@ -11,7 +11,7 @@ use crate::refusal::Refusal;
 use crate::refusal::Refused;
 use flagops_shell::Remark;
 use book_core::{Book, BookFileFault, read_book};
-use flagops_remarks::{Ends, of_book, of_long_book, of_other_file, of_unreadable};
+use file_diagnostics::{Ends, of_book, of_long_book, of_other_file, of_unreadable};
 use std::alloc::{AllocError, Global};
 
 /// The largest book file, in bytes.

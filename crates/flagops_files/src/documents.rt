@@ -13,8 +13,8 @@ use crate::refusal::Refusal;
 use crate::refusal::Refused;
 use flagops_shell::Remark;
 use crate::room::make_room_for;
+use file_diagnostics::of_document;
 use flag_defs::{Flags, read_flags};
-use flagops_remarks::of_document;
 use std::alloc::Global;
 
 /// A flag document: its bytes, and the flags that they mean.

@@ -6,9 +6,9 @@ ghost use Rattle.flagops_files.specs.Refusal.{ComesFrom, GivesUnlessWant, is_fil
 ghost use Rattle.flagops_shell.specs.Files.{load_of};
 ghost use Rattle.flagops_files.specs.Loading.{choice_at, refusal_of, refused_by, rule_at, tree_at};
 ghost use Rattle.flagops_files.specs.declared.refusal.Refusal.TheVariants.{Load};
-ghost use Rattle.flagops_remarks.specs.Named.{Names};
 ghost use Rattle.flagops_files.specs.Told.{TellsOf, file};
 ghost use Rattle.flagops_shell.specs.Diagnostic.{Says};
+ghost use Rattle.file_diagnostics.specs.Named.{Names};
 ghost use Rattle.rule_text.specs.Choosing.{choice_view};
 
 use flagops_shell::FileSet;
@@ -16,8 +16,8 @@ use crate::refusal::Refusal;
 use crate::refusal::Refused;
 use flagops_shell::Remark;
 use bucket_core::Rule;
+use file_diagnostics::{of_rule, of_text, of_unreadable};
 use flag_text::{Tree, read_tree};
-use flagops_remarks::{of_rule, of_text, of_unreadable};
 use rule_text::{Choice, RuleTextFault, choose_in_text, read_rule_text};
 use std::alloc::Global;
 

@@ -10,7 +10,7 @@ use crate::loading::{RULE_LIMIT, load};
 use crate::refusal::Refusal;
 use crate::refusal::Refused;
 use flagops_shell::Remark;
-use flagops_remarks::of_plan_file;
+use file_diagnostics::of_plan_file;
 use plan_text::{Planned, read_planned};
 use std::alloc::Global;
 

@@ -8,7 +8,7 @@ use flagops_shell::FileSet;
 use crate::refusal::Refusal;
 use crate::refusal::Refused;
 use flagops_shell::Remark;
-use flagops_remarks::of_unwritable;
+use file_diagnostics::of_unwritable;
 use std::alloc::Global;
 
 /// Writes `bytes` to the file at `path`. After a refusal the files are as they were.

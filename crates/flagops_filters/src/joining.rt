@@ -10,12 +10,12 @@ ghost use Rattle.flagops_files.specs.declared.refusal.Refusal.TheVariants.{ReadT
 
 use crate::refusal::FilterRefusal;
 use crate::words::read_join;
+use file_diagnostics::{Ends, of_tally};
 use flag_text::Outlet;
 use flagops_files::{file_line, whole_line};
 use flagops_shell::report_usage;
 use flagops_files::{Refusal, Refused, finish, load};
 use flagops_shell::{FileSet, Outcome, Remark, Status};
-use flagops_remarks::{Ends, of_tally};
 use std::alloc::{AllocError, Global};
 use std::convert::AsStr;
 use tally_core::{JoinFault, PageTally, join as joined};

@@ -18,7 +18,7 @@ use crate::remarks::{of_steps_in, step_line};
 use flagops_files::{file_line, whole_line};
 use flagops_files::{BookQuestion, Refused, load, load_book_question};
 use flagops_shell::{FileSet, Remark};
-use flagops_remarks::Ends;
+use file_diagnostics::Ends;
 use flagops_words::{factor_number, factor_of};
 use plan_text::Planned;
 use ramp::{RampFault, verify_steps};

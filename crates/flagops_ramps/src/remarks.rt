@@ -2,12 +2,12 @@
 ghost use Rattle.std.specs.Prelude.{◌⊎◌, IfOk, string_bytes};
 ghost use Rattle.flagops_files.specs.Lines.{NamesFile};
 ghost use Rattle.flagops_ramps.specs.Remarks.{NamesStep};
-ghost use Rattle.flagops_remarks.specs.Named.{Names};
+ghost use Rattle.file_diagnostics.specs.Named.{Names};
 
+use file_diagnostics::of_text;
 use flag_text::read_tree;
 use flagops_files::file_line;
 use flagops_files::{BookQuestion, TEXT_LIMIT, quoted};
-use flagops_remarks::of_text;
 use ramp::StepFault;
 use std::alloc::{AllocError, Global};
 

@@ -26,7 +26,7 @@ use Rattle.flagops_files.specs.declared.refusal.Refusal.TheVariants.{Doubted}
 use Rattle.flagops_files.specs.Refusal.{Refused}
 use Rattle.flagops_shell.specs.declared.refused.Remark.{Remark}
 use Rattle.flagops_shell.specs.declared.refused.Remark.TheVariants.{Short, Lines}
-use Rattle.flagops_remarks.specs.Named.{Names, opening_words, quoted}
+use Rattle.file_diagnostics.specs.Named.{Names, opening_words, quoted}
 
 -- a remark on a doubt is one of the two
 pub said : (request book : List ℕ) (d : Doubt) (remark : Remark) → Says (NamesDoubt request book d) remark → Says (NamesDoubted request book) remark

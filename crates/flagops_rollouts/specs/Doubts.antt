@@ -18,7 +18,7 @@ use Rattle.flagops_files.specs.declared.refusal.Doubt.{Doubt}
 use Rattle.flagops_files.specs.declared.refusal.Doubt.TheVariants as doubt
 use Rattle.flagops_files.specs.declared.refusal.Refusal.{Refusal}
 use Rattle.flagops_files.specs.declared.refusal.Refusal.TheVariants.{Doubted}
-use Rattle.flagops_remarks.specs.Named.{Names}
+use Rattle.file_diagnostics.specs.Named.{Names}
 
 -- a tree has a member that the reader of requests passes over
 abbrev pub has_unread : Result Shape TextFault → Bool

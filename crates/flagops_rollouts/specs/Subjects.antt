@@ -7,7 +7,7 @@ use Rattle.flagops_files.specs.Told.{Subjects, by, file, word}
 use Rattle.flagops_files.specs.declared.keeping.KeepRefusal.TheVariants as keeping
 use Rattle.flagops_files.specs.declared.refusal.Refusal.{Refusal}
 use Rattle.flagops_files.specs.declared.refusal.Refusal.TheVariants.{Plan, PrintPlanned, Verify, Apply, Keep}
-use Rattle.flagops_remarks.specs.Named.{Names}
+use Rattle.file_diagnostics.specs.Named.{Names}
 use Rattle.flagops_rollouts.specs.Doubts.{doubt_subjects}
 use Rattle.rollout_checks.specs.declared.verify_fault.VerifyFault.{VerifyFault}
 use Rattle.rollout_checks.specs.declared.verify_fault.VerifyFault.TheVariants as verdict

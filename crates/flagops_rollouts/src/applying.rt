@@ -13,8 +13,8 @@ ghost use Rattle.flagops_rollouts.specs.Subjects.{apply_subjects, is_of_plan};
 use flag_defs::{Flags, print_flags};
 use flagops_files::{Call, Refusal, Refused, load_flags, load_planned, out_of_memory};
 use flagops_shell::{FileSet, Outcome, Remark, Status};
-use flagops_remarks::of_applied;
 use plan_text::Planned;
+use rollout_diagnostics::of_applied;
 use std::alloc::{AllocError, Global};
 
 /// The document with the rule of a plan file as the buckets of a flag's site, as a line; `none` where the plan has no

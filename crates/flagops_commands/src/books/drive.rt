@@ -10,7 +10,7 @@ ghost use Rattle.flagops_files.specs.Refusal.{ComesFrom, GivesOne, GivesUnlessWa
 ghost use Rattle.flagops_shell.specs.Report.{outcome_view};
 ghost use Rattle.flagops_files.specs.Told.{TellsOf, TellsOfOne, by, file};
 ghost use Rattle.flagops_shell.specs.Diagnostic.{Says};
-ghost use Rattle.flagops_remarks.specs.Named.{Names};
+ghost use Rattle.file_diagnostics.specs.Named.{Names};
 ghost use Rattle.flagops_commands.specs.Subjects.{drive_subjects};
 
 use crate::books::asks::load_asks;

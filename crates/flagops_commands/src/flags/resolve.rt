@@ -13,12 +13,12 @@ ghost use Rattle.flagops_files.specs.declared.refusal.Refusal.TheVariants.{ReadT
 ghost use Rattle.flagops_files.specs.Told.{TellsOf, TellsOfOne, word};
 ghost use Rattle.flagops_commands.specs.Subjects.{resolve_subjects};
 
+use file_diagnostics::of_word;
 use flag_defs::Flags;
 use flag_resolve::{Kind, print_resolution};
 use flag_text::{Tree, read_tree};
 use flagops_files::{Call, Refusal, Refused, TEXT_LIMIT, load_flags, load_tree, out_of_memory};
 use flagops_shell::{FileSet, Outcome, Remark, Status};
-use flagops_remarks::of_word;
 use flagops_words::Moment;
 use std::alloc::{AllocError, Global};
 

@@ -15,24 +15,26 @@ ghost use Rattle.flagops_files.specs.declared.refusal.Refusal.TheVariants.{Load,
 ghost use Rattle.flagops_files.specs.Told.{NamesSubject, TellsOf, TellsOfOne, file, word};
 ghost use Rattle.flagops_shell.specs.Diagnostic.{Says};
 ghost use Rattle.flagops_commands.specs.Subjects.{is_of_keys, is_of_rules, old_weights, price_subjects};
-ghost use Rattle.flagops_remarks.specs.Named.{Names};
+ghost use Rattle.file_diagnostics.specs.Named.{Names};
 ghost use Rattle.book_core.specs.Page.{bytes_cmp};
 ghost use Rattle.price_core.specs.Pricing.{Pricing};
 ghost use Rattle.price_core.specs.Request.{asked_of};
 ghost use Rattle.rule_text.specs.Texts.{AreTexts, texts_view};
 
 use flagops_rollouts::unread;
+use crate::rules::price_diagnostics::{of_keys, of_noted, of_weights};
 use crate::rules::totals::totals_by_name;
 use book_core::{Book, Exposure, Page};
 use bucket_core::Rule;
+use file_diagnostics::of_text;
 use flag_text::{Tree, print_tree, read_tree};
 use flagops_files::{Call, PriceMismatch, Refusal, Refused, TEXT_LIMIT, load, load_rule, out_of_memory, quoted};
 use flagops_shell::{FileSet, Outcome, Remark, Status};
-use flagops_remarks::{of_keys, of_noted, of_request, of_text, of_weights};
 use json::Scratch;
 use limits::{INPUT_BYTES, PAGE_INPUTS};
 use price_core::{Prices, Request, first_forbidden, switch_cost_of};
 use rayon::prelude::par_sort_unstable;
+use rollout_diagnostics::of_request;
 use rule_text::read_texts;
 use std::alloc::{AllocError, AllocFailed, Global};
 use std::thread::Threads;
