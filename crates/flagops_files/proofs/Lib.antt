@@ -1,3 +1,2 @@
-mod FileLines
 pub mod Told
 mod Recorded

@@ -1,6 +1,7 @@
 pub mod Described
 pub mod Documents
 pub mod Evidence
+pub mod FileLines
 pub mod Keeping
 pub mod Lines
 pub mod Loading

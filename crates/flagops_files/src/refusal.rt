@@ -1,6 +1,6 @@
 //! Refusals, and the line that each is written as.
 ghost use Rattle.std.specs.Prelude.{◌≡◌};
-ghost use Rattle.flagops_files.proofs.FileLines.{file_line};
+ghost use Rattle.flagops_files.specs.FileLines.{file_line};
 ghost use Rattle.flagops_shell.specs.declared.refused.Remark.TheVariants.{Short};
 ghost use Rattle.flagops_files.specs.Refusal.{call_of, call_name, doubt_name, doubt_number, is_unread, is_want, number_of, name_of, line_of, mismatch_number, mismatch_name};
 

@@ -1,5 +1,5 @@
 -- What a command writes and ends with.
-use Rattle.std.specs.Prelude.{◌≡◌, ◌<◌, ◌⊎◌, ◌++◌, ℕ, Bool, true, false, List, length, Option, is_some, Result, Ok, Err, codes}
+use Rattle.std.specs.Prelude.{◌≡◌, ◌<◌, ◌⊎◌, ◌++◌, ℕ, Bool, true, false, List, length, Option, is_some, Result, Ok, Err, codes, decimal}
 use Rattle.std.specs.Io.KnownBytes.{Appends}
 use Rattle.flag_text.specs.Outlet.{AppendsPart}
 use Rattle.flagops_shell.specs.Console.{Shown}
@@ -63,12 +63,16 @@ ShowsReport old new status wanted = ReportsAll old.printed new.printed new.is_br
 abbrev pub want_line_of : List ℕ → List ℕ
 want_line_of name = codes "refused " ++ (name ++ codes " 0 WantOfMemory\n")
 
+-- the line where a call of a name refused a file, by fault 1
+abbrev pub refused_file : List ℕ → List ℕ → List ℕ
+refused_file call name = codes "refused " ++ (call ++ (codes " " ++ (decimal 1 ++ (codes " " ++ (name ++ codes "\n")))))
+
 -- the lines of a file that could not be read, or not be written
 abbrev pub unreadable_line : List ℕ
-unreadable_line = codes "refused load 1 Unreadable\n"
+unreadable_line = refused_file (codes "load") (codes "Unreadable")
 
 abbrev pub unwritable_line : List ℕ
-unwritable_line = codes "refused store 1 Unwritable\n"
+unwritable_line = refused_file (codes "store") (codes "Unwritable")
 
 abbrev pub IsFileLine : List ℕ → Type 0
 IsFileLine line = (line ≡ unreadable_line) ⊎ (line ≡ unwritable_line)

@@ -71,7 +71,7 @@ fn mark_at(bytes: &[u8]) -> Option<usize>
 
 /// The first line with its line feed, or all bytes where there is none.
 #[tactic(auto, unfolding(crate::specs::Beginning::first_line))]
-pub(crate) fn first_line(bytes: &[u8]) -> &[u8]
+pub fn first_line(bytes: &[u8]) -> &[u8]
     ensures { result.now ≡ first_line bytes.now }
 {
     match feed_at(bytes) {

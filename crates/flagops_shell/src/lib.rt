@@ -30,7 +30,7 @@ mod reports;
 mod running;
 mod usage;
 
-pub use beginning::{ends_line, may_begin_record, may_note};
+pub use beginning::{ends_line, first_line, may_begin_record, may_note};
 pub use command::Command;
 pub use command_refusal::CommandRefusal;
 pub use console::Console;
