@@ -4,7 +4,7 @@ pub mod Driving
 mod Gathered
 pub mod Hexadecimal
 mod Keys
-mod Listed
+mod Described
 mod Members
 mod Noted
 pub mod Refusing

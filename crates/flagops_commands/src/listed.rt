@@ -33,7 +33,7 @@ impl<'w, R: Threads + Wait + Sync, F: FileSet> Command<'w, R, F> for Listed<'w> 
         Ok(Listed { asked })
     }
 
-    #[tactic(auto, using(crate::proofs::Listed::remarks, crate::proofs::Listed::wants))]
+    #[tactic(auto, using(crate::proofs::Described::remarks, crate::proofs::Described::wants))]
     fn answer(&self, rt: &R, alloc: Global, files: &mut F) -> Result<Outcome, Refused> {
         outcome(rt, alloc, files, &self.asked)
     }

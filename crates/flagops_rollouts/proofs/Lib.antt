@@ -1,6 +1,6 @@
 mod Asked
 mod Doubting
-mod Keeping
+mod Edited
 mod Passed
 mod Tallies
 mod Telling

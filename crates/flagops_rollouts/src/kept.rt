@@ -27,7 +27,7 @@ use std::str;
 use std::thread::Threads;
 
 /// The text of the document with the rule of the answer, where the answer is right and has a rule.
-#[tactic(auto, using(flagops_files::proofs::Told::says, crate::proofs::Keeping::asked_there))]
+#[tactic(auto, using(flagops_files::proofs::Told::says, crate::proofs::Edited::asked_there))]
 pub fn kept(
     rt: &(impl Threads + Sync),
     alloc: Global,

@@ -7,7 +7,7 @@ use Rattle.flagops_rollouts.specs.Doubts.{doubt_subjects}
 use Rattle.flagops_rollouts.specs.Subjects.{is_of_kept_answer, is_of_kept_document, is_of_kept_request}
 use Rattle.flagops_files.specs.Told.{Subjects, file}
 use Rattle.flagops_rollouts.proofs.Doubting.{tells_among, tells_left}
-use Rattle.flagops_rollouts.proofs.Keeping.{kept_put, not_kept, not_settled}
+use Rattle.flagops_rollouts.proofs.Edited.{kept_put, not_kept, not_settled}
 use Rattle.flagops_rollouts.proofs.keeping.answer.Goals as goal
 
 pub returns-in_err-text-clause-exact : goal.returns-in_err-text-clause-exact

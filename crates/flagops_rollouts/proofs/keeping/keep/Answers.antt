@@ -2,7 +2,7 @@ use Rattle.std.proofs.Common.{◌∙◌, inl, option_map, rules}
 use Rattle.plan_text.specs.Answer.{planned_view}
 use Rattle.flagops_files.specs.Question.{question_view}
 use Rattle.flagops_shell.proofs.Kept.{kept_after}
-use Rattle.flagops_rollouts.proofs.Keeping.{failed_after, kept_whole, left_after, no_plan, no_question}
+use Rattle.flagops_rollouts.proofs.Edited.{failed_after, kept_whole, left_after, no_plan, no_question}
 use Rattle.flagops_rollouts.proofs.keeping.keep.Goals as goal
 
 pub returns-in_err-question-clause-exact : goal.returns-in_err-question-clause-exact

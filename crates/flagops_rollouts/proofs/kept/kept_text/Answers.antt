@@ -1,5 +1,5 @@
 use Rattle.flag_defs.specs.Flags.{flags_view}
-use Rattle.flagops_rollouts.proofs.Keeping.{not_text}
+use Rattle.flagops_rollouts.proofs.Edited.{not_text}
 use Rattle.flagops_rollouts.proofs.kept.kept_text.Goals as goal
 
 pub returns-in-Err-clause-refused : goal.returns-in-Err-clause-refused
