@@ -16,6 +16,7 @@ use Rattle.flagops_files.specs.declared.refusal.Refusal.TheVariants.{Note, Price
 use Rattle.flagops_commands.specs.Calls.{loads_request}
 use Rattle.flagops_rollouts.specs.Doubts.{NamesDoubted, doubt_subjects}
 use Rattle.file_diagnostics.specs.Named.{Names, NamesWord}
+use Rattle.flagops_rollouts.specs.Subjects.{apply_subjects, keep_subjects, plan_subjects, verify_subjects}
 use Rattle.flagops_words.specs.Asked.{Asked, bucket, price, resolve, verify, apply, keep, plan, drive, completions}
 use Rattle.rollout_checks.specs.declared.verify_fault.VerifyFault.{VerifyFault}
 use Rattle.rollout_checks.specs.declared.verify_fault.VerifyFault.TheVariants as verdict

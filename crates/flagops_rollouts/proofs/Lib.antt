@@ -3,6 +3,6 @@ mod Doubting
 mod Edited
 mod Passed
 mod Tallies
-mod Telling
+pub mod Telling
 pub mod Valid
 pub mod Verdicts
