@@ -5,14 +5,21 @@
 #   bench/gate.sh [NAME ..]     of all crates, or of these (the crates below them are built first, and not counted)
 #   bench/gate.sh --slow NAME   of one crate, the functions that take longest, each with all that was made of it
 #
-# It works in a copy of the last commit and leaves the clone as it is. The gate itself runs several crates side by side, so
-# that its own processor time is a little more than the sum.
+# Each row is printed as it comes. It works in a copy of the last commit, which a run that is cut off leaves: the next one of the same
+# commit goes on there, and prints the rows that it has at once. The gate itself runs several crates side by side, so that its own
+# processor time is a little more than the sum.
 set -eu
 cd "$(dirname "$0")/.."
 
-room=$(mktemp -d)
-trap 'rm -rf "$room"' EXIT
-git clone -q . "$room/clone"
+room=${TMPDIR:-/tmp}/flagops-gate-$(git rev-parse HEAD)
+rows=$room/rows
+trap 'trap "" INT TERM HUP; echo "bench/gate.sh: cut off; run it again to go on, or remove $room" >&2; exit 130' INT TERM HUP
+if [ ! -e "$rows" ]; then
+    rm -rf "$room"
+    mkdir -m 700 "$room"
+    git clone -q . "$room/clone"
+    touch "$rows"
+fi
 cd "$room/clone"
 
 # The crates of crates.txt, in its order.
@@ -41,10 +48,14 @@ below() {
     done
 }
 
-# One row of the table.
+# One row of the table: the one that was made before, or a new one, which is kept where all was proved.
 row() {
-    local name=$1 verb=lib proof tests=0 edits=0 found
+    local name=$1 verb=lib proof tests=0 edits=0 found line
+    if grep "^$name " "$rows"; then
+        return
+    fi
     below "$name"
+    rm -rf "crates/$name/out"
     [ ! -e "crates/$name/src/main.rt" ] || verb=check
     proof=$(seconds "crates/$name" rt "$verb" --jobs 1)
     if grep -rqs '#\[test\]' "crates/$name/src"; then
@@ -52,13 +63,16 @@ row() {
     fi
     found=$(find "crates/$name/must-fail" -name '*.edit' 2>/dev/null | wc -l)
     [ "$found" -eq 0 ] || edits=$(seconds . rt must-fail "$name")
-    printf '%-20s %7s %7s %7s %5s\n' "$name" "$proof" "$tests" "$edits" "$found"
+    line=$(printf '%-20s %7s %7s %7s %5s' "$name" "$proof" "$tests" "$edits" "$found")
+    printf '%s\n' "$line"
+    case $line in *failed*) is_whole= ;; *) printf '%s\n' "$line" >>"$rows" ;; esac
 }
 
 # What each function took: a check at one job keeps its work in files, one after the other, so that the time between two of
 # them is what the second one took.
 slow() {
     below "$1"
+    rm -rf "crates/$1/out"
     (cd "crates/$1" && rt check --jobs 1 --test >/dev/null)
     find "crates/$1/out/incremental" -path '*/records/*' -printf '%T@ %f\n' | sort -n | python3 -c '
 import re, sys
@@ -78,11 +92,18 @@ for path, seconds in sorted(taken.items(), key=lambda it: -it[1])[:20]:
 
 if [ "${1:-}" = --slow ]; then
     slow "$2"
+    [ -s "$rows" ] || rm -rf "$room"
     exit
 fi
+is_whole=yes
+names=$(crates)
+[ $# -eq 0 ] || names=$(printf '%s\n' $names | grep -xF "$(printf '%s\n' "$@")")
 printf '%-20s %7s %7s %7s %5s\n' crate proof tests edits of
-for name in $(crates); do
-    if [ $# -eq 0 ] || printf '%s\n' "$@" | grep -qx "$name"; then
-        row "$name"
-    fi
-done | awk '{ print } $2 ~ /^[0-9]+$/ { p += $2; t += $3; e += $4; n += $5 } END { printf "%-20s %7d %7d %7d %5d\n", "all", p, t, e, n }'
+for name in $names; do
+    row "$name"
+done
+for name in $names; do
+    grep "^$name " "$rows" || true
+done | awk '{ p += $2; t += $3; e += $4; n += $5 } END { printf "%-20s %7d %7d %7d %5d\n", "all", p, t, e, n }'
+# Rows of others are those of a run that was cut off.
+[ -z "$is_whole" ] || [ "$(wc -l <"$rows")" -gt "$(wc -w <<<"$names")" ] || rm -rf "$room"

@@ -232,6 +232,7 @@ class Server(http.server.ThreadingHTTPServer):
     """It answers over a document, on a free port of this host, until it is closed."""
 
     daemon_threads = True
+    request_queue_size = 64
 
     def __init__(self, document):
         super().__init__(("127.0.0.1", 0), Handler)

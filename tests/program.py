@@ -1,15 +1,26 @@
-"""Runs of the program, each over files in a folder of its own: of the one that was built here, and else of the shipped one."""
+"""Runs of the program, each over files in a folder of its own: of the one that FLAGOPS names (./test sets it), else of the one that
+was built here, else of the shipped one."""
 import json
 import os
+import resource
+import socket
 import subprocess
 import tempfile
+import time
 import unittest
 from typing import NamedTuple
 
 ROOT = os.path.dirname(os.path.dirname(os.path.abspath(__file__)))
 BUILT = os.path.join(ROOT, "crates", "flagops", "out", "flagops")
-PROGRAM = BUILT if os.path.exists(BUILT) else os.path.join(ROOT, "release", "x86_64-linux", "flagops")
-SECONDS = 120
+SHIPPED = os.path.join(ROOT, "release", "x86_64-linux", "flagops")
+PROGRAM = os.environ.get("FLAGOPS") or (BUILT if os.path.exists(BUILT) else SHIPPED)
+
+# The seconds after which a test gives up waiting. No test depends on time: they wait for what is to happen (a line, a file, a
+# connection), and this only ends one that hangs.
+SECONDS = 900
+
+# The seconds of a processor that a run may take which is to be cheap, however long it waits for one.
+CHEAP = 20
 
 
 class Ran(NamedTuple):
@@ -35,6 +46,53 @@ def run(words, files, **how):
     return Ran(ended.stdout, ended.stderr, ended.returncode, left)
 
 
+def cheap():
+    """For `preexec_fn`: a run that takes many seconds of a processor is ended by a signal."""
+    resource.setrlimit(resource.RLIMIT_CPU, (CHEAP, CHEAP))
+
+
+def wait_until(is_so, what):
+    """Waits until this is so."""
+    end = time.monotonic() + SECONDS
+    while not is_so():
+        if time.monotonic() > end:
+            raise TimeoutError(f"waited {SECONDS} seconds: {what}")
+        time.sleep(0.01)
+
+
+class Deadline:
+    """Seconds from now on, in which something is to be done."""
+
+    def __init__(self, seconds):
+        self.seconds, self.end, self.is_met = seconds, time.monotonic() + seconds, False
+
+    def met(self):
+        """It is done; in time or not."""
+        self.is_met = time.monotonic() < self.end
+
+
+def in_time(act):
+    """Calls `act` with a deadline: as many seconds as the program is told by `--wait`, in which something is to reach it. Where that
+    was late by this process's own clock, since the machine is busy, a failure says nothing, and there is a longer deadline."""
+    for seconds in (1, 3, 10, 30, 100, 300):
+        deadline = Deadline(seconds)
+        try:
+            return act(deadline)
+        except Exception:
+            if deadline.is_met or seconds == 300:
+                raise
+
+
+def free_port(test):
+    """A port of this host on which nobody listens. It stays bound until the test ends, so that the system gives it to nobody else;
+    the program can listen there all the same."""
+    probe = socket.socket()
+    test.addCleanup(probe.close)
+    probe.setsockopt(socket.SOL_SOCKET, socket.SO_REUSEADDR, 1)
+    probe.bind(("127.0.0.1", 0))
+    return probe.getsockname()[1]
+
+
 def text_of(path):
     """The text of a file, with marks in place of bytes that are no UTF-8."""
     with open(path, encoding="utf-8", errors="surrogateescape", newline="") as file:
@@ -51,9 +109,9 @@ class ProgramTest(unittest.TestCase):
 
     maxDiff = None
 
-    def assert_ends(self, words, files, status, report):
+    def assert_ends(self, words, files, status, report, **how):
         """The run ends with this status and prints this; a refusal is told in words, and an answer in none but a note."""
-        ran = run(words, files)
+        ran = run(words, files, **how)
         self.assertEqual((ran.status, ran.out), (status, report))
         is_told = ran.err != "" and not ran.err.startswith("note: ")
         self.assertEqual(is_told, status == 1, ran.err)

@@ -245,9 +245,12 @@ class Unions(ProgramTest):
                 self.assertIn(f"error: {named}", ran.err)
 
 
+COMPACT = json.JSONEncoder(separators=(",", ":"), ensure_ascii=False)
+
+
 def note(flag="a", text="x", site=0, by=None):
     """A note line."""
-    return json.dumps([flag, site, by, text], ensure_ascii=False, separators=(",", ":")) + "\n"
+    return COMPACT.encode([flag, site, by, text]) + "\n"
 
 
 # Lines that are those of no note, and are not blank.

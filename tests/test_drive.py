@@ -1,11 +1,10 @@
 """The command `drive`: its lines, the book that it writes, and its refusals."""
 import json
 import resource
-import time
 import unittest
 
 from given import BOOK, EMPTY_BOOK, document
-from program import ProgramTest, run
+from program import ProgramTest, cheap, run
 
 # Each key with its variant: they lie on the points 0, 1, 4, 4, 6, 7 and 7 of 10.
 KEYS = [
@@ -61,10 +60,6 @@ NOTHING = (
     '  nothing was recorded: no ask reached a "fractional" with an input of at most 1,024 bytes\n'
     "  check the keys and the contexts\n"
 )
-
-# Seconds, ten times and more of what these asks take: 200000 notes that each wrote a bucketing expression of 4000 nodes anew
-# would write 800 million.
-SOON = 20
 
 
 def compact(value):
@@ -247,11 +242,10 @@ class Drive(ProgramTest):
             self.assertEqual(run(["drive", "--strict", *words, "d", "a", "2", "b"], files), plain)
             self.assertEqual(plain.status, 0)
 
-    def assert_soon(self, files, counts, pages):
-        """The asks are driven soon, with these counts, and the book has these pages of one input."""
-        began = time.monotonic()
-        ran = run(["drive", "d", "a", "2", "b"], files)
-        self.assertLess(time.monotonic() - began, SOON)
+    def assert_cheap(self, files, counts, pages):
+        """The asks are driven cheaply, with these counts, and the book has these pages of one input. 200000 notes that each wrote a
+        bucketing expression of 4000 nodes anew would write 800 million."""
+        ran = run(["drive", "d", "a", "2", "b"], files, preexec_fn=cheap)
         self.assertEqual((ran.status, ran.out.splitlines()[-5:]), (0, counts))
         lines = [f'{{"by":{compact(by)},"flag":"f","site":{number}}}\n"u"' for number, by in enumerate(pages)]
         self.assertEqual(ran.files["b"].splitlines(), "\n".join(['{"book":1}', *lines]).splitlines())
@@ -260,7 +254,7 @@ class Drive(ProgramTest):
         sites = [site({"cat": ["u"]}) for _ in range(1400)]
         files = driven({"merge": [tree for tree, _ in sites]}, {}, 100)
         counts = ["inputs 1400", "calls 140000", "news 1400", "full 0", "long 0"]
-        self.assert_soon(files, counts, [by for _, by in sites])
+        self.assert_cheap(files, counts, [by for _, by in sites])
 
     def test_an_ask_that_goes_to_and_fro_between_two_sites(self):
         """The sites have bucketing expressions of thousands of nodes, which are not evaluated."""
@@ -268,7 +262,7 @@ class Drive(ProgramTest):
         targeting = {"map": [{"var": ["items"]}, {"merge": [tree for tree, _ in sites]}]}
         files = driven(targeting, {"items": [0] * 5000}, 20)
         counts = ["inputs 2", "calls 200000", "news 2", "full 0", "long 0"]
-        self.assert_soon(files, counts, [by for _, by in sites])
+        self.assert_cheap(files, counts, [by for _, by in sites])
 
 
 if __name__ == "__main__":

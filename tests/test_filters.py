@@ -227,30 +227,30 @@ class FiltersTest(ProgramTest):
 
     def test_closed_pipe(self):
         """A pipe that is closed early ends `record` quietly, with status 1."""
-        for workers in WORKERS:
-            with self.subTest(workers=workers):
-                self.assert_breaks_off(workers)
-
-    def assert_breaks_off(self, workers):
-        """It does so by this number of workers."""
         with tempfile.TemporaryDirectory() as folder:
             with open(os.path.join(folder, "d"), "w", encoding="utf-8") as file:
                 file.write(DOCUMENT)
             with open(os.path.join(folder, "c"), "w", encoding="utf-8") as file:
                 file.writelines(context(f"user{n}") for n in range(600_000))
-            with open(os.path.join(folder, "c"), "rb") as contexts:
-                running = subprocess.Popen(
-                    [PROGRAM, "record", "d", "color", "--workers", workers],
-                    cwd=folder,
-                    stdin=contexts,
-                    stdout=subprocess.PIPE,
-                    stderr=subprocess.PIPE,
-                )
-                first = running.stdout.readline()
-                running.stdout.close()
-                told = running.stderr.read()
-                running.stderr.close()
-                status = running.wait(SECONDS)
+            for workers in WORKERS:
+                with self.subTest(workers=workers):
+                    self.assert_breaks_off(workers, folder)
+
+    def assert_breaks_off(self, workers, folder):
+        """It does so by this number of workers."""
+        with open(os.path.join(folder, "c"), "rb") as contexts:
+            running = subprocess.Popen(
+                [PROGRAM, "record", "d", "color", "--workers", workers],
+                cwd=folder,
+                stdin=contexts,
+                stdout=subprocess.PIPE,
+                stderr=subprocess.PIPE,
+            )
+            first = running.stdout.readline()
+            running.stdout.close()
+            told = running.stderr.read()
+            running.stderr.close()
+            status = running.wait(SECONDS)
         self.assertEqual((first.decode(), told, status), (note("user0"), b"", 1))
 
     def test_words(self):

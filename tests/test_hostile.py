@@ -5,7 +5,7 @@ import subprocess
 import sys
 import unittest
 
-from program import ROOT, SECONDS
+from program import PROGRAM, ROOT, SECONDS
 
 FOLDER = os.path.join(ROOT, "bench", "hostile")
 LAST = r"\n[1-9]\d* cases, \d+ bad\n$"
@@ -14,8 +14,9 @@ LAST = r"\n[1-9]\d* cases, \d+ bad\n$"
 class Script(unittest.TestCase):
     def last(self, script, *given):
         """What a script tells in all of these words, once it went to its end."""
-        words = [sys.executable, os.path.join(FOLDER, script), *map(str, given)]
-        ended = subprocess.run(words, stdout=subprocess.PIPE, stderr=subprocess.PIPE, encoding="utf-8", timeout=SECONDS, check=False)
+        words = [sys.executable, "-B", os.path.join(FOLDER, script), *map(str, given)]
+        how = {"capture_output": True, "encoding": "utf-8", "timeout": SECONDS}
+        ended = subprocess.run(words, env={**os.environ, "FLAGOPS": PROGRAM}, check=False, **how)
         self.assertRegex(ended.stdout, LAST, ended.stderr)
         self.assertEqual(ended.stderr, "")
         return ended.stdout.splitlines()[-1]

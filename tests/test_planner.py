@@ -1,4 +1,5 @@
 """What `plan` emits, beside each rule of the same total weight: whether one fits, and the least that one costs."""
+import functools
 import itertools
 import json
 import random
@@ -19,13 +20,21 @@ def scrambled(block):
     return rotated(block * 0xCC9E2D51 & MASK, 15) * 0x1B873593 & MASK
 
 
-def murmur3(key):
-    """MurmurHash3 x86 32-bit of bytes, with the seed 0."""
-    code = 0
-    whole = len(key) // 4 * 4
-    for start in range(0, whole, 4):
+@functools.lru_cache(maxsize=1024)
+def mixed(key):
+    """The state of MurmurHash3 x86 32-bit behind whole blocks, with the seed 0. Those of long keys that begin alike are found once."""
+    front = max(len(key) - 4, 0) // 64 * 64
+    code = mixed(key[:front]) if front else 0
+    for start in range(front, len(key), 4):
         code ^= scrambled(int.from_bytes(key[start : start + 4], "little"))
         code = (rotated(code, 13) * 5 + 0xE6546B64) & MASK
+    return code
+
+
+def murmur3(key):
+    """MurmurHash3 x86 32-bit of bytes, with the seed 0."""
+    whole = len(key) // 4 * 4
+    code = mixed(key[:whole])
     code ^= scrambled(int.from_bytes(key[whole:], "little")) ^ len(key)
     code = (code ^ code >> 16) * 0x85EBCA6B & MASK
     code = (code ^ code >> 13) * 0xC2B2AE35 & MASK

@@ -21,9 +21,12 @@ TOTAL = 8
 PAGE = {"flag": "color", "site": 0, "by": BY}
 
 
+COMPACT = json.JSONEncoder(separators=(",", ":"), ensure_ascii=False)
+
+
 def compact(value):
     """A value as the program prints it: no blanks, and no escape that a text can do without."""
-    return json.dumps(value, separators=(",", ":"), ensure_ascii=False)
+    return COMPACT.encode(value)
 
 
 DOCUMENT = compact(

@@ -5,7 +5,8 @@ import subprocess
 import tempfile
 import unittest
 
-ROOT = os.path.dirname(os.path.dirname(os.path.abspath(__file__)))
+from program import ROOT, SECONDS
+
 FILES = {
     "HANDLES": "Handles allowed: none.\n",
     "crates.txt": "# lowest first\nlow:\nmiddle may_wait=1: low serde_json\nflagops: middle clap\nlow_tests: low\n",
@@ -45,7 +46,7 @@ class ShippedTest(unittest.TestCase):
     def shell(self, command):
         return subprocess.run(
             ["sh", "-c", f"here={self.top}; . {self.top}/release/sources.sh; {command}"],
-            capture_output=True, text=True, check=True, env={"PATH": self.path}, timeout=60,
+            capture_output=True, text=True, check=True, env={"PATH": self.path}, timeout=SECONDS,
         ).stdout.strip()
 
     def sum(self):
@@ -60,7 +61,7 @@ class ShippedTest(unittest.TestCase):
     def run_it(self):
         return subprocess.run(
             [os.path.join(self.top, "flagops"), "one", "two words"],
-            capture_output=True, text=True, check=False, env={"PATH": self.path}, timeout=60,
+            capture_output=True, text=True, check=False, env={"PATH": self.path}, timeout=SECONDS,
         )
 
     def assert_runs(self):

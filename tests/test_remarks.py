@@ -1,8 +1,7 @@
 """What a person is told of a file that is refused, or of a flag that is broken: the place in it, and what stands there."""
-import time
 import unittest
 
-from program import ProgramTest, run
+from program import ProgramTest, cheap, run
 
 DOCUMENT = '{"flags":{"a":{"state":"ENABLED","variants":{"on":1},"defaultVariant":"on"}}}'
 
@@ -155,7 +154,6 @@ CHAINS = [
 
 LINKS = 100_000
 FLAGS = 10_000
-SOON = 20
 
 
 def referring(evaluators):
@@ -195,9 +193,7 @@ class Remarks(ProgramTest):
     def test_of_many_flags_behind_a_long_chain(self):
         for last, told in CHAINS:
             with self.subTest(last=last):
-                began = time.monotonic()
-                ran = run(["check", "f"], {"f": chained(last)})
-                self.assertLess(time.monotonic() - began, SOON)
+                ran = run(["check", "f"], {"f": chained(last)}, preexec_fn=cheap)
                 wanted = [f"broken: flags.{place:04}.targeting{told}" for place in range(FLAGS)]
                 self.assertEqual((ran.status, ran.err.splitlines() == wanted), (0, True), ran.err[:300])
 

@@ -4,6 +4,7 @@ import hashlib
 import http.client
 import json
 import os
+import re
 import resource
 import select
 import signal
@@ -12,13 +13,15 @@ import struct
 import subprocess
 import tempfile
 import threading
-import time
 import unittest
 
-from program import PROGRAM, run
+from program import PROGRAM, SECONDS, free_port, run, wait_until
 
 FLAGS = "/ofrep/v1/evaluate/flags"
 JSON = "application/json"
+
+# What is told of a document that cannot be read again, or is broken.
+KEPT = "what was accepted of it last"
 
 # A flag for each answer: one variant by a rule, one always, one of another kind, and those that have none.
 DOCUMENT = {
@@ -56,13 +59,6 @@ def color_of(key):
     return {"key": "color", "metadata": {}, **{name: told[name] for name in ("reason", "value", "variant")}}
 
 
-def free_port():
-    """A port that nobody listens on."""
-    with socket.socket() as probe:
-        probe.bind(("127.0.0.1", 0))
-        return probe.getsockname()[1]
-
-
 class ServiceTest(unittest.TestCase):
     """A service of its own for each test."""
 
@@ -73,25 +69,30 @@ class ServiceTest(unittest.TestCase):
         self.put("d", compact(DOCUMENT))
 
     def put(self, name, text):
-        with open(os.path.join(self.folder, name), "w", encoding="utf-8") as file:
+        """A file of the folder, which is replaced whole: a service may read it at any moment."""
+        path = os.path.join(self.folder, name)
+        with open(path + ".new", "w", encoding="utf-8") as file:
             file.write(text)
+        os.replace(path + ".new", path)
 
     def start(self, *words, documents=("d",), **more):
         """A service that listens. `more` goes to `subprocess.Popen`."""
-        self.port = free_port()
+        self.port = free_port(self)
         words = [PROGRAM, "ofrep", "--listen", f"127.0.0.1:{self.port}", *words, *documents]
         how = {"stdout": subprocess.PIPE, "stderr": subprocess.PIPE, "text": True, "cwd": self.folder, **more}
         child = subprocess.Popen(words, **how)
         self.addCleanup(child.communicate)
         self.addCleanup(child.kill)
-        ready, _, _ = select.select([child.stdout], [], [], 20)
-        self.assertTrue(ready, "the service does not listen")
         self.assertEqual(child.stdout.readline(), f"serving {len(documents)}\n")
         return child
 
+    def connect(self):
+        """A connection to the service."""
+        return socket.create_connection(("127.0.0.1", self.port), SECONDS)
+
     def ask(self, method, path, body=b"", headers={}):
         """The status, the headers and the body of one answer."""
-        connection = http.client.HTTPConnection("127.0.0.1", self.port, timeout=20)
+        connection = http.client.HTTPConnection("127.0.0.1", self.port, timeout=SECONDS)
         try:
             connection.request(method, path, body, dict(headers))
             answer = connection.getresponse()
@@ -250,7 +251,7 @@ class Answers(ServiceTest):
     def test_pieces_and_pipelines(self):
         body = context("mallory")
         head = f"POST {FLAGS}/color HTTP/1.1\r\nHost: h\r\nContent-Length: {len(body)}\r\n\r\n".encode()
-        with socket.create_connection(("127.0.0.1", self.port), 20) as stream:
+        with self.connect() as stream:
             for byte in head + body:
                 stream.sendall(bytes([byte]))
             first = self.whole_answer(stream)
@@ -263,7 +264,7 @@ class Answers(ServiceTest):
         """A read ends before urgent data, though more has come."""
         body = context("mallory")
         request = f"POST {FLAGS}/color HTTP/1.1\r\nHost: h\r\nContent-Length: {len(body)}\r\n\r\n".encode() + body
-        with socket.create_connection(("127.0.0.1", self.port), 20) as stream:
+        with self.connect() as stream:
             stream.sendall(request)
             first = self.whole_answer(stream)
             self.child.send_signal(signal.SIGSTOP)
@@ -283,16 +284,16 @@ class Answers(ServiceTest):
 
     def test_bad_heads(self):
         for head in (b"NONSENSE\r\n\r\n", b"GET / HTTP/1.1\r\nbad header\r\n\r\n", b"GET / HTTP/1.1\r\n\r\n"):
-            with self.subTest(head), socket.create_connection(("127.0.0.1", self.port), 20) as stream:
+            with self.subTest(head), self.connect() as stream:
                 stream.sendall(head)
                 self.assertTrue(stream.recv(4096).startswith(b"HTTP/1.1 400 "))
-        with socket.create_connection(("127.0.0.1", self.port), 20) as stream:
+        with self.connect() as stream:
             stream.sendall(b"POST / HTTP/1.1\r\nHost: h\r\nContent-Length: 4194305\r\n\r\n")
             self.assertTrue(stream.recv(4096).startswith(b"HTTP/1.1 413 "))
 
     def test_expect_continue(self):
         body = context("mallory")
-        with socket.create_connection(("127.0.0.1", self.port), 20) as stream:
+        with self.connect() as stream:
             head = f"POST {FLAGS}/color HTTP/1.1\r\nHost: h\r\nExpect: 100-continue\r\nContent-Length: {len(body)}\r\n\r\n"
             stream.sendall(head.encode())
             self.assertTrue(stream.recv(4096).startswith(b"HTTP/1.1 100 "))
@@ -309,14 +310,20 @@ class Unbuffered:
     def readline(self, limit=-1):
         line = b""
         while not line.endswith(b"\n") and len(line) != limit:
-            line += self.stream.recv(1)
+            line += self.received(1)
         return line
 
     def read(self, count):
         text = b""
         while len(text) < count:
-            text += self.stream.recv(count - len(text))
+            text += self.received(count - len(text))
         return text
+
+    def received(self, most):
+        part = self.stream.recv(most)
+        if not part:
+            raise EOFError("the connection was closed within an answer")
+        return part
 
     def close(self):
         pass
@@ -348,37 +355,37 @@ class Stacks(ServiceTest):
 class Turns(ServiceTest):
     """Many connections of one worker."""
 
-    def pipeline(self, stop):
-        """Asks without a pause on one connection until it is told to stop, and says how many bytes were answered."""
+    def pipeline(self, begun, stop):
+        """Asks without a pause on one connection until it is told to stop. `begun` is set once it was answered."""
         requests = b"GET /healthz HTTP/1.1\r\nHost: h\r\n\r\n" * 5_000
-        left, answered = requests, 0
-        with socket.create_connection(("127.0.0.1", self.port), 20) as stream:
+        left = requests
+        with self.connect() as stream:
             stream.setblocking(False)
             while not stop.is_set():
                 readable, writable, _ = select.select([stream], [stream], [], 1)
-                if readable:
-                    answered += len(stream.recv(1 << 20))
+                if readable and stream.recv(1 << 20):
+                    begun.set()
                 if writable:
                     left = left[stream.send(left) :] or requests
-        return answered
 
     def test_who_never_pauses_holds_up_nobody(self):
         self.start("--workers", "1", "--poll", "0")
-        stop = threading.Event()
+        begun, stop = [threading.Event() for _ in range(3)], threading.Event()
         with concurrent.futures.ThreadPoolExecutor() as pool:
-            busy = [pool.submit(self.pipeline, stop) for _ in range(3)]
+            busy = [pool.submit(self.pipeline, each, stop) for each in begun]
             try:
+                self.assertTrue(all(each.wait(SECONDS) for each in begun))
                 for _ in range(20):
                     self.assertEqual(self.flag("size")[1]["value"], 2)
             finally:
                 stop.set()
-        self.assertTrue(all(each.result() > 0 for each in busy))
-
+        for each in busy:
+            each.result()
 
     def takers(self, child, burst):
         """How many of 32 connections that wait at once each of four workers takes, by the log that has the note of each."""
         child.send_signal(signal.SIGSTOP)
-        streams = [http.client.HTTPConnection("127.0.0.1", self.port, timeout=20) for _ in range(32)]
+        streams = [http.client.HTTPConnection("127.0.0.1", self.port, timeout=SECONDS) for _ in range(32)]
         for stream in streams:
             stream.connect()
         child.send_signal(signal.SIGCONT)
@@ -393,9 +400,9 @@ class Turns(ServiceTest):
             return file.read().splitlines()
 
     def test_workers_share_the_connections(self):
-        """A worker that is woken late, as on a busy machine, finds fewer: one burst of ten is enough."""
+        """A worker that is woken late, as on a busy machine, finds fewer: one burst of 20 is enough."""
         child = self.start("--log", "log", "--workers", "4", "--poll", "0")
-        shares = (self.takers(child, burst) for burst in range(10))
+        shares = (self.takers(child, burst) for burst in range(20))
         self.assertTrue(any(min(each) >= 4 and sum(each) == 32 for each in shares))
 
 
@@ -462,14 +469,21 @@ class Logs(ServiceTest):
 class Changing(ServiceTest):
     """A service whose document changes."""
 
+    def size(self):
+        """The value of the flag `size`."""
+        return self.flag("size")[1].get("value")
+
     def until(self, wanted):
         """Asks until the flag `size` has this value."""
-        end = time.monotonic() + 20
-        while time.monotonic() < end:
-            if self.flag("size")[1].get("value") == wanted:
-                return
-            time.sleep(0.05)
-        self.fail(f"size is not {wanted}")
+        wait_until(lambda: self.size() == wanted, f"size is not {wanted}")
+
+    def told(self, child, part, count=1):
+        """Waits until a service has told this in so many lines; all that it has told by then."""
+        lines = []
+        while sum(part in line for line in lines) < count:
+            lines.append(child.stderr.readline())
+            self.assertNotEqual(lines[-1], "", lines)
+        return "".join(lines)
 
     def changed(self, variant):
         flags = {**DOCUMENT["flags"], "size": {**DOCUMENT["flags"]["size"], "defaultVariant": variant}}
@@ -487,23 +501,22 @@ class Publishing(Changing):
         self.until(1)
         self.put("over", "{")
         os.remove(os.path.join(self.folder, "d"))
-        time.sleep(2.5)
-        self.until(1)
+        told = self.told(child, KEPT, 2)
+        self.assertEqual(self.size(), 1)
         self.put("d", self.changed("two"))
         self.until(2)
         self.put("over", '{"flags":{"size":{"state":"DISABLED","variants":{"one":1}}}}')
         self.until(None)
         child.kill()
-        told = child.stderr.read()
+        told += child.stderr.read()
         self.assertEqual(told.count("cannot be read"), 1, told)
-        self.assertEqual(told.count("what was accepted of it last"), 2, told)
-        self.assertIn("answers from snapshot 4", told)
-
+        self.assertEqual(told.count(KEPT), 2, told)
+        self.assertEqual(re.findall(r"answers from snapshot (\d+)", told), ["1", "2", "3", "4"])
 
     def test_the_life_of_a_provider(self):
         """It polls every flag with the tag that it was told last, evaluates single ones, and learns of a change within the poll; a
         document that an edit breaks changes nothing."""
-        self.start("--poll", "1")
+        child = self.start("--poll", "1")
         tag, flags = self.polled(None)
         for flag in flags:
             self.assertEqual(self.flag(quoted(flag["key"]), context("mallory"))[1], flag)
@@ -514,9 +527,9 @@ class Publishing(Changing):
         self.assertNotEqual(new, tag)
         self.assertEqual([flag["value"] for flag in flags if flag["key"] == "size"], [1])
         self.put("d", '{"flags":')
-        time.sleep(2.5)
+        self.told(child, KEPT)
         self.assertEqual(self.polled(new), (new, None))
-        self.assertEqual(self.flag("size")[1]["value"], 1)
+        self.assertEqual(self.size(), 1)
 
     def polled(self, tag):
         """The tag of every flag's answer, and the flags where they are others than under the tag."""
@@ -533,12 +546,12 @@ class Streaming(Changing):
 
     def stream(self, *words):
         """A service that streams, and its port."""
-        port = free_port()
+        port = free_port(self)
         return self.start("--poll", "1", "--stream", str(port), *words), port
 
-    def subscriber(self, port, patience=20):
+    def subscriber(self, port):
         """A connection to the stream."""
-        stream = socket.create_connection(("127.0.0.1", port), patience)
+        stream = socket.create_connection(("127.0.0.1", port), SECONDS)
         self.addCleanup(stream.close)
         return stream
 
@@ -548,7 +561,7 @@ class Streaming(Changing):
         length, number = struct.unpack(">IQ", whole.read(12))
         return number, json.loads(whole.read(length - 8))
 
-    def size(self, stream):
+    def next_size(self, stream):
         """The number of the next frame, and the variant that its flag `size` has by default."""
         number, told = self.frame(stream)
         return number, told["flags"]["size"]["defaultVariant"]
@@ -556,15 +569,15 @@ class Streaming(Changing):
     def test_a_subscriber_is_sent_each_latest_snapshot(self):
         child, port = self.stream()
         early = self.subscriber(port)
-        self.assertEqual(self.size(early), (1, "two"))
+        self.assertEqual(self.next_size(early), (1, "two"))
         early.sendall(b"whatever a subscriber sends is dropped")
         self.put("d", self.changed("one"))
-        self.assertEqual(self.size(early), (2, "one"))
+        self.assertEqual(self.next_size(early), (2, "one"))
         late = self.subscriber(port)
-        self.assertEqual(self.size(late), (2, "one"))
+        self.assertEqual(self.next_size(late), (2, "one"))
         self.assertEqual(self.flag("size")[1]["value"], 1)
         self.put("d", self.changed("two"))
-        self.assertEqual([self.size(early), self.size(late)], [(3, "two")] * 2)
+        self.assertEqual([self.next_size(early), self.next_size(late)], [(3, "two")] * 2)
         followed = run(["follow", str(port), "1"], {})
         self.assertEqual(followed.out, f"snapshot 3 flags {len(DOCUMENT['flags'])}\nstopped Limit\n")
         child.kill()
@@ -574,21 +587,20 @@ class Streaming(Changing):
         _, port = self.stream("--workers", "32")
         seated = [self.subscriber(port) for _ in range(self.SUBSCRIBERS)]
         for stream in seated:
-            self.assertEqual(self.size(stream), (1, "two"))
-        waiting = self.subscriber(port, 1)
-        with self.assertRaises(TimeoutError):
-            waiting.recv(1)
+            self.assertEqual(self.next_size(stream), (1, "two"))
+        waiting = self.subscriber(port)
+        # Nothing comes, however long one waits.
+        self.assertEqual(select.select([waiting], [], [], 1)[0], [])
         seated[7].close()
-        waiting.settimeout(20)
-        self.assertEqual(self.size(waiting), (1, "two"))
+        self.assertEqual(self.next_size(waiting), (1, "two"))
 
     def test_who_takes_nothing_holds_up_nobody(self):
         _, port = self.stream()
         self.subscriber(port)
         taking = self.subscriber(port)
-        self.assertEqual(self.size(taking), (1, "two"))
+        self.assertEqual(self.next_size(taking), (1, "two"))
         self.put("d", self.changed("one"))
-        self.assertEqual(self.size(taking), (2, "one"))
+        self.assertEqual(self.next_size(taking), (2, "one"))
         self.until(1)
 
     def test_a_port_that_is_taken(self):

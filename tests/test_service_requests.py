@@ -6,9 +6,11 @@ import json
 import os
 import random
 import threading
+import unittest
 from urllib.parse import quote
 
 from ofrep_server import FLAGS, Server, compact
+from program import SECONDS
 from test_service import ServiceTest
 
 COUNT = int(os.environ.get("OFREP_REQUESTS", "1600"))
@@ -145,8 +147,8 @@ class Requests(ServiceTest):
 
     def ask_both(self, server, seed, count, other):
         draw = random.Random(seed)
-        ours = http.client.HTTPConnection("127.0.0.1", self.port, timeout=30)
-        theirs = http.client.HTTPConnection("127.0.0.1", server.server_port, timeout=30)
+        ours = http.client.HTTPConnection("127.0.0.1", self.port, timeout=SECONDS)
+        theirs = http.client.HTTPConnection("127.0.0.1", server.server_port, timeout=SECONDS)
         try:
             for _ in range(count):
                 request = drawn_request(draw)
@@ -159,3 +161,7 @@ class Requests(ServiceTest):
         finally:
             ours.close()
             theirs.close()
+
+
+if __name__ == "__main__":
+    unittest.main()

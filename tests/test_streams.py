@@ -1,16 +1,18 @@
 """The commands `serve` and `follow` over the loopback."""
+import array
+import fcntl
 import json
 import os
-import select
 import socket
 import struct
 import subprocess
 import tempfile
+import termios
 import time
 import unittest
 
 from given import document
-from program import PROGRAM, SECONDS
+from program import PROGRAM, SECONDS, free_port, in_time, wait_until
 
 
 def flags(*keys):
@@ -109,11 +111,21 @@ MISTAKES = [
 ]
 
 
-def free_port():
-    """A port that nobody listens on."""
-    with socket.socket() as probe:
-        probe.bind(("127.0.0.1", 0))
-        return str(probe.getsockname()[1])
+def frames(stream):
+    """The frames that come until a stream ends: their numbers and documents."""
+    left, found = b"".join(iter(lambda: stream.recv(65536), b"")), []
+    while left:
+        length, number = struct.unpack_from(">IQ", left)
+        found.append((number, left[12 : 4 + length]))
+        left = left[4 + length :]
+    return found
+
+
+def waiting_bytes(stream):
+    """How many bytes have come on a connection that were not read yet."""
+    count = array.array("i", [0])
+    fcntl.ioctl(stream, termios.FIONREAD, count)
+    return count[0]
 
 
 def listening():
@@ -131,20 +143,27 @@ class Streams(unittest.TestCase):
         self.addCleanup(folder.cleanup)
         self.folder = folder.name
 
+    def put(self, name, text):
+        with open(os.path.join(self.folder, name), "w", encoding="utf-8") as file:
+            file.write(text)
+
     def start(self, *words):
         """A run with these words that goes on."""
         how = {"stdout": subprocess.PIPE, "stderr": subprocess.PIPE, "text": True, "cwd": self.folder}
         child = subprocess.Popen([PROGRAM, *words], **how)
+        self.addCleanup(child.communicate)
         self.addCleanup(child.kill)
         return child
+
+    def free_port(self):
+        return str(free_port(self))
 
     def serve(self, subscribers, *documents, wait="0"):
         """A server of these documents, once it listens on the port that it was given, and that port."""
         names = [f"{place}.json" for place in range(1, len(documents) + 1)]
         for name, text in zip(names, documents):
-            with open(os.path.join(self.folder, name), "w", encoding="utf-8") as file:
-                file.write(text)
-        port = free_port()
+            self.put(name, text)
+        port = self.free_port()
         server = self.start("serve", port, str(subscribers), *names, "--wait", wait)
         line = server.stderr.readline()
         # Documents that will be refused are told before.
@@ -159,18 +178,17 @@ class Streams(unittest.TestCase):
         self.assertEqual((out, child.returncode), (printed, status), told)
         return told
 
-    def received(self, port, sent=b""):
-        """The frames that a subscriber is sent, which sends something first: their numbers and documents."""
-        with socket.create_connection(("127.0.0.1", int(port)), SECONDS) as stream:
+    def connect(self, port):
+        """A subscriber that has come."""
+        return socket.create_connection(("127.0.0.1", int(port)), SECONDS)
+
+    def received(self, port, sent=b"", late=0):
+        """The frames that a subscriber is sent, which sends something first, and reads nothing until so many bytes wait for it: their
+        numbers and documents."""
+        with self.connect(port) as stream:
             stream.sendall(sent)
-            time.sleep(0.5 if sent else 0)
-            left = b"".join(iter(lambda: stream.recv(65536), b""))
-        frames = []
-        while left:
-            length, number = struct.unpack_from(">IQ", left)
-            frames.append((number, left[12 : 4 + length]))
-            left = left[4 + length :]
-        return frames
+            wait_until(lambda: waiting_bytes(stream) >= late, "bytes of a frame")
+            return frames(stream)
 
     def test_every_subscriber_gets_the_last_snapshot(self):
         """A person is told nothing beside a stream, and of each subscriber beside what was published."""
@@ -222,7 +240,6 @@ class Streams(unittest.TestCase):
             with stream:
                 for number in (1, 2):
                     stream.sendall(frame(number, NONE.encode()))
-                    self.assertTrue(select.select([follower.stdout], [], [], SECONDS)[0])
                     self.assertEqual(follower.stdout.readline(), f"snapshot {number} flags 0\n")
             self.assert_ends(follower, "ended\n", 0)
 
@@ -238,7 +255,7 @@ class Streams(unittest.TestCase):
 
     def test_the_bytes_of_a_frame(self):
         server, port = self.serve(1, NONE)
-        with socket.create_connection(("127.0.0.1", int(port)), SECONDS) as stream:
+        with self.connect(port) as stream:
             self.assertEqual(b"".join(iter(lambda: stream.recv(65536), b"")), FRAME)
         self.assert_ends(server, "published 1\n", 0)
 
@@ -247,14 +264,14 @@ class Streams(unittest.TestCase):
         for sent in (9_000, 1_000_000):
             with self.subTest(sent=sent):
                 server, port = self.serve(1, ONE, large("large"))
-                number, last = self.received(port, b"x" * sent)[-1]
+                number, last = self.received(port, b"x" * sent, 65_536)[-1]
                 self.assert_ends(server, "published 2\n", 0)
                 self.assertEqual((number, sorted(json.loads(last)["flags"])), (2, ["color", "large"]))
 
     def test_a_subscriber_that_is_not_served(self):
         """The status tells of one that was reset, and a line of it; the other gets all."""
         server, port = self.serve(2, ONE, TEN)
-        gone = socket.create_connection(("127.0.0.1", int(port)), SECONDS)
+        gone = self.connect(port)
         gone.setsockopt(socket.SOL_SOCKET, socket.SO_LINGER, struct.pack("ii", 1, 0))
         gone.close()
         self.assertEqual(self.received(port)[-1][0], 2)
@@ -266,14 +283,14 @@ class Streams(unittest.TestCase):
     def test_a_subscriber_that_goes_before_it_read(self):
         """One that closes its connection before the first frame is not served."""
         server, port = self.serve(2, ONE)
-        socket.create_connection(("127.0.0.1", int(port)), SECONDS).close()
+        self.connect(port).close()
         self.assertEqual(len(self.received(port)), 1)
         self.assert_ends(server, "refused serve 1 Unserved 1\n", 1)
 
     def test_a_subscriber_that_stays(self):
         """One that keeps its connection open, or reads nothing, keeps `serve` for seconds alone."""
         server, port = self.serve(1, ONE, TEN)
-        with socket.create_connection(("127.0.0.1", int(port)), SECONDS):
+        with self.connect(port):
             self.assert_ends(server, "published 2\n", 0)
 
     def test_documents_that_are_too_large_together(self):
@@ -299,9 +316,8 @@ class Streams(unittest.TestCase):
         """Each with what is wrong with it, before anybody is waited for."""
         texts = {"good": ONE, "bad": '{"flags":{},\n', "flagless": "{}"}
         for name, text in texts.items():
-            with open(os.path.join(self.folder, name), "w", encoding="utf-8") as file:
-                file.write(text)
-        port = free_port()
+            self.put(name, text)
+        port = self.free_port()
         server = self.start("serve", port, "1", "good", "bad", "good", "flagless")
         told = []
         while not told or "listens on" not in told[-1]:
@@ -314,46 +330,58 @@ class Streams(unittest.TestCase):
         self.assert_ends(server, "refused set 4 Refused 1 NotJson\n", 1)
 
     def test_a_first_document_is_refused_before_anybody_is_waited_for(self):
-        with open(os.path.join(self.folder, "d"), "w", encoding="utf-8") as file:
-            file.write('{"flags":{},\n')
-        told = self.assert_ends(self.start("serve", free_port(), "1", "d"), "refused set 4 Refused 1 NotJson\n", 1)
+        self.put("d", '{"flags":{},\n')
+        told = self.assert_ends(self.start("serve", self.free_port(), "1", "d"), "refused set 4 Refused 1 NotJson\n", 1)
         self.assertTrue(told.startswith('error: "d" is no JSON: '), told)
 
     def test_who_does_not_come_in_time(self):
         """Those who have come are served, and the others are counted; where none has come there is nobody to serve."""
-        server, port = self.serve(3, ONE, wait="1")
-        self.assertEqual([number for number, _ in self.received(port)], [1])
-        self.assert_ends(server, "refused serve 1 Unserved 2\n", 1)
+        in_time(self.assert_one_of_three_is_served)
         server, _ = self.serve(2, ONE, wait="1")
         self.assert_ends(server, "refused accept 1 NoConnection\n", 1)
 
+    def assert_one_of_three_is_served(self, deadline):
+        server, port = self.serve(3, ONE, wait=str(deadline.seconds))
+        with self.connect(port) as stream:
+            deadline.met()
+            self.assertEqual([number for number, _ in frames(stream)], [1])
+        self.assert_ends(server, "refused serve 1 Unserved 2\n", 1)
+
     def test_who_reads_nothing_in_time(self):
         """Its stream is cut, since 4 MB are more than the system keeps for it, and the others have the last snapshot."""
+        in_time(self.assert_one_of_two_is_served)
+
+    def assert_one_of_two_is_served(self, deadline):
         flag = {"state": "ENABLED", "variants": {"v": "value" * 830_000}}
-        server, port = self.serve(2, json.dumps({"flags": {"a": flag}}), wait="1")
-        with socket.create_connection(("127.0.0.1", int(port)), SECONDS):
-            self.assertEqual([number for number, _ in self.received(port)], [1])
+        server, port = self.serve(2, json.dumps({"flags": {"a": flag}}), wait=str(deadline.seconds))
+        with self.connect(port):
+            received = self.received(port)
+            deadline.met()
+            self.assertEqual([number for number, _ in received], [1])
             self.assert_ends(server, "refused serve 1 Unserved 1\n", 1)
 
     def test_a_silent_server(self):
+        in_time(self.assert_left_after_a_frame)
+
+    def assert_left_after_a_frame(self, deadline):
         listener, port = listening()
         with listener:
-            follower = self.start("follow", port, "1000", "--wait", "1")
+            follower = self.start("follow", port, "1000", "--wait", str(deadline.seconds))
             stream, _ = listener.accept()
             with stream:
                 stream.sendall(FRAME)
+                deadline.met()
                 told = self.assert_ends(follower, "snapshot 1 flags 0\nstopped ReadFault\n", 1)
-                self.assertTrue(told.startswith("error: nothing came for 1 seconds; "), told)
+                self.assertTrue(told.startswith(f"error: nothing came for {deadline.seconds} seconds; "), told)
 
     def test_a_port_in_use(self):
+        self.put("d", ONE)
         listener, port = listening()
-        with listener, open(os.path.join(self.folder, "d"), "w", encoding="utf-8") as file:
-            file.write(ONE)
-            file.flush()
+        with listener:
             self.assert_ends(self.start("serve", port, "1", "d"), "refused bind 1 Unbound\n", 1)
 
     def test_nobody_listens(self):
-        self.assert_ends(self.start("follow", free_port(), "1000"), "refused connect 1 Unreachable\n", 1)
+        self.assert_ends(self.start("follow", self.free_port(), "1000"), "refused connect 1 Unreachable\n", 1)
 
     def test_words_that_ask_for_nothing(self):
         """They are told beside the output, with the status of a mistake."""
@@ -364,17 +392,15 @@ class Streams(unittest.TestCase):
 
     def test_a_document_that_cannot_be_read(self):
         """Its path is told, and nobody was listened for."""
-        with open(os.path.join(self.folder, "d"), "w", encoding="utf-8") as file:
-            file.write(ONE)
+        self.put("d", ONE)
         for names in (["none"], ["none", "d"], ["d", "none", "d"], ["d", "d", "none"]):
-            told = self.assert_ends(self.start("serve", free_port(), "1", *names), "refused load 1 Unreadable\n", 1)
+            told = self.assert_ends(self.start("serve", self.free_port(), "1", *names), "refused load 1 Unreadable\n", 1)
             self.assertTrue(told.startswith("error: "), told)
             self.assertIn('"none" cannot be read: No such file or directory', told)
 
     def test_no_seventeenth_document(self):
-        with open(os.path.join(self.folder, "d"), "w", encoding="utf-8") as file:
-            file.write(ONE)
-        words = ["serve", free_port(), "1", *["d"] * 17]
+        self.put("d", ONE)
+        words = ["serve", self.free_port(), "1", *["d"] * 17]
         self.assert_ends(self.start(*words), "refused add 2 TooMany\n", 1)
 
 

@@ -4,9 +4,9 @@ import json
 import os
 import shutil
 import subprocess
-import time
+import unittest
 
-from program import PROGRAM, ROOT
+from program import PROGRAM, ROOT, SECONDS, wait_until
 from test_service import ServiceTest, context
 
 USERS = ("mallory", "alice", "bob")
@@ -17,7 +17,7 @@ class WholeWay(ServiceTest):
 
     def do(self, *words):
         """What a command prints that is to succeed."""
-        ended = subprocess.run([PROGRAM, *words], cwd=self.folder, capture_output=True, text=True, timeout=60, check=False)
+        ended = subprocess.run([PROGRAM, *words], cwd=self.folder, capture_output=True, text=True, timeout=SECONDS, check=False)
         self.assertEqual(ended.returncode, 0, ended.stderr)
         return ended.stdout
 
@@ -42,10 +42,8 @@ class WholeWay(ServiceTest):
         self.assertEqual(self.variants(), before)
 
     def wait_for_snapshot(self, number):
-        until = time.monotonic() + 20
-        while time.monotonic() < until:
-            lines = self.ask("GET", "/metrics")[2].decode().splitlines()
-            if f"ofrep_snapshot {number}" in lines:
-                return
-            time.sleep(0.1)
-        self.fail(f"no snapshot {number}")
+        wait_until(lambda: f"ofrep_snapshot {number}" in self.ask("GET", "/metrics")[2].decode().splitlines(), f"no snapshot {number}")
+
+
+if __name__ == "__main__":
+    unittest.main()

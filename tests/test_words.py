@@ -1,10 +1,12 @@
 """Words that ask for nothing, for help, and for the completion of a shell."""
 import os
 import re
+import shlex
+import shutil
 import subprocess
 import unittest
 
-from program import PROGRAM, ROOT, ProgramTest, run
+from program import PROGRAM, ROOT, SECONDS, ProgramTest, run
 
 # The words, and what is told beside the output.
 MISTAKES = [
@@ -87,6 +89,7 @@ class Words(ProgramTest):
                     name = "-l " + word[2:] if shell == "fish" and word.startswith("--") else word
                     self.assertRegex(ran.out, r"(?<![\w-])" + re.escape(name) + r"(?!\w)")
 
+    @unittest.skipUnless(shutil.which("bash"), "no bash is here")
     def test_bash_completes(self):
         for line, want in [
             (["flagops", "pl"], ["plan"]),
@@ -103,10 +106,10 @@ class Words(ProgramTest):
             (["flagops", "check", "READM"], ["README.md"]),
         ]:
             script = (
-                f"source <({PROGRAM} completions bash); COMP_WORDS=({' '.join(line)}); COMP_CWORD={len(line) - 1}; "
+                f"source <({shlex.quote(PROGRAM)} completions bash); COMP_WORDS=({' '.join(line)}); COMP_CWORD={len(line) - 1}; "
                 "_flagops; printf '%s\\n' \"${COMPREPLY[@]}\""
             )
-            ran = subprocess.run(["bash", "-c", script], cwd=ROOT, capture_output=True, text=True, timeout=60, check=True)
+            ran = subprocess.run(["bash", "-c", script], cwd=ROOT, capture_output=True, text=True, timeout=SECONDS, check=True)
             self.assertEqual(ran.stdout.split(), want, line)
 
     def test_the_man_page_has_each_word(self):
