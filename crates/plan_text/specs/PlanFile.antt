@@ -6,6 +6,7 @@ use Rattle.std.specs.Ordering.{nat_cmp, is_lt}
 use Rattle.std.specs.Result.{result_ok}
 use Rattle.std.specs.Str.{bytes_eq}
 use Rattle.std.specs.declared.cmp.Ordering.{Ordering}
+use Rattle.limits.specs.Limits.{file_bytes}
 use Rattle.flag_text.specs.Printing.{text_of}
 use Rattle.flag_text.specs.Readers.{as_whole, as_text, as_list, member_of}
 use Rattle.flag_text.specs.Reading.{tree_of}
@@ -27,7 +28,7 @@ use Rattle.plan_text.specs.declared.form.Form.TheVariants.{Rule, Set}
 
 -- the largest plan file, in bytes
 abbrev pub max_plan : ℕ
-max_plan = 67108864
+max_plan = file_bytes
 
 -- ---- writing
 

@@ -1,9 +1,7 @@
--- What a reader of a stream resolves, beside what was framed.
+-- What comes out of a stream of frames, beside what was framed.
 use Rattle.std.specs.Prelude.{◌≡◌, ℕ, ◌++◌, ◌==◌, List, [], ◌∷◌, if◌then◌else◌, Option, Some, None}
 use Rattle.std.specs.List.{All}
 use Rattle.flag_defs.specs.Document.{Definitions}
-use Rattle.logic_eval.specs.Scope.{Situation}
-use Rattle.flag_resolve.specs.Resolution.{Asked, resolution_of}
 use Rattle.snap_core.specs.Hub.{Numbered}
 use Rattle.sync_frames.specs.Frames.{IsDocumentOf, Reads, frame_of}
 
@@ -25,10 +23,3 @@ abbrev pub GivesWhatWasSent : Type 0
 GivesWhatWasSent =
     (sent : List Numbered) (stream later : List ℕ) → AreFramesOf sent (stream ++ later)
     → (ss : List Numbered) (rest : List ℕ) → Reads stream ss rest → All (IsFirstSent sent) ss
-
--- each key, kind, default, context and moment is resolved as by those flags
-abbrev pub ResolvesAsSent : Type 0
-ResolvesAsSent =
-    (sent : List Numbered) (stream later : List ℕ) → AreFramesOf sent (stream ++ later)
-    → (ss : List Numbered) (rest : List ℕ) → Reads stream ss rest
-    → All (λ s. (a : Asked) (situation : Situation) → resolution_of (Some s.flags) a situation ≡ resolution_of (first_sent s.number sent) a situation) ss
