@@ -1,7 +1,10 @@
-mod Ending
+pub mod Ending
+pub mod FileLines
 mod FilesJoined
 mod Joins
 mod Loaded
 pub mod Matched
+pub mod Naming
+pub mod Noted
 mod Recorded
 mod Tallied

@@ -1,3 +1,4 @@
+pub mod Command
 pub mod Ended
 pub mod Join
 pub mod Joined
@@ -5,7 +6,9 @@ pub mod Law
 pub mod Place
 pub mod Record
 pub mod Refusal
+pub mod Remarks
 pub mod Report
 pub mod Stopping
 pub mod Tally
 pub mod Words
+pub mod Writing
