@@ -20,7 +20,7 @@ use Rattle.flagops_filters.specs.Tally.{IsTallyReport, tally_call}
 use Rattle.flagops_filters.specs.Words.{Tallying}
 use Rattle.flagops_filters.specs.Writing.{RefusesOrWants}
 use Rattle.flagops_filters.specs.declared.refusal.FilterRefusal.{FilterRefusal}
-use Rattle.flagops_filters.proofs.FileLines.{file_line}
+use Rattle.flagops_filters.specs.FileLines.{file_line}
 
 pub not_both : (b : Bool) → b ≡ true → b ≡ false → ⊥
 not_both b one other = cc

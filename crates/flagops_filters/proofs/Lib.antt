@@ -1,5 +1,4 @@
 pub mod Ending
-pub mod FileLines
 mod FilesJoined
 mod Joins
 mod Loaded

@@ -1,5 +1,6 @@
 pub mod Command
 pub mod Ended
+pub mod FileLines
 pub mod Join
 pub mod Joined
 pub mod Law

@@ -6,7 +6,7 @@ ghost use Rattle.flagops_shell.specs.Diagnostic.{Says};
 ghost use Rattle.flagops_shell.specs.Ending.{ShowsUnread};
 ghost use Rattle.flagops_filters.specs.Ended.{AnswersRecord, TellsRecord, UnreadRecord};
 ghost use Rattle.flagops_filters.specs.Record.{RecordAnswers, RecordEnds, RecordOver, of_record, record_call};
-ghost use Rattle.flagops_filters.specs.Remarks.{NamesInput, NamesPath, PutsNote, record_opening};
+ghost use Rattle.flagops_filters.specs.Remarks.{NamesInput, NamesPath, PutsNote, is_noted, record_opening};
 ghost use Rattle.flagops_filters.specs.Stopping.{GivesUp, is_broken_off};
 ghost use Rattle.flagops_filters.specs.declared.refusal.FilterRefusal.TheVariants.{Load, Record};
 ghost use Rattle.flagops_filters.specs.Words.{recording_view};
@@ -236,9 +236,17 @@ fn tell_counted<E: Outlet>(alloc: Global, counted: Counted, opening: FileEnds, e
     ensures { PutsNote record_opening (E.bytes err.old) (E.bytes err.new) (E.is_broken err.new) }
 {
     let is_empty = matches!(opening, FileEnds::Empty);
-    if !is_noted(counted, is_empty) {
-        return;
+    if is_noted(counted, is_empty) {
+        tell_noted(alloc, counted, is_empty, err);
     }
+}
+
+/// Tells what was not noted.
+fn tell_noted<E: Outlet>(alloc: Global, counted: Counted, is_empty: bool, err: &mut E)
+    requires noted { is_noted counted is_empty ≡ true }
+    requires whole { E.is_broken err.old ≡ false }
+    ensures { PutsNote record_opening (E.bytes err.old) (E.bytes err.new) (E.is_broken err.new) }
+{
     match counted_lines(alloc, counted, is_empty) {
         Ok(lines) => tell(err, lines.as_str()),
         Err(AllocError) => tell(err, "error: out of memory\n"),

@@ -2,7 +2,7 @@
 ghost use Rattle.std.specs.Prelude.{◌≡◌, IfOk, codes, decimal, string_bytes};
 ghost use Rattle.flagops_files.specs.Refusal.{line_with};
 ghost use Rattle.tally_filters.specs.Fault as filters;
-ghost use Rattle.flagops_filters.proofs.FileLines.{file_line};
+ghost use Rattle.flagops_filters.specs.FileLines.{file_line};
 ghost use Rattle.flagops_filters.specs.Refusal.{filter_items, filter_name, is_unread, is_want, join_name, join_number, line_of, number_of, record_name};
 ghost use Rattle.flagops_filters.specs.declared.refusal.FilterRefusal.TheVariants.{Load, Record, Tally};
 
