@@ -17,6 +17,7 @@ join_description = record {
   call_of = λ a e. codes "join";
   MayWant = λ a name. name ≡ codes "join";
   MayLeave = λ a old new. new ≡ old;
+  IsDone = λ status. status ≡ 0;
 }
 
 -- of `tally` over a standard input of these bytes; where `is_cut`, a read of it failed
@@ -29,4 +30,5 @@ tally_description bytes is_cut = record {
   call_of = λ a e. tally_call;
   MayWant = λ a name. name ≡ tally_call;
   MayLeave = λ a old new. new ≡ old;
+  IsDone = λ status. status ≡ 0;
 }
