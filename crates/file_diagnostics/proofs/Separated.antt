@@ -1,5 +1,5 @@
--- Names behind one another.
-use Rattle.std.proofs.Common.{◌≡◌, ◌++◌, ◌+◌, ◌<◌, ◌∙◌, ℕ, List, [], ◌∷◌, Some, None, ap, append-nil, append_assoc, arith, codes, cond, if◌then◌else◌, length, nat_eq, refl, sym, take, slice_get, get_or}
+-- Names with commas between them.
+use Rattle.std.proofs.Common.{◌≡◌, ◌++◌, ◌+◌, ◌<◌, ◌∙◌, ℕ, List, [], ◌∷◌, Some, None, ap, append-nil, append_assoc, arith, codes, if◌then◌else◌, length, nat_eq, sym, take, slice_get}
 use Rattle.std.specs.List.{flat_map, join_by}
 use Rattle.std.proofs.Math.Dec.{eqb-suc-zero}
 use Rattle.std.proofs.lemmas.Grind.{flat_map-append}

@@ -1,4 +1,4 @@
--- What a person is told of the flags of a document that are broken.
+-- Diagnostics of the flags of a document that are broken.
 use Rattle.std.specs.Prelude.{◌≡◌, ◌++◌, ℕ, List, [], ◌∷◌, Option, Some, None, Ok, codes}
 use Rattle.flag_defs.specs.DefinitionError.{AllTell}
 use Rattle.flag_defs.specs.Document.{evaluators_in, flags_in, or_no_members}
@@ -49,7 +49,7 @@ BrokenLines (member key t flags) [] lines = ⊥
 BrokenLines (member key t flags) (None ∷ found) lines = BrokenLines flags found lines
 BrokenLines (member key t flags) (Some b ∷ found) lines = (line more : List ℕ) × IsBrokenLine key b line × (lines ≡ line ++ more) × BrokenLines flags found more
 
--- lines tell of the broken flags of a document, each by the first rule that it breaks
+-- lines are about the broken flags of a document, each with the first rule that it breaks
 abbrev pub TellsFlags : Shape → List ℕ → Type 0
 TellsFlags document lines =
     (found : List (Option DefinitionError)) × AllTell (evaluators_in document) (or_no_members (flags_in document)) found × BrokenLines (or_no_members (flags_in document)) found lines

@@ -1,4 +1,4 @@
--- What stands behind the name of a member that is not read.
+-- What follows the name of a member that is not read.
 use Rattle.std.specs.Prelude.{◌≡◌, ◌++◌, ◌⊎◌, ℕ, List, codes, true}
 use Rattle.unread_members.specs.Unread.{reads}
 use Rattle.unread_members.specs.declared.reader.Reader.{Reader}

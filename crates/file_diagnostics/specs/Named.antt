@@ -1,4 +1,4 @@
--- Names in what a person is told.
+-- Names in diagnostics.
 use Rattle.std.specs.Prelude.{◌≡◌, ◌++◌, ◌&&◌, ◌||◌, ℕ, Bool, true, not, nat_eq, nat_le, List, [], ◌∷◌, chars, codes, encode_utf8_all, if◌then◌else◌, length, nat_lt, take}
 use Rattle.std.specs.Char.{is_ascii_alphanumeric}
 use Rattle.flag_text.specs.Printing.{text_of}
@@ -18,7 +18,7 @@ shown name = if nat_lt most_characters (length (chars name)) then encode_utf8_al
 abbrev pub quoted : List ℕ → List ℕ
 quoted name = text_of (text (shown name))
 
--- the words before the name of what is told of
+-- the words before the name of what a diagnostic is about
 abbrev pub opening_words : Opening → List ℕ
 opening_words Error = codes "error: "
 opening_words File = codes "error: the file "
@@ -26,11 +26,11 @@ opening_words Request = codes "error: the request "
 opening_words Plan = codes "error: the plan "
 opening_words Note = codes "note: "
 
--- lines tell of a name: they begin with it, behind an opening
+-- lines are about a name: they begin with it, after an opening
 unfoldable pub Names : List ℕ → List ℕ → Type 0
 Names name lines = (opening : Opening) × (rest : List ℕ) × (lines ≡ opening_words opening ++ (quoted name ++ rest))
 
--- lines tell of a word of a command, as the command's help spells it
+-- lines are about a word of a command, as the command's help spells it
 unfoldable pub NamesWord : List ℕ → List ℕ → Type 0
 NamesWord word lines = (rest : List ℕ) × (lines ≡ codes "error: " ++ (word ++ rest))
 

@@ -1,5 +1,5 @@
 -- Values and lists of names in words.
-use Rattle.std.specs.Prelude.{◌++◌, ◌-◌, ℕ, List, [], codes, decimal, if◌then◌else◌, length, nat_eq, nat_lt, take}
+use Rattle.std.specs.Prelude.{◌++◌, ◌-◌, ℕ, List, codes, decimal, if◌then◌else◌, length, nat_eq, nat_lt, take}
 use Rattle.std.specs.Fmt.{signed_decimal}
 use Rattle.std.specs.List.{join_by}
 use Rattle.flag_text.specs.Shape.{Shape, null, boolean, whole, other, text, list, object}

@@ -87,7 +87,7 @@ fn line(
     format!(in alloc; "broken: flags{flag}{member}{why} ({rule})\n")
 }
 
-/// What is wrong with a flag, behind the member that the rule is about.
+/// What is wrong with a flag, after the member that the rule is about.
 fn why(
     alloc: Global,
     definition: &Tree,
@@ -99,7 +99,7 @@ fn why(
     lines.finish()
 }
 
-/// The member of a flag's definition that a rule is about, behind a point; nothing where it is about the definition.
+/// The member of a flag's definition that a rule is about, after a point; nothing where it is about the definition.
 fn rule_member(definition_error: DefinitionError) -> &'static str
     ensures { result.now ≡ rule_member definition_error }
 {

@@ -3,7 +3,7 @@ ghost use Rattle.std.specs.Prelude.{◌≢◌, IfOk, string_bytes};
 ghost use Rattle.file_diagnostics.specs.Named.{Names};
 
 use crate::lines::{Lines, Opening};
-use crate::texts::{put_not_json, unless_short};
+use crate::texts::{put_not_json, tree_or_none};
 use flag_defs::DefFault;
 use flag_text::{Tree, read_doc};
 use limits::{FLAGS, TEXT_BYTES};
@@ -44,7 +44,7 @@ pub fn of_document(
 
 /// What stands in the place of the flags.
 fn put_no_flags(lines: &mut Lines, bytes: &[u8]) -> Result<(), AllocError> {
-    let document = unless_short(read_doc(lines.alloc, bytes, TEXT_BYTES))?;
+    let document = tree_or_none(read_doc(lines.alloc, bytes, TEXT_BYTES))?;
     let Some(document) = document else {
         write!(lines, "it has no \"flags\"");
         return Ok(());
@@ -74,7 +74,7 @@ fn put_too_large(lines: &mut Lines, bytes: &[u8]) -> Result<(), AllocError> {
 
 /// The number of flags in a document.
 fn flags_in(alloc: Global, bytes: &[u8]) -> Result<usize, AllocError> {
-    let Some(document) = unless_short(read_doc(alloc, bytes, TEXT_BYTES))? else {
+    let Some(document) = tree_or_none(read_doc(alloc, bytes, TEXT_BYTES))? else {
         return Ok(0);
     };
     match document.member("flags") {

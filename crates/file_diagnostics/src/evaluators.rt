@@ -1,7 +1,7 @@
 //! For each evaluator of a document the nearest place at which something is wrong, in itself or in those that it refers to.
 //!
 //! One search for the whole document finds them, backward from the evaluators in which something is wrong: it looks at each
-//! reference twice, however many flags are told of.
+//! reference twice, however many flags refer to them.
 use crate::search::{Sought, first_wrong, position};
 use crate::way::Way;
 use flag_references::reference_of;

@@ -50,5 +50,5 @@ pub use parts::{Name, Step, Value};
 pub use plans::of_plan_file;
 pub use quoting::{quoted, quoted_name};
 pub use tallies::of_tally;
-pub use texts::{of_text, of_word, unless_short};
+pub use texts::{of_text, of_word, tree_or_none};
 pub use unread::{of_unread, put_meant};

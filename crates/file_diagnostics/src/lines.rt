@@ -61,7 +61,7 @@ impl Lines {
         }
     }
 
-    /// Puts a value behind the lines: what `write!` calls.
+    /// Appends a value to the lines: what `write!` calls.
     pub fn write_fmt<D: Display + Drop>(&mut self, value: D)
         ensures { Grows (text_so_far self.old) (D.output value) (text_so_far self.new) }
     {
@@ -83,7 +83,7 @@ impl Lines {
         }
     }
 
-    /// The lines behind an opening and the name of what they are about.
+    /// The lines after an opening and the name of what they are about.
     #[tactic(auto, unfolding(crate::specs::Named::Names))]
     pub fn headed(self, opening: Opening, name: &str) -> Result<String, AllocError>
         ensures names { IfOk result (λ s. Names name.now (string_bytes s)) }
@@ -96,9 +96,9 @@ impl Lines {
         format!(in alloc; "{opening}{name}{lines}")
     }
 
-    /// The lines of a refusal behind the word of the command that they are about.
+    /// The lines of a refusal after the word of the command that they are about.
     #[tactic(auto, unfolding(crate::specs::Named::NamesWord))]
-    pub fn behind_word(self, word: &str) -> Result<String, AllocError>
+    pub fn after_word(self, word: &str) -> Result<String, AllocError>
         ensures names { IfOk result (λ s. NamesWord word.now (string_bytes s)) }
         ensures text { IfOk result (λ s. IsHeaded (codes "error: " ++ word.now) (text_so_far self) (string_bytes s)) }
     {

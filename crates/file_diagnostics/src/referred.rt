@@ -15,8 +15,8 @@ pub(crate) struct Referred<'a> {
     evaluators: &'a [(String, Tree)],
     /// The nearest to each evaluator, once a flag refers to what is sought.
     causes: Option<Causes<'a>>,
-    /// What was told of an evaluator so far, by its place.
-    told: BTreeMap<usize, String>,
+    /// The words on an evaluator that were made so far, by its place.
+    words: BTreeMap<usize, String>,
 }
 
 impl<'a> Referred<'a> {
@@ -29,7 +29,7 @@ impl<'a> Referred<'a> {
             sought,
             evaluators,
             causes: None,
-            told: BTreeMap::new(alloc),
+            words: BTreeMap::new(alloc),
         }
     }
 
@@ -73,12 +73,12 @@ impl<'a> Referred<'a> {
 
     /// The evaluator at a place, which is searched but once.
     fn put_evaluator(&mut self, lines: &mut Lines, place: usize) -> Result<(), AllocError> {
-        if self.told.get(&place).is_none() {
+        if self.words.get(&place).is_none() {
             let text = self.text_at(lines.alloc, place)?;
-            self.told.insert(place, text)?;
+            self.words.insert(place, text)?;
         }
-        if let Some(told) = self.told.get(&place) {
-            write!(lines, "{told}");
+        if let Some(words) = self.words.get(&place) {
+            write!(lines, "{words}");
         }
         Ok(())
     }
@@ -98,7 +98,7 @@ impl<'a> Referred<'a> {
     }
 }
 
-/// What is wrong, behind a word for the place.
+/// What is wrong, after a word for the place.
 fn put_wrong(lines: &mut Lines, wrong: Wrong<'_>, which: &str, evaluators: &[(String, Tree)]) {
     match wrong {
         Wrong::Number => write!(lines, "{which} is a number that is not whole"),

@@ -51,10 +51,10 @@ pub fn of_word(
             "  {name} is JSON: a text stands in quotes of its own, as '\"none\"'\n"
         );
     }
-    lines.behind_word(name)
+    lines.after_word(name)
 }
 
-/// The fault, behind the name of the text.
+/// The fault, after the name of the text.
 fn put_fault(
     lines: &mut Lines,
     bytes: &[u8],
@@ -132,7 +132,7 @@ fn put_json_fault(lines: &mut Lines, bytes: &[u8]) -> Result<(), AllocError> {
     Ok(())
 }
 
-/// The first place in a text that has what is sought. No further step is shown behind the most bytes.
+/// The first place in a text that has what is sought. No further step is shown after the most bytes.
 fn place_of(
     alloc: Global,
     bytes: &[u8],
@@ -140,7 +140,7 @@ fn place_of(
     sought: Sought<'_>,
     most: usize,
 ) -> Result<String, AllocError> {
-    let Some(tree) = unless_short(read_doc(alloc, bytes, limit))? else {
+    let Some(tree) = tree_or_none(read_doc(alloc, bytes, limit))? else {
         return Ok(String::new(alloc));
     };
     let mut way = Way::new();
@@ -156,7 +156,7 @@ fn place_of(
 }
 
 /// What was read, none where it was refused for another fault than want of memory.
-pub fn unless_short(read: Result<Tree, TextFault>) -> Result<Option<Tree>, AllocError>
+pub fn tree_or_none(read: Result<Tree, TextFault>) -> Result<Option<Tree>, AllocError>
     ensures read { IfOk read (λ tree. result ≡ Ok (Some tree)) }
     ensures short { read ≡ Err TextFault.WantOfMemory → result ≡ Err alloc_error }
     ensures refused { IfErr read (λ fault. fault ≢ TextFault.WantOfMemory → result ≡ Ok None) }

@@ -1,5 +1,5 @@
 //! Diagnostics of members that nobody reads.
-ghost use Rattle.std.specs.Prelude.{◌≡◌, ℕ, List, Some, IfOk, IfSome, string_bytes};
+ghost use Rattle.std.specs.Prelude.{ℕ, List, Some, IfOk, string_bytes};
 ghost use Rattle.file_diagnostics.specs.Lines.{Grows, text_so_far};
 ghost use Rattle.file_diagnostics.specs.Meant.{IsMeant};
 ghost use Rattle.file_diagnostics.specs.Named.{Names};

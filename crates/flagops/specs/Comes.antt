@@ -2,15 +2,15 @@
 -- and whether a call of theirs has failed, the status, and what the standard input gives, of which a read may have failed.
 use Rattle.std.specs.Prelude.{◌≡◌, ℕ, Bool, List, Option}
 use Rattle.clap.specs.Walk.{Text}
-use Rattle.flagops_books.specs.Report as books
-use Rattle.flagops_checks.specs.Report as checks
+use Rattle.flagops_books.specs.Command as books
+use Rattle.flagops_checks.specs.Command as checks
 use Rattle.flagops_commands.specs.Commands as commands
 use Rattle.flagops_files.specs.Refusal as files
-use Rattle.flagops_filters.specs.Ended.{AnswersRecord, AnswersTally, TellsRecord, TellsTally}
-use Rattle.flagops_filters.specs.Join as joins
+use Rattle.flagops_filters.specs.Ended.{AnswersRecord, AnswersTally, TellsRecord, TellsTally, UnreadRecord, UnreadTally}
+use Rattle.flagops_filters.specs.Command as joins
 use Rattle.flagops_filters.specs.Refusal as filters
-use Rattle.flagops_pictures.specs.Described as pictures
-use Rattle.flagops_ramps.specs.Described as ramps
+use Rattle.flagops_pictures.specs.Commands as pictures
+use Rattle.flagops_ramps.specs.Commands as ramps
 use Rattle.flagops_ramps.specs.Refusal as ramp_refusals
 use Rattle.flagops_service.specs.Ended.{AnswersOfrep, ServesOfrep, TellsOfrep}
 use Rattle.flagops_shell.specs.Console.{Shown}
@@ -47,28 +47,36 @@ module _ (old new : Shown) (held holds : Option Holding) (had_failed has_failed 
   abbrev pub ComesOfOfrep : List Text → Type 0
   ComesOfOfrep words = AnswersOfrep old new status held words × ServesOfrep old new status words × TellsOfrep old new status words
 
-  -- of `record`: its answer over files and a standard input whose bytes are known; what is told of words with a mistake; and the
-  -- files as they were
+  -- of `record`: its answer over files and a standard input whose bytes are known; a read of a file that failed; what is told of
+  -- words with a mistake; and the files as they were
   abbrev pub ComesOfRecord : List Text → Type 0
-  ComesOfRecord words = AnswersRecord old new status held given is_cut words × TellsRecord old new status words × (holds ≡ held)
+  ComesOfRecord words =
+      AnswersRecord old new status words held has_failed given is_cut
+      × UnreadRecord old new status words had_failed has_failed
+      × TellsRecord old new status words
+      × (holds ≡ held)
 
   -- the same of `tally`
   abbrev pub ComesOfTally : List Text → Type 0
-  ComesOfTally words = AnswersTally old new status held given is_cut words × TellsTally old new status words × (holds ≡ held)
+  ComesOfTally words =
+      AnswersTally old new status words held holds has_failed given is_cut
+      × UnreadTally old new status words had_failed has_failed
+      × TellsTally old new status words
+      × (holds ≡ held)
 
   abbrev pub Comes : Family → List Text → Type 0
   Comes Files words = Answers commands.description words
   Comes Serve words = ComesOfServe words
   Comes Follow words = ComesOfFollow words
-  Comes Ramp words = AnswersSteps ramps.ramp words
-  Comes VerifyRamp words = AnswersSteps ramps.verify_ramp words
-  Comes Picture words = Answers pictures.picture words
-  Comes PictureRamp words = AnswersSteps pictures.picture_ramp words
-  Comes PlanPicture words = Answers pictures.plan_picture words
-  Comes ApplyStep words = AnswersSteps ramps.apply_step words
+  Comes Ramp words = AnswersSteps ramps.ramp_description words
+  Comes VerifyRamp words = AnswersSteps ramps.verify_description words
+  Comes Picture words = Answers pictures.picture_description words
+  Comes PictureRamp words = AnswersSteps pictures.ramp_description words
+  Comes PlanPicture words = Answers pictures.plan_description words
+  Comes ApplyStep words = AnswersSteps ramps.step_description words
   Comes Ofrep words = ComesOfOfrep words
   Comes Record words = ComesOfRecord words
   Comes Tally words = ComesOfTally words
-  Comes Join words = Runs joins.description filters.is_unread filters.line_of old new status held holds had_failed has_failed words
+  Comes Join words = Runs joins.join_description filters.is_unread filters.line_of old new status held holds had_failed has_failed words
   Comes Book words = Answers books.description words
   Comes Check words = Answers checks.description words

@@ -12,7 +12,7 @@ use flagops_books::Uniting;
 use flagops_checks::Checking;
 use flagops_commands::Listed;
 use flagops_filters::{Joining, Opening, record, tally};
-use flagops_pictures::{Picturing, PicturingRamp, PlanPicturing};
+use flagops_pictures::{Picturing, PicturingRamp, Planning};
 use flagops_ramps::{Applying, Ramping, Verifying};
 use flagops_service::{Host, ofrep};
 use flagops_shell::{Console, FileSet, complain, run, want};
@@ -86,7 +86,7 @@ where
         Family::VerifyRamp => run::<R, S, F, Verifying<'_>, O, E>(rt, words, files, console),
         Family::Picture => run::<R, S, F, Picturing<'_>, O, E>(rt, words, files, console),
         Family::PictureRamp => run::<R, S, F, PicturingRamp<'_>, O, E>(rt, words, files, console),
-        Family::PlanPicture => run::<R, S, F, PlanPicturing<'_>, O, E>(rt, words, files, console),
+        Family::PlanPicture => run::<R, S, F, Planning<'_>, O, E>(rt, words, files, console),
         Family::ApplyStep => run::<R, S, F, Applying<'_>, O, E>(rt, words, files, console),
         Family::Ofrep => ofrep(rt, words, files, console),
         Family::Record => record(rt, words, input, files, console),

@@ -16,9 +16,9 @@ ghost use Rattle.note_books.specs.Notes.{IsBookOf, Notes, no_notes};
 
 use crate::lines::{stray_line, stray_remark, with_passed};
 use book_core::{Book, BookFault, read_book};
+use file_diagnostics::{Ends, of_book, of_full_book};
 use flagops_files::{Call, Refusal, Refused, load_notes, out_of_memory};
 use flagops_shell::{FileSet, NOTES_PIECE, Outcome, Remark, Status, ends_line};
-use file_diagnostics::{Ends, of_book, of_full_book};
 use note_books::{NotesFault, NotesTaken, begins_book, take_notes};
 use std::alloc::{AllocError, Global};
 

@@ -1,5 +1,5 @@
 -- What is known of a command whose refusals are of the calls of this crate.
-use Rattle.std.specs.Prelude.{Bool, List, Option}
+use Rattle.std.specs.Prelude.{◌≡◌, Bool, List, Option}
 use Rattle.clap.specs.Kinds.{Kinds}
 use Rattle.clap.specs.Walk.{Text}
 use Rattle.flagops_files.specs.Refusal.{call_name, call_of}
@@ -22,4 +22,5 @@ described asked_by faults_of MayCome MayTell calls MayLeave = record {
   call_of = λ a e. call_name (call_of e);
   MayWant = λ a. IsCallOf (calls a);
   MayLeave = MayLeave;
+  IsDone = λ status. status ≡ 0;
 }

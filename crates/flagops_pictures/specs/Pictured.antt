@@ -28,7 +28,7 @@ use Rattle.switch_table.specs.Runs.{Run, AreRuns}
 use Rattle.switch_table.specs.Switches.{IsSwitchTable}
 use Rattle.switch_table.specs.declared.table.Switch.{Switch}
 use Rattle.transport_instance.specs.Certificate.{DualPrices}
-use Rattle.flagops_pictures.specs.Words.{Asked}
+use Rattle.flagops_pictures.specs.Words.{Picturing}
 
 -- what is told of a rule that a problem is answered with: its runs and its switches are those of the recorded inputs
 pub record IsChangeTold (p : Problem) (rule : Entries) (duals : DualPrices) (items : List Item) : Type 0 where
@@ -95,7 +95,7 @@ IsPictured refine (Ok q) (Err e) r = r ≡ Err e
 IsPictured refine (Ok q) (Ok answer) r =
     (bytes : Result (List ℕ) VerifyFault) × IsDrawnOrDenied (asked_over refine answer q) answer bytes × (r ≡ beside (is_some (doubt_of (as_question q))) (drawn_report bytes))
 
-unfoldable pub IsPictureReport : Holding → Asked → Outcomes
+unfoldable pub IsPictureReport : Holding → Picturing → Outcomes
 IsPictureReport at a r =
     (question : Result BookQuestion Refusal) × IsBookQuestionAt at a.document a.request a.book question × IsPictured a.refine question (plan_at at a.plan) r
 

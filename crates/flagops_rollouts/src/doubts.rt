@@ -113,7 +113,8 @@ fn first_of(
 
 /// What a person is told of a doubt, where there is one.
 pub fn remark_in(noted: Option<NotedDoubt>) -> Option<Remark>
-    ensures { is_some result ≡ is_some (option_map (λ d. d.doubt) noted) }
+    ensures told { is_some result ≡ is_some (option_map (λ d. d.doubt) noted) }
+    ensures remark { result ≡ option_map (λ d. d.remark) noted }
 {
     match noted {
         Some(NotedDoubt { remark, .. }) => Some(remark),

@@ -59,7 +59,8 @@ pub fn doubt_in_book<R: Threads>(
     request: &[u8],
     book: &BookFile,
 ) -> Result<Option<NotedDoubt>, AllocError>
-    ensures { IfOk result (λ o. option_map (λ d. d.doubt) o ≡ doubt_in book.now (page_asked (flags_view flags.now) (result_ok (asked_of request.now)))) }
+    ensures doubt { IfOk result (λ o. option_map (λ d. d.doubt) o ≡ doubt_in book.now (page_asked (flags_view flags.now) (result_ok (asked_of request.now)))) }
+    ensures notes { IfOk result (λ o. IfSome o (λ d. (request : List ℕ) → Says (NamesDoubt request path.now d.doubt) d.remark)) }
 {
     match Request::read(alloc, request) {
         Ok(request) => match page_asked(alloc, flags, &request)? {

@@ -8,9 +8,13 @@ use Rattle.flagops_shell.specs.declared.outcome.Outcome.{Outcome}
 use Rattle.flagops_shell.specs.declared.refused.Refused.{Refused}
 use Rattle.flagops_shell.specs.declared.refused.Remark.{Remark}
 
+-- the files stay as they are, or the command ends with one of these statuses
+abbrev pub KeepsUnless : {E : Type 0} → (ℕ → Type 0) → Option Holding → Option Holding → Result Outcome E → Type 0
+KeepsUnless IsDone old new r = (new ≡ old) ⊎ IsOkAnd r (λ o. IsDone (status_number o.status))
+
 -- the files stay as they are, or the command did what it was asked
 abbrev pub KeepsUnlessDone : {E : Type 0} → Option Holding → Option Holding → Result Outcome E → Type 0
-KeepsUnlessDone old new r = (new ≡ old) ⊎ IsOkAnd r (λ o. status_number o.status ≡ 0)
+KeepsUnlessDone old new r = KeepsUnless (λ status. status ≡ 0) old new r
 
 -- a file could not be read or written, by which of the refusals are of one
 abbrev pub is_file_fault : {X R : Type 0} → (R → Bool) → Result X (Refused R) → Bool
@@ -52,6 +56,6 @@ module _ (old new : Shown) (status : ℕ) where
       ((is_want e ≡ false) × ShowsReport old new status (refusal_report (line_of e)) × PutsRemark old.reported new.reported new.is_mute (Some remark))
       ⊎ ShowsReport old new status (refusal_report (want_line_of call))
 
-  -- a command that did what it was asked is reported
-  abbrev pub ShowsDone : Type 0
-  ShowsDone = (report : Report) × (report.status ≡ 0) × ShowsReport old new status report
+  -- a command that ends with one of these statuses is reported
+  abbrev pub ShowsDone : (ℕ → Type 0) → Type 0
+  ShowsDone IsDone = (report : Report) × IsDone report.status × ShowsReport old new status report

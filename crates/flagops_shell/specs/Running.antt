@@ -20,8 +20,9 @@ pub record Description (A R : Type 0) : Type 1 where
   -- the call by whose name a want of memory is reported, and the calls that may run out of memory
   pub call_of : A → R → List ℕ
   pub MayWant : A → List ℕ → Type 0
-  -- how it may leave the files
+  -- how it may leave the files, and the statuses with which it may have changed one
   pub MayLeave : A → Option Holding → Option Holding → Type 0
+  pub IsDone : ℕ → Type 0
 
 module _ {A R : Type 0} (d : Description A R) (is_unread : R → Bool) where
   -- what it may come to; and that a file cannot be read or written only where a call has failed
@@ -52,8 +53,8 @@ module _ {A R : Type 0} (d : Description A R) (is_unread : R → Bool) where
   LeavesAsked words files after = (after ≡ files) ⊎ ((a : A) × (d.asked_by words ≡ Some a) × d.MayLeave a files after)
 
 -- where a file has changed, the command is reported to have done what it was asked
-abbrev pub AnswersStored : Shown → Shown → ℕ → Option Holding → Option Holding → Type 0
-AnswersStored old new status files after = (after ≡ files) ⊎ ShowsDone old new status
+abbrev pub AnswersStored : {A R : Type 0} → Description A R → Shown → Shown → ℕ → Option Holding → Option Holding → Type 0
+AnswersStored d old new status files after = (after ≡ files) ⊎ ShowsDone old new status d.IsDone
 
 -- all that is known of what the words of a command come to
 abbrev pub Runs : {A R : Type 0} → Description A R → (R → Bool) → (R → List ℕ) → Shown → Shown → ℕ → Option Holding → Option Holding → Bool → Bool → List Text → Type 0
@@ -62,4 +63,4 @@ Runs d is_unread line_of old new status files after had_failed has_failed words 
     × AnswersUnread d is_unread old new status had_failed has_failed words
     × TellsUnasked d is_unread old new status words
     × LeavesAsked d is_unread words files after
-    × AnswersStored old new status files after
+    × AnswersStored d old new status files after

@@ -1,9 +1,10 @@
 //! What is known of every command.
+ghost use denote.Param.Send.{IsSync};
 ghost use Rattle.std.specs.Prelude.{◌≡◌, ◌||◌, ◌⊎◌, None, Some, IfErr, IfOk, IfSome, map};
 ghost use Rattle.clap.specs.Kinds.{IsAmong};
 ghost use Rattle.clap.specs.Words.{kind_of};
 ghost use Rattle.clap.specs.declared.error.kind.ErrorKind.TheVariants.{OutOfMemory};
-ghost use Rattle.flagops_shell.specs.Ending.{KeepsUnlessDone, Remarks, is_file_fault};
+ghost use Rattle.flagops_shell.specs.Ending.{KeepsUnless, Remarks, is_file_fault};
 ghost use Rattle.flagops_shell.specs.Given.{GivesOne};
 ghost use Rattle.flagops_shell.specs.Report.{outcome_view};
 ghost use Rattle.flagops_shell.specs.Running.{Description};
@@ -35,12 +36,13 @@ pub trait Command<'w, R, F: FileSet>: Sized + Drop {
 
     /// What it comes to over the files, or why it is refused.
     fn answer(&self, rt: &R, alloc: Global, files: &mut F) -> Result<Outcome, Refused<Self::Refusal>>
+        requires { IsSync R.row }
         ensures exact { IfSome (F.holding files.old) (λ at. GivesOne Self.Refusal.is_want outcome_view result (description.MayCome (view self.now) at (F.holding files.new))) }
         ensures remarks { IfSome (F.holding files.old) (λ at. Remarks Self.Refusal.is_want (description.MayTell (view self.now) at) result) }
         ensures wants { IfErr result (λ e. description.MayWant (view self.now) (description.call_of (view self.now) e.refusal)) }
         ensures failed { F.has_failed files.new ≡ (F.has_failed files.old || is_file_fault Self.Refusal.is_unread result) }
         ensures left { description.MayLeave (view self.now) (F.holding files.old) (F.holding files.new) }
-        ensures kept { KeepsUnlessDone (F.holding files.old) (F.holding files.new) result };
+        ensures kept { KeepsUnless description.IsDone (F.holding files.old) (F.holding files.new) result };
 
     /// The name of the call that ran out of memory, where it did.
     fn call_of(&self, refusal: &Self::Refusal) -> &'static str

@@ -22,7 +22,7 @@ use std::convert::AsStr;
 /// The report goes to the output, made whole before its first byte is written. The error output gets the text of `clap` on words
 /// that it refuses, and what a person is told. What becomes of it changes neither the report nor the status. Help and the version,
 /// where they are asked for, go to the output with status 0.
-pub fn run<'w, R: AllocGlobal, S: AsStr, F: FileSet, C: Command<'w, R, F>, O: Outlet, E: Outlet>(
+pub fn run<'w, R: AllocGlobal + Sync, S: AsStr, F: FileSet, C: Command<'w, R, F>, O: Outlet, E: Outlet>(
     rt: &R,
     words: &'w [S],
     files: &mut F,
@@ -33,7 +33,7 @@ pub fn run<'w, R: AllocGlobal, S: AsStr, F: FileSet, C: Command<'w, R, F>, O: Ou
     ensures unread { AnswersUnread C.description C.Refusal.is_unread console.old console.new result (F.has_failed files.old) (F.has_failed files.new) (map S.text words.entry.now) }
     ensures tells { TellsUnasked C.description C.Refusal.is_unread console.old console.new result (map S.text words.entry.now) }
     ensures left { LeavesAsked C.description C.Refusal.is_unread (map S.text words.entry.now) (F.holding files.old) (F.holding files.new) }
-    ensures stored { AnswersStored console.old console.new result (F.holding files.old) (F.holding files.new) }
+    ensures stored { AnswersStored C.description console.old console.new result (F.holding files.old) (F.holding files.new) }
 {
     let alloc = rt.alloc();
     match C::read(alloc, words) {
@@ -43,7 +43,7 @@ pub fn run<'w, R: AllocGlobal, S: AsStr, F: FileSet, C: Command<'w, R, F>, O: Ou
 }
 
 /// Writes what a command comes to.
-fn answered<'w, R, F: FileSet, C: Command<'w, R, F>, O: Outlet, E: Outlet>(
+fn answered<'w, R: Sync, F: FileSet, C: Command<'w, R, F>, O: Outlet, E: Outlet>(
     rt: &R,
     alloc: Global,
     command: &C,
@@ -55,7 +55,7 @@ fn answered<'w, R, F: FileSet, C: Command<'w, R, F>, O: Outlet, E: Outlet>(
         (MayRun C.description C.Refusal.is_unread (C.view command.now) at (F.holding files.new) (F.has_failed files.new))) }
     ensures unread { F.has_failed files.old ≡ false → F.has_failed files.new ≡ true → ShowsUnread console.old console.new result (IsFileCall C.description C.Refusal.is_unread (C.view command.now)) }
     ensures left { C.description.MayLeave (C.view command.now) (F.holding files.old) (F.holding files.new) }
-    ensures stored { AnswersStored console.old console.new result (F.holding files.old) (F.holding files.new) }
+    ensures stored { AnswersStored C.description console.old console.new result (F.holding files.old) (F.holding files.new) }
 {
     match command.answer(rt, alloc, files) {
         Ok(outcome) => report(console, &outcome),

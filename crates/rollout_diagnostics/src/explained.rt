@@ -12,7 +12,7 @@ use price_core::{Limit, PriceFault, Prices, Request};
 use std::alloc::{AllocError, Global};
 use transport_instance::{Cut, CutKind};
 
-/// The most variants whose points are told.
+/// The most variants whose points are shown.
 const MOST_VARIANTS: usize = 10;
 
 /// Of the answer to a request over a document, on the site's rule refined by a factor, and of the number of recorded inputs
@@ -71,15 +71,15 @@ fn put_planned(
 /// The points before and after of the first variants that get or lose some.
 fn put_variants(lines: &mut Lines, variants: &[String], old: &Rule, new: &Rule) {
     let total = new.total();
-    let mut told = 0usize;
+    let mut shown = 0usize;
     for variant in variants {
         let name = variant.as_str();
         let (before, after) = (old.total_of(name), new.total_of(name));
         if before != after {
-            if told >= MOST_VARIANTS {
+            if shown >= MOST_VARIANTS {
                 return write!(lines, "\n  and more variants");
             }
-            told = told.saturating_add(1);
+            shown = shown.saturating_add(1);
             write!(
                 lines,
                 "\n  {} goes from {before} to {after} of {total} points",

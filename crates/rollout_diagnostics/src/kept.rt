@@ -3,7 +3,7 @@ ghost use Rattle.std.specs.Prelude.{IfOk, string_bytes};
 ghost use Rattle.file_diagnostics.specs.Named.{Names};
 
 use crate::place::Place;
-use file_diagnostics::{Lines, Opening, quoted_name, unless_short};
+use file_diagnostics::{Lines, Opening, quoted_name, tree_or_none};
 use flag_defs::Flags;
 use flag_text::read_doc;
 use kept_document::KeepFault;
@@ -56,7 +56,7 @@ pub fn of_kept(
 fn evaluator(place: Place<'_>, bytes: &[u8]) -> Result<String, AllocError> {
     let alloc = place.alloc;
     if let Some(targeting) = place.targeting() {
-        if let Some(document) = unless_short(read_doc(alloc, bytes, TEXT_BYTES))? {
+        if let Some(document) = tree_or_none(read_doc(alloc, bytes, TEXT_BYTES))? {
             let form = write_expr(alloc, targeting)?;
             let site = place_of_site(alloc, &document, place.key, &form, place.number as usize)?;
             if let SitePlace::Shared(name) = site {

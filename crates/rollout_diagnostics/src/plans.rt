@@ -14,5 +14,5 @@ pub fn of_large_plan(alloc: Global) -> Result<String, AllocError>
         lines,
         " has more than 67,108,864 bytes\n  divide the weights of the site by a common factor\n",
     );
-    lines.behind_word("the plan")
+    lines.after_word("the plan")
 }

@@ -6,7 +6,7 @@ use crate::computed::put_computed;
 use crate::place::Place;
 use crate::requests::{of_request, pairs, totals};
 use bucket_core::Rule;
-use file_diagnostics::{Lines, Opening, unless_short};
+use file_diagnostics::{Lines, Opening, tree_or_none};
 use flag_defs::Flags;
 use flag_text::{Tree, read_tree};
 use limits::TEXT_BYTES;
@@ -134,7 +134,7 @@ fn put_unknown_asked(
         write!(lines, "there is no such flag");
         return Ok(());
     }
-    match unless_short(read_tree(lines.alloc, request, TEXT_BYTES))? {
+    match tree_or_none(read_tree(lines.alloc, request, TEXT_BYTES))? {
         Some(tree) => put_unknown(lines, place, &tree, place.entries()?.as_slice())?,
         None => write!(lines, "a name is none of the variants"),
     }

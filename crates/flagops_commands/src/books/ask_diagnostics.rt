@@ -10,7 +10,7 @@ use std::alloc::{AllocError, Global};
 use std::fmt;
 use unread_members::Reader;
 
-/// The asks for each input from which on it is told how many there are.
+/// The asks for each input from which on a line says how many there are.
 const MANY: u128 = 20;
 
 /// Why asks reached nothing.
@@ -95,7 +95,7 @@ pub fn of_workers(alloc: Global, workers: usize, fault: &str) -> Result<String, 
             " drove no asks: {fault}\n  docs/REFUSALS.md, part Asks, tells what to do\n",
         );
     }
-    lines.behind_word("WORKERS")
+    lines.after_word("WORKERS")
 }
 
 /// What became of the asks of a file, and of the book that they are noted in.

@@ -56,5 +56,5 @@ pub fn of_weights(alloc: Global, old: u32, new: u32) -> Result<String, AllocErro
         lines,
         " sum to {old} and those of NEW to {new}\n  write both rules with weights of one sum\n",
     );
-    lines.behind_word("the weights of OLD")
+    lines.after_word("the weights of OLD")
 }

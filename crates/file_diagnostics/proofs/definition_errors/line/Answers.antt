@@ -1,4 +1,4 @@
-use Rattle.std.proofs.Common.{◌≡◌, string_bytes}
+use Rattle.std.proofs.Common.{string_bytes}
 use Rattle.std.proofs.lemmas.Result.{IfOk-weaker}
 use Rattle.file_diagnostics.specs.Broken.{IsBrokenLine}
 use Rattle.file_diagnostics.proofs.definition_errors.line.Goals as goal

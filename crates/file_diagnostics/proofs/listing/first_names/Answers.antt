@@ -1,5 +1,4 @@
 use Rattle.std.proofs.Common.{arith, sym}
-use Rattle.std.proofs.lemmas.Option.{slice_get-get_or}
 use Rattle.file_diagnostics.proofs.Separated.{next, within}
 use Rattle.file_diagnostics.proofs.listing.first_names.Goals.{in-Some+in_ok-name+in_ok-write, in_default}
 use Rattle.file_diagnostics.proofs.listing.first_names.Goals as goal

@@ -1,7 +1,7 @@
 use Rattle.std.proofs.Common.{◌≡◌, Err, IfSome, inl, rules, subst}
 use Rattle.flagops_files.specs.Question.{Question, book_question_view}
 use Rattle.flagops_files.specs.Refusal.{GivesOne}
-use Rattle.flagops_files.specs.Report.{outcome_view}
+use Rattle.flagops_shell.specs.Report.{outcome_view}
 use Rattle.flagops_pictures.specs.Planning.{IsPlanWith}
 use Rattle.flagops_pictures.specs.Words.{planning_view}
 use Rattle.flagops_pictures.proofs.Planned.{asked_of, kept_behind, left_behind, unasked}

@@ -17,8 +17,8 @@ returns-in-Ok-clause-answers g c =
     (g.E.Outlet.bytes c.args.err.now) (g.E.Outlet.bytes c.answer_documents.new.err) (g.E.Outlet.is_broken c.answer_documents.new.err) c.answer_documents.result (count_of r))
     (all_started (λ p. p.now) c.as_slice-paths.result.now c.args.answering.now.documents.items c.as_slice-paths.ensures.value holding a refl (documents_view c.in-Ok.documents) started.0 c.in-Ok.ensures.exact started.1) started.2
 
-pub returns-clause-answers : goal.returns-clause-answers
-returns-clause-answers g c =
+pub returns-in-Err-clause-answers : goal.returns-in-Err-clause-answers
+returns-in-Err-clause-answers g c =
     let a = answering_view c.args.answering.now in
     let holding = g.F.FileSet.holding c.args.files.now in
     let refusal = c.in-Err.unloaded.refusal in
@@ -40,5 +40,5 @@ returns-in-Ok-clause-serves g c =
     (Reports (g.O.Outlet.bytes c.args.out.now) (g.O.Outlet.bytes c.answer_documents.new.out) (g.O.Outlet.is_broken c.answer_documents.new.out) (g.E.Outlet.bytes c.args.err.now) (g.E.Outlet.bytes c.answer_documents.new.err) (g.E.Outlet.is_broken c.answer_documents.new.err) c.answer_documents.result)
     _ count started.1 started.2
 
-pub returns-clause-serves : goal.returns-clause-serves
-returns-clause-serves g c = inr (c.in-Err.unloaded.refusal, c.refuse_unloaded.ensures)
+pub returns-in-Err-clause-serves : goal.returns-in-Err-clause-serves
+returns-in-Err-clause-serves g c = inr (c.in-Err.unloaded.refusal, c.refuse_unloaded.ensures)

@@ -17,8 +17,8 @@ returns-in-Ok-clause-answers g c =
     (g.E.Outlet.bytes c.args.err.now) (g.E.Outlet.bytes c.serve_documents.new.err) (g.E.Outlet.is_broken c.serve_documents.new.err) c.serve_documents.result)
     (all_served (λ p. p.now) c.as_slice-paths.result.now c.args.serving.now.documents.items c.as_slice-paths.ensures.value holding s refl (documents_view c.in-Ok.documents) served.0 c.in-Ok.ensures.exact served.1) served.2
 
-pub returns-clause-answers : goal.returns-clause-answers
-returns-clause-answers g c =
+pub returns-in-Err-clause-answers : goal.returns-in-Err-clause-answers
+returns-in-Err-clause-answers g c =
     let s = serving_view c.args.serving.now in
     let holding = g.F.FileSet.holding c.args.files.now in
     let refusal = c.in-Err.unloaded.refusal in
