@@ -111,11 +111,11 @@ module _ (old new : Shown) (status : ℕ) (a : Tallying) (is_cut : Bool) (after 
   reported None None o is says shows puts = tt
   reported None (Some bytes) o is says shows puts = tt
   reported (Some at) None o is says shows puts = tt
-  reported (Some at) (Some bytes) o is says shows puts = inl (Ok (outcome_view o), ((is, λ none. absurd none), (shows, noted o says puts)))
+  reported (Some at) (Some bytes) o is says shows puts = inl (Ok (outcome_view o), (is, λ none. absurd none), (shows, noted o says puts))
 
   refused_at : (at : Holding) (bytes : List ℕ) (t : Told) → (is_want t.refusal ≡ false → IsTallyReport at a bytes is_cut (Err t.refusal)) → (is_unread t.refusal ≡ true → has_failed ≡ true) → (is_want t.refusal ≡ false → Says (NamesRefused a.document t.refusal) t.remark)
       → ShowsRefusal old new status is_want line_of tally_call t.refusal t.remark → Ends old new status line_of (λ n. n ≡ tally_call) (tally_remark a.document) (MayRun (tally_description bytes is_cut) is_unread a at after has_failed)
-  refused_at at bytes t is fails names (inl shows) = inl (Err t.refusal, ((is shows.0, fails), (shows.1, λ told. (t.remark, names shows.0, shows.2))))
+  refused_at at bytes t is fails names (inl shows) = inl (Err t.refusal, (is shows.0, fails), (shows.1, λ told. (t.remark, names shows.0, shows.2)))
   refused_at at bytes t is fails names (inr wants) = inr (tally_call, refl, wants)
 
   pub refused : (holding : Option Holding) (given : Option (List ℕ)) (t : Told) → IfSome holding (λ at. IfSome given (λ bytes. is_want t.refusal ≡ false → IsTallyReport at a bytes is_cut (Err t.refusal))) → (is_unread t.refusal ≡ true → has_failed ≡ true)

@@ -80,7 +80,11 @@ fn printed(alloc: Global, tally: &PageTally) -> Result<Outcome, Refused<FilterRe
     ensures wants { IfErr result (λ e. e.refusal ≡ Load (ReadTally WantOfMemory)) }
 {
     match print_tally(alloc, tally) {
-        Ok(text) => Ok(Outcome::plain(text.into_bytes(), Status::Done)),
+        Ok(text) => Ok(Outcome {
+            text: text.into_bytes(),
+            status: Status::Done,
+            remark: None,
+        }),
         Err(AllocError) => Err(out_of_memory()),
     }
 }

@@ -1,5 +1,6 @@
 //! What a person is told of a filter.
 ghost use Rattle.std.specs.Prelude.{◌≡◌, IfOk, nat_lt, string_bytes};
+ghost use Rattle.file_diagnostics.specs.Named.{NamesWord};
 ghost use Rattle.flagops_files.specs.Lines.{NamesFile};
 ghost use Rattle.flagops_filters.specs.Remarks.{NamesInput, NotesIf, is_noted, record_opening};
 
@@ -25,23 +26,28 @@ pub(crate) fn flag_line(
 }
 
 /// A line on the standard input.
-#[tactic(auto, unfolding(file_diagnostics::specs::Named::NamesWord))]
 pub(crate) fn input_line(alloc: Global, reason: &str) -> Result<String, AllocError>
     ensures { IfOk result (λ s. NamesInput (string_bytes s)) }
 {
-    let input = INPUT;
-    format!(in alloc; "error: {input}: {reason}\n")
+    word_line(alloc, INPUT, reason)
 }
 
 /// The same where it begins with a byte order mark.
-#[tactic(auto, unfolding(file_diagnostics::specs::Named::NamesWord))]
 pub(crate) fn marked_line(alloc: Global, reason: &str) -> Result<String, AllocError>
     ensures { IfOk result (λ s. NamesInput (string_bytes s)) }
 {
-    let input = INPUT;
-    format!(in alloc;
-        "error: {input}: {reason}, as it begins with a byte order mark\n  send it as UTF-8 without the mark\n"
-    )
+    let reason = format!(in alloc;
+        "{reason}, as it begins with a byte order mark\n  send it as UTF-8 without the mark"
+    )?;
+    word_line(alloc, INPUT, reason.as_str())
+}
+
+/// A line that names something that is no file, and what is the matter with it.
+#[tactic(auto, unfolding(file_diagnostics::specs::Named::NamesWord))]
+fn word_line(alloc: Global, word: &str, reason: &str) -> Result<String, AllocError>
+    ensures { IfOk result (λ s. NamesWord word.now (string_bytes s)) }
+{
+    format!(in alloc; "error: {word}: {reason}\n")
 }
 
 /// Whether something is told of contexts that were all recorded.

@@ -1,4 +1,5 @@
 use Rattle.std.proofs.Common.{Bor, ◌∷◌, ℕ, List, IfSome, Ok, Err, map, subst}
+use Rattle.tally_core.specs.Tally.{PageTally}
 use Rattle.flagops_filters.specs.Join.{IsJoinReport, JoinsAllFiles}
 use Rattle.flagops_filters.specs.Joined.{JoinsUnless}
 use Rattle.flagops_filters.specs.Remarks.{RemarksOnePath}
@@ -22,4 +23,4 @@ returns-in-Err-clause-exact g c =
 
 pub returns-in-Err-clause-names : goal.returns-in-Err-clause-names
 returns-in-Err-clause-names g c =
-    subst (λ (ps : List (Bor (List ℕ))). RemarksOnePath (c.args.asked.now.first.now ∷ map (λ p. p.now) ps) (Err c.in-Err.told)) c.as_slice.ensures.value c.in-Err.ensures.names
+    subst (λ (ps : List (Bor (List ℕ))). RemarksOnePath {X = PageTally} (c.args.asked.now.first.now ∷ map (λ p. p.now) ps) (Err c.in-Err.told)) c.as_slice.ensures.value c.in-Err.ensures.names
