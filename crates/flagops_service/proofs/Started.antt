@@ -1,4 +1,8 @@
 -- Documents that are loaded, merged and answered from.
+use Rattle.clap.specs.Walk.{Text}
+use Rattle.flagops_shell.specs.Console.{Shown}
+use Rattle.flagops_shell.specs.Usage.{ShowsWordsWant}
+use Rattle.flagops_service.specs.Ended.{AnswersOfrep, Reports, Serves, ServesOfrep}
 use Rattle.std.proofs.Common.{◌≡◌, ◌⊎◌, ◌∙◌, ℕ, false, List, [], ◌∷◌, Option, Some, Result, Ok, Err, IfSome, inl, inr, refl, ap, arith, length, map, subst, sym}
 use Rattle.flag_defs.specs.Document.{Definitions}
 use Rattle.flag_defs.specs.declared.flags.Flags.{Flags}
@@ -12,7 +16,7 @@ use Rattle.flagops_streams.specs.declared.refusal.Refusal.{Refusal}
 use Rattle.flagops_streams.proofs.Gives.{counted}
 use Rattle.flagops_service.specs.Merging.{GivesMore}
 use Rattle.flagops_service.specs.Starting.{StartsLoaded, StartsOn, StartsTo}
-use Rattle.flagops_service.specs.Words.{Answering, seats_of}
+use Rattle.flagops_service.specs.Words.{Answering, ofrep_by, seats_of}
 
 -- the first document is merged, and those behind it give the rest
 pub first_merged : (sources next last : SourceList) (flags : Definitions) (text : List ℕ) (texts : List (List ℕ)) (r : Result Flags Refusal)
@@ -71,3 +75,20 @@ module _ {X : Type 0} (now : X → List ℕ) (slice items : List X) (same : slic
   none_started refusal loaded =
       where_known holding (λ at. is_want refusal ≡ false → loaded_at at (map now slice) ≡ Err refusal) (λ at. StartsTo at a (Err refusal))
       (λ at e. not_loaded at a refusal (λ other. ap (loaded_at at) (sym named) ∙ e other)) loaded
+
+-- ---- what the words ask for
+
+pub answers_asked : (old new : Shown) (status : ℕ) (words : List Text) (a : Answering) (files : Option Holding) → ofrep_by words ≡ Some a
+    → IfSome files (λ at. (answer : Answer) × StartsTo at a answer × Reports old.printed new.printed new.is_broken old.reported new.reported new.is_mute status (count_of answer))
+    → AnswersOfrep old new status files words
+answers_asked old new status words a files is answers =
+    subst (λ (o : Option Answering). IfSome o (λ t. IfSome files (λ at. ((answer : Answer) × StartsTo at t answer × Reports old.printed new.printed new.is_broken old.reported new.reported new.is_mute status (count_of answer)) ⊎ ShowsWordsWant old new status))) (sym is)
+    (where_known files (λ at. (answer : Answer) × StartsTo at a answer × Reports old.printed new.printed new.is_broken old.reported new.reported new.is_mute status (count_of answer))
+    (λ at. ((answer : Answer) × StartsTo at a answer × Reports old.printed new.printed new.is_broken old.reported new.reported new.is_mute status (count_of answer)) ⊎ ShowsWordsWant old new status)
+    (λ at h. inl h) answers)
+
+pub serves_asked : (old new : Shown) (status : ℕ) (words : List Text) (a : Answering) (n : ℕ) → ofrep_by words ≡ Some a → n ≡ length a.documents
+    → Serves old.printed new.printed new.is_broken old.reported new.reported new.is_mute status n → ServesOfrep old new status words
+serves_asked old new status words a n is count serves =
+    subst (λ (o : Option Answering). IfSome o (λ t. Serves old.printed new.printed new.is_broken old.reported new.reported new.is_mute status (length t.documents) ⊎ ShowsWordsWant old new status)) (sym is)
+    (inl (subst (λ (k : ℕ). Serves old.printed new.printed new.is_broken old.reported new.reported new.is_mute status k) count serves))
