@@ -135,3 +135,11 @@ planned_status explain settled (Err f) = tt
 -- a plan has a rule or shows that none fits
 pub status_of : (strict explain : Bool) (refine : Option ℕ) (q : Question) (report : Report) → IsPlanOf strict explain refine (Ok q) (Ok report) → (report.status ≡ 0) ⊎ (report.status ≡ 3)
 status_of strict explain refine q report (planned, may, is, reads) = subst HasStatus (sym is) (planned_status explain (settle call.Plan strict (doubt_of q)) planned)
+
+-- no read failed before the last step
+or_false : (b : Bool) → (b || false) ≡ b
+or_false true = refl
+or_false false = refl
+
+pub failed_behind : (old mid new fault : Bool) → mid ≡ (old || false) → new ≡ (mid || fault) → new ≡ (old || fault)
+failed_behind old mid new fault first last = last ∙ ap (λ (b : Bool). b || fault) (first ∙ or_false old)
