@@ -51,10 +51,7 @@ where
         Err(e) if e.kind() == io::ErrorKind::OutOfMemory => {
             ExitCode::from(want(console, "flagops"))
         }
-        Err(_) => ExitCode::from(complain(
-            &mut console.err,
-            "error: the words are not UTF-8\n",
-        )),
+        Err(_) => ExitCode::from(complain(&mut console.err, "error: the words are not UTF-8\n")),
     }
 }
 

@@ -17,8 +17,8 @@ mod words;
 
 use flag_text::WriteOutlet;
 use flagops_files::SystemFiles;
-use flagops_shell::{Console, want};
 use flagops_filters::OpenedInlet;
+use flagops_shell::{Console, want};
 use flagops_streams::open_standard;
 use line_batches::ReadInlet;
 use outputs::{StandardOutput, tell_failure};

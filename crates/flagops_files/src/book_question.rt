@@ -8,13 +8,11 @@ ghost use Rattle.flagops_files.specs.Told.{TellsOf, TellsOfOne, file};
 
 use crate::books::load_book_bytes;
 use crate::documents::{Document, load_document};
-use flagops_shell::FileSet;
 use crate::loading::{TEXT_LIMIT, load};
-use crate::refusal::Refusal;
-use crate::refusal::Refused;
-use flagops_shell::Remark;
+use crate::refusal::{Refusal, Refused};
 use file_diagnostics::{Ends, of_book};
 use flag_defs::Flags;
+use flagops_shell::{FileSet, Remark};
 use page_tally::BookFile;
 use rollout_checks::{Refining, read_book_for};
 use std::alloc::Global;

@@ -5,13 +5,10 @@ ghost use Rattle.flagops_files.specs.Question.{book_at, book_bytes_at, if_readab
 ghost use Rattle.flagops_files.specs.Refusal.{ComesFrom, GivesUnlessWant, is_file_fault, loads_book, loads_file};
 ghost use Rattle.flagops_files.specs.Told.{TellsOf, file};
 
-use flagops_shell::first_line;
-use flagops_shell::FileSet;
-use crate::refusal::Refusal;
-use crate::refusal::Refused;
-use flagops_shell::Remark;
+use crate::refusal::{Refusal, Refused};
 use book_core::{Book, BookFileFault, read_book};
 use file_diagnostics::{Ends, of_book, of_long_book, of_other_file, of_unreadable};
+use flagops_shell::{FileSet, Remark, first_line};
 use std::alloc::{AllocError, Global};
 
 /// The largest book file, in bytes.

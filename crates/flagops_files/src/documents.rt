@@ -7,14 +7,12 @@ ghost use Rattle.flagops_files.specs.Loading.{max_text};
 ghost use Rattle.flagops_files.specs.Refusal.{ComesFrom, GivesOne, is_file_fault, loads_flags, reads_flags};
 ghost use Rattle.flagops_files.specs.Told.{TellsOf, file};
 
-use flagops_shell::FileSet;
 use crate::loading::{TEXT_LIMIT, load};
-use crate::refusal::Refusal;
-use crate::refusal::Refused;
-use flagops_shell::Remark;
+use crate::refusal::{Refusal, Refused};
 use crate::room::make_room_for;
 use file_diagnostics::of_document;
 use flag_defs::{Flags, read_flags};
+use flagops_shell::{FileSet, Remark};
 use std::alloc::Global;
 
 /// A flag document: its bytes, and the flags that they mean.

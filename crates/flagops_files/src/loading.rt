@@ -11,13 +11,11 @@ ghost use Rattle.flagops_shell.specs.Diagnostic.{Says};
 ghost use Rattle.file_diagnostics.specs.Named.{Names};
 ghost use Rattle.rule_text.specs.Choosing.{choice_view};
 
-use flagops_shell::FileSet;
-use crate::refusal::Refusal;
-use crate::refusal::Refused;
-use flagops_shell::Remark;
+use crate::refusal::{Refusal, Refused};
 use bucket_core::Rule;
 use file_diagnostics::{of_rule, of_text, of_unreadable};
 use flag_text::{Tree, read_tree};
+use flagops_shell::{FileSet, Remark};
 use rule_text::{Choice, RuleTextFault, choose_in_text, read_rule_text};
 use std::alloc::Global;
 

@@ -8,10 +8,10 @@ ghost use Rattle.flagops_files.specs.Told.{TellsOfOne};
 
 use crate::documents::{Document, load_document};
 use crate::evidence::{Evidence, load_evidence};
-use flagops_shell::FileSet;
 use crate::loading::{TEXT_LIMIT, load};
 use crate::refusal::Refused;
 use flag_defs::Flags;
+use flagops_shell::FileSet;
 use std::alloc::Global;
 use std::thread::Threads;
 

@@ -4,11 +4,9 @@ ghost use Rattle.flagops_shell.specs.Files.{KeepsOthers, Stores};
 ghost use Rattle.flagops_files.specs.Refusal.{ComesFrom, is_file_fault, is_want, stores_file, unwritable};
 ghost use Rattle.flagops_files.specs.Told.{TellsOf, file};
 
-use flagops_shell::FileSet;
-use crate::refusal::Refusal;
-use crate::refusal::Refused;
-use flagops_shell::Remark;
+use crate::refusal::{Refusal, Refused};
 use file_diagnostics::of_unwritable;
+use flagops_shell::{FileSet, Remark};
 use std::alloc::Global;
 
 /// Writes `bytes` to the file at `path`. After a refusal the files are as they were.

@@ -2,9 +2,10 @@
 ghost use Rattle.std.specs.Prelude.{◌≡◌, ◌≤◌, ◌+◌, ◌||◌, None, Ok, false, length, IfOk};
 ghost use Rattle.flagops_shell.specs.Files.{is_unreadable};
 
-use flagops_shell::{may_begin_record, may_note};
-use flagops_shell::{FIRST_PIECE, FileSet, LoadFault, NOTES_PIECE, StoreFault};
 use crate::replacing::{plain_file, replace};
+use flagops_shell::{
+    FIRST_PIECE, FileSet, LoadFault, NOTES_PIECE, StoreFault, may_begin_record, may_note,
+};
 use line_batches::cut_line;
 use note_books::{begins_astray, begins_book};
 use progress::{Counted, Meter, Progress};

@@ -5,12 +5,13 @@ ghost use Rattle.flagops_files.specs.Question.{question_view};
 ghost use Rattle.flagops_files.specs.Refusal.{GivesUnlessWant, call_of, is_file_fault};
 ghost use Rattle.flagops_files.specs.Told.{TellsOfOne};
 ghost use Rattle.flagops_shell.specs.Diagnostic.{Says};
+ghost use Rattle.file_diagnostics.specs.Named.{Names};
+
 use crate::recorded::doubt_of_recorded;
+use file_diagnostics::of_unread;
 use flag_text::{TextFault, read_tree};
 use flagops_files::{Call, Doubt, Question, Refusal, Refused, TEXT_LIMIT, out_of_memory};
 use flagops_shell::Remark;
-ghost use Rattle.file_diagnostics.specs.Named.{Names};
-use file_diagnostics::of_unread;
 use std::alloc::{AllocError, Global};
 use std::thread::Threads;
 use unread_members::Reader;

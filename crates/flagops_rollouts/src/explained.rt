@@ -3,11 +3,12 @@ ghost use Rattle.std.specs.Prelude.{◌≡◌, ◌||◌, is_some, IfOk, IfSome, 
 ghost use Rattle.bucket_core.specs.Rule.{IsRuleTotal};
 ghost use Rattle.flagops_rollouts.specs.Doubts.{NamesDoubted};
 ghost use Rattle.flagops_shell.specs.Diagnostic.{Says};
+ghost use Rattle.file_diagnostics.specs.Named.{Names};
+
 use crate::doubts::joined;
 use crate::recorded::page_asked;
 use flagops_files::{Evidence, Question};
 use flagops_shell::Remark;
-ghost use Rattle.file_diagnostics.specs.Named.{Names};
 use flagops_words::{Factor, factor_of};
 use page_tally::{BookFile, Recorded};
 use plan_text::Planned;

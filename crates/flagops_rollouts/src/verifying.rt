@@ -18,7 +18,9 @@ ghost use Rattle.file_diagnostics.specs.Named.{Names};
 use crate::doubts::settled;
 use crate::planning::lines_on_request;
 use flag_defs::Flags;
-use flagops_files::{Call, Evidence, Question, Refusal, Refused, load_planned, load_question, out_of_memory};
+use flagops_files::{
+    Call, Evidence, Question, Refusal, Refused, load_planned, load_question, out_of_memory,
+};
 use flagops_shell::{FileSet, Outcome, Remark, Status};
 use flagops_words::{Factor, factor_of};
 use page_tally::BookFile;

@@ -45,9 +45,7 @@ pub fn ofrep<R: Host, S: AsStr, F: FileSet, O: Outlet, E: Outlet>(
 {
     let alloc = rt.alloc();
     match read_ofrep(alloc, words) {
-        Ok(answering) => {
-            answer_asked(rt, &answering, files, &mut console.out, &mut console.err)
-        }
+        Ok(answering) => { answer_asked(rt, &answering, files, &mut console.out, &mut console.err) }
         Err(error) => report_usage(alloc, &error, console),
     }
 }

@@ -35,7 +35,12 @@ pub trait Command<'w, R, F: FileSet>: Sized + Drop {
             ⊎ ((description.asked_by (map S.text words.entry.now) ≡ None) × IsAmong (kind_of e) (description.faults_of (map S.text words.entry.now)))) };
 
     /// What it comes to over the files, or why it is refused.
-    fn answer(&self, rt: &R, alloc: Global, files: &mut F) -> Result<Outcome, Refused<Self::Refusal>>
+    fn answer(
+        &self,
+        rt: &R,
+        alloc: Global,
+        files: &mut F,
+    ) -> Result<Outcome, Refused<Self::Refusal>>
         requires { IsSync R.row }
         ensures exact { IfSome (F.holding files.old) (λ at. GivesOne Self.Refusal.is_want outcome_view result (description.MayCome (view self.now) at (F.holding files.new))) }
         ensures remarks { IfSome (F.holding files.old) (λ at. Remarks Self.Refusal.is_want (description.MayTell (view self.now) at) result) }

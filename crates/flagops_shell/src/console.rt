@@ -18,10 +18,10 @@ impl<O: Outlet, E: Outlet> Model for Console<O, E> {
     ghost Value = { Shown };
 
     ghost view = { λ c. record {
-        printed = O.bytes c.out;
-        is_broken = O.is_broken c.out;
-        reported = E.bytes c.err;
-        is_mute = E.is_broken c.err;
+      printed = O.bytes c.out;
+      is_broken = O.is_broken c.out;
+      reported = E.bytes c.err;
+      is_mute = E.is_broken c.err;
     } };
 }
 
@@ -29,10 +29,10 @@ impl<O: Outlet, E: Outlet> Console<O, E> {
     /// The console of these two outputs.
     pub fn new(out: O, err: E) -> Console<O, E>
         ensures { result ≡ record {
-            printed = O.bytes out;
-            is_broken = O.is_broken out;
-            reported = E.bytes err;
-            is_mute = E.is_broken err;
+          printed = O.bytes out;
+          is_broken = O.is_broken out;
+          reported = E.bytes err;
+          is_mute = E.is_broken err;
         } }
     {
         Console { out, err }

@@ -31,12 +31,7 @@ use std::time::Clock;
 /// Does what the words after the program's name ask of `serve`, which is the first of them, and gives the status to end
 /// with. It loads the documents, waits for its subscribers on a port of this host, publishes one document after the other,
 /// and prints how many; or the line of a refusal with status 1. Where a file can't be read it has listened on no port.
-pub fn serve<R, S, F, O, E>(
-    rt: &R,
-    words: &[S],
-    files: &mut F,
-    console: &mut Console<O, E>,
-) -> u8
+pub fn serve<R, S, F, O, E>(rt: &R, words: &[S], files: &mut F, console: &mut Console<O, E>) -> u8
 where
     R: AllocGlobal
         + Net<Listener = TcpListener, Stream = TcpStream>

@@ -19,7 +19,6 @@ ghost use Rattle.file_diagnostics.specs.Named.{Names};
 
 use crate::books::ask_diagnostics::{DriveSummary, of_driven, of_unrecorded_asks, of_workers};
 use crate::books::asks::{of_no_asks, of_unread};
-use flagops_rollouts::joined;
 use book_core::Book;
 use file_diagnostics::of_full_book;
 use flag_defs::Flags;
@@ -27,6 +26,7 @@ use flagops_drive::{
     AsksFile, DriveOutput, DriveRefusal, Endings, Tally, drive_asks, has_unread_ask, refusal_of,
 };
 use flagops_files::{Call, Doubt, Refusal, Refused};
+use flagops_rollouts::joined;
 use flagops_shell::Remark;
 use progress::Meter;
 use std::alloc::{AllocError, Global};

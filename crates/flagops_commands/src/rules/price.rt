@@ -21,14 +21,16 @@ ghost use Rattle.price_core.specs.Pricing.{Pricing};
 ghost use Rattle.price_core.specs.Request.{asked_of};
 ghost use Rattle.rule_text.specs.Texts.{AreTexts, texts_view};
 
-use flagops_rollouts::unread;
 use crate::rules::price_diagnostics::{of_keys, of_noted, of_weights};
 use crate::rules::totals::totals_by_name;
 use book_core::{Book, Exposure, Page};
 use bucket_core::Rule;
 use file_diagnostics::of_text;
 use flag_text::{Tree, print_tree, read_tree};
-use flagops_files::{Call, PriceMismatch, Refusal, Refused, TEXT_LIMIT, load, load_rule, out_of_memory, quoted};
+use flagops_files::{
+    Call, PriceMismatch, Refusal, Refused, TEXT_LIMIT, load, load_rule, out_of_memory, quoted,
+};
+use flagops_rollouts::unread;
 use flagops_shell::{FileSet, Outcome, Remark, Status};
 use json::Scratch;
 use limits::{INPUT_BYTES, PAGE_INPUTS};
