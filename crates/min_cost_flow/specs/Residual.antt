@@ -17,14 +17,14 @@ pub record IsRow (groups names : ℕ) (may : ℕ → ℕ → Bool) (charge : ℕ
   pub least : (g w : ℕ) → g < groups → w < names → 0 < here g → may g w ≡ true → (a : Arc) × (arc w ≡ Some a) × ((charge g v +ℤ a.cost) ≤ℤ charge g w)
 
 -- the arc is a move of a point of the group
-pub record IsMove (may : ℕ → ℕ → Bool) (charge : ℕ → ℕ → ℤ) (g v w : ℕ) (a : Arc) : Type 0 where
+pub record IsMoveOfGroup (may : ℕ → ℕ → Bool) (charge : ℕ → ℕ → ℤ) (g v w : ℕ) (a : Arc) : Type 0 where
   pub same_group : a.group ≡ g
   pub allowed : may g w ≡ true
   pub cost : (charge g v +ℤ a.cost) ≡ charge g w
 
 -- the arcs from the name take the moves of a group's points where these are cheaper
 pub record TakesMoves (names : ℕ) (may : ℕ → ℕ → Bool) (charge : ℕ → ℕ → ℤ) (g v : ℕ) (old new : ℕ → Option Arc) : Type 0 where
-  pub change : (w : ℕ) (a : Arc) → w < names → new w ≡ Some a → (old w ≡ Some a) ⊎ IsMove may charge g v w a
+  pub change : (w : ℕ) (a : Arc) → w < names → new w ≡ Some a → (old w ≡ Some a) ⊎ IsMoveOfGroup may charge g v w a
   pub covers : (w : ℕ) → w < names → may g w ≡ true → (a : Arc) × (new w ≡ Some a) × ((charge g v +ℤ a.cost) ≤ℤ charge g w)
   pub less : (w : ℕ) (known : Arc) → w < names → old w ≡ Some known → (a : Arc) × (new w ≡ Some a) × (a.cost ≤ℤ known.cost)
 
@@ -36,7 +36,7 @@ TakesMovesOfBoth names may charge g h v old new = (mid : ℕ → Option Arc) × 
 pub record AreMoves (groups names : ℕ) (may : ℕ → ℕ → Bool) (charge : ℕ → ℕ → ℤ) (here : ℕ → ℕ) (v : ℕ) (arc : ℕ → Option Arc) : Type 0 where
   pub group : (w : ℕ) (a : Arc) → w < names → arc w ≡ Some a → a.group < groups
   pub there : (w : ℕ) (a : Arc) → w < names → arc w ≡ Some a → 0 < here a.group
-  pub move : (w : ℕ) (a : Arc) → w < names → arc w ≡ Some a → IsMove may charge a.group v w a
+  pub move : (w : ℕ) (a : Arc) → w < names → arc w ≡ Some a → IsMoveOfGroup may charge a.group v w a
 
 -- no move of a point of the group is cheaper than the arcs
 abbrev pub IsCovered : ℕ → (ℕ → ℕ → Bool) → (ℕ → ℕ → ℤ) → ℕ → (ℕ → Option Arc) → ℕ → Type 0
