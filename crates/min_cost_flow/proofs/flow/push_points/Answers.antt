@@ -26,37 +26,30 @@ move_points-requires-2-clause-small c =
     let r = c.requires in
     sum_small c.args.problem.now r.problem c.args.placed.now c.args.totals.now c.args.arcs.now r.flow.tables c.args.group c.args.from c.args.to c.args.points r.points
 
-pub leave-requires-clause-free : goal.leave-requires-clause-free
-leave-requires-clause-free c =
+pub leave-requires-clause-placed : goal.leave-requires-clause-placed
+leave-requires-clause-placed c =
     let p = c.args.problem.now in
     let r = c.requires in
+    let flow = r.flow.tables in
     let group = c.args.group in
     let from = c.args.from in
     let to = c.args.to in
     let points = c.args.points in
     let old = c.args.placed.now in
+    let sums = c.args.totals.now in
     let new = c.move_points.new.cells in
-    let k_is : c.len-names.result ≡ names_of p = c.len-names.ensures ∙ p.high.ok.0 in
-    let moved = subst (λ n. IsMoved old new (group * n + from) (group * n + to) points) k_is c.move_points.ensures in
-    λ g g_in some. free_after p r.problem old c.args.totals.now c.args.arcs.now r.flow.tables group from to points r.points new c.move_points-2.new.cells moved c.move_points-2.ensures g from g_in r.points.from_in some
-
-pub leave-requires-clause-spans : goal.leave-requires-clause-spans
-leave-requires-clause-spans c =
-    let p = c.args.problem.now in
-    let r = c.requires in
-    let group = c.args.group in
-    let from = c.args.from in
-    let to = c.args.to in
-    let points = c.args.points in
-    let old = c.args.placed.now in
-    let new = c.move_points.new.cells in
+    let sums' = c.move_points-2.new.cells in
     let spans = c.args.spans.now in
     let spans' = c.widen.new.spans in
     let k_is : c.len-names.result ≡ names_of p = c.len-names.ensures ∙ p.high.ok.0 in
     let moved = subst (λ n. IsMoved old new (group * n + from) (group * n + to) points) k_is c.move_points.ensures in
     let joins : Joins p.groups.items (names_of p) group to spans spans' = subst (λ n. Joins p.groups.items n group to spans spans') k_is (subst (λ x. Joins x c.len-names.result group to spans spans') c.deref.ensures.value c.widen.ensures) in
-    came p.groups.items (names_of p) old new spans spans' group to r.flow.spans joins r.problem.groups.variant
-    (λ g w g_in w_in some. arrived p r.problem old c.args.totals.now c.args.arcs.now r.flow.tables group from to points r.points new c.move_points-2.new.cells moved c.move_points-2.ensures g w w_in some)
+    record {
+      size = c.move_points.auto.cells ∙ flow.placed;
+      free = λ g g_in some. free_after p r.problem old sums c.args.arcs.now flow group from to points r.points new sums' moved c.move_points-2.ensures g from g_in r.points.from_in some;
+      spans = came p.groups.items (names_of p) old new spans spans' group to r.flow.spans joins r.problem.groups.variant
+          (λ g w g_in w_in some. arrived p r.problem old sums c.args.arcs.now flow group from to points r.points new sums' moved c.move_points-2.ensures g w w_in some);
+    }
 
 pub returns-clause-pushed : goal.returns-clause-pushed
 returns-clause-pushed c =
@@ -102,7 +95,7 @@ returns-clause-flow c =
         residual = residual_after p old sums new sums' cells c.leave.new.arcs c.arrive.new.arcs c.rebuild_root_arcs.new.arcs c.rebuild_root_arcs-2.new.arcs flow.residual group from to r.points.from_in r.points.to_in r.points.apart
             (omega (arith, r.points.some, r.points.enough)) (omega (arith, moved.entered, r.points.some))
             (cell_stays p r.problem old sums cells flow group from to points r.points new sums' moved sums_moved)
-            sums_moved.others c.leave.ensures.row c.leave.ensures.others arrive c.arrive.ensures.others c.rebuild_root_arcs.ensures.root c.rebuild_root_arcs.ensures.others c.rebuild_root_arcs-2.ensures.root c.rebuild_root_arcs-2.ensures.others;
+            sums_moved.others c.leave.ensures.arcs.row c.leave.ensures.arcs.others arrive c.arrive.ensures.others c.rebuild_root_arcs.ensures.root c.rebuild_root_arcs.ensures.others c.rebuild_root_arcs-2.ensures.root c.rebuild_root_arcs-2.ensures.others;
       };
       spans = c.leave.ensures.spans;
     }
