@@ -51,7 +51,7 @@ returns-in-Some-clause-path g c =
     (subst (λ n. HasFound n (arc_at c.as_slice.result.now n) wanted from (potential_of s) (potential_of s') (predecessor_of s') (rank_of s') c.in-Some.root) wants.size e.found)) in
     let last_is : c.index.result.now ≡ predecessor_of s' (names_of p) =
     c.index.ensures ∙ (get_or_default s'.predecessors.items c.in-Some.root c.index.result.now 0 (omega (arith, node_is, size.predecessors)) ∙ ap (predecessor_of s') node_is) in
-    path_of p c.requires.problem f s s' wanted from c.index.result.now c.requires.first_pass c.requires.from size found last_is
+    path_of p c.requires.problem f s s' wanted from c.index.result.now c.requires.first_pass c.requires.above.within size found last_is
 
 pub returns-in-None-clause-path : goal.returns-in-None-clause-path
 returns-in-None-clause-path g c =
@@ -65,4 +65,4 @@ returns-in-None-clause-path g c =
     let stuck : IsStuck (names_of p + 1) (arc_at f.arcs.items (names_of p + 1)) wanted from (potential_of s) (potential_of s') (rank_of s') =
     subst (λ (xs : List (Option Arc)). IsStuck (names_of p + 1) (arc_at xs (names_of p + 1)) wanted from (potential_of s) (potential_of s') (rank_of s')) c.as_slice.ensures.value
     (subst (λ n. IsStuck n (arc_at c.as_slice.result.now n) wanted from (potential_of s) (potential_of s') (rank_of s')) wants.size c.in-None.ensures.found) in
-    stuck_of p f s s' wanted from c.requires.first_pass wants c.requires.from c.requires.above (subst (λ n. HasSize n s') wants.size c.find.ensures.size) stuck
+    stuck_of p f s s' wanted from c.requires.first_pass wants c.requires.above.within c.requires.above.over (subst (λ n. HasSize n s') wants.size c.find.ensures.size) stuck
