@@ -36,16 +36,6 @@ pub record HaveBases (width : ℕ) (numbers bases points : List ℕ) : Type 0 wh
   pub within : All (λ g. g < length bases) points
   pub named : All (λ w. w < width) bases
 
--- The points that they begin with are of one group, whose name they are expected to be given, as that of what comes after.
-pub record IsFirstStretch (points bases : List ℕ) (front : ℕ) (stretch : Stretch) : Type 0 where
-  pub some : 0 < stretch.points
-  pub within : stretch.points ≤ length points
-  pub group : stretch.group < length bases
-  pub same : (q : ℕ) → q < stretch.points → slice_index points q ≡ stretch.group
-  pub named : (width : ℕ) → All (λ w. w < width) bases → stretch.base < width
-  pub before : stretch.before ≡ front
-  pub after : (width : ℕ) → All (λ w. w < width) bases → stretch.after < width
-
 -- the points of the stretch stand in the list from one on, and its group has as many names left
 pub record HasStretch (width start : ℕ) (stretch : Stretch) (left points : List ℕ) : Type 0 where
   pub inside : start + stretch.points ≤ length points

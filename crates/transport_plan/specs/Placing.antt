@@ -1,10 +1,8 @@
 -- Where the groups of points in a row stand.
 use Rattle.std.specs.Prelude.{◌≡◌, ℕ, ◌+◌, ◌<◌, ◌≤◌, List, length, slice_get, slice_index, Some}
-use Rattle.std.specs.Cmp.Lexicographic.{slice_cmp}
 use Rattle.std.specs.List.Sorted.{IsStrictlySortedBy}
-use Rattle.std.specs.Ordering.{nat_cmp}
 use Rattle.transport_instance.specs.Groups.{GroupKey, group_cmp}
-use Rattle.transport_instance.specs.Instance.{max_names, max_planned_total}
+use Rattle.transport_instance.specs.Instance.{max_planned_total}
 
 -- Behind what was there, for each of the first numbers the place among the keys of its group of this name.
 pub record AddsPlaces (keys : List GroupKey) (name counts : List ℕ) (many : ℕ) (before after : List ℕ) : Type 0 where
@@ -22,9 +20,3 @@ pub record HaveFamilies (many : ℕ) (keys : List GroupKey) (families : List ℕ
   pub rise : IsStrictlySortedBy group_cmp keys
   pub each : length families ≡ many
   pub apart : AreFamilies keys families
-
--- few groups, and few names, which rise
-pub record AreFewAndRise (groups many : ℕ) (names : List (List ℕ)) : Type 0 where
-  pub few_groups : groups ≤ max_planned_total
-  pub few_names : many ≤ max_names
-  pub rise : IsStrictlySortedBy (slice_cmp nat_cmp) names

@@ -1,14 +1,17 @@
 //! From an assignment to a rule: of each group's points those change that make the fewest entries.
+ghost use Rattle.std.specs.Cmp.Lexicographic.{slice_cmp};
+ghost use Rattle.std.specs.List.Sorted.{IsStrictlySortedBy};
 ghost use Rattle.std.specs.Map.{keys_of};
-ghost use Rattle.std.specs.Prelude.{◌≡◌, ℕ, List, true, length, slice_index, IfOk};
+ghost use Rattle.std.specs.Ordering.{nat_cmp};
+ghost use Rattle.std.specs.Prelude.{◌≡◌, ◌≤◌, ℕ, List, true, length, slice_index, IfOk};
 ghost use Rattle.book_core.specs.Counts.{counts_of};
 ghost use Rattle.bucket_core.specs.Canonical.{IsCanonical};
 ghost use Rattle.bucket_core.specs.Rule.{names_view, total_weight};
 ghost use Rattle.price_core.specs.Limits.{limits_view};
 ghost use Rattle.transport_instance.specs.Assignment.{HasAssignment, arc_flows, flows_of, spends_all};
 ghost use Rattle.transport_instance.specs.Groups.{AreSizesBy, rows_view};
+ghost use Rattle.transport_instance.specs.Instance.{max_names, max_planned_total};
 ghost use Rattle.transport_instance.specs.Tally.{IsTally};
-ghost use Rattle.transport_plan.specs.Placing.{AreFewAndRise};
 
 use crate::dealing::deal;
 use crate::placing::groups_of;
@@ -58,7 +61,9 @@ fn spread_over(
 ) -> Result<Rule, AllocError>
     requires tally { IsTally (total_weight old.now) counts.now }
     requires sizes { AreSizesBy old.now (slice_index counts.now) (rows_view groups.now) }
-    requires listed { AreFewAndRise (length groups.now) (length names.now) (names_view names.now) }
+    requires few { length groups.now ≤ max_planned_total }
+    requires names { length names.now ≤ max_names }
+    requires rise { IsStrictlySortedBy (slice_cmp nat_cmp) (names_view names.now) }
     requires spent { spends_all (rows_view groups.now) (length names.now) numbers.items ≡ true }
     ensures canonical { IfOk result IsCanonical }
     ensures assigned { IfOk result (λ rule. (inputs : List (List ℕ)) → counts.now ≡ counts_of inputs (total_weight old.now) → HasAssignment old.now rule inputs (arc_flows (keys_of (rows_view groups.now)) (names_view names.now) numbers.items)) }

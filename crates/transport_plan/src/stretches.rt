@@ -1,7 +1,6 @@
 //! Stretches: points in a row of one group, and how many entries a change of their name takes from a rule or adds to it.
 ghost use Rattle.std.specs.List.{All, prefix_len};
-ghost use Rattle.std.specs.Prelude.{◌≡◌, ◌==◌, ◌≤◌, ◌<◌, IfSome, length, sum, slice_index};
-ghost use Rattle.transport_plan.specs.Dealing.{IsFirstStretch};
+ghost use Rattle.std.specs.Prelude.{◌≡◌, ◌==◌, ◌≤◌, ◌<◌, ℕ, IfSome, length, sum, slice_index};
 
 /// A stretch, and the names around it, as indices.
 #[derive(Clone, Copy)]
@@ -27,7 +26,13 @@ impl Stretch {
     pub(crate) fn first(points: &[u32], bases: &[usize], before: usize) -> Stretch
         requires some { 0 < length points.now }
         requires groups { All (λ g. g < length bases.now) points.now }
-        ensures { IsFirstStretch points.now bases.now before result }
+        ensures some { 0 < result.points }
+        ensures within { result.points ≤ length points.now }
+        ensures group { result.group < length bases.now }
+        ensures same { (q : ℕ) → q < result.points → slice_index points.now q ≡ result.group }
+        ensures named { (width : ℕ) → All (λ w. w < width) bases.now → result.base < width }
+        ensures before { result.before ≡ before }
+        ensures after { (width : ℕ) → All (λ w. w < width) bases.now → result.after < width }
     {
         let group = points[0];
         let many = run_len(points, group);

@@ -7,6 +7,6 @@ returns c = record {
   least = tt;
   whole = tt;
   deficient = c.in_ok-names.ensures.under;
-  under = λ is. c.names_under-names.ensures.never;
+  under = λ is. c.names_under.ensures.never;
   ordered = c.in_ok-names.ensures.ordered;
 }

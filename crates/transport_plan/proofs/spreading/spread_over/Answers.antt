@@ -58,7 +58,7 @@ deal-requires-clause-some c =
     some_names (length c.args.groups.now) (length c.args.names.now) c.args.numbers.items (shape c.args.groups.now (length c.args.names.now) c.args.numbers.items c.requires.spent) (omega (arith, sum_is, total, c.in_ok-points.ensures.many))
 
 pub from_points-requires-clause-distinct : goal.from_points-requires-clause-distinct
-from_points-requires-clause-distinct c = apart (names_view c.args.names.now) c.requires.listed.rise
+from_points-requires-clause-distinct c = apart (names_view c.args.names.now) c.requires.rise
 
 -- the group of a point is that of the inputs which so many are
 group_same : (old : Entries) (inputs : List (List ℕ)) (counts : List ℕ) (p : ℕ) → counts ≡ counts_of inputs (total_weight old) → p < total_weight old → Some (group_by old (slice_index counts) p) ≡ Some (group_at old inputs p)
