@@ -7,10 +7,11 @@ ghost use Rattle.min_cost_flow.specs.Paths.{AreTraced, IsAugmented, MayAugment, 
 ghost use Rattle.min_cost_flow.specs.Problem.{IsFlowProblem, names_of};
 ghost use Rattle.shortest_path.specs.Found.{HasSize, predecessor_of, potential_of, rank_of};
 ghost use Rattle.shortest_path.specs.Network.{arc_at};
+ghost use Rattle.shortest_path.specs.Searched.{predecessor_in};
 
 use crate::flow::Flow;
 use crate::problem::FlowProblem;
-use shortest_path::{Arc, Search};
+use shortest_path::{Arc, NodeState, Search};
 use std::alloc::{AllocError, Global};
 
 /// A step of a path: points of a group move from one name to another.
@@ -85,7 +86,7 @@ pub(crate) fn trace(
     let names = problem.high.len();
     let mut steps = Vec::new(alloc);
     let mut to = last;
-    while let Some(from) = name_before(search.predecessors.as_slice(), names, source, to) {
+    while let Some(from) = name_before(search.nodes.as_slice(), names, source, to) {
         let group = group_between(flow.arcs.as_slice(), names, from, to);
         steps.push(Step { group, from, to })?;
         to = from;
@@ -94,16 +95,16 @@ pub(crate) fn trace(
 }
 
 /// The predecessor of a name on the path to it; none of the first name.
-fn name_before(predecessors: &[usize], names: usize, source: usize, name: usize) -> Option<usize>
-    requires { name < length predecessors.now }
+fn name_before(nodes: &[NodeState], names: usize, source: usize, name: usize) -> Option<usize>
+    requires { name < length nodes.now }
     ensures { MatchOption result
-        ((name ≡ source) ⊎ (slice_index predecessors.now name ≡ names))
-        (λ before. (before ≡ slice_index predecessors.now name) × (name ≢ source) × (before ≢ names)) }
+        ((name ≡ source) ⊎ (predecessor_in nodes.now name ≡ names))
+        (λ before. (before ≡ predecessor_in nodes.now name) × (name ≢ source) × (before ≢ names)) }
 {
-    if name == source || predecessors[name] == names {
+    if name == source || nodes[name].predecessor == names {
         None
     } else {
-        Some(predecessors[name])
+        Some(nodes[name].predecessor)
     }
 }
 

@@ -112,7 +112,7 @@ fn find_room<L: Ledger>(
     ensures effort { HasSettledAtMost (nodes_of problem.now) effort.old effort.new }
 {
     match search.find(flow.arcs.as_slice(), wanted, from, effort) {
-        Some(root) => Some(search.predecessors[root]),
+        Some(root) => Some(search.nodes[root].predecessor),
         None => None,
     }
 }
