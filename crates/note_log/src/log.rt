@@ -1,5 +1,5 @@
 //! The log.
-ghost use Rattle.std.specs.Prelude.{◌≡◌, [], OnErr, IfOk};
+ghost use Rattle.std.specs.Prelude.{◌≡◌, true, false, [], OnErr, IfOk};
 ghost use Rattle.note_log.specs.Sound.{IsSound, handed_in};
 
 use crate::batch::{Batch, batch_of};
@@ -57,9 +57,11 @@ impl<O: Outlet> NoteLog<O> {
     ghost use Rattle.note_log.specs.Log.{Records, logged};
 
     /// Records notes, and says whether the line of each stands in the log now. One whose input has more than 1,024 bytes has no
-    /// line. What waits of earlier lines is handed over first, and where not all of it is taken nothing is added.
+    /// line. What waits of earlier lines is handed over first, and where not all of it is taken nothing is added. The answer is false only
+    /// where a write has failed, and what was recorded before stays.
     pub fn record(&mut self, alloc: Global, notes: &[Note]) -> Result<bool, AllocError>
         ensures records { IfOk result (λ all. ∥ Records notes.now (logged self.old) (logged self.new) (O.bytes self.old.outlet) (O.bytes self.new.outlet) all ∥₁) }
+        ensures refused { IfOk result (λ all. all ≡ false → O.is_broken self.new.outlet ≡ true) }
         ensures err { OnErr result (self.new ≡ self.old) }
     {
         let batch = batch_of(alloc, notes, &self.remembered)?;
@@ -69,7 +71,8 @@ impl<O: Outlet> NoteLog<O> {
     /// Hands over what waits, and then the lines of a batch.
     fn take(&mut self, notes: &[Note], batch: Batch) -> bool
         requires { IsBatch notes.now self.old.remembered.entries batch }
-        ensures { ∥ Records notes.now (logged self.old) (logged self.new) (O.bytes self.old.outlet) (O.bytes self.new.outlet) result ∥₁ }
+        ensures records { ∥ Records notes.now (logged self.old) (logged self.new) (O.bytes self.old.outlet) (O.bytes self.new.outlet) result ∥₁ }
+        ensures refused { result ≡ false → O.is_broken self.new.outlet ≡ true }
     {
         // The contract alone names the notes.
         let _ = notes;

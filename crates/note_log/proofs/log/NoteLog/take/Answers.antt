@@ -9,8 +9,8 @@ invariant_of-self g c = record {
   sound = ∥∥₁_map c.args.self.now.sound (λ s. sound_moved _ _ _ _ _ _ c.args.self.now.remembered.entries s c.hand_over.ensures.moves);
 }
 
-pub returns-then-not-hand_over : goal.returns-then-not-hand_over
-returns-then-not-hand_over g c = ∥∥₁_map c.args.self.now.sound (λ s. none_recorded _ _ _ _ _ _ c.args.notes.now c.hand_over.ensures.moves)
+pub returns-then-not-hand_over-clause-records : goal.returns-then-not-hand_over-clause-records
+returns-then-not-hand_over-clause-records g c = ∥∥₁_map c.args.self.now.sound (λ s. none_recorded _ _ _ _ _ _ c.args.notes.now c.hand_over.ensures.moves)
 
 pub invariant_of-self-then-not-hand_over-2 : goal.invariant_of-self-then-not-hand_over-2
 invariant_of-self-then-not-hand_over-2 g c =
@@ -18,8 +18,8 @@ invariant_of-self-then-not-hand_over-2 g c =
     let moves = joined _ _ _ _ _ _ _ _ _ c.args.batch.bytes.items c.hand_over.ensures.moves none c.hand_over-2.ensures.moves in
     record { sound = ∥∥₁_map c.args.self.now.sound (λ s. sound_batch _ _ _ _ _ _ c.args.notes.now c.args.self.now.remembered.entries c.args.batch s c.requires moves) }
 
-pub returns-then-not-hand_over-2 : goal.returns-then-not-hand_over-2
-returns-then-not-hand_over-2 g c =
+pub returns-then-not-hand_over-2-clause-records : goal.returns-then-not-hand_over-2-clause-records
+returns-then-not-hand_over-2-clause-records g c =
     let none = nothing c.hand_over.new.waiting.items (sym c.hand_over.ensures.all ∙ search rules) in
     let moves = joined _ _ _ _ _ _ _ _ _ c.args.batch.bytes.items c.hand_over.ensures.moves none c.hand_over-2.ensures.moves in
     ∥∥₁_map c.args.self.now.sound (λ s. batch_recorded _ _ _ _ _ _ c.args.notes.now c.args.self.now.remembered.entries c.args.batch s c.requires moves false (λ h. cc))
@@ -31,8 +31,8 @@ invariant_of-self-2 g c =
     let moves = joined _ _ _ _ _ _ _ _ _ c.args.batch.bytes.items c.hand_over.ensures.moves none c.hand_over-2.ensures.moves in
     record { sound = ∥∥₁_map c.args.self.now.sound (λ s. sound_after _ _ _ _ _ _ c.args.notes.now c.args.self.now.remembered.entries c.args.batch s c.requires moves c.remember.new.remembered.entries last c.remember.ensures) }
 
-pub returns : goal.returns
-returns g c =
+pub returns-clause-records : goal.returns-clause-records
+returns-clause-records g c =
     let none = nothing c.hand_over.new.waiting.items (sym c.hand_over.ensures.all ∙ search rules) in
     let last = nothing c.hand_over-2.new.waiting.items (sym c.hand_over-2.ensures.all ∙ search rules) in
     let moves = joined _ _ _ _ _ _ _ _ _ c.args.batch.bytes.items c.hand_over.ensures.moves none c.hand_over-2.ensures.moves in
