@@ -46,3 +46,9 @@ module _ {S : Type 0} (answers : S → Request (List ℕ) → Response → S →
   -- the others' answers still rest on what stands
   pub peers_stay : (a b : S) (peers : Slab Peer) → PeersStand stands a peers → Leads answers a b → PeersStand stands b peers
   peers_stay a b peers p x key peer e = still_stand answers stands given stays (history peer.connection).calls a b (p key peer e) x
+
+-- a look takes nothing from what stands
+pub peers_looked : {S : Type 0} (stands : S → Request (List ℕ) → Response → Type 0) (looked : S → S → Type 0)
+    (stays : (old new : S) → looked old new → (earlier : Request (List ℕ)) (told : Response) → stands old earlier told → stands new earlier told)
+    (a b : S) (peers : Slab Peer) → looked a b → PeersStand stands a peers → PeersStand stands b peers
+peers_looked stands looked stays a b peers l p key peer e c d = stays a b l c.0 c.1 (p key peer e c d)

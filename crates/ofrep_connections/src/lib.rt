@@ -6,7 +6,7 @@
 //! what they hold of their common [`Load`].
 //!
 //! Proved: the one function that writes to a socket has this as its condition, so that each write meets it; and what the service
-//! did is a chain of its answers. `http_server` proves of each connection that its bytes answer the requests that it read.
+//! did is a chain of its answers, and of its looks between them. `http_server` proves of each connection that its bytes answer the requests that it read.
 #![tactic(auto)]
 
 mod admission;

@@ -1,8 +1,8 @@
 //! The loop of a worker.
-ghost use Rattle.std.specs.Prelude.{List};
+ghost use Rattle.std.specs.Prelude.{List, Option};
 ghost use Rattle.http_server.specs.Connection.{history};
 ghost use Rattle.http_server.specs.Exchange.{Call, Chain};
-ghost use Rattle.recorded_answers.specs.Stand.{AllStand};
+ghost use Rattle.recorded_answers.specs.Stand.{AllStand, Works};
 ghost use Rattle.ofrep_connections.specs.Stand.{PeersStand};
 
 use crate::admission::{MAX_PEERS, Queue, admit};
@@ -46,8 +46,9 @@ impl Making {
     }
 }
 
-/// Answers connections of a listener, which must not block, until the flag is set or the system fails. Workers that share a
-/// listener share its load: one that holds more connections than others leaves those that wait to them for a moment.
+/// Answers connections of a listener, which must not block, until the flag is set or the system fails. After each wait, which lasts
+/// less than a second, the service looks whether what its answers rest on is still there. Workers that share a listener share its
+/// load: one that holds more connections than others leaves those that wait to them for a moment.
 pub fn answer_connections<S: Recording, R: Net + Clock>(
     rt: &R,
     alloc: Global,
@@ -58,7 +59,7 @@ pub fn answer_connections<S: Recording, R: Net + Clock>(
     stop: &AtomicBool,
     service: &mut S,
 ) -> io::Result<()>
-    ensures { (calls : List Call) × Chain S.answers service.old calls service.new }
+    ensures { (steps : List (Option Call)) × Works S.answers S.looked service.old steps service.new }
 {
     let mut poll = Poll::new(rt)?;
     let mut listener = TcpListener::from_std(listener);
@@ -99,7 +100,7 @@ fn turn<S: Recording, R: Clock>(
     service: &mut S,
 ) -> io::Result<()>
     requires { PeersStand S.stands service.old peers.old }
-    ensures { (calls : List Call) × Chain S.answers service.old calls service.new }
+    ensures { (steps : List (Option Call)) × Works S.answers S.looked service.old steps service.new }
 {
     let mut swept = Instant::now(rt)?;
     let mut queue = Queue::Empty;
@@ -109,6 +110,7 @@ fn turn<S: Recording, R: Clock>(
         }
         poll.poll(events, Some(Duration::from_millis(queue.pause_millis())))?;
         let now = Instant::now(rt)?;
+        service.look();
         for event in events.iter() {
             answer_event(
                 making,

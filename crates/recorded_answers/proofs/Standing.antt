@@ -1,11 +1,11 @@
 -- What answers rest on stays.
-use Rattle.std.proofs.Common.{ℕ, List, [], ◌∷◌, ◌++◌, sym, subst, append-nil, append_assoc, inl, inr}
+use Rattle.std.proofs.Common.{ℕ, List, [], ◌∷◌, ◌++◌, Option, Some, None, map, refl, sym, subst, append-nil, append_assoc, inl, inr}
 use Rattle.std.proofs.lemmas.List.Elements.{Contains-push_cases}
 use Rattle.http.specs.declared.request.Request.{Request}
 use Rattle.http_server.specs.declared.response.Response.{Response}
 use Rattle.http_server.specs.Exchange.{Call, Calls, Chain}
 use Rattle.http_server.proofs.StreamLemmas.{Chain-append}
-use Rattle.recorded_answers.specs.Stand.{AllStand}
+use Rattle.recorded_answers.specs.Stand.{AllStand, Works}
 
 module _ {S : Type 0} (answers : S → Request (List ℕ) → Response → S → Type 0) where
   -- some calls lead from the first state to the second
@@ -39,3 +39,25 @@ module _ {S : Type 0} (answers : S → Request (List ℕ) → Response → S →
 
     pub still_stand : (calls : List Call) (a b : S) → AllStand stands a calls → Leads a b → AllStand stands b calls
     still_stand calls a b h x c d = keeps x.0 a b x.1 c.0 c.1 (h c d)
+
+-- ---- with looks between the calls
+
+module _ {S : Type 0} (answers : S → Request (List ℕ) → Response → S → Type 0) (looked : S → S → Type 0) where
+  -- some calls and looks lead from the first state to the second
+  abbrev pub Goes : S → S → Type 0
+  Goes a b = (steps : List (Option Call)) × Works answers looked a steps b
+
+  works_append : (xs ys : List (Option Call)) (a b c : S) → Works answers looked a xs b → Works answers looked b ys c → Works answers looked a (xs ++ ys) c
+  works_append [] ys a b c x y = subst (λ (t : S). Works answers looked t ys c) x y
+  works_append (Some k ∷ xs) ys a b c x y = (x.0, x.1, works_append xs ys x.0 b c x.2 y)
+  works_append (None ∷ xs) ys a b c x y = (x.0, x.1, works_append xs ys x.0 b c x.2 y)
+
+  works_of : (calls : List Call) (a b : S) → Chain answers a calls b → Works answers looked a (map Some calls) b
+  works_of [] a b x = x
+  works_of (k ∷ calls) a b x = (x.0, x.1, works_of calls x.0 b x.2)
+
+  pub goes_call : (a b c : S) → Goes a b → Leads answers b c → Goes a c
+  goes_call a b c x y = (x.0 ++ map Some y.0, works_append x.0 (map Some y.0) a b c x.1 (works_of y.0 b c y.1))
+
+  pub goes_look : (a b c : S) → Goes a b → looked b c → Goes a c
+  goes_look a b c x y = (x.0 ++ None ∷ [], works_append x.0 (None ∷ []) a b c x.1 (c, y, refl))

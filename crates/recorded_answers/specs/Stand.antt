@@ -1,5 +1,5 @@
 -- What answers rest on stands.
-use Rattle.std.specs.Prelude.{ℕ, List, Contains}
+use Rattle.std.specs.Prelude.{◌≡◌, ℕ, List, [], ◌∷◌, Contains, Option, Some, None}
 use Rattle.http.specs.declared.request.Request.{Request}
 use Rattle.http_server.specs.declared.response.Response.{Response}
 use Rattle.http_server.specs.Exchange.{Call}
@@ -7,3 +7,9 @@ use Rattle.http_server.specs.Exchange.{Call}
 -- in this state, what the answer of each of the calls rests on stands
 abbrev pub AllStand : {S : Type 0} → (S → Request (List ℕ) → Response → Type 0) → S → List Call → Type 0
 AllStand stands s calls = (c : Call) → Contains calls c → stands s c.0 c.1
+
+-- What a service does: calls, each Some, and looks between them, each None. Each leads from the state that the one before left.
+abbrev pub Works : {S : Type 0} → (S → Request (List ℕ) → Response → S → Type 0) → (S → S → Type 0) → S → List (Option Call) → S → Type 0
+Works answers looked old [] new = new ≡ old
+Works {S} answers looked old (Some c ∷ steps) new = (next : S) × answers old c.0 c.1 next × Works answers looked next steps new
+Works {S} answers looked old (None ∷ steps) new = (next : S) × looked old next × Works answers looked next steps new
