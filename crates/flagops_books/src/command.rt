@@ -1,5 +1,5 @@
 //! The command `book`.
-ghost use Rattle.std.specs.Prelude.{◌≡◌, ◌||◌, IfOk, IfSome};
+ghost use Rattle.std.specs.Prelude.{◌≡◌, ◌||◌, IfOk, IfSome, ⊤};
 ghost use Rattle.flagops_books.specs.Calls.{book_calls, unites_files};
 ghost use Rattle.flagops_books.specs.Command.{description};
 ghost use Rattle.flagops_books.specs.Report.{IsBookReport, IsUnitedFor, LeavesUnited};
@@ -28,6 +28,8 @@ impl<'w, R, F: FileSet> Command<'w, R, F> for Uniting<'w> {
     type Refusal = Refusal;
 
     ghost Asked = { words.Uniting };
+
+    ghost Needs = { ⊤ };
 
     ghost view = { uniting_view };
 

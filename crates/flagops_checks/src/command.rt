@@ -1,5 +1,5 @@
 //! The command `check`.
-ghost use Rattle.std.specs.Prelude.{◌≡◌, ◌||◌, is_some, IfOk, IfSome};
+ghost use Rattle.std.specs.Prelude.{◌≡◌, ◌||◌, is_some, IfOk, IfSome, ⊤};
 ghost use Rattle.flagops_checks.specs.Calls.{check_calls};
 ghost use Rattle.flagops_checks.specs.Command.{description};
 ghost use Rattle.flagops_checks.specs.Report.{IsCheckReport, TellsChecked, check_status};
@@ -30,6 +30,8 @@ impl<'w, R: Threads, F: FileSet> Command<'w, R, F> for Checking<'w> {
     type Refusal = Refusal;
 
     ghost Asked = { words.Checking };
+
+    ghost Needs = { ⊤ };
 
     ghost view = { checking_view };
 

@@ -1,4 +1,5 @@
 //! The commands that the help of the program lists, as one command.
+ghost use denote.Param.Send.{IsSync};
 ghost use Rattle.std.specs.Prelude.{◌≡◌};
 ghost use Rattle.flagops_words.specs.Asked as words;
 ghost use Rattle.flagops_words.specs.Asked.{asked_view};
@@ -23,6 +24,8 @@ impl<'w, R: Threads + Wait + Sync, F: FileSet> Command<'w, R, F> for Listed<'w> 
     type Refusal = Refusal;
 
     ghost Asked = { words.Asked };
+
+    ghost Needs = { IsSync R.row };
 
     ghost view = { λ c. asked_view c.asked };
 

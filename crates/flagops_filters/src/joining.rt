@@ -1,5 +1,5 @@
 //! The command `join`.
-ghost use Rattle.std.specs.Prelude.{◌≡◌, ◌∷◌, ◌||◌, false, map, IfErr, IfOk, IfSome, None, Ok, string_bytes};
+ghost use Rattle.std.specs.Prelude.{◌≡◌, ◌∷◌, ◌||◌, false, map, IfErr, IfOk, IfSome, None, Ok, string_bytes, ⊤};
 ghost use Rattle.flagops_shell.specs.Diagnostic.{Says};
 ghost use Rattle.flagops_filters.specs.Command.{join_description};
 ghost use Rattle.flagops_filters.specs.Join.{IsJoinReport, IsTallyIn, IsTallyOf, JoinsAllFiles, JoinsFiles, report_joined};
@@ -31,6 +31,8 @@ impl<'w, R, F: FileSet> Command<'w, R, F> for Joining<'w> {
     type Refusal = FilterRefusal;
 
     ghost Asked = { words.Joining };
+
+    ghost Needs = { ⊤ };
 
     ghost view = { joining_view };
 

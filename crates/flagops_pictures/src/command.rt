@@ -1,4 +1,5 @@
 //! The command `picture`: it prints the picture of a plan that is right.
+ghost use denote.Param.Send.{IsSync};
 ghost use Rattle.std.specs.Prelude.{◌≡◌, ◌||◌, false, true, is_some, map, IfErr, IfOk, IfSome, Ok, option_map, string_bytes};
 ghost use Rattle.flagops_rollouts.specs.Doubts.{NamesDoubted, doubt_of};
 ghost use Rattle.flagops_rollouts.specs.Subjects.{NamesVerified};
@@ -36,6 +37,8 @@ impl<'w, R: Threads + Sync, F: FileSet> Command<'w, R, F> for Picturing<'w> {
     type Refusal = Refusal;
 
     ghost Asked = { words.Picturing };
+
+    ghost Needs = { IsSync R.row };
 
     ghost view = { picturing_view };
 

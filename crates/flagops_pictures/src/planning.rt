@@ -1,4 +1,5 @@
 //! The command `plan --picture`: it prints what `plan` does, and replaces the file of the picture whole.
+ghost use denote.Param.Send.{IsSync};
 ghost use Rattle.std.specs.Prelude.{◌≡◌, ◌⊎◌, ◌||◌, Ok, map, option_map, IfErr, IfOk, IfSome, string_bytes};
 ghost use Rattle.flagops_rollouts.specs.Plan.{IsPlanOf};
 ghost use Rattle.flagops_rollouts.specs.Doubts.{NamesDoubted};
@@ -36,6 +37,8 @@ impl<'w, R: Threads + Sync, F: FileSet> Command<'w, R, F> for Planning<'w> {
     type Refusal = Refusal;
 
     ghost Asked = { words.Planning };
+
+    ghost Needs = { IsSync R.row };
 
     ghost view = { planning_view };
 

@@ -1,4 +1,5 @@
 //! The command `picture --ramp`: it prints the pictures of answers to steps that are right.
+ghost use denote.Param.Send.{IsSync};
 ghost use Rattle.std.specs.Prelude.{◌≡◌, ◌≤◌, ◌<◌, ◌+◌, ◌||◌, length, List, map, option_map, Ok, IfOk, IfSome, string_bytes};
 ghost use Rattle.flag_defs.specs.Flags.{flags_view};
 ghost use Rattle.flagops_shell.specs.Report.{outcome_view};
@@ -38,6 +39,8 @@ impl<'w, R: Threads + Sync, F: FileSet> Command<'w, R, F> for PicturingRamp<'w> 
     type Refusal = RampRefusal;
 
     ghost Asked = { words.Verifying };
+
+    ghost Needs = { IsSync R.row };
 
     ghost view = { λ c. verifying_view c.answers };
 

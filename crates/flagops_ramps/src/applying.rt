@@ -1,5 +1,5 @@
 //! The command `apply --step`: it prints what `apply` does of the plan that answers the step.
-ghost use Rattle.std.specs.Prelude.{◌≡◌, ◌||◌, false, true, map, option_map, string_bytes, IfErr, IfOk, IfSome, None, Ok};
+ghost use Rattle.std.specs.Prelude.{◌≡◌, ◌||◌, false, true, map, option_map, string_bytes, IfErr, IfOk, IfSome, None, Ok, ⊤};
 ghost use Rattle.flag_defs.specs.Flags.{flags_view};
 ghost use Rattle.flagops_rollouts.specs.Apply.{IsLocalReport, applied_report, document_line, none_report};
 ghost use Rattle.flagops_files.specs.Report.{done};
@@ -32,6 +32,8 @@ impl<'w, R, F: FileSet> Command<'w, R, F> for Applying<'w> {
     type Refusal = RampRefusal;
 
     ghost Asked = { words.Applying };
+
+    ghost Needs = { ⊤ };
 
     ghost view = { applying_view };
 

@@ -1,4 +1,5 @@
 //! The command `ramp`: it prints a line for each step that was planned.
+ghost use denote.Param.Send.{IsSync};
 ghost use Rattle.std.specs.Prelude.{◌≡◌, ◌<◌, ◌||◌, false, is_some, map, option_map, IfErr, IfOk, IfSome, Ok};
 ghost use Rattle.std.specs.List.{All};
 ghost use Rattle.flag_text.specs.Outcome.{GivesUnless};
@@ -42,6 +43,8 @@ impl<'w, R: Threads + Sync, F: FileSet> Command<'w, R, F> for Ramping<'w> {
     type Refusal = RampRefusal;
 
     ghost Asked = { words.Ramping };
+
+    ghost Needs = { IsSync R.row };
 
     ghost view = { ramping_view };
 

@@ -1,4 +1,5 @@
 //! The command `verify-ramp`: it prints what each step costs.
+ghost use denote.Param.Send.{IsSync};
 ghost use Rattle.std.specs.Prelude.{◌≡◌, ◌||◌, false, true, is_some, map, string_bytes, IfErr, IfOk, IfSome, Ok};
 ghost use Rattle.flagops_rollouts.specs.Doubts.{NamesDoubted};
 ghost use Rattle.flagops_shell.specs.Diagnostic.{Says};
@@ -30,6 +31,8 @@ impl<'w, R: Threads + Sync, F: FileSet> Command<'w, R, F> for Verifying<'w> {
     type Refusal = RampRefusal;
 
     ghost Asked = { words.Verifying };
+
+    ghost Needs = { IsSync R.row };
 
     ghost view = { verifying_view };
 

@@ -1,5 +1,4 @@
 //! What is known of every command.
-ghost use denote.Param.Send.{IsSync};
 ghost use Rattle.std.specs.Prelude.{◌≡◌, ◌||◌, ◌⊎◌, None, Some, IfErr, IfOk, IfSome, map};
 ghost use Rattle.clap.specs.Kinds.{IsAmong};
 ghost use Rattle.clap.specs.Words.{kind_of};
@@ -24,6 +23,9 @@ pub trait Command<'w, R, F: FileSet>: Sized + Drop {
     // What its words ask for, without where they lie in memory.
     ghost Asked: { Type 0 };
 
+    // What it needs of the runtime.
+    ghost Needs: { Type 0 };
+
     ghost view: { Self → Asked };
 
     ghost description: { Description Asked Self.Refusal };
@@ -41,7 +43,7 @@ pub trait Command<'w, R, F: FileSet>: Sized + Drop {
         alloc: Global,
         files: &mut F,
     ) -> Result<Outcome, Refused<Self::Refusal>>
-        requires { IsSync R.row }
+        requires { Needs }
         ensures exact { IfSome (F.holding files.old) (λ at. GivesOne Self.Refusal.is_want outcome_view result (description.MayCome (view self.now) at (F.holding files.new))) }
         ensures remarks { IfSome (F.holding files.old) (λ at. Remarks Self.Refusal.is_want (description.MayTell (view self.now) at) result) }
         ensures wants { IfErr result (λ e. description.MayWant (view self.now) (description.call_of (view self.now) e.refusal)) }

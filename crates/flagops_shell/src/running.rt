@@ -24,14 +24,15 @@ use std::convert::AsStr;
 /// where they are asked for, go to the output with status 0.
 pub fn run<
     'w,
-    R: AllocGlobal + Sync,
+    R: AllocGlobal,
     S: AsStr,
     F: FileSet,
     C: Command<'w, R, F>,
     O: Outlet,
     E: Outlet,
 >(rt: &R, words: &'w [S], files: &mut F, console: &mut Console<O, E>) -> u8
-    requires { IsOpen console.old }
+    requires needs { C.Needs }
+    requires open { IsOpen console.old }
     ensures answers { AnswersAsked C.description C.Refusal.is_unread console.old console.new result C.Refusal.line_of (F.holding files.old) (F.holding files.new) (F.has_failed files.new) (map S.text words.entry.now) }
     ensures unread { AnswersUnread C.description C.Refusal.is_unread console.old console.new result (F.has_failed files.old) (F.has_failed files.new) (map S.text words.entry.now) }
     ensures tells { TellsUnasked C.description C.Refusal.is_unread console.old console.new result (map S.text words.entry.now) }
@@ -46,14 +47,15 @@ pub fn run<
 }
 
 /// Writes what a command comes to.
-fn answered<'w, R: Sync, F: FileSet, C: Command<'w, R, F>, O: Outlet, E: Outlet>(
+fn answered<'w, R, F: FileSet, C: Command<'w, R, F>, O: Outlet, E: Outlet>(
     rt: &R,
     alloc: Global,
     command: &C,
     files: &mut F,
     console: &mut Console<O, E>,
 ) -> u8
-    requires { IsOpen console.old }
+    requires needs { C.Needs }
+    requires open { IsOpen console.old }
     ensures answers { IfSome (F.holding files.old) (λ at. Ends console.old console.new result C.Refusal.line_of (C.description.MayWant (C.view command.now)) (C.description.MayTell (C.view command.now) at)
         (MayRun C.description C.Refusal.is_unread (C.view command.now) at (F.holding files.new) (F.has_failed files.new))) }
     ensures unread { F.has_failed files.old ≡ false → F.has_failed files.new ≡ true → ShowsUnread console.old console.new result (IsFileCall C.description C.Refusal.is_unread (C.view command.now)) }
