@@ -6,12 +6,14 @@ use Rattle.flagops_books.specs.Command as books
 use Rattle.flagops_checks.specs.Command as checks
 use Rattle.flagops_commands.specs.Commands as commands
 use Rattle.flagops_files.specs.Refusal as files
+use Rattle.flagops_files.specs.declared.refusal.Refusal.{Refusal}
 use Rattle.flagops_filters.specs.Ended.{AnswersRecord, AnswersTally, TellsRecord, TellsTally, UnreadRecord, UnreadTally}
 use Rattle.flagops_filters.specs.Command as joins
 use Rattle.flagops_filters.specs.Refusal as filters
 use Rattle.flagops_pictures.specs.Commands as pictures
 use Rattle.flagops_ramps.specs.Commands as ramps
 use Rattle.flagops_ramps.specs.Refusal as ramp_refusals
+use Rattle.flagops_ramps.specs.declared.refusal.RampRefusal.{RampRefusal}
 use Rattle.flagops_service.specs.Ended.{AnswersOfrep, ServesOfrep, TellsOfrep}
 use Rattle.flagops_shell.specs.Console.{Shown}
 use Rattle.flagops_shell.specs.Files.{Holding}
@@ -22,11 +24,11 @@ use Rattle.flagops.specs.declared.family.Family.TheVariants.{Files, Serve, Follo
 
 module _ (old new : Shown) (held holds : Option Holding) (had_failed has_failed : Bool) (status : ℕ) (given : Option (List ℕ)) (is_cut : Bool) where
   -- of a command that is refused as files are
-  abbrev pub Answers : {A : Type 0} → Description A _ → List Text → Type 0
+  abbrev pub Answers : {A : Type 0} → Description A Refusal → List Text → Type 0
   Answers d words = Runs d files.is_unread files.line_of old new status held holds had_failed has_failed words
 
   -- of a command on the steps of a ramp
-  abbrev pub AnswersSteps : {A : Type 0} → Description A _ → List Text → Type 0
+  abbrev pub AnswersSteps : {A : Type 0} → Description A RampRefusal → List Text → Type 0
   AnswersSteps d words = Runs d ramp_refusals.is_unread ramp_refusals.line_of old new status held holds had_failed has_failed words
 
   -- Of `serve`: its answer over files whose bytes are known; that all was published or refused; a read that failed; what is told of

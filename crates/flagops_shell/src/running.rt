@@ -22,15 +22,12 @@ use std::convert::AsStr;
 /// The report goes to the output, made whole before its first byte is written. The error output gets the text of `clap` on words
 /// that it refuses, and what a person is told. What becomes of it changes neither the report nor the status. Help and the version,
 /// where they are asked for, go to the output with status 0.
-pub fn run<
-    'w,
-    R: AllocGlobal,
-    S: AsStr,
-    F: FileSet,
-    C: Command<'w, R, F>,
-    O: Outlet,
-    E: Outlet,
->(rt: &R, words: &'w [S], files: &mut F, console: &mut Console<O, E>) -> u8
+pub fn run<'w, R: AllocGlobal, S: AsStr, F: FileSet, C: Command<'w, R, F>, O: Outlet, E: Outlet>(
+    rt: &R,
+    words: &'w [S],
+    files: &mut F,
+    console: &mut Console<O, E>,
+) -> u8
     requires needs { C.Needs }
     requires open { IsOpen console.old }
     ensures answers { AnswersAsked C.description C.Refusal.is_unread console.old console.new result C.Refusal.line_of (F.holding files.old) (F.holding files.new) (F.has_failed files.new) (map S.text words.entry.now) }
