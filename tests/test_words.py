@@ -13,7 +13,7 @@ MISTAKES = [
     ([], "Usage: flagops <COMMAND>"),
     (["buckets"], "unrecognized subcommand 'buckets'"),
     (["chek"], "a similar subcommand exists: 'check'"),
-    (["verify-rmp"], "a similar subcommand exists: 'verify-ramp'"),
+    (["verify-rmp"], "some similar subcommands exist: 'verify', 'verify-ramp'"),
     (["bucket"], "Usage: flagops bucket <RULE> <KEY>"),
     (["bucket", "f"], "<KEY>"),
     (["bucket", "f", "k", "l"], "unexpected argument 'l'"),
